@@ -1,0 +1,10 @@
+pub mod CallLog
+pub mod Device
+pub mod Events
+pub mod FaultPlan
+pub mod Fill
+pub mod Image
+pub mod Laws
+pub mod MemDisk
+pub mod Past
+pub mod Refusal
