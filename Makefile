@@ -1,0 +1,29 @@
+# Two commands for a stranger: `make demo` builds the program and runs its first job, `make test` runs every test.
+# They want the kit (`rt` on the PATH), python3 and gcc.
+
+.PHONY: build demo test tests bench clean
+
+# The program is proved before it is built, so the first build takes some minutes and the next ones seconds. `rt run`
+# ends with the status of the program, and leaves it in crates/snapd/out.
+build:
+	cd crates/snapd && rt run -- --version
+	mkdir -p bin
+	cp crates/snapd/out/snapd bin/snapd
+
+demo: build
+	sh tests/demo.sh bin/snapd
+
+# The merge gate, and then the end-to-end tests on the built program. The last line counts both.
+test:
+	python3 tests/all.py
+
+# The end-to-end tests alone.
+tests: build
+	python3 tests/run.py
+
+bench: build
+	cd crates/bench_store && rt run -- "$$(mktemp -d)/F" 1
+	python3 bench/run.py
+
+clean:
+	rm -rf bin crates/*/out

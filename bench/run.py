@@ -1,0 +1,86 @@
+"""Times `snapd` against a C program that makes the same system calls in the same order, in one run, as ratios.
+
+    python3 bench/run.py [--folder FOLDER] [--runs N]
+
+The files lie in FOLDER, by default a fresh folder beside this repository's own files, so that they are on a disk and
+not in memory. The runs of the two programs alternate; printed are both medians and the median of the ratios of each pair.
+A whole process is to cost at most 1.3 times the C program's, and a store inside a process at most 1.05 times.
+"""
+
+import argparse
+import pathlib
+import subprocess
+import sys
+import tempfile
+
+TOP = pathlib.Path(__file__).resolve().parent.parent
+sys.dont_write_bytecode = True
+sys.path.insert(0, str(TOP / "tests"))
+
+import segment_file as layout  # noqa: E402
+from preload import library  # noqa: E402
+
+STORES = 200
+
+
+def compiled(folder, name):
+    target = folder / name
+    subprocess.run(["gcc", "-O2", "-Wall", "-o", target, TOP / "bench" / f"{name}.c"], check=True)
+    return target
+
+
+def ratio(label, limit, timer, runs, start, program, baseline, file, value):
+    """Times both on the same file, which has the bytes of `start` before each run."""
+    line = [timer, str(runs), value, file, start, *program, "--", *baseline]
+    run = subprocess.run(line, check=True, stdout=subprocess.PIPE, text=True)
+    mine, bare, thousandths = map(int, run.stdout.split())
+    print(f"{label:<44} {mine / 1000:>9.1f} us {bare / 1000:>9.1f} us   {thousandths / 1000:.3f}   (aim {limit})")
+
+
+def allocations(program, folder, stores):
+    """How many allocations a run of so many stores makes."""
+    count = folder / "count"
+    env = {"LD_PRELOAD": library("allocations"), "ALLOCATIONS_COUNT": str(count)}
+    subprocess.run([program, folder / f"stores{stores}", str(stores)], env=env, check=True, stdout=subprocess.DEVNULL)
+    return int(count.read_text())
+
+
+def main():
+    words = argparse.ArgumentParser()
+    words.add_argument("--folder")
+    words.add_argument("--runs", type=int, default=300)
+    words = words.parse_args()
+    with tempfile.TemporaryDirectory(prefix="bench-", dir=words.folder or TOP) as folder:
+        folder = pathlib.Path(folder)
+        timer, baseline = compiled(folder, "timer"), compiled(folder, "baseline")
+        snapd, many = TOP / "bin" / "snapd", TOP / "crates" / "bench_store" / "out" / "bench_store"
+        file, value, fresh, used, empty = (folder / name for name in ("F", "value", "fresh", "used", "empty"))
+        value.write_bytes(b"v" * 1_000)
+        empty.write_bytes(b"")
+        fresh.write_bytes(layout.image([(0, b""), None]))
+        used.write_bytes(layout.image([(2, b"v" * 1_000), (1, b"v" * 1_000)]))
+        print(f"{'':<44} {'snapd':>12} {'C':>12}   ratio")
+        for label, start, command in [
+            ("put, spare gate closed, whole process", fresh, "put"),
+            ("put, spare gate open, whole process", used, "put"),
+            ("get, whole process", used, "get"),
+        ]:
+            ratio(label, 1.3, timer, words.runs, start, [snapd, command, file], [baseline, command, file], file, value)
+        ratio(
+            f"{STORES} stores in one process",
+            1.05,
+            timer,
+            max(5, words.runs // 5),
+            empty,
+            [many, file, str(STORES)],
+            [baseline, "store", file, str(STORES)],
+            file,
+            value,
+        )
+        few, more = allocations(many, folder, 1), allocations(many, folder, STORES)
+        print(f"allocations with 1 store and with {STORES}: {few} and {more}")
+        return 0 if few == more else 1
+
+
+if __name__ == "__main__":
+    sys.exit(main())

@@ -1,0 +1,180 @@
+//! The calls that are stopped, and what is found after the crash.
+use crate::stop::Stop;
+use snap_disk::{Disk, FaultPlan, MemDisk, Refusal};
+use snap_segment::{Segment, format};
+use std::alloc::Global;
+use std::io;
+use std::io::ErrorKind;
+use std::string::String;
+
+/// What is run until a device call fails.
+#[derive(Clone, Copy)]
+pub enum Subject {
+    /// `format` on a device of zeros.
+    Format,
+    /// The store of `hi` on a fresh file, whose spare gate is closed.
+    StoreShut,
+    /// The store of `yo` behind `hi`, with the spare gate open.
+    StoreOpen,
+}
+
+impl Subject {
+    pub fn title(self) -> &'static str {
+        match self {
+            Subject::Format => {
+                "format on zeros; then a crash with keep | 00 | a5, an opening, and a second format"
+            }
+            Subject::StoreShut => {
+                "store of hi, the spare gate closed; then a crash with keep | 00 | a5 and an opening"
+            }
+            Subject::StoreOpen => {
+                "store of yo, the spare gate open; then a crash with keep | 00 | a5 and an opening"
+            }
+        }
+    }
+
+    /// How many device calls a whole run makes.
+    pub fn calls(self) -> u64 {
+        match self {
+            Subject::Format => 7,
+            Subject::StoreShut => 4,
+            Subject::StoreOpen => 6,
+        }
+    }
+
+    /// Runs until the stop. Answers what the run answered, in words, and the device.
+    pub fn run(self, alloc: Global, stop: Stop) -> io::Result<(String, MemDisk)> {
+        match self {
+            Subject::Format => run_format(alloc, stop),
+            Subject::StoreShut => run_store(alloc, fresh(alloc)?, stop, b"hi"),
+            Subject::StoreOpen => run_store(alloc, with_hi(alloc)?, stop, b"yo"),
+        }
+    }
+
+    /// What the device is opened as after the restart, in words. A format is tried again.
+    pub fn found(self, alloc: Global, mut disk: MemDisk) -> io::Result<String> {
+        disk.set_plan(FaultPlan::new(alloc));
+        let (opened, mut disk) = opened(alloc, disk)?;
+        match self {
+            Subject::Format => {
+                let again = match try_format(&mut disk) {
+                    Ok(()) => "formatted",
+                    Err(why) => why.name(),
+                };
+                Ok(format!(in alloc; "{opened}, {again}")?)
+            }
+            _ => Ok(opened),
+        }
+    }
+}
+
+fn run_format(alloc: Global, stop: Stop) -> io::Result<(String, MemDisk)> {
+    let mut disk = MemDisk::zeroed(alloc, 20_480)?;
+    disk.set_plan(stop.plan(alloc, 0)?);
+    let answer = match try_format(&mut disk) {
+        Ok(()) => "formatted",
+        Err(why) => why.name(),
+    };
+    let calls = disk.calls();
+    Ok((format!(in alloc; "{answer}, calls {calls}")?, disk))
+}
+
+fn run_store(
+    alloc: Global,
+    disk: MemDisk,
+    stop: Stop,
+    value: &[u8],
+) -> io::Result<(String, MemDisk)> {
+    let mut disk = disk;
+    // An opening makes two calls.
+    let made = disk.calls().saturating_add(2);
+    disk.set_plan(stop.plan(alloc, made)?);
+    let mut segment = match try_open(alloc, disk) {
+        Ok(segment) => segment,
+        Err((why, _)) => return Err(as_io(why)),
+    };
+    let answer = match segment.store(value) {
+        Ok(number) => format!(in alloc; "stored {number}")?,
+        Err(why) => {
+            let (number, held) = (segment.number(), name_of(segment.value()));
+            let begun = segment.begun().map_or("nothing", name_of);
+            let again = match segment.store(b"no") {
+                Ok(_) => "stored",
+                Err(why) => why.name(),
+            };
+            let why = why.name();
+            format!(in alloc; "{why} at {number} {held}, {begun} begun, {again}")?
+        }
+    };
+    let disk = segment.into_device();
+    let calls = disk.calls().saturating_sub(made);
+    Ok((format!(in alloc; "{answer}, calls {calls}")?, disk))
+}
+
+/// What an opening answers, in words: a number, a value and the spare gate, or the refusal.
+fn opened(alloc: Global, disk: MemDisk) -> io::Result<(String, MemDisk)> {
+    match try_open(alloc, disk) {
+        Ok(segment) => {
+            let (number, value) = (segment.number(), name_of(segment.value()));
+            let spare = if segment.spare_open() {
+                "open"
+            } else {
+                "closed"
+            };
+            let words = format!(in alloc; "{number} {value} {spare}")?;
+            Ok((words, segment.into_device()))
+        }
+        Err((Refusal::NoMemory, _)) => Err(as_io(Refusal::NoMemory)),
+        Err((why, disk)) => Ok((format!(in alloc; "{}", why.name())?, disk)),
+    }
+}
+
+/// A file that was just formatted.
+fn fresh(alloc: Global) -> io::Result<MemDisk> {
+    let mut disk = MemDisk::zeroed(alloc, 20_480)?;
+    try_format(&mut disk).map_err(as_io)?;
+    Ok(disk)
+}
+
+/// A file with number 1 and `hi`, behind the empty value.
+fn with_hi(alloc: Global) -> io::Result<MemDisk> {
+    let mut segment = match try_open(alloc, fresh(alloc)?) {
+        Ok(segment) => segment,
+        Err((why, _)) => return Err(as_io(why)),
+    };
+    segment.store(b"hi").map_err(as_io)?;
+    Ok(segment.into_device())
+}
+
+/// A device that can count no more failures takes no call.
+fn try_format(disk: &mut MemDisk) -> Result<(), Refusal> {
+    if disk.failures() == u64::MAX {
+        return Err(Refusal::DeviceFailed);
+    }
+    format(disk, 0, 1)
+}
+
+/// The same for an opening.
+fn try_open(alloc: Global, disk: MemDisk) -> Result<Segment<MemDisk>, (Refusal, MemDisk)> {
+    if disk.failures() == u64::MAX {
+        return Err((Refusal::DeviceFailed, disk));
+    }
+    Segment::open(alloc, disk, 0, 1)
+}
+
+/// The values of the sweep.
+fn name_of(value: &[u8]) -> &'static str {
+    match value {
+        b"" => "empty",
+        b"hi" => "hi",
+        b"yo" => "yo",
+        _ => "another",
+    }
+}
+
+fn as_io(why: Refusal) -> io::Error {
+    match why {
+        Refusal::NoMemory => ErrorKind::OutOfMemory.into(),
+        _ => ErrorKind::InvalidData.into(),
+    }
+}

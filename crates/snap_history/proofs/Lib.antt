@@ -1,0 +1,5 @@
+pub mod Moments
+pub mod Beginnings
+pub mod Lists
+pub mod Pairing
+pub mod Memories

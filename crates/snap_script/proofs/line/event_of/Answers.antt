@@ -1,0 +1,32 @@
+use Rattle.std.proofs.Common.{◌≡◌, ◌⊎◌, inl, inr, ℕ, List, subst}
+use Rattle.snap_script.specs.Words.{words_of}
+use Rattle.snap_script.specs.Line.{HasForm}
+use Rattle.snap_script.specs.declared.verb.Verb.{Verb}
+use Rattle.snap_script.specs.declared.verb.Verb.TheVariants as verb
+use Rattle.snap_world.specs.declared.event.Event.{Event}
+use Rattle.snap_script.proofs.Parts.{parts-ne-nil}
+use Rattle.snap_script.proofs.line.event_of.Goals as goal
+
+pub returns-in-Begin : goal.returns-in-Begin
+returns-in-Begin c = rw c.in-Begin.is c.begin.ensures
+
+pub returns-in-Fail : goal.returns-in-Fail
+returns-in-Fail c = rw c.in-Fail.is c.fail.ensures
+
+pub returns-in-Crash : goal.returns-in-Crash
+returns-in-Crash c = rw c.in-Crash.is c.crash.ensures
+
+pub returns-in-RestartFail : goal.returns-in-RestartFail
+returns-in-RestartFail c = rw c.in-RestartFail.is c.restart_fail.ensures
+
+pub returns-in-Look : goal.returns-in-Look
+returns-in-Look c = rw c.in-Look.is c.look.ensures
+
+-- the verbs behind which nothing stands
+bare : (v : Verb) (line : List ℕ) → (v ≡ verb.Restart) ⊎ ((v ≡ verb.RestartCall) ⊎ (v ≡ verb.Serve)) → (e : Event) → HasForm v (words_of line) e → ⊥
+bare v line (inl is) e form = parts-ne-nil 32 line (let f : HasForm verb.Restart (words_of line) e = subst (λ x. HasForm x (words_of line) e) is form in f.1)
+bare v line (inr (inl is)) e form = parts-ne-nil 32 line (let f : HasForm verb.RestartCall (words_of line) e = subst (λ x. HasForm x (words_of line) e) is form in f.1)
+bare v line (inr (inr is)) e form = parts-ne-nil 32 line (let f : HasForm verb.Serve (words_of line) e = subst (λ x. HasForm x (words_of line) e) is form in f.1)
+
+pub returns-in-Restart : goal.returns-in-Restart
+returns-in-Restart c = bare c.args.verb c.args.operands.now c.in-Restart.is

@@ -1,0 +1,53 @@
+-- What is printed.
+use Rattle.std.specs.Prelude.{ℕ, List, [], ◌∷◌, ◌++◌, map, codes}
+use Rattle.std.specs.Fmt.{decimal}
+use Rattle.hex.specs.Hex.{encode_lower}
+use Rattle.snap_world.specs.declared.event.Kind.{Kind}
+use Rattle.snap_world.specs.declared.event.Kind.TheVariants.{Close, Body, Open, Sync, Read}
+use Rattle.snap_world.specs.declared.event.Reply.{Reply}
+use Rattle.snap_world.specs.declared.event.Reply.TheVariants.{Begun, Number, Called, DeviceFailed, Shown, Stored, ScanBegun, Memory, Crashed, Restarting, NotNow}
+
+-- two hexadecimal digits for each byte, in lower case, or `-` for no byte
+abbrev pub hex_text : List ℕ → List ℕ
+hex_text [] = codes "-"
+hex_text (b ∷ bytes) = encode_lower (b ∷ bytes)
+
+-- the name of a device call
+abbrev pub kind_text : Kind → List ℕ
+kind_text Close = codes "close"
+kind_text Body = codes "body"
+kind_text Open = codes "open"
+kind_text Sync = codes "sync"
+kind_text Read = codes "read"
+
+-- each value after a space
+abbrev pub values_text : List (List ℕ) → List ℕ
+values_text [] = []
+values_text (value ∷ values) = codes " " ++ hex_text value ++ values_text values
+
+-- what a reply is printed as
+abbrev pub reply_text : Reply → List ℕ
+reply_text Begun = codes "begun"
+reply_text (Number k) = codes "number " ++ decimal k
+reply_text (Called kind) = codes "called " ++ kind_text kind
+reply_text DeviceFailed = codes "device failed"
+reply_text Shown = codes "shown"
+reply_text (Stored k) = codes "stored " ++ decimal k
+reply_text ScanBegun = codes "scanning"
+reply_text (Memory values) = codes "memory" ++ values_text (map (λ v. v.items) values.items)
+reply_text Crashed = codes "crashed"
+reply_text Restarting = codes "restarting"
+reply_text NotNow = codes "not now"
+
+-- a new world is printed as its line, the numbers without leading zeros
+abbrev pub world_text : ℕ → ℕ → List ℕ
+world_text n s = codes "world " ++ decimal n ++ codes " " ++ decimal s
+
+-- a line ends with LF
+abbrev pub line_text : List ℕ → List ℕ
+line_text text = text ++ 10 ∷ []
+
+-- a line for each reply
+abbrev pub replies_text : List Reply → List ℕ
+replies_text [] = []
+replies_text (reply ∷ replies) = line_text (reply_text reply) ++ replies_text replies

@@ -1,0 +1,50 @@
+//! What can be wrong in a line of a script.
+ghost use Rattle.std.specs.Prelude.{◌≡◌, ℕ, ◌∷◌, List};
+
+use super::verb::Verb;
+use super::words::{cut, is};
+use std::fmt;
+
+/// What is wrong in a line that can't be read. It prints as what was wanted there.
+#[derive(Clone, Copy, Debug, Drop, PartialEq, Eq)]
+pub enum LineFault {
+    /// The first line that isn't empty is no `world N S`.
+    NoWorld,
+    /// A later line begins with `world`.
+    SecondWorld,
+    /// No event's line begins with this word.
+    UnknownWord,
+    /// The words behind this verb aren't those that it takes.
+    Form(Verb),
+}
+
+impl LineFault {
+    ghost use Rattle.snap_script.specs.Fault.{IsFaultOf};
+
+    /// What is wrong in a line behind the first that is no event's.
+    pub(crate) fn of(line: &[u8]) -> LineFault
+        ensures { IsFaultOf line.now result }
+    {
+        let (word, _) = cut(line, b' ');
+        if is(word, "world") {
+            return LineFault::SecondWorld;
+        }
+        match Verb::named(word) {
+            Some(verb) => LineFault::Form(verb),
+            None => LineFault::UnknownWord,
+        }
+    }
+}
+
+impl fmt::Display for LineFault {
+    fn fmt<W: fmt::Write>(&self, f: &mut fmt::Formatter<W>) -> fmt::Result {
+        match self {
+            LineFault::NoWorld => f.write_str(
+                "the first line has to be `world N S`, with N and S from 1 to 16",
+            ),
+            LineFault::SecondWorld => f.write_str("only the first line is `world N S`"),
+            LineFault::UnknownWord => f.write_str("no event begins with this word"),
+            LineFault::Form(verb) => write!(f, "expected `{}`", verb.form()),
+        }
+    }
+}

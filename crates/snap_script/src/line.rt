@@ -1,0 +1,179 @@
+//! The lines of a script, read.
+ghost use Rattle.std.specs.Prelude.{ℕ, ◌≤◌, [], MatchOption, IfOk};
+ghost use Rattle.snap_script.specs.Words.{Finds, words_of, IsNumber};
+ghost use Rattle.snap_script.specs.Line.{IsWorldLine, IsEventLine, IsActor, TakesNumber, HasForm};
+
+use super::verb::Verb;
+use super::words::{bytes, cut, fill, is, number, one_part, two_parts};
+use snap_world::{Actor, Event};
+use std::alloc::{AllocError, Global};
+
+/// How many segments and scanners the world of this line has.
+pub(crate) fn world_line(line: &[u8]) -> Option<(usize, usize)>
+    ensures { MatchOption result ((n s : ℕ) → IsWorldLine line.now n s → ⊥)
+        (λ world. IsWorldLine line.now world.0 world.1) }
+{
+    let (word, rest) = cut(line, b' ');
+    if !is(word, "world") {
+        return None;
+    }
+    let (segments, scanners) = two_parts(rest?, b' ')?;
+    let segments = small_number(segments)?;
+    let scanners = small_number(scanners)?;
+    Some((segments, scanners))
+}
+
+/// A number from 1 to 16.
+fn small_number(word: &[u8]) -> Option<usize>
+    ensures { Finds result (λ n. IsNumber word.now n × (1 ≤ n) × (n ≤ 16)) }
+{
+    let number = number(word)?;
+    if number == 0 || number > 16 {
+        return None;
+    }
+    Some(number as usize)
+}
+
+/// The event of this line.
+pub(crate) fn event_line(alloc: Global, line: &[u8]) -> Result<Option<Event>, AllocError>
+    ensures { IfOk result (λ found. Finds found (IsEventLine line.now)) }
+{
+    let (word, rest) = cut(line, b' ');
+    let Some(verb) = Verb::named(word) else {
+        return Ok(None);
+    };
+    match rest {
+        Some(operands) => event_of(alloc, verb, operands),
+        None => Ok(bare_event(verb)),
+    }
+}
+
+/// The event of a verb that nothing follows.
+fn bare_event(verb: Verb) -> Option<Event>
+    ensures { Finds result (HasForm verb []) }
+{
+    match verb {
+        Verb::Restart => Some(Event::Restart),
+        Verb::RestartCall => Some(Event::RestartCall),
+        Verb::Serve => Some(Event::Serve),
+        _ => None,
+    }
+}
+
+/// The event of a verb and the words behind it.
+fn event_of(alloc: Global, verb: Verb, operands: &[u8]) -> Result<Option<Event>, AllocError>
+    ensures { IfOk result (λ found. Finds found (HasForm verb (words_of operands.now))) }
+{
+    match verb {
+        Verb::Begin => begin(alloc, operands),
+        Verb::Fail => fail(alloc, operands),
+        Verb::Crash => crash(alloc, operands),
+        Verb::RestartFail => restart_fail(alloc, operands),
+        Verb::Look => Ok(look(operands)),
+        Verb::Call | Verb::Show | Verb::Acknowledge | Verb::Scan | Verb::Answer => {
+            Ok(event_at(verb, operands))
+        }
+        Verb::Restart | Verb::RestartCall | Verb::Serve => Ok(None),
+    }
+}
+
+/// `begin W HEX`
+fn begin(alloc: Global, operands: &[u8]) -> Result<Option<Event>, AllocError>
+    ensures { IfOk result (λ found. Finds found (HasForm Verb.Begin (words_of operands.now))) }
+{
+    let Some((segment, digits)) = two_parts(operands, b' ') else {
+        return Ok(None);
+    };
+    let Some(segment) = number(segment) else {
+        return Ok(None);
+    };
+    match bytes(alloc, digits)? {
+        Some(value) => Ok(Some(Event::Begin(segment as usize, value))),
+        None => Ok(None),
+    }
+}
+
+/// `fail W FILL`
+fn fail(alloc: Global, operands: &[u8]) -> Result<Option<Event>, AllocError>
+    ensures { IfOk result (λ found. Finds found (HasForm Verb.Fail (words_of operands.now))) }
+{
+    let Some((segment, word)) = two_parts(operands, b' ') else {
+        return Ok(None);
+    };
+    let Some(segment) = number(segment) else {
+        return Ok(None);
+    };
+    match fill(alloc, word)? {
+        Some(fill) => Ok(Some(Event::Fail(segment as usize, fill))),
+        None => Ok(None),
+    }
+}
+
+/// `refail FILL`
+fn restart_fail(alloc: Global, operands: &[u8]) -> Result<Option<Event>, AllocError>
+    ensures { IfOk result
+        (λ found. Finds found (HasForm Verb.RestartFail (words_of operands.now))) }
+{
+    let Some(word) = one_part(operands, b' ') else {
+        return Ok(None);
+    };
+    match fill(alloc, word)? {
+        Some(fill) => Ok(Some(Event::RestartFail(fill))),
+        None => Ok(None),
+    }
+}
+
+/// `crash FILL ..`
+fn crash(alloc: Global, operands: &[u8]) -> Result<Option<Event>, AllocError>
+    ensures { IfOk result (λ found. Finds found (HasForm Verb.Crash (words_of operands.now))) }
+{
+    let mut fills = Vec::new(alloc);
+    let mut rest = Some(operands);
+    while let Some(text) = rest {
+        let (word, behind) = cut(text, b' ');
+        match fill(alloc, word)? {
+            Some(fill) => fills.push(fill)?,
+            None => return Ok(None),
+        }
+        rest = behind;
+    }
+    Ok(Some(Event::Crash(fills)))
+}
+
+/// `look wW` or `look sS`
+fn look(operands: &[u8]) -> Option<Event>
+    ensures { Finds result (HasForm Verb.Look (words_of operands.now)) }
+{
+    let word = one_part(operands, b' ')?;
+    Some(Event::Look(actor(word)?))
+}
+
+/// `wW` or `sS`
+fn actor(word: &[u8]) -> Option<Actor>
+    ensures { Finds result (IsActor word.now) }
+{
+    let (kind, digits) = word.split_first()?;
+    let place = number(digits)?;
+    match *kind {
+        b'w' => Some(Actor::Writer(place as usize)),
+        b's' => Some(Actor::Scanner(place as usize)),
+        _ => None,
+    }
+}
+
+/// `call W`, `show W`, `ack W`, `scan S` or `answer S`
+fn event_at(verb: Verb, operands: &[u8]) -> Option<Event>
+    requires { TakesNumber verb }
+    ensures { Finds result (HasForm verb (words_of operands.now)) }
+{
+    let word = one_part(operands, b' ')?;
+    let place = number(word)? as usize;
+    match verb {
+        Verb::Call => Some(Event::Call(place)),
+        Verb::Show => Some(Event::Show(place)),
+        Verb::Acknowledge => Some(Event::Acknowledge(place)),
+        Verb::Scan => Some(Event::Scan(place)),
+        Verb::Answer => Some(Event::Answer(place)),
+        _ => None,
+    }
+}

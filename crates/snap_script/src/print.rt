@@ -1,0 +1,121 @@
+//! The text of replies.
+ghost use Rattle.std.specs.Prelude.{◌≡◌, ◌≤◌, ◌++◌, length, map, codes, OnOk};
+ghost use Rattle.std.specs.Fmt.{decimal};
+ghost use Rattle.hex.specs.Hex.{encode_lower};
+ghost use Rattle.snap_script.specs.Text.{hex_text, kind_text, values_text, reply_text, world_text, line_text};
+
+use itoa::Buffer;
+use snap_world::{Kind, Reply};
+use std::alloc::AllocError;
+
+/// Appends the line that a reply is printed as.
+pub(crate) fn print_reply(out: &mut Vec<u8>, reply: &Reply) -> Result<(), AllocError>
+    ensures { OnOk result (out.new.items ≡ out.old.items ++ line_text (reply_text reply.now)) }
+{
+    match reply {
+        Reply::Begun => put(out, b"begun\n"),
+        Reply::Number(number) => put_number(out, b"number ", *number),
+        Reply::Called(kind) => put_kind(out, *kind),
+        Reply::DeviceFailed => put(out, b"device failed\n"),
+        Reply::Shown => put(out, b"shown\n"),
+        Reply::Stored(number) => put_number(out, b"stored ", *number),
+        Reply::ScanBegun => put(out, b"scanning\n"),
+        Reply::Memory(values) => put_memory(out, values),
+        Reply::Crashed => put(out, b"crashed\n"),
+        Reply::Restarting => put(out, b"restarting\n"),
+        Reply::NotNow => put(out, b"not now\n"),
+    }
+}
+
+/// Appends the line of a new world.
+pub(crate) fn print_world(
+    out: &mut Vec<u8>,
+    segments: usize,
+    scanners: usize,
+) -> Result<(), AllocError>
+    ensures { OnOk result (out.new.items
+        ≡ out.old.items ++ line_text (world_text segments scanners)) }
+{
+    let mut digits = Buffer::new();
+    put(out, b"world ")?;
+    put(out, digits.format(segments).as_bytes())?;
+    put(out, b" ")?;
+    put(out, digits.format(scanners).as_bytes())?;
+    put(out, b"\n")
+}
+
+/// Appends these bytes.
+fn put(out: &mut Vec<u8>, text: &[u8]) -> Result<(), AllocError>
+    ensures { OnOk result (out.new.items ≡ out.old.items ++ text.now) }
+{
+    out.extend_from_slice(text)
+}
+
+/// Appends a line of this text and a number.
+fn put_number(out: &mut Vec<u8>, text: &[u8], number: u64) -> Result<(), AllocError>
+    ensures { OnOk result (out.new.items
+        ≡ out.old.items ++ line_text (text.now ++ decimal number)) }
+{
+    let mut digits = Buffer::new();
+    put(out, text)?;
+    put(out, digits.format(number).as_bytes())?;
+    put(out, b"\n")
+}
+
+/// Appends the line of a device call.
+fn put_kind(out: &mut Vec<u8>, kind: Kind) -> Result<(), AllocError>
+    ensures { OnOk result (out.new.items
+        ≡ out.old.items ++ line_text (codes "called " ++ kind_text kind)) }
+{
+    match kind {
+        Kind::Close => put(out, b"called close\n"),
+        Kind::Body => put(out, b"called body\n"),
+        Kind::Open => put(out, b"called open\n"),
+        Kind::Sync => put(out, b"called sync\n"),
+        Kind::Read => put(out, b"called read\n"),
+    }
+}
+
+/// Appends the line of a memory.
+fn put_memory(out: &mut Vec<u8>, values: &[Vec<u8>]) -> Result<(), AllocError>
+    ensures { OnOk result (out.new.items ≡ out.old.items
+        ++ line_text (codes "memory" ++ values_text (map (λ v. v.items) values.now))) }
+{
+    put(out, b"memory")?;
+    for value in values {
+        put(out, b" ")?;
+        put_hex(out, value)?;
+    }
+    put(out, b"\n")
+}
+
+/// How many bytes [`put_hex`] turns into digits at a time.
+const PIECE: usize = 64;
+
+/// Appends a value's digits.
+fn put_hex(out: &mut Vec<u8>, bytes: &[u8]) -> Result<(), AllocError>
+    ensures { OnOk result (out.new.items ≡ out.old.items ++ hex_text bytes.now) }
+{
+    if bytes.is_empty() {
+        return put(out, b"-");
+    }
+    let mut rest = bytes;
+    while !rest.is_empty() {
+        let (piece, behind) = rest.split_at(rest.len().min(PIECE));
+        put_piece(out, piece)?;
+        rest = behind;
+    }
+    Ok(())
+}
+
+/// Appends the digits of a piece.
+fn put_piece(out: &mut Vec<u8>, piece: &[u8]) -> Result<(), AllocError>
+    requires { length piece.now ≤ 64 }
+    ensures { OnOk result (out.new.items ≡ out.old.items ++ encode_lower piece.now) }
+{
+    let mut digits = [0; 2 * PIECE];
+    let digits = &mut digits[..2 * piece.len()];
+    // They have the length that is asked for, so this is never refused.
+    let _ = hex::encode_to_slice(piece, &mut *digits);
+    put(out, digits)
+}

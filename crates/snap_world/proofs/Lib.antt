@@ -1,0 +1,9 @@
+pub mod Collecting
+pub mod Looking
+pub mod Moves
+pub mod Runs
+pub mod Starting
+pub mod Phasing
+pub mod Ending
+pub mod LookingOn
+pub mod Sizes

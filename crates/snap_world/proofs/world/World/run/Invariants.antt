@@ -1,0 +1,11 @@
+use Rattle.std.proofs.Common.{◌≡◌, ◌≤◌, length, take}
+use Rattle.std.specs.Prelude.{vec_len, vec_capacity}
+use Rattle.snap_world.specs.Surface.{IsRun}
+use Rattle.snap_world.proofs.world.World.run.Given as goal
+
+abbrev pub invariant-loop-done : goal.invariant-loop-done
+invariant-loop-done l = record {
+  run : IsRun l.fn.self (take l.done l.events) l.replies.items l.self;
+  count : vec_len l.replies ≡ l.done;
+  room : length l.events ≤ vec_capacity l.replies;
+}

@@ -1,0 +1,21 @@
+use Rattle.std.proofs.Common.{◌≡◌, Ok, Err, IfOk, OnErr, sym, subst}
+use Rattle.std.proofs.Math.Logic.{∥∥₁_map}
+use Rattle.snap_world.specs.Stands.{Stand}
+use Rattle.snap_world.specs.Steps.{IsPartsStep}
+use Rattle.snap_world.proofs.Runs.{IsRun-step}
+use Rattle.snap_world.proofs.world.World.step.Goals as goal
+
+pub invariant_of-self : goal.invariant_of-self
+invariant_of-self c =
+    let old = c.args.self.now.parts in
+    let new = c.step.new.self in
+    let was : Stand old = c.args.self.now.stands in
+    record {
+      stands = elim c.step.result as (λ r. IfOk r (λ reply. IsPartsStep old c.args.event.now reply new) → OnErr r (new ≡ old) → Stand new) [
+        | Ok reply ↦ (λ s e. ∥∥₁_map was (λ q. (let y = s.step q.0 q.1 in (y.0, y.2))))
+        | Err error ↦ (λ s e. subst Stand (sym e) was)
+      ] c.step.ensures.step c.step.ensures.err;
+    }
+
+pub returns-clause-run : goal.returns-clause-run
+returns-clause-run c = IsRun-step c.args.self.now _ c.args.event.now c.step.result c.step.ensures.step

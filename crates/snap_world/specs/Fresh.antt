@@ -1,0 +1,24 @@
+-- The parts of a new world.
+use Rattle.std.specs.Prelude.{◌≡◌, ℕ, List, [], length, slice_get, Some}
+use Rattle.snap_world.specs.declared.register.Register.{Register}
+use Rattle.snap_world.specs.declared.writer.Writer.{Writer}
+use Rattle.snap_world.specs.declared.writer.WriterPhase.TheVariants as writer
+use Rattle.snap_world.specs.declared.scanner.Scanner.{Scanner}
+use Rattle.snap_world.specs.declared.scanner.ScannerPhase.TheVariants as scanner
+
+-- a fact at each element
+abbrev pub Each : {A : Type 0} → (A → Type 0) → List A → Type 0
+Each {A} P xs = (i : ℕ) (x : A) → slice_get xs i ≡ Some x → P x
+
+pub record IsFreshRegister (n : ℕ) (r : Register) : Type 0 where
+  pub number : r.number ≡ 0
+  pub value : r.value ≡ []
+  pub size : length r.view.items ≡ n
+
+pub record IsFreshWriter (n : ℕ) (w : Writer) : Type 0 where
+  pub phase : w.phase ≡ writer.Idle
+  pub size : length w.collector.memory.items ≡ n
+
+pub record IsFreshScanner (n : ℕ) (c : Scanner) : Type 0 where
+  pub phase : c.phase ≡ scanner.Idle
+  pub size : length c.collector.memory.items ≡ n

@@ -1,0 +1,10 @@
+pub mod Answers
+pub mod Machine
+pub mod Phases
+pub mod Runs
+pub mod Start
+pub mod Gathers
+pub mod Stands
+pub mod Steps
+pub mod Surface
+pub mod Fresh

@@ -1,0 +1,67 @@
+-- Which abstract states the parts of a world stand for. They store no history.
+use Rattle.std.specs.Prelude.{◌≡◌, ℕ, ◌+◌, ◌^◌, ◌<◌, ◌≤◌, false, List, length}
+use Rattle.snap_history.specs.History.{Update, from_nothing, number_after}
+use Rattle.snap_history.specs.Pairs.{Pairs}
+use Rattle.snap_world.specs.Answers.{IsAnswer, number_at}
+use Rattle.snap_world.specs.Gathers.{Gathers, IsUnderWay, RegistersStand}
+use Rattle.snap_world.specs.Machine.{State, WriterState, ScannerState, Free, Begun, Shown, Closed, Opened}
+use Rattle.snap_world.specs.declared.parts.Parts.{Parts}
+use Rattle.snap_world.specs.declared.writer.Writer.{Writer}
+use Rattle.snap_world.specs.declared.writer.WriterPhase.{WriterPhase}
+use Rattle.snap_world.specs.declared.writer.WriterPhase.TheVariants as writer
+use Rattle.snap_world.specs.declared.scanner.Scanner.{Scanner}
+use Rattle.snap_world.specs.declared.scanner.ScannerPhase.{ScannerPhase}
+use Rattle.snap_world.specs.declared.scanner.ScannerPhase.TheVariants as scanner
+
+-- the writer has begun an update of segment i with its value. Its embedded scan began at moment b,
+-- after the segment's update before. History h is that of the parts, and g the length that it had when
+-- the node last began to serve
+pub record HasBegun (n : ℕ) (h : List Update) (g i : ℕ) (w : Writer) (s : WriterState) : Type 0 where
+  pub b : ℕ
+  pub e : ℕ
+  pub born : g ≤ b
+  pub pending : s.pending ≡ Begun w.value
+  pub room : number_after from_nothing h i + 1 < 2 ^ 63
+  pub own : number_at h b i ≡ number_after from_nothing h i
+  pub gathers : Gathers n h b e s.told w.collector
+
+abbrev pub IsAtPhase : ℕ → List Update → ℕ → ℕ → Writer → WriterState → WriterPhase → Type 0
+IsAtPhase n h g i w s writer.Idle = s.pending ≡ Free
+IsAtPhase n h g i w s writer.Scanning = HasBegun n h g i w s × IsUnderWay w.collector
+IsAtPhase n h g i w s writer.Stored =
+    (begun : HasBegun n h g i w s) × IsAnswer n h begun.b begun.e s.told w.collector.memory.items
+IsAtPhase n h g i w s writer.Shown = (v : List ℕ) × (s.pending ≡ Shown v)
+
+pub record WriterStands (n : ℕ) (h : List Update) (g i : ℕ) (w : Writer) (s : WriterState) : Type 0 where
+  pub size : length w.collector.memory.items ≡ n
+  pub fenced : s.fenced ≡ false
+  pub phase : IsAtPhase n h g i w s w.phase
+
+abbrev pub IsScannerAt : ℕ → List Update → ℕ → Scanner → ScannerState → ScannerPhase → Type 0
+IsScannerAt n h g c s scanner.Idle = s ≡ Closed
+IsScannerAt n h g c s scanner.Scanning =
+    (b e : ℕ) × (told : List ℕ) × (s ≡ Opened b e told) × (g ≤ b)
+    × Gathers n h b e told c.collector × IsUnderWay c.collector
+IsScannerAt n h g c s scanner.Ready =
+    (b e : ℕ) × (told : List ℕ) × (s ≡ Opened b e told) × (e ≤ length h)
+    × IsAnswer n h b e told c.collector.memory.items
+
+pub record ScannerStands (n : ℕ) (h : List Update) (g i : ℕ) (c : Scanner) (s : ScannerState) : Type 0 where
+  pub size : length c.collector.memory.items ≡ n
+  pub phase : IsScannerAt n h g c s c.phase
+
+-- the parts stand for this state
+pub record PartsStand (w : Parts) (x : State) : Type 0 where
+  pub least : 0 < w.segments
+  pub most : w.segments ≤ 16
+  -- the length of the history when the node last began to serve
+  pub since : ℕ
+  pub within : since ≤ length x.history
+  pub registers : RegistersStand w.segments x.history since w.registers.items
+  pub writers_n : length w.writers.items ≡ w.segments
+  pub writers : Pairs (WriterStands w.segments x.history since) w.writers.items x.writers
+  pub scanners : Pairs (ScannerStands w.segments x.history since) w.scanners.items x.scanners
+
+-- the parts stand for some state
+abbrev pub Stand : Parts → Type 0
+Stand w = ∥ ((x : State) × PartsStand w x) ∥₁

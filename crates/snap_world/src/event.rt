@@ -1,0 +1,90 @@
+//! What may happen in a world, and what it answers.
+use snap_disk::Fill;
+
+/// Who looks.
+#[derive(Clone, Copy, Debug, Drop, PartialEq, Eq)]
+pub enum Actor {
+    /// The writer of this segment, in the scan that is embedded in its update.
+    Writer(usize),
+    /// This scanner.
+    Scanner(usize),
+}
+
+/// A device call.
+#[derive(Clone, Copy, Debug, Drop, PartialEq, Eq)]
+pub enum Kind {
+    /// The write that closes the gate of the spare slot.
+    Close,
+    /// The write of the spare slot's body.
+    Body,
+    /// The write that opens the gate of the spare slot.
+    Open,
+    /// A sync.
+    Sync,
+    /// The read of the whole file, when it is opened.
+    Read,
+}
+
+/// One step of a world. Segments and scanners are counted from 0. Each variant says what a world
+/// answers where the event may come; where it may not, the answer is [`Reply::NotNow`].
+#[derive(Debug, Drop, PartialEq, Eq)]
+pub enum Event {
+    /// The writer of this segment, which is idle, begins an update by these bytes, at most 4,080:
+    /// `Begun`. Its number has to be below 2^63 - 1.
+    Begin(usize, Vec<u8>),
+    /// The actor's scan looks at the register whose turn it is: `Number`, that register's number.
+    Look(Actor),
+    /// The next device call of this segment's store succeeds. A world without devices has none to
+    /// make.
+    Call(usize),
+    /// The next device call of this segment's store fails, and the touched places get this fill. A
+    /// world without devices has none to make.
+    Fail(usize, Fill),
+    /// The writer of this segment, whose update is stored, publishes it: `Shown`.
+    Show(usize),
+    /// The writer of this segment, whose update is shown, is idle again: `Stored`, with its number.
+    Acknowledge(usize),
+    /// This scanner, which is idle, begins a scan: `ScanBegun`.
+    Scan(usize),
+    /// This scanner, whose scan has its answer, gives it and is idle again: `Memory`.
+    Answer(usize),
+    /// Each device crashes, and its open places get its fill. A world without devices has none.
+    Crash(Vec<Fill>),
+    /// A restart begins. A world without devices is never down.
+    Restart,
+    /// The next device call of the restart succeeds. A world without devices is never restarting.
+    RestartCall,
+    /// The next device call of the restart fails, with this fill. A world without devices is never
+    /// restarting.
+    RestartFail(Fill),
+    /// The restart ends, and the recovered memory is served. A world without devices is never
+    /// restarting.
+    Serve,
+}
+
+/// What a world answers to an event.
+#[derive(Debug, Drop, PartialEq, Eq)]
+pub enum Reply {
+    /// The update has begun.
+    Begun,
+    /// The number of the register that was looked at.
+    Number(u64),
+    /// The device call of this kind was made.
+    Called(Kind),
+    /// The device call failed.
+    DeviceFailed,
+    /// The update is visible.
+    Shown,
+    /// The update's number.
+    Stored(u64),
+    /// The scan has begun.
+    ScanBegun,
+    /// The value of each segment, in order.
+    Memory(Vec<Vec<u8>>),
+    /// The devices crashed.
+    Crashed,
+    /// The restart has begun.
+    Restarting,
+    /// The event may not come now, and nothing has changed.
+    NotNow,
+}

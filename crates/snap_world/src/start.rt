@@ -1,0 +1,89 @@
+//! The parts of a new world: nothing was shown, nobody is at work.
+ghost use Rattle.std.specs.Prelude.{◌≡◌, ℕ, ◌<◌, ◌≤◌, length, IfOk};
+ghost use Rattle.snap_world.specs.Fresh.{IsFreshRegister, IsFreshWriter, IsFreshScanner, Each};
+
+use super::collector::Collector;
+use super::register::Register;
+use super::scanner::{Scanner, ScannerPhase};
+use super::value::Value;
+use super::writer::{Writer, WriterPhase};
+use snap_scan::Scan;
+use std::alloc::{AllocError, Global};
+
+/// A memory of empty values.
+fn blank(alloc: Global, segments: usize) -> Result<Vec<Value>, AllocError>
+    ensures { IfOk result (λ v. length v.items ≡ segments) }
+{
+    let mut values = Vec::new(alloc);
+    for i in 0..segments {
+        values.push(Value::new())?;
+    }
+    Ok(values)
+}
+
+/// A place for a scan, which has not begun.
+fn new_collector(alloc: Global, segments: usize) -> Result<Collector, AllocError>
+    requires least { 0 < segments }
+    requires most { segments ≤ 16 }
+    ensures { IfOk result (λ c. length c.memory.items ≡ segments) }
+{
+    Ok(Collector {
+        scan: Scan::new(segments),
+        memory: blank(alloc, segments)?,
+    })
+}
+
+/// The register of each segment.
+pub fn new_registers(alloc: Global, segments: usize) -> Result<Vec<Register>, AllocError>
+    ensures { IfOk result (λ v. (length v.items ≡ segments) × Each (IsFreshRegister segments) v.items) }
+{
+    let mut registers = Vec::new(alloc);
+    for i in 0..segments {
+        let view = blank(alloc, segments)?;
+        registers.push(Register {
+            number: 0,
+            value: Value::new(),
+            view,
+        })?;
+    }
+    Ok(registers)
+}
+
+/// The writer of each segment.
+pub fn new_writers(alloc: Global, segments: usize) -> Result<Vec<Writer>, AllocError>
+    requires least { 0 < segments }
+    requires most { segments ≤ 16 }
+    ensures { IfOk result (λ v. (length v.items ≡ segments) × Each (IsFreshWriter segments) v.items) }
+{
+    let mut writers = Vec::new(alloc);
+    for i in 0..segments {
+        let collector = new_collector(alloc, segments)?;
+        writers.push(Writer {
+            phase: WriterPhase::Idle,
+            value: Value::new(),
+            collector,
+        })?;
+    }
+    Ok(writers)
+}
+
+/// This many scanners.
+pub fn new_scanners(
+    alloc: Global,
+    segments: usize,
+    count: usize,
+) -> Result<Vec<Scanner>, AllocError>
+    requires least { 0 < segments }
+    requires most { segments ≤ 16 }
+    ensures { IfOk result (λ v. (length v.items ≡ count) × Each (IsFreshScanner segments) v.items) }
+{
+    let mut scanners = Vec::new(alloc);
+    for i in 0..count {
+        let collector = new_collector(alloc, segments)?;
+        scanners.push(Scanner {
+            phase: ScannerPhase::Idle,
+            collector,
+        })?;
+    }
+    Ok(scanners)
+}

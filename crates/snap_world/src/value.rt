@@ -1,0 +1,58 @@
+//! A value in a place of its own, so that no copy of one takes memory.
+ghost use Rattle.std.specs.Prelude.{◌≡◌, ℕ, ◌<◌, ◌≤◌, List, [], length, take, IfOk};
+
+use std::alloc::{AllocError, Global};
+use std::marker::Model;
+
+/// The most bytes that a value has.
+pub const LONGEST: usize = 4080;
+
+/// A value: a list of at most 4,080 bytes.
+#[derive(Drop)]
+pub struct Value {
+    bytes: [u8; LONGEST],
+    len: usize,
+}
+
+impl Model for Value {
+    ghost Value = { List ℕ };
+
+    ghost view = { λ v. take v.len v.bytes };
+
+    ghost invariant = { λ v. v.len ≤ 4080 };
+}
+
+impl Value {
+    /// The empty value.
+    pub fn new() -> Value
+        ensures { result ≡ [] }
+    {
+        Value {
+            bytes: [0; LONGEST],
+            len: 0,
+        }
+    }
+
+    /// Becomes these bytes.
+    pub fn set(&mut self, bytes: &[u8])
+        requires { length bytes.now ≤ 4080 }
+        ensures { self.new ≡ bytes.now }
+    {
+        self.bytes[..bytes.len()].copy_from_slice(bytes);
+        self.len = bytes.len();
+    }
+
+    /// Becomes the other value.
+    pub fn copy_from(&mut self, other: &Value)
+        ensures { self.new ≡ other.now }
+    {
+        self.set(&other.bytes[..other.len]);
+    }
+
+    /// The bytes in a vector of their own.
+    pub fn to_vec(&self, alloc: Global) -> Result<Vec<u8>, AllocError>
+        ensures { IfOk result (λ v. v.items ≡ self.now) }
+    {
+        self.bytes[..self.len].to_vec(alloc)
+    }
+}

@@ -1,0 +1,131 @@
+//! The writers: what each event of a writer does.
+ghost use Rattle.std.specs.Prelude.{◌≡◌, ◌≤◌, ◌<◌};
+ghost use Rattle.snap_world.specs.Stands.{Stand};
+ghost use Rattle.snap_world.specs.Steps.{IsPartsStep};
+ghost use Rattle.snap_world.specs.declared.event.Actor.{Actor};
+ghost use Rattle.snap_world.specs.declared.event.Event.{Event};
+
+use super::collector::{Collector, copy_all};
+use super::event::Reply;
+use super::parts::Parts;
+use super::value::{LONGEST, Value};
+use snap_scan::{Next, Scan};
+
+/// How far a writer is with its update.
+#[derive(Clone, Copy, Debug, Drop, PartialEq, Eq)]
+pub enum WriterPhase {
+    /// It has no update.
+    Idle,
+    /// The scan that is embedded in its update has a look to make.
+    Scanning,
+    /// Its update may be published.
+    Stored,
+    /// Its update is visible, and not acknowledged yet.
+    Shown,
+}
+
+/// The writer of one segment, with the value of its update and the embedded scan.
+#[derive(Drop)]
+pub struct Writer {
+    pub phase: WriterPhase,
+    pub value: Value,
+    pub collector: Collector,
+}
+
+/// The greatest number of a segment.
+const LAST_NUMBER: u64 = 9_223_372_036_854_775_807;
+
+impl Parts {
+    /// A writer begins an update.
+    pub fn begin(&mut self, segment: usize, value: &Vec<u8>) -> Reply
+        requires stands { Stand self.old }
+        ensures step { IsPartsStep self.old (Event.Begin segment value.now) result self.new }
+    {
+        if segment >= self.segments || value.len() > LONGEST {
+            return Reply::NotNow;
+        }
+        if self.registers[segment].number >= LAST_NUMBER {
+            return Reply::NotNow;
+        }
+        match self.writers[segment].phase {
+            WriterPhase::Idle => {
+                let writer = &mut self.writers[segment];
+                writer.value.set(value);
+                writer.collector.scan = Scan::new(self.segments);
+                writer.phase = WriterPhase::Scanning;
+                Reply::Begun
+            }
+            _ => Reply::NotNow,
+        }
+    }
+
+    /// A writer's embedded scan looks once. Without devices its update is stored as soon as the
+    /// scan has its answer.
+    pub fn look_writer(&mut self, segment: usize) -> Reply
+        requires stands { Stand self.old }
+        ensures step { IsPartsStep self.old (Event.Look (Actor.Writer segment)) result self.new }
+    {
+        if segment >= self.segments {
+            return Reply::NotNow;
+        }
+        match self.writers[segment].phase {
+            WriterPhase::Scanning => {}
+            _ => return Reply::NotNow,
+        }
+        match self.writers[segment].collector.scan.next() {
+            Next::Look(turn) => {
+                let writer = &mut self.writers[segment];
+                let number = writer.collector.look(turn, &self.registers);
+                match writer.collector.scan.next() {
+                    Next::Look(_) => Reply::Number(number),
+                    _ => {
+                        writer.phase = WriterPhase::Stored;
+                        Reply::Number(number)
+                    }
+                }
+            }
+            // It never comes here: the scan of a writer in this phase has a look to make.
+            _ => Reply::NotNow,
+        }
+    }
+
+    /// A writer publishes its update: the next number, its value, and the answer of the embedded
+    /// scan.
+    pub fn show(&mut self, segment: usize) -> Reply
+        requires stands { Stand self.old }
+        ensures step { IsPartsStep self.old (Event.Show segment) result self.new }
+    {
+        if segment >= self.segments {
+            return Reply::NotNow;
+        }
+        match self.writers[segment].phase {
+            WriterPhase::Stored => {
+                let register = &mut self.registers[segment];
+                let writer = &mut self.writers[segment];
+                register.number += 1;
+                register.value.copy_from(&writer.value);
+                copy_all(&mut register.view, &writer.collector.memory);
+                writer.phase = WriterPhase::Shown;
+                Reply::Shown
+            }
+            _ => Reply::NotNow,
+        }
+    }
+
+    /// A writer's update is acknowledged.
+    pub fn acknowledge(&mut self, segment: usize) -> Reply
+        requires stands { Stand self.old }
+        ensures step { IsPartsStep self.old (Event.Acknowledge segment) result self.new }
+    {
+        if segment >= self.segments {
+            return Reply::NotNow;
+        }
+        match self.writers[segment].phase {
+            WriterPhase::Shown => {
+                self.writers[segment].phase = WriterPhase::Idle;
+                Reply::Stored(self.registers[segment].number)
+            }
+            _ => Reply::NotNow,
+        }
+    }
+}

@@ -1,0 +1,5 @@
+pub mod Asked
+pub mod Known
+pub mod Played
+pub mod Refused
+pub mod Stored

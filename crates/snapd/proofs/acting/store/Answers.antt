@@ -1,0 +1,65 @@
+use Rattle.std.proofs.Common.{rules, arith, ◌+◌, sym, ap, subst, Err, ℕ}
+use Rattle.std.specs.Io.KnownBytes.{Appends}
+use Rattle.std.proofs.KnownBytes.{Keeps-refl}
+use Rattle.snap_slot.specs.Layout.{Holds}
+use Rattle.snapd.specs.Commands.{IsStored, stored_line}
+use Rattle.snapd.specs.Streams.{AppendsBeginning}
+use Rattle.snapd.proofs.Refused.{refused_store, refused_open, not_fenced}
+use Rattle.snapd.proofs.Stored.{stored}
+use Rattle.snapd.proofs.acting.store.Goals as goal
+
+pub returns-in-Err-clause-ends : goal.returns-in-Err-clause-ends
+returns-in-Err-clause-ends g c =
+    let device = g.D.Disk.device in
+    let out = g.W.Write.contents c.args.writer.now in
+    refused_open (g.D.Disk.is_honest c.in-Err.disk) c.args.index c.args.count c.args.value.now (device c.args.disk) (device c.in-Err.disk) out out c.in-Err.why c.in-Err.ensures.refusals c.in-Err.ensures.refused (Keeps-refl out)
+
+pub returns-in-Err-store-clause-ends : goal.returns-in-Err-store-clause-ends
+returns-in-Err-store-clause-ends g c =
+    let device = g.D.Disk.device in
+    let out = g.W.Write.contents c.args.writer.now in
+    let segment = c.in-Ok.segment in
+    let opened = c.in-Ok.ensures in
+    let answer = c.in-Err-store.ensures in
+    let back = c.into_device-in-Err-store in
+    refused_store (g.D.Disk.is_honest back.result) c.args.index c.args.count c.args.value.now (device c.args.disk) (device back.result) out out c.in-Err-store.why answer.refusals
+    (λ e. let long = answer.too_long.0 (ap Err e) in omega (arith, long, c.requires.fits))
+    (λ e. not_fenced segment.begun opened.opened.2 (answer.fenced.0 (ap Err e)).1)
+    (λ e honest.
+    let holds = opened.holds (answer.honest (subst g.D.Disk.is_honest back.ensures honest)) in
+    (holds.0, (segment.value, subst (λ (k : ℕ). Holds (device c.args.disk).bytes k segment.value) (answer.exhausted.0 (ap Err e)).2 holds.1)))
+    (Keeps-refl out)
+
+pub returns-in-Ok-write_whole-clause-ends : goal.returns-in-Ok-write_whole-clause-ends
+returns-in-Ok-write_whole-clause-ends g c =
+    let device = g.D.Disk.device in
+    let segment = c.in-Ok.segment in
+    let opened = c.in-Ok.ensures in
+    let answer = c.in-Ok-store.ensures in
+    let back = c.into_device-disk in (
+      segment.number,
+      search rules,
+      (λ honest.
+          let is_honest = subst g.D.Disk.is_honest back.ensures honest in
+          let holds = opened.holds (answer.honest is_honest) in
+          subst (λ (d : g.row.D.Denot). IsStored c.args.index c.args.count segment.number c.args.value.now (device c.args.disk) (device d)) (sym back.ensures)
+          (stored c.args.index c.args.count segment.index segment.count segment.number segment.value c.args.value.now (device c.args.disk) (device c.store.new.self.device) opened.opened.0 opened.opened.1 holds.0 holds.1 (answer.last is_honest))),
+      subst (λ (k : ℕ). Appends (g.W.Write.contents c.args.writer.now) (g.W.Write.contents c.write_whole.new.writer) (stored_line (k + 1))) c.number.ensures (search rules),
+    )
+
+pub returns-clause-ends : goal.returns-clause-ends
+returns-clause-ends g c =
+    let device = g.D.Disk.device in
+    let segment = c.in-Ok.segment in
+    let opened = c.in-Ok.ensures in
+    let answer = c.in-Ok-store.ensures in
+    let back = c.into_device-disk in (
+      segment.number,
+      search rules,
+      (λ honest.
+          let is_honest = subst g.D.Disk.is_honest back.ensures honest in
+          let holds = opened.holds (answer.honest is_honest) in
+          subst (λ (d : g.row.D.Denot). IsStored c.args.index c.args.count segment.number c.args.value.now (device c.args.disk) (device d)) (sym back.ensures)
+          (stored c.args.index c.args.count segment.index segment.count segment.number segment.value c.args.value.now (device c.args.disk) (device c.store.new.self.device) opened.opened.0 opened.opened.1 holds.0 holds.1 (answer.last is_honest))),
+      subst (λ (k : ℕ). AppendsBeginning (g.W.Write.contents c.args.writer.now) (g.W.Write.contents c.write_whole.new.writer) (stored_line (k + 1))) c.number.ensures (search rules),
+    )

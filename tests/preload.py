@@ -1,0 +1,27 @@
+"""Compiles the C files that stand between the program and the system, each once."""
+
+import functools
+import pathlib
+import shutil
+import subprocess
+import tempfile
+
+from program import Skipped
+
+HERE = pathlib.Path(__file__).resolve().parent
+
+
+@functools.cache
+def library(name):
+    """The path of the library of NAME.c."""
+    if shutil.which("gcc") is None:
+        raise Skipped(f"{name}.c wants gcc")
+    target = f"{_folder().name}/{name}.so"
+    subprocess.run(["gcc", "-shared", "-fPIC", "-O1", "-Wall", "-o", target, HERE / f"{name}.c", "-ldl"], check=True)
+    return target
+
+
+@functools.cache
+def _folder():
+    """Goes with the process."""
+    return tempfile.TemporaryDirectory(prefix="snapd-preload-")

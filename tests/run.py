@@ -1,0 +1,74 @@
+"""Runs the end-to-end tests on the built program: every function `test_*` of the files `test_*.py` beside this one.
+
+    python3 tests/run.py [--program bin/snapd] [--only WORD] [--seed N]
+
+Each test gets a fresh folder. A test that can't run here (no root, no strace) says so in a line of its own and counts
+as neither passed nor failed. The last line is `N passed, M failed`; the status is 1 where one failed.
+
+The tests know the file format and the commands (docs/FORMATS.md) and nothing of the code or its proof.
+"""
+
+import argparse
+import importlib
+import pathlib
+import random
+import shutil
+import sys
+import tempfile
+import time
+import traceback
+
+sys.dont_write_bytecode = True
+HERE = pathlib.Path(__file__).resolve().parent
+sys.path.insert(0, str(HERE))
+
+from program import Program, Skipped  # noqa: E402
+
+
+def tests_in(only):
+    for path in sorted(HERE.glob("test_*.py")):
+        module = importlib.import_module(path.stem)
+        for name, test in vars(module).items():
+            if name.startswith("test_") and only in f"{path.stem}.{name}":
+                yield f"{path.stem}.{name}", test
+
+
+def run(test, program, seed):
+    """None where the test passed, else why it was skipped or failed."""
+    folder = pathlib.Path(tempfile.mkdtemp(prefix="snapd-test-"))
+    try:
+        test(program.at(folder), random.Random(seed))
+        return None
+    except Skipped as why:
+        return "skipped", str(why)
+    except Exception:
+        return "FAILED", traceback.format_exc()
+    finally:
+        shutil.rmtree(folder, ignore_errors=True)
+
+
+def main():
+    words = argparse.ArgumentParser(description="Runs the end-to-end tests.")
+    words.add_argument("--program", default=str(HERE.parent / "bin" / "snapd"))
+    words.add_argument("--only", default="")
+    words.add_argument("--seed", type=int, default=20261122)
+    words = words.parse_args()
+    program = Program(words.program)
+    print(f"seed {words.seed}")
+    passed = failed = 0
+    for name, test in tests_in(words.only):
+        began = time.monotonic()
+        outcome = run(test, program, words.seed)
+        if outcome is None:
+            passed += 1
+            print(f"passed {name} ({time.monotonic() - began:.1f} s)")
+        else:
+            failed += outcome[0] == "FAILED"
+            print(f"{outcome[0]} {name}: {outcome[1]}")
+        sys.stdout.flush()
+    print(f"{passed} passed, {failed} failed")
+    return 1 if failed or not passed else 0
+
+
+if __name__ == "__main__":
+    sys.exit(main())

@@ -1,0 +1,243 @@
+"""The commands on real files: what they print, their statuses, and that a refused command changes nothing."""
+
+import os
+import pathlib
+import subprocess
+
+import segment_file as layout
+from program import Skipped
+
+
+def test_first_run(snapd, _):
+    snapd("format", "F").gave(0, "formatted 0 of 1\n")
+    assert snapd.file().read_bytes() == layout.image([(0, b""), None])
+    snapd("get", "F").gave(0, b"")
+    snapd("put", "F", stdin="hi").gave(0, "stored 1\n")
+    snapd("get", "F").gave(0, b"hi")
+    snapd("check", "F").gave(
+        0, "header index 0 count 1\nslot 0 open number 0 length 0\nslot 1 open number 1 length 2\nanswer number 1\n"
+    )
+    data = snapd.file().read_bytes()
+    snapd("format", "F").refused(12, "AlreadyFormatted")
+    assert snapd.file().read_bytes() == data
+
+
+def test_values_of_each_length(snapd, _):
+    file = snapd.formatted()
+    every = bytes(range(256))
+    for number, value in enumerate([b"a", b"", b"x" * 4_080, every, every * 15 + bytes(240), b"\n"], start=1):
+        snapd("put", "F", stdin=value).gave(0, f"stored {number}\n")
+        snapd("get", "F").gave(0, value)
+        assert layout.answer_of(file.read_bytes()) == (number, value)
+
+
+def test_longest_value_and_one_more(snapd, _):
+    file = snapd.formatted()
+    snapd("put", "F", stdin=b"v" * 4_080).gave(0, "stored 1\n")
+    data = file.read_bytes()
+    for length in (4_081, 4_096, 1_000_000):
+        snapd("put", "F", stdin=b"v" * length).refused(3, "TooLong")
+        assert file.read_bytes() == data
+    snapd("get", "F", "--index", 1, "--count", 2).refused(14, "WrongFile")
+    snapd("get", "F", "--count", 2).refused(14, "WrongFile")
+    assert file.read_bytes() == data
+
+
+def test_a_hundred_stores(snapd, _):
+    """`get` and `check` after each store, against the file as the format gives it."""
+    file = snapd.formatted()
+    before = (0, b"")
+    for number in range(1, 101):
+        value = f"step {number}\n".encode() * (number % 7)
+        snapd("put", "F", stdin=value).gave(0, f"stored {number}\n")
+        snapd("get", "F").gave(0, value)
+        slots = [(number, value), before] if number % 2 == 0 else [before, (number, value)]
+        assert file.read_bytes() == layout.image(slots)
+        snapd("check", "F").gave(0, layout.findings(file.read_bytes()))
+        before = (number, value)
+
+
+def test_all_places_of_sixteen(snapd, _):
+    for index in range(16):
+        options = ("--index", index, "--count", 16)
+        snapd("format", f"F{index}", *options).gave(0, f"formatted {index} of 16\n")
+        snapd("put", f"F{index}", *options, stdin=f"{index}").gave(0, "stored 1\n")
+        snapd("get", f"F{index}", *options).gave(0, f"{index}")
+        snapd("get", f"F{index}").refused(14, "WrongFile")
+        assert layout.header_of(snapd.file(f"F{index}").read_bytes()) == (index, 16)
+
+
+def test_input_in_pieces(snapd, _):
+    """A value may come in many small pieces."""
+    snapd.formatted()
+    feeder = subprocess.Popen(
+        ["sh", "-c", "for i in 1 2 3 4 5; do printf piece$i; sleep 0.01; done"], stdout=subprocess.PIPE
+    )
+    snapd("put", "F", stdin=feeder.stdout).gave(0, "stored 1\n")
+    feeder.stdout.close()
+    assert feeder.wait() == 0
+    snapd("get", "F").gave(0, b"piece1piece2piece3piece4piece5")
+
+
+def test_wrong_lengths(snapd, _):
+    for length in (1, 20_479, 20_481, 28_672):
+        data = b"\xa5" * length
+        snapd.file().write_bytes(data)
+        for command in ("format", "put", "get", "check"):
+            snapd(command, "F").refused(14, "WrongFile")
+        snapd("put", "F", stdin=b"v" * 4_081).refused(3, "TooLong")
+        assert snapd.file().read_bytes() == data
+    snapd.file().write_bytes(b"")
+    for command in ("put", "get", "check"):
+        snapd(command, "F").refused(14, "WrongFile")
+        assert snapd.file().read_bytes() == b""
+    snapd("format", "F").gave(0, "formatted 0 of 1\n")
+    snapd("get", "F").gave(0, b"")
+
+
+def test_unformatted(snapd, _):
+    zeros = bytes(layout.LENGTH)
+    snapd.file().write_bytes(zeros)
+    snapd("get", "F").refused(11, "Unformatted")
+    snapd("put", "F", stdin="hi").refused(11, "Unformatted")
+    snapd("check", "F").gave(3, "header unformatted\n")
+    assert snapd.file().read_bytes() == zeros
+    snapd("format", "F", "--index", 2, "--count", 3).gave(0, "formatted 2 of 3\n")
+    assert snapd.file().read_bytes() == layout.image([(0, b""), None], 2, 3)
+
+
+def test_paths_that_fail(snapd, _):
+    snapd.file("folder").mkdir()
+    for command in ("put", "get", "check"):
+        snapd(command, "nowhere").failed_with(1, "nowhere: No such file or directory")
+    snapd("put", "nowhere", stdin=b"v" * 4_081).failed_with(1, "nowhere: No such file or directory")
+    snapd("format", "nowhere/F").failed_with(1, "nowhere/F: No such file or directory")
+    for command in ("format", "put", "get", "check"):
+        snapd(command, "folder").failed_with(1, "folder: Is a directory")
+        snapd(command, "").failed_with(1, "No such file or directory")
+    assert not snapd.file("nowhere").exists()
+
+
+def test_no_permission(snapd, _):
+    """As a user that may read the file but not write it, and one that may do neither."""
+    file = snapd.formatted()
+    os.chmod(snapd.folder, 0o755)
+    run = {}
+    if os.geteuid() == 0:
+        nobody = 65_534
+        run = {"user": nobody, "group": nobody, "extra_groups": []}
+        try:
+            subprocess.run([snapd.path, "--version"], check=True, stdout=subprocess.DEVNULL, **run)
+        except (PermissionError, subprocess.CalledProcessError):
+            raise Skipped("another user can't run the program where it lies")
+    data = file.read_bytes()
+    for mode in (0o444, 0o000):
+        os.chmod(file, mode)
+        for command in ("format", "put", "get", "check"):
+            snapd(command, "F", stdin="hi", **run).failed_with(1, "F: Permission denied")
+    os.chmod(file, 0o600)
+    assert file.read_bytes() == data
+
+
+def test_wrong_words(snapd, _):
+    for words, parts in [
+        ([], ["requires a subcommand"]),
+        (["frobnicate"], ["unrecognized subcommand 'frobnicate'"]),
+        (["serve", "127.0.0.1:1", "F"], ["unrecognized subcommand 'serve'"]),
+        (["get"], ["<FILE>"]),
+        (["get", "F", "G"], ["unexpected argument 'G'"]),
+        (["get", "F", "--index"], ["--index"]),
+        (["get", "F", "--index", "x"], ["invalid value 'x'"]),
+        (["get", "F", "--index", "256"], ["invalid value '256'"]),
+        (["get", "F", "--index=-1"], ["invalid value '-1'"]),
+        (["get", "F", "--index", "1"], ["the index 1 is not below the count 1"]),
+        (["format", "F", "--index", "16", "--count", "16"], ["the index 16 is not below the count 16"]),
+        (["put", "F", "--count", "0"], ["the count 0 is not from 1 to 16"]),
+        (["put", "F", "--count", "17"], ["the count 17 is not from 1 to 16"]),
+        (["check", "F", "--index", "0"], ["unexpected argument '--index'"]),
+        (["get", "F", "--index", "0", "--index", "0"], ["--index"]),
+    ]:
+        run = snapd(*words).failed_with(2, *parts)
+        assert "--help" in run.errors, run.errors
+        assert not snapd.file().exists(), f"{words} made a file"
+    assert snapd("get", b"\xff".decode("utf-8", "surrogateescape")).failed_with(2, "UTF-8")
+    # Words are judged before paths.
+    snapd("get", "nowhere", "--count", 0).failed_with(2)
+
+
+def test_help_and_version(snapd, _):
+    for words in (["--help"], ["-h"], ["help"]):
+        text = snapd(*words)
+        assert text.status == 0 and text.errors == "", text
+        for command in ("format", "put", "get", "check"):
+            assert command in text.output.decode()
+        assert "Example:" in text.output.decode()
+    for command in ("format", "put", "get", "check"):
+        for words in ([command, "--help"], [command, "-h"], ["help", command]):
+            text = snapd(*words)
+            assert text.status == 0 and text.errors == "", text
+            printed = text.output.decode()
+            assert f"snapd {command}" in printed and "FILE" in printed and "Example:" in printed, printed
+            if command != "check":
+                assert "[default: 0]" in printed and "[default: 1]" in printed, printed
+        version = snapd(command, "--version")
+        assert version.status == 0 and version.errors == "" and version.output.split()[1:] == [b"0.1.0"], version
+    snapd("--version").gave(0, "snapd 0.1.0\n")
+    snapd("-V").gave(0, "snapd 0.1.0\n")
+
+
+def test_output_that_fails(snapd, _):
+    """A full or a broken standard output is status 1, and a value that was stored stays stored."""
+    file = snapd.formatted()
+    snapd("put", "F", stdin="hi").gave(0, "stored 1\n")
+    if not pathlib.Path("/dev/full").exists():
+        raise Skipped("there is no /dev/full")
+    for words in (["get", "F"], ["check", "F"], ["--help"], ["put", "--version"]):
+        with open("/dev/full", "wb") as full:
+            snapd(*words, stdout=full).failed_with(1, "standard output: No space left on device")
+        read, write = os.pipe()
+        os.close(read)
+        snapd(*words, stdout=write).failed_with(1, "standard output: Broken pipe")
+        os.close(write)
+    with open("/dev/full", "wb") as full:
+        snapd("put", "F", stdin="yo", stdout=full).failed_with(1, "stored 2", "standard output: No space left on device")
+        snapd("format", "G", stdout=full).failed_with(1, "standard output: No space left on device")
+    snapd("get", "F").gave(0, b"yo")
+    snapd("get", "G").gave(0, b"")
+    assert layout.answer_of(file.read_bytes()) == (2, b"yo")
+
+
+def test_closed_streams(snapd, _):
+    """A file that is opened takes the lowest free number, so with a standard stream closed the program's own text could
+    be written into the segment."""
+    file = snapd.formatted()
+    snapd("put", "F", stdin="hi").gave(0, "stored 1\n")
+    data = file.read_bytes()
+    for closed, name in [("<&-", "standard input"), (">&-", "standard output"), ("2>&-", None), (">&- 2>&-", None)]:
+        for command in ("get F", "put F", "check F", "format F", "format G"):
+            line = f'printf yo | exec "$0" {command} {closed}' if "<" not in closed else f'exec "$0" {command} {closed}'
+            run = subprocess.run(["sh", "-c", line, snapd.path], cwd=snapd.folder, capture_output=True, text=True)
+            assert run.returncode == 1 and run.stdout == "", (line, run)
+            if name:
+                assert run.stderr.startswith(f"snapd: {name}: Bad file descriptor"), (line, run)
+            assert file.read_bytes() == data, line
+            assert not snapd.file("G").exists(), line
+
+
+def test_full_disk(snapd, _):
+    """A new file on a disk that has no room for it."""
+    if os.geteuid() != 0:
+        raise Skipped("mounting a small disk wants root")
+    disk = snapd.file("disk")
+    disk.mkdir()
+    mounted = subprocess.run(["mount", "-t", "tmpfs", "-o", "size=8k", "tmpfs", disk], capture_output=True, text=True)
+    if mounted.returncode != 0:
+        raise Skipped(f"no small disk can be mounted: {mounted.stderr.strip()}")
+    try:
+        (disk / "filler").write_bytes(b"x" * 8_192)
+        snapd("format", "disk/F").refused(13, "DeviceFailed")
+        (disk / "filler").unlink()
+        snapd("format", "disk/F").refused(13, "DeviceFailed")
+        snapd("get", "disk/F").refused(11, "Unformatted")
+    finally:
+        subprocess.run(["umount", disk], check=True)
