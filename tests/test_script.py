@@ -4,11 +4,14 @@ import os
 
 LIMIT = 1_048_576
 
+STORE = ["called body", "called sync", "called open", "called sync"]
+
 # A scan that borrows the view of a writer which moved twice, and what each line prints.
 BORROWED = [
     ("world 2 1", "world 2 1"),
     ("begin 0 61", "begun"),
     *[("look w0", "number 0")] * 4,
+    *[("call 0", called) for called in STORE],
     ("scan 0", "scanning"),
     ("look s0", "number 0"),
     ("show 0", "shown"),
@@ -20,10 +23,42 @@ BORROWED = [
     ("look w0", "number 0"),
     ("look w0", "number 1"),
     ("look w0", "number 0"),
+    *[("call 0", called) for called in ["called close", "called sync", *STORE]],
     ("show 0", "shown"),
     ("look s0", "number 0"),
     ("look s0", "number 2"),
     ("answer 0", "memory 61 -"),
+]
+
+# A crash in a store, one after a fault, and a fault inside a restart, and what each line prints.
+WORKED = [
+    ("world 1 1", "world 1 1"),
+    ("begin 0 6869", "begun"),
+    ("show 0", "not now"),
+    *[("look w0", "number 0")] * 2,
+    *[("call 0", called) for called in STORE[:3]],
+    ("scan 0", "scanning"),
+    *[("look s0", "number 0")] * 2,
+    ("answer 0", "memory -"),
+    ("crash a5", "crashed"),
+    ("restart", "restarting"),
+    ("recall", "called sync"),
+    ("recall", "called read"),
+    ("serve", "memory 6869"),
+    ("ack 0", "not now"),
+    ("begin 0 796f", "begun"),
+    *[("look w0", "number 1")] * 2,
+    ("call 0", "called close"),
+    ("fail 0 00", "device failed"),
+    ("begin 0 796f", "not now"),
+    ("crash keep", "crashed"),
+    ("restart", "restarting"),
+    ("refail a5", "device failed"),
+    ("serve", "not now"),
+    ("restart", "restarting"),
+    ("recall", "called sync"),
+    ("recall", "called read"),
+    ("serve", "memory 6869"),
 ]
 
 
@@ -38,17 +73,36 @@ def test_borrowed_view_script(snapd, _):
     snapd("script", stdin="\n\n".join(script)).gave(0, lines(printed))
 
 
+def test_worked_script(snapd, _):
+    script, printed = zip(*WORKED)
+    snapd("script", stdin=lines(script)).gave(0, lines(printed))
+    # A crash that closes the gate takes the update back, which nobody had seen.
+    script = lines(script[: script.index("serve") + 1]).replace("crash a5", "crash 00")
+    assert snapd("script", stdin=script).output.endswith(b"\nmemory -\n")
+
+
+def test_a_crash_of_two_at_the_gate(snapd, _):
+    """Two writers after their opening writes, and a crash whose fills differ; a second crash inside the restart."""
+    stores = [f"{verb} {w}" for w in (0, 1) for verb in ["begin", *["look"] * 4, *["call"] * 3]]
+    stores = [line.replace("begin 0", "begin 0 61").replace("begin 1", "begin 1 62").replace("look ", "look w") for line in stores]
+    restart = ["restart", *["recall"] * 4, "serve"]
+    script = ["world 2 1", *stores, "crash a5 00"]
+    assert snapd("script", stdin=lines([*script, *restart])).output.endswith(b"\nmemory 61 -\n")
+    script += ["restart", "recall", "recall", "crash 00 a5"]
+    assert snapd("script", stdin=lines([*script, *restart])).output.endswith(b"\nmemory 61 62\n")
+
+
 def test_nothing_to_do(snapd, _):
     for script in ("", "\n", "\n\n\n"):
         snapd("script", stdin=script).gave(0)
 
 
 def test_numbers_and_bytes(snapd, _):
-    snapd("script", stdin="world 01 0000000000000000016\nbegin 0 -\nlook w00\nlook w0\nshow 0\nack 0\n").gave(
-        0, "world 1 16\nbegun\nnumber 0\nnumber 0\nshown\nstored 1\n"
+    snapd("script", stdin="world 01 0000000000000000016\nbegin 0 -\nlook w00\nlook w0\n" + "call 0\n" * 4 + "show 0\nack 0\n").gave(
+        0, "world 1 16\nbegun\nnumber 0\nnumber 0\n" + lines(STORE) + "shown\nstored 1\n"
     )
     # Either case is read, and lower case is printed.
-    script = ["world 1 1", "begin 0 aBfF", *["look w0"] * 2, "show 0", "scan 0", *["look s0"] * 2, "answer 0"]
+    script = ["world 1 1", "begin 0 aBfF", *["look w0"] * 2, *["call 0"] * 4, "show 0", "scan 0", *["look s0"] * 2, "answer 0"]
     run = snapd("script", stdin=lines(script))
     assert run.output.splitlines()[-1] == b"memory abff", run
     # The longest value, and one byte more.
@@ -58,9 +112,11 @@ def test_numbers_and_bytes(snapd, _):
 
 def test_what_may_not_come(snapd, _):
     events = ["show 0", "ack 0", "answer 0", "look w0", "look s0", "begin 17 61", "scan 1", "begin 9999999999999999999 -"]
-    later = ["call 0", "fail 0 keep", "fail 0 a5", "crash at:5:-", "crash 00 keep", "restart", "recall", "refail at:9:a5", "serve"]
-    snapd("script", stdin=lines(["world 1 1", *events, *later])).gave(
-        0, lines(["world 1 1", *["not now"] * len(events + later)])
+    events += ["call 0", "fail 0 keep", "fail 9 at:5:-", "crash 00 keep", "restart", "recall", "refail at:9:a5", "serve"]
+    snapd("script", stdin=lines(["world 1 1", *events])).gave(0, lines(["world 1 1", *["not now"] * len(events)]))
+    down = ["begin 0 61", "scan 0", "recall", "serve", "refail keep"]
+    snapd("script", stdin=lines(["world 1 1", "crash at:5:-", *down, "crash keep"])).gave(
+        0, lines(["world 1 1", "crashed", *["not now"] * len(down), "crashed"])
     )
 
 

@@ -53,7 +53,7 @@ may_print : (lines : List (List ℕ)) (text : List ℕ) (world : Option World) �
 may_print [] text None h = h
 may_print [] text (Some w) h = absurd h
 may_print (first ∷ lines) text None h = absurd h
-may_print (first ∷ lines) text (Some w) h = (_, h.0, _, h.2)
+may_print (first ∷ lines) text (Some w) h = (_, _, h.2)
 
 unreadable : (lines : List (List ℕ)) (text line : List ℕ) (world : Option World) (fault : LineFault) → Played lines text world → HaltsAt world line (Fault fault) → IsUnreadable lines line fault
 unreadable [] text line None fault h k = k

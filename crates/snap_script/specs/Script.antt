@@ -7,10 +7,9 @@ use Rattle.snap_script.specs.Text.{world_text, line_text, replies_text}
 use Rattle.snap_script.specs.Fault.{IsUnreadable}
 use Rattle.snap_script.specs.declared.run.ScriptEnd.{ScriptEnd}
 use Rattle.snap_script.specs.declared.run.ScriptEnd.TheVariants.{Done, BadLine, NoMemory, WriteFailed}
-use Rattle.snap_world.specs.Machine.{State}
-use Rattle.snap_world.specs.Phases.{Phases}
-use Rattle.snap_world.specs.Runs.{Run}
-use Rattle.snap_world.specs.Start.{start_state, start_phases}
+use Rattle.snap_disk.specs.Device.{Device}
+use Rattle.snap_world.specs.Runs.{Moment, Run}
+use Rattle.snap_world.specs.Start.{start_state, start_world_phases, AreFormatted}
 use Rattle.snap_world.specs.declared.event.Event.{Event}
 use Rattle.snap_world.specs.declared.event.Reply.{Reply}
 
@@ -27,23 +26,27 @@ AreEvents (line ∷ lines) (e ∷ events) = IsEventLine line e × AreEvents line
 AreEvents [] (e ∷ events) = ⊥
 AreEvents (line ∷ lines) [] = ⊥
 
--- the first line makes a world of n segments and s scanners, and the others are events that may
--- get replies, from a new such world to state y with phases q, which are printed as this text
-pub record Plays
-    (first : List ℕ) (lines : List (List ℕ)) (text : List ℕ) (n : ℕ) (y : State) (q : Phases)
-    : Type 0 where
+-- a new world of n segments and s scanners, with these devices
+abbrev pub start_moment : ℕ → ℕ → List Device → Moment
+start_moment n s devices = record { state = start_state n s; phases = start_world_phases n s; devices = devices }
+
+-- the first line makes a world of n segments and s scanners, and the others are events that may get replies, from a new such
+-- world to moment b, which are printed as this text
+pub record Plays (first : List ℕ) (lines : List (List ℕ)) (text : List ℕ) (n : ℕ) (b : Moment) : Type 0 where
   pub s : ℕ
   pub is_world : IsWorldLine first n s
+  pub devices : List Device
+  pub formatted : AreFormatted n devices
   pub events : List Event
   pub are_events : AreEvents lines events
   pub replies : List Reply
-  pub run : Run n (start_state n s) (start_phases n s) events replies y q
+  pub run : Run n (start_moment n s devices) events replies b
   pub printed : text ≡ line_text (world_text n s) ++ replies_text replies
 
 -- what a world may print for these lines
 abbrev pub MayPrint : List (List ℕ) → List ℕ → Type 0
 MayPrint [] text = text ≡ []
-MayPrint (first ∷ lines) text = (n : ℕ) × (y : State) × (q : Phases) × Plays first lines text n y q
+MayPrint (first ∷ lines) text = (n : ℕ) × (b : Moment) × Plays first lines text n b
 
 -- the writer holds more than before by what a world may print for these lines
 abbrev pub Prints : Option (List ℕ) → Option (List ℕ) → List (List ℕ) → Type 0

@@ -39,6 +39,10 @@ look w0
 look w0
 look w0
 look w0
+call 0
+call 0
+call 0
+call 0
 scan 0
 look s0
 show 0
@@ -50,6 +54,12 @@ look w0
 look w0
 look w0
 look w0
+call 0
+call 0
+call 0
+call 0
+call 0
+call 0
 show 0
 look s0
 look s0
@@ -62,6 +72,10 @@ number 0
 number 0
 number 0
 number 0
+called body
+called sync
+called open
+called sync
 scanning
 number 0
 shown
@@ -73,16 +87,95 @@ number 1
 number 0
 number 1
 number 0
+called close
+called sync
+called body
+called sync
+called open
+called sync
 shown
 number 0
 number 2
 memory 61 -
 ";
 
+/// A crash in a store, and one after a fault, with a fault inside the second restart.
+const WORKED: &str = "world 1 1
+begin 0 6869
+show 0
+look w0
+look w0
+call 0
+call 0
+call 0
+scan 0
+look s0
+look s0
+answer 0
+crash a5
+restart
+recall
+recall
+serve
+ack 0
+begin 0 796f
+look w0
+look w0
+call 0
+fail 0 00
+begin 0 796f
+crash keep
+restart
+refail a5
+serve
+restart
+recall
+recall
+serve
+";
+
+const WORKED_OUTPUT: &str = "world 1 1
+begun
+not now
+number 0
+number 0
+called body
+called sync
+called open
+scanning
+number 0
+number 0
+memory -
+crashed
+restarting
+called sync
+called read
+memory 6869
+not now
+begun
+number 1
+number 1
+called close
+device failed
+not now
+crashed
+restarting
+device failed
+not now
+restarting
+called sync
+called read
+memory 6869
+";
+
 const HELP: &str = "world 1 1
 begin 0 6869
 look w0
 look w0
+call 0
+call 0
+call 0
+call 0
 scan 0
 look s0
 show 0
@@ -97,6 +190,10 @@ const HELP_OUTPUT: &str = "world 1 1
 begun
 number 0
 number 0
+called body
+called sync
+called open
+called sync
 scanning
 number 0
 shown
@@ -106,6 +203,20 @@ number 1
 number 1
 memory 6869
 ";
+
+#[test]
+fn worked_script(rt: HostRuntime) {
+    let (end, written) = run(rt.alloc(), WORKED.as_bytes());
+    assert_eq!(rt; end, ScriptEnd::Done);
+    assert_eq!(rt; written.as_slice(), WORKED_OUTPUT.as_bytes());
+    // Where the crash closes the gate that was written open, the first restart finds the old value.
+    let (end, written) = run(
+        rt.alloc(),
+        b"world 1 1\nbegin 0 61\nlook w0\nlook w0\ncall 0\ncall 0\ncall 0\ncrash 00\nrestart\nrecall\nrecall\nserve\n",
+    );
+    assert_eq!(rt; end, ScriptEnd::Done);
+    assert!(rt; written.ends_with(b"\nmemory -\n"));
+}
 
 #[test]
 fn borrowed_view_script(rt: HostRuntime) {
@@ -321,14 +432,16 @@ fn printed_memory(rt: HostRuntime) -> Result<(), AllocError> {
     let mut input = String::from_str(rt.alloc(), "world 2 1\nbegin 1 ")?;
     let mut output = String::from_str(
         rt.alloc(),
-        "world 2 1\nbegun\nnumber 0\nnumber 0\nnumber 0\nnumber 0\nshown\nscanning\n",
+        "world 2 1\nbegun\nnumber 0\nnumber 0\nnumber 0\nnumber 0\ncalled body\ncalled sync\ncalled open\ncalled sync\nshown\nscanning\n",
     )?;
     output.push_str("number 0\nnumber 1\nnumber 0\nnumber 1\nmemory - ")?;
     for _ in 0..65 {
         input.push_str("0A")?;
         output.push_str("0a")?;
     }
-    input.push_str("\nlook w1\nlook w1\nlook w1\nlook w1\nshow 1\nscan 0\n")?;
+    input.push_str(
+        "\nlook w1\nlook w1\nlook w1\nlook w1\ncall 1\ncall 1\ncall 1\ncall 1\nshow 1\nscan 0\n",
+    )?;
     input.push_str("look s0\nlook s0\nlook s0\nlook s0\nanswer 0\n")?;
     output.push_str("\n")?;
     let (end, written) = run(rt.alloc(), input.as_bytes());

@@ -7,3 +7,12 @@ pub mod Phasing
 pub mod Ending
 pub mod LookingOn
 pub mod Sizes
+pub mod Following
+pub mod Acting
+pub mod Calling
+pub mod Stored
+pub mod Sweeping
+pub mod Crashing
+pub mod Restarts
+pub mod Served
+pub mod Serves

@@ -1,5 +1,5 @@
 -- One look of a writer's embedded scan, or of a scanner, as a step of the abstract machine.
-use Rattle.std.proofs.Common.{◌≡◌, ℕ, ◌<◌, ◌≤◌, List, [], ◌∷◌, ◌++◌, length, get_or, Some, slice_get, refl, ap, sym, ◌∙◌, subst}
+use Rattle.std.proofs.Common.{◌≡◌, ℕ, ◌<◌, ◌≤◌, inl, inr, List, [], ◌∷◌, ◌++◌, length, get_or, Some, slice_get, refl, ap, sym, ◌∙◌, subst}
 use Rattle.std.specs.Vec.{with_item}
 use Rattle.std.proofs.lemmas.Option.{same_Some}
 use Rattle.snap_history.specs.History.{Update, from_nothing, number_after}
@@ -69,7 +69,7 @@ module _ (w : Parts) (x : State) (stands : PartsStand w x) (i : ℕ) (l : i < w.
     writer_looks under_way = (
       with_writer x i next,
       (state.0, state.1, j, here, looked.0, refl),
-      writer_moves w x stands i _ next l (writer_goes_on w.segments x.history stands.since i old state.0 state.2 at.0 k col looked.1 old.phase scanning under_way),
+      writer_moves w x stands i _ next l (writer_goes_on w.segments x.history stands.since i old state.0 state.2 scanning at.0 k col looked.1 old.phase scanning under_way),
     )
 
     pub writer_stays : IsUnderWay col → Moves w.segments x (phases_of_parts w) (Look (actor.Writer i)) (Number k) (phases_of_parts (with_parts_writer w i (record { phase = old.phase; value = old.value; collector = col })))
@@ -77,20 +77,22 @@ module _ (w : Parts) (x : State) (stands : PartsStand w x) (i : ℕ) (l : i < w.
       ends = λ has. absurd (no_answer w.segments x.history at.0.b (length x.history) (state.0.told ++ k ∷ []) col looked.1 under_way.0 under_way.1
           (subst (λ told. HasAnswer w.segments (told ++ k ∷ [])) (sym (same_told s e)) has));
       goes_on = λ none. writer_kept w i (record { phase = old.phase; value = old.value; collector = col }) old read refl;
+      either = inr (writer_kept w i (record { phase = old.phase; value = old.value; collector = col }) old read refl);
     }
 
     -- the scan has its answer
-    pub writer_ends : ((m : ℕ) → next_of col.scan ≡ Next_look m → ⊥) → (y : State) × Step w.segments x (Look (actor.Writer i)) (Number k) y × PartsStand (with_parts_writer w i (record { phase = writer.Stored; value = old.value; collector = col })) y
+    pub writer_ends : ((m : ℕ) → next_of col.scan ≡ Next_look m → ⊥) → (y : State) × Step w.segments x (Look (actor.Writer i)) (Number k) y × PartsStand (with_parts_writer w i (record { phase = writer.Storing; value = old.value; collector = col })) y
     unfolding next
     writer_ends done = (
       with_writer x i next,
       (state.0, state.1, j, here, looked.0, refl),
-      writer_moves w x stands i _ next l (writer_done w.segments x.history stands.since i old state.0 state.2 at.0 k col looked.1 done),
+      writer_moves w x stands i _ next l (writer_done w.segments x.history stands.since i old state.0 state.2 scanning at.0 k col looked.1 done),
     )
 
-    pub writer_goes : ((m : ℕ) → next_of col.scan ≡ Next_look m → ⊥) → Moves w.segments x (phases_of_parts w) (Look (actor.Writer i)) (Number k) (phases_of_parts (with_parts_writer w i (record { phase = writer.Stored; value = old.value; collector = col })))
+    pub writer_goes : ((m : ℕ) → next_of col.scan ≡ Next_look m → ⊥) → Moves w.segments x (phases_of_parts w) (Look (actor.Writer i)) (Number k) (phases_of_parts (with_parts_writer w i (record { phase = writer.Storing; value = old.value; collector = col })))
     writer_goes done s e = record {
-      ends = λ has. writer_moved w i (record { phase = writer.Stored; value = old.value; collector = col });
+      ends = λ has. writer_moved w i (record { phase = writer.Storing; value = old.value; collector = col });
+      either = inl (writer_moved w i (record { phase = writer.Storing; value = old.value; collector = col }));
       goes_on = λ none. absurd (none (subst (λ told. HasAnswer w.segments (told ++ k ∷ [])) (same_told s e)
           (has_answer w.segments x.history at.0.b (length x.history) (state.0.told ++ k ∷ []) col looked.1 done)));
     }
@@ -131,6 +133,7 @@ module _ (w : Parts) (x : State) (stands : PartsStand w x) (i : ℕ) (l : i < le
       ends = λ has. absurd (no_answer w.segments x.history opened.0 (length x.history) (opened.2 ++ k ∷ []) col scanner_looked.1 under_way.0 under_way.1
           (subst (λ t. HasAnswer w.segments (t ++ k ∷ [])) (sym (scanner_told b e told f)) has));
       goes_on = λ none. scanner_kept w i (record { phase = old.phase; collector = col }) old read refl;
+      either = inr (scanner_kept w i (record { phase = old.phase; collector = col }) old read refl);
     }
 
     pub scanner_ends : ((m : ℕ) → next_of col.scan ≡ Next_look m → ⊥) → (y : State) × Step w.segments x (Look (actor.Scanner i)) (Number k) y × PartsStand (with_parts_scanner w i (record { phase = scanner.Ready; collector = col })) y
@@ -143,6 +146,7 @@ module _ (w : Parts) (x : State) (stands : PartsStand w x) (i : ℕ) (l : i < le
     pub scanner_goes : ((m : ℕ) → next_of col.scan ≡ Next_look m → ⊥) → Moves w.segments x (phases_of_parts w) (Look (actor.Scanner i)) (Number k) (phases_of_parts (with_parts_scanner w i (record { phase = scanner.Ready; collector = col })))
     scanner_goes done b e told f = record {
       ends = λ has. scanner_moved w i (record { phase = scanner.Ready; collector = col });
+      either = inl (scanner_moved w i (record { phase = scanner.Ready; collector = col }));
       goes_on = λ none. absurd (none (subst (λ t. HasAnswer w.segments (t ++ k ∷ [])) (scanner_told b e told f)
           (has_answer w.segments x.history opened.0 (length x.history) (opened.2 ++ k ∷ []) col scanner_looked.1 done)));
     }

@@ -12,7 +12,7 @@ use Rattle.snap_scan.specs.declared.next.Next.TheVariants.{Look, Clean, Borrow}
 use Rattle.snap_world.specs.Answers.{IsAnswer, number_at}
 use Rattle.snap_world.specs.Gathers.{Gathers, Gathered, IsUnderWay, RegisterStands, RegistersStand}
 use Rattle.snap_world.specs.Machine.{State, WriterState, ScannerState, Opened, with_writer, with_scanner}
-use Rattle.snap_world.specs.Stands.{HasBegun, WriterStands, ScannerStands, PartsStand, IsAtPhase, IsScannerAt}
+use Rattle.snap_world.specs.Stands.{HasBegun, WriterStands, ScannerStands, PartsStand, IsAtPhase, IsScannerAt, is_fenced}
 use Rattle.snap_world.specs.declared.register.Register.{Register}
 use Rattle.snap_world.specs.declared.collector.Collector.{Collector}
 use Rattle.snap_world.specs.declared.parts.Parts.{Parts}
@@ -23,7 +23,7 @@ use Rattle.snap_world.specs.declared.writer.WriterPhase.TheVariants as writer
 use Rattle.snap_world.specs.declared.scanner.ScannerPhase.{ScannerPhase}
 use Rattle.snap_world.specs.declared.scanner.ScannerPhase.TheVariants as scanner
 use Rattle.snap_history.proofs.Lists.{get-set_same, get-set_other}
-use Rattle.snap_history.proofs.Pairing.{partner, Pairs-set, Pairs-map}
+use Rattle.snap_history.proofs.Pairing.{partner, Pairs-set, Pairs-left, Pairs-map}
 use Rattle.snap_world.proofs.Collecting.{Collects-none, Collects-grow, IsAnswer-grow, number_now}
 use Rattle.snap_world.proofs.Looking.{register_at}
 
@@ -61,6 +61,22 @@ module _ (w : Parts) (x : State) (stands : PartsStand w x) where
         registers = stands.registers;
         writers_n = length-set w.writers.items i a ∙ size;
         writers = Pairs-set (WriterStands w.segments x.history stands.since) (WriterStands w.segments x.history stands.since) w.writers.items x.writers i a s (omega arith) (λ j c d ne r. r) here stands.writers;
+        scanners = stands.scanners;
+      }
+
+  -- one that stands for the same state
+  pub writer_stays : (i : ℕ) (a : Writer) → i < w.segments → (s : WriterState) → slice_get x.writers i ≡ Some s → WriterStands w.segments x.history stands.since i a s
+      → PartsStand (record { segments = w.segments; registers = w.registers; writers = with_item w.writers i a; scanners = w.scanners }) x
+  writer_stays i a l s e here =
+      let size : length w.writers.items ≡ w.segments = stands.writers_n in
+      record {
+        least = stands.least;
+        most = stands.most;
+        since = stands.since;
+        within = stands.within;
+        registers = stands.registers;
+        writers_n = length-set w.writers.items i a ∙ size;
+        writers = Pairs-left (WriterStands w.segments x.history stands.since) w.writers.items x.writers i a s (omega arith) e here stands.writers;
         scanners = stands.scanners;
       }
 
@@ -106,6 +122,7 @@ HasBegun-grow n h since i w s u ne g =
       born = g.born;
       e = g.e;
       pending = g.pending;
+      fits = g.fits;
       room = subst (λ x. x + 1 < 2 ^ 63) (sym same) room;
       own = ap (λ x. number_after from_nothing x i) kept ∙ g.own ∙ sym same;
       gathers = Gathers-grow n h g.b g.e s.told w.collector u g.gathers;
@@ -115,8 +132,10 @@ phase-grow : (n : ℕ) (h : List Update) (since i : ℕ) (w : Writer) (s : Write
 unfolding HasBegun-grow
 phase-grow n h since i w s u writer.Idle ne g = g
 phase-grow n h since i w s u writer.Scanning ne g = (HasBegun-grow n h since i w s u ne g.0, g.1)
+phase-grow n h since i w s u writer.Storing ne g = (HasBegun-grow n h since i w s u ne g.0, IsAnswer-grow n h g.0.b g.0.e s.told w.collector.memory.items u g.0.gathers.end g.1)
 phase-grow n h since i w s u writer.Stored ne g = (HasBegun-grow n h since i w s u ne g.0, IsAnswer-grow n h g.0.b g.0.e s.told w.collector.memory.items u g.0.gathers.end g.1)
 phase-grow n h since i w s u writer.Shown ne g = g
+phase-grow n h since i w s u writer.Fenced ne g = g
 
 scanner_phase-grow : (n : ℕ) (h : List Update) (since : ℕ) (c : Scanner) (s : ScannerState) (u : Update) (p : ScannerPhase) → IsScannerAt n h since c s p → IsScannerAt n (h ++ u ∷ []) since c s p
 scanner_phase-grow n h since c s u scanner.Idle g = g
@@ -199,24 +218,24 @@ answered n h b e L memory (Look j) done g = absurd (done j refl)
 answered n h b e L memory Clean done g = g
 answered n h b e L memory (Borrow j) done g = g
 
-module _ (n : ℕ) (h : List Update) (since i : ℕ) (a : Writer) (s : WriterState) (stands : WriterStands n h since i a s) (begun : HasBegun n h since i a s)
+module _ (n : ℕ) (h : List Update) (since i : ℕ) (a : Writer) (s : WriterState) (stands : WriterStands n h since i a s) (scanning : a.phase ≡ writer.Scanning) (begun : HasBegun n h since i a s)
     (k : ℕ) (col : Collector) (g : Gathers n h begun.b (length h) (s.told ++ k ∷ []) col) where
   pub writer_goes_on : (p : WriterPhase) → p ≡ writer.Scanning → IsUnderWay col
       → WriterStands n h since i (record { phase = p; value = a.value; collector = col }) (record { pending = s.pending; fenced = s.fenced; told = s.told ++ k ∷ [] })
   writer_goes_on p e under_way = record {
     size = g.size;
-    fenced = stands.fenced;
+    fenced = stands.fenced ∙ ap is_fenced (scanning ∙ sym e);
     phase = subst (IsAtPhase n h since i (record { phase = p; value = a.value; collector = col }) (record { pending = s.pending; fenced = s.fenced; told = s.told ++ k ∷ [] })) (sym e)
-        (record { b = begun.b; e = length h; born = begun.born; pending = begun.pending; room = begun.room; own = begun.own; gathers = g }, under_way);
+        (record { b = begun.b; e = length h; born = begun.born; pending = begun.pending; fits = begun.fits; room = begun.room; own = begun.own; gathers = g }, under_way);
   }
 
   pub writer_done : ((j : ℕ) → (next_of col.scan) ≡ Look j → ⊥)
-      → WriterStands n h since i (record { phase = writer.Stored; value = a.value; collector = col }) (record { pending = s.pending; fenced = s.fenced; told = s.told ++ k ∷ [] })
+      → WriterStands n h since i (record { phase = writer.Storing; value = a.value; collector = col }) (record { pending = s.pending; fenced = s.fenced; told = s.told ++ k ∷ [] })
   writer_done done = record {
     size = g.size;
-    fenced = stands.fenced;
+    fenced = stands.fenced ∙ ap is_fenced scanning;
     phase = (
-      record { b = begun.b; e = length h; born = begun.born; pending = begun.pending; room = begun.room; own = begun.own; gathers = g },
+      record { b = begun.b; e = length h; born = begun.born; pending = begun.pending; fits = begun.fits; room = begun.room; own = begun.own; gathers = g },
       answered n h begun.b (length h) (s.told ++ k ∷ []) col.memory.items (next_of col.scan) done g.gathered,
     );
   }

@@ -2,7 +2,7 @@
 use Rattle.std.proofs.Common.{◌≡◌, ℕ, suc, ◌<◌, ◌≤◌, false, List, [], ◌∷◌, length, map, replicate, Some, slice_get, refl, ap, sym, ◌∙◌, subst, arith}
 use Rattle.std.proofs.lemmas.List.{length-replicate}
 use Rattle.snap_world.specs.Machine.{WriterState, ScannerState, Free, Closed}
-use Rattle.snap_world.specs.Stands.{PartsStand, WriterStands, ScannerStands, IsAtPhase, IsScannerAt}
+use Rattle.snap_world.specs.Stands.{PartsStand, WriterStands, ScannerStands, IsAtPhase, IsScannerAt, is_fenced}
 use Rattle.snap_world.specs.Fresh.{Each, IsFreshRegister, IsFreshWriter, IsFreshScanner}
 use Rattle.snap_world.specs.Start.{start_state, start_phases}
 use Rattle.snap_world.specs.Steps.{phases_of_parts}
@@ -19,7 +19,7 @@ fresh = record { pending = Free; fenced = false; told = [] }
 fresh_writer : (n i : ℕ) (a : Writer) (s : WriterState) → IsFreshWriter n a → record { pending = Free; fenced = false; told = [] } ≡ s → WriterStands n [] 0 i a s
 fresh_writer n i a s f e = record {
   size = f.size;
-  fenced = ap (λ v. v.fenced) (sym e);
+  fenced = sym (ap is_fenced f.phase ∙ ap (λ (v : WriterState). v.fenced) e);
   phase = subst (IsAtPhase n [] 0 i a s) (sym f.phase) (ap (λ v. v.pending) (sym e));
 }
 
@@ -50,7 +50,7 @@ starts w count least most nr nw ns regs writers scanners = record {
   scanners = record { size = ns ∙ sym (length-replicate count _); each = λ i a s ea es. fresh_scanner w.segments i a s (scanners i a ea) (get-replicate count i _ s es) };
 }
 
-all_same : {A B : Type 0} (f : A → B) (v : B) (xs : List A) → ((i : ℕ) (x : A) → slice_get xs i ≡ Some x → f x ≡ v) → map f xs ≡ replicate (length xs) v
+pub all_same : {A B : Type 0} (f : A → B) (v : B) (xs : List A) → ((i : ℕ) (x : A) → slice_get xs i ≡ Some x → f x ≡ v) → map f xs ≡ replicate (length xs) v
 all_same f v [] each = refl
 all_same f v (x ∷ xs) each = (let head : f x ≡ v = each 0 x refl in let rest : map f xs ≡ replicate (length xs) v = all_same f v xs (λ i y e. each (suc i) y e) in cc)
 

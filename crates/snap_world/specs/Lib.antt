@@ -8,3 +8,11 @@ pub mod Stands
 pub mod Steps
 pub mod Surface
 pub mod Fresh
+pub mod Calls
+pub mod Halting
+pub mod Serving
+pub mod Devices
+pub mod Disks
+pub mod NodePhases
+pub mod NodeStands
+pub mod NodeSteps

@@ -43,7 +43,7 @@ IsEnabled x p (Show w) = WriterIs p w writer.Stored
 IsEnabled x p (Acknowledge w) = WriterIs p w writer.Shown
 IsEnabled x p (Scan i) = ScannerIs p i scanner.Idle
 IsEnabled x p (Answer i) = ScannerIs p i scanner.Ready
--- the events of devices, crashes and restarts never may
+-- the other events aren't those of a writer's scan or of a scanner
 IsEnabled x p event = ⊥
 
 -- the reply is `NotNow` exactly where the event may not come
@@ -55,6 +55,7 @@ pub record TellsEnabled (x : State) (p : Phases) (event : Event) (reply : Reply)
 pub record LooksOn (n : ℕ) (told : List ℕ) (p r q : Phases) : Type 0 where
   pub ends : HasAnswer n told → q ≡ r
   pub goes_on : (HasAnswer n told → ⊥) → q ≡ p
+  pub either : (q ≡ r) ⊎ (q ≡ p)
 
 -- in state x with phases p, over n segments, the event with this reply leaves the phases q
 abbrev pub Moves : ℕ → State → Phases → Event → Reply → Phases → Type 0
@@ -62,7 +63,7 @@ Moves n x p event NotNow q = q ≡ p
 Moves n x p (Begin w v) Begun q = q ≡ writer_to p w writer.Scanning
 Moves n x p (Look (actor.Writer w)) (Number k) q =
     (s : WriterState) → slice_get x.writers w ≡ Some s
-    → LooksOn n (s.told ++ k ∷ []) p (writer_to p w writer.Stored) q
+    → LooksOn n (s.told ++ k ∷ []) p (writer_to p w writer.Storing) q
 Moves n x p (Look (actor.Scanner i)) (Number k) q =
     (b e : ℕ) (told : List ℕ) → slice_get x.scanners i ≡ Some (Opened b e told)
     → LooksOn n (told ++ k ∷ []) p (scanner_to p i scanner.Ready) q
@@ -76,8 +77,3 @@ Moves n x p event reply q = ⊥
 -- an event whose reply holds values, where it may come
 abbrev pub TakesMemory : Phases → Event → Type 0
 TakesMemory p event = (i : ℕ) × (event ≡ Answer i) × ScannerIs p i scanner.Ready
-
--- with these phases memory can have run out before this one of the events: the first, where the list
--- of replies was to be made, or one whose reply holds values
-abbrev pub StopsAt : Phases → List Event → ℕ → Type 0
-StopsAt p events done = (done ≡ 0) ⊎ ((event : Event) × (slice_get events done ≡ Some event) × TakesMemory p event)

@@ -1,17 +1,30 @@
--- Runs of the abstract machine, with the phases of its writers and scanners.
+-- Runs of the abstract machine, with the phases of the world and its devices.
 use Rattle.std.specs.Prelude.{◌≡◌, ℕ, List, [], ◌∷◌}
+use Rattle.snap_disk.specs.Device.{Device}
+use Rattle.snap_world.specs.Devices.{DevicesMove, GatesTold}
 use Rattle.snap_world.specs.Machine.{State, Step}
-use Rattle.snap_world.specs.Phases.{Phases, TellsEnabled, Moves}
+use Rattle.snap_world.specs.NodePhases.{WorldPhases, TellsWhether, PhasesMove}
 use Rattle.snap_world.specs.declared.event.Event.{Event}
 use Rattle.snap_world.specs.declared.event.Reply.{Reply}
 
--- over n segments, these events with these replies lead from state x with phases p to state y with
--- phases q: each is a step of the machine, comes exactly where it may, and moves the phases
-abbrev pub Run : ℕ → State → Phases → List Event → List Reply → State → Phases → Type 0
-Run n x p [] [] y q = (y ≡ x) × (q ≡ p)
-Run n x p (event ∷ events) (reply ∷ replies) y q =
-    (z : State) × (r : Phases)
-    × Step n x event reply z × TellsEnabled x p event reply × Moves n x p event reply r
-    × Run n z r events replies y q
-Run n x p [] (reply ∷ replies) y q = ⊥
-Run n x p (event ∷ events) [] y q = ⊥
+-- a state of the abstract machine, with the phases of a world and its devices
+pub record Moment : Type 0 where
+  pub state : State
+  pub phases : WorldPhases
+  pub devices : List Device
+
+-- over n segments, the event with this reply leads from moment a to moment b: it is a step of the
+-- machine, comes exactly where it may, and moves the phases and the devices
+pub record Passes (n : ℕ) (a : Moment) (event : Event) (reply : Reply) (b : Moment) : Type 0 where
+  pub step : Step n a.state event reply b.state
+  pub comes : TellsWhether a.state a.phases event reply
+  pub phases : PhasesMove n a.state a.phases event reply b.phases
+  pub devices : DevicesMove n a.state a.phases a.devices event reply b.state b.devices
+  pub gates : GatesTold event reply b.phases b.devices
+
+-- these events with these replies lead from moment a to moment b
+abbrev pub Run : ℕ → Moment → List Event → List Reply → Moment → Type 0
+Run n a [] [] b = b ≡ a
+Run n a (event ∷ events) (reply ∷ replies) b = (c : Moment) × Passes n a event reply c × Run n c events replies b
+Run n a [] (reply ∷ replies) b = ⊥
+Run n a (event ∷ events) [] b = ⊥

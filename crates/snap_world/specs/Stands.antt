@@ -1,5 +1,5 @@
 -- Which abstract states the parts of a world stand for. They store no history.
-use Rattle.std.specs.Prelude.{◌≡◌, ℕ, ◌+◌, ◌^◌, ◌<◌, ◌≤◌, false, List, length}
+use Rattle.std.specs.Prelude.{◌≡◌, ℕ, ◌+◌, ◌^◌, ◌<◌, ◌≤◌, Bool, true, false, List, length}
 use Rattle.snap_history.specs.History.{Update, from_nothing, number_after}
 use Rattle.snap_history.specs.Pairs.{Pairs}
 use Rattle.snap_world.specs.Answers.{IsAnswer, number_at}
@@ -21,6 +21,7 @@ pub record HasBegun (n : ℕ) (h : List Update) (g i : ℕ) (w : Writer) (s : Wr
   pub e : ℕ
   pub born : g ≤ b
   pub pending : s.pending ≡ Begun w.value
+  pub fits : length w.value ≤ 4080
   pub room : number_after from_nothing h i + 1 < 2 ^ 63
   pub own : number_at h b i ≡ number_after from_nothing h i
   pub gathers : Gathers n h b e s.told w.collector
@@ -28,13 +29,20 @@ pub record HasBegun (n : ℕ) (h : List Update) (g i : ℕ) (w : Writer) (s : Wr
 abbrev pub IsAtPhase : ℕ → List Update → ℕ → ℕ → Writer → WriterState → WriterPhase → Type 0
 IsAtPhase n h g i w s writer.Idle = s.pending ≡ Free
 IsAtPhase n h g i w s writer.Scanning = HasBegun n h g i w s × IsUnderWay w.collector
+IsAtPhase n h g i w s writer.Storing =
+    (begun : HasBegun n h g i w s) × IsAnswer n h begun.b begun.e s.told w.collector.memory.items
 IsAtPhase n h g i w s writer.Stored =
     (begun : HasBegun n h g i w s) × IsAnswer n h begun.b begun.e s.told w.collector.memory.items
 IsAtPhase n h g i w s writer.Shown = (v : List ℕ) × (s.pending ≡ Shown v)
+IsAtPhase n h g i w s writer.Fenced = (v : List ℕ) × (s.pending ≡ Begun v)
+
+abbrev pub is_fenced : WriterPhase → Bool
+is_fenced writer.Fenced = true
+is_fenced phase = false
 
 pub record WriterStands (n : ℕ) (h : List Update) (g i : ℕ) (w : Writer) (s : WriterState) : Type 0 where
   pub size : length w.collector.memory.items ≡ n
-  pub fenced : s.fenced ≡ false
+  pub fenced : s.fenced ≡ is_fenced w.phase
   pub phase : IsAtPhase n h g i w s w.phase
 
 abbrev pub IsScannerAt : ℕ → List Update → ℕ → Scanner → ScannerState → ScannerPhase → Type 0

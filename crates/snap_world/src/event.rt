@@ -34,11 +34,11 @@ pub enum Event {
     Begin(usize, Vec<u8>),
     /// The actor's scan looks at the register whose turn it is: `Number`, that register's number.
     Look(Actor),
-    /// The next device call of this segment's store succeeds. A world without devices has none to
-    /// make.
+    /// The next device call of this segment's store succeeds: `Called`, with its kind. After the last
+    /// one the update is stored.
     Call(usize),
-    /// The next device call of this segment's store fails, and the touched places get this fill. A
-    /// world without devices has none to make.
+    /// The next device call of this segment's store fails, and the touched places get this fill:
+    /// `DeviceFailed`. The segment takes no update until the next restart has served.
     Fail(usize, Fill),
     /// The writer of this segment, whose update is stored, publishes it: `Shown`.
     Show(usize),
@@ -48,17 +48,19 @@ pub enum Event {
     Scan(usize),
     /// This scanner, whose scan has its answer, gives it and is idle again: `Memory`.
     Answer(usize),
-    /// Each device crashes, and its open places get its fill. A world without devices has none.
+    /// Each device crashes, and its open places get its fill, of which there is one for each segment:
+    /// `Crashed`. It may come at any time. Nobody is at work any more, and the node is down.
     Crash(Vec<Fill>),
-    /// A restart begins. A world without devices is never down.
+    /// A restart of the node, which is down, begins: `Restarting`.
     Restart,
-    /// The next device call of the restart succeeds. A world without devices is never restarting.
+    /// The next device call of the restart succeeds: `Called`. For each segment they are a sync and
+    /// the read of its file.
     RestartCall,
-    /// The next device call of the restart fails, with this fill. A world without devices is never
-    /// restarting.
+    /// The next device call of the restart fails, and the node is down again: `DeviceFailed`. At a
+    /// sync the open places get this fill; a failed read changes nothing.
     RestartFail(Fill),
-    /// The restart ends, and the recovered memory is served. A world without devices is never
-    /// restarting.
+    /// The restart, whose device calls are all made, ends: `Memory`, the recovered one. The node is
+    /// up, and everybody idle.
     Serve,
 }
 

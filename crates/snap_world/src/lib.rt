@@ -1,23 +1,37 @@
-//! The core of the snapshot server over any list of events: one world, which looks, shows and
-//! answers step by step.
+//! The core of the snapshot server over any list of events: one world, which looks, stores, shows,
+//! answers, crashes and restarts step by step.
 //!
-//! A [`World`] has a register for each segment, one writer for each of them, and scanners. An event
-//! is one step of one of them: one look at one register, one publication, or a beginning or end
-//! that is local to one actor. What the world promises is linearizability (Herlihy and Wing 1990)
-//! of the single-writer atomic snapshot (Afek et al. 1993): each scan answers the memory as it
-//! stood at one moment between its beginning and its last look.
+//! A [`World`] has a register and a device for each segment, one writer for each of them, and
+//! scanners. An event is one step of one of them: one look at one register, one publication, one
+//! device call, which succeeds or fails, or a beginning or end that is local to one actor; or it is
+//! a crash of all devices, or a step of the restart behind it. The stores run the machine of
+//! `snap_persist`, on devices of `snap_disk`, and a restart reads them by `snap_slot`.
+//!
+//! What the world promises is durable linearizability (Izraelevitz et al. 2016) of the
+//! single-writer atomic snapshot (Afek et al. 1993): each scan answers the memory as it stood at
+//! one moment between its beginning and its last look, and each restart the memory after all
+//! updates visible by then, followed by at most one begun update of each writer.
 //!
 //! The world stores no history. Its contracts speak of an abstract machine that keeps one
-//! (specs/Machine.antt), of the phases that each event needs and leaves (specs/Phases.antt), and of
-//! the states of that machine that a world stands for (specs/Stands.antt).
+//! (specs/Machine.antt), of the phases that each event needs and leaves (specs/NodePhases.antt), of
+//! what each event does to the devices (specs/Devices.antt), and of the states of that machine that
+//! a world stands for (specs/NodeStands.antt).
 #![tactic(auto)]
 
 mod collector;
+mod disk;
 mod event;
+#[cfg(test)]
+mod generated_tests;
+mod node;
 mod parts;
 mod register;
+mod restart;
+#[cfg(test)]
+mod restart_tests;
 mod scanner;
 mod start;
+mod store;
 #[cfg(test)]
 mod tests;
 mod value;
@@ -25,6 +39,7 @@ mod world;
 mod writer;
 
 pub use event::{Actor, Event, Kind, Reply};
+pub use node::NodePhase;
 pub use scanner::ScannerPhase;
 pub use world::{Stopped, World};
 pub use writer::WriterPhase;

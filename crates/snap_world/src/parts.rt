@@ -1,15 +1,17 @@
-//! What a world is made of, and what one event does to it.
+//! What a node has in memory, and what an event of a writer or a scanner does to it.
 ghost use Rattle.std.specs.Prelude.{◌≡◌, ℕ, ◌<◌, ◌≤◌, IfOk, OnErr};
 ghost use Rattle.snap_world.specs.Start.{start_state, start_phases};
 ghost use Rattle.snap_world.specs.Phases.{TakesMemory};
 ghost use Rattle.snap_world.specs.Stands.{PartsStand, Stand};
+ghost use Rattle.snap_world.specs.Halting.{IsHalted, IsScannerHalted};
+ghost use Rattle.snap_history.specs.Pairs.{Pairs};
 ghost use Rattle.snap_world.specs.Steps.{IsPartsStep, phases_of_parts};
 
 use super::event::{Actor, Event, Reply};
 use super::register::Register;
-use super::scanner::Scanner;
+use super::scanner::{Scanner, ScannerPhase};
 use super::start::{new_registers, new_scanners, new_writers};
-use super::writer::Writer;
+use super::writer::{Writer, WriterPhase};
 use std::alloc::{AllocError, Global};
 
 /// The registers of all segments, with the writer of each, and the scanners.
@@ -41,7 +43,7 @@ impl Parts {
         })
     }
 
-    /// One event.
+    /// One event of a writer or a scanner. The other ones aren't its own: `NotNow`.
     pub fn step(&mut self, alloc: Global, event: &Event) -> Result<Reply, AllocError>
         requires stands { Stand self.old }
         ensures step { IfOk result (λ reply. IsPartsStep self.old event.now reply self.new) }
@@ -74,5 +76,34 @@ impl Parts {
             Actor::Writer(segment) => self.look_writer(segment),
             Actor::Scanner(scanner) => self.look_scanner(scanner),
         }
+    }
+
+    /// A crash ends what everybody was at.
+    pub fn halt(&mut self)
+        ensures segments { self.new.segments ≡ self.old.segments }
+        ensures registers { self.new.registers ≡ self.old.registers }
+        ensures writers { Pairs (λ i. IsHalted) self.old.writers.items self.new.writers.items }
+        ensures scanners { Pairs (λ i. IsScannerHalted) self.old.scanners.items self.new.scanners.items }
+    {
+        halt_writers(&mut self.writers);
+        halt_scanners(&mut self.scanners);
+    }
+}
+
+/// No writer is at work any more.
+fn halt_writers(writers: &mut Vec<Writer>)
+    ensures { Pairs (λ i. IsHalted) writers.old.items writers.new.items }
+{
+    for i in 0..writers.len() {
+        writers[i].phase = WriterPhase::Idle;
+    }
+}
+
+/// No scanner is at work any more.
+fn halt_scanners(scanners: &mut Vec<Scanner>)
+    ensures { Pairs (λ i. IsScannerHalted) scanners.old.items scanners.new.items }
+{
+    for i in 0..scanners.len() {
+        scanners[i].phase = ScannerPhase::Idle;
     }
 }

@@ -74,7 +74,6 @@ impl Parts {
                     }
                 }
             }
-            // It never comes here: the scan of a scanner in this phase has a look to make.
             _ => Reply::NotNow,
         }
     }

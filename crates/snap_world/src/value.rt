@@ -10,7 +10,7 @@ pub const LONGEST: usize = 4080;
 /// A value: a list of at most 4,080 bytes.
 #[derive(Drop)]
 pub struct Value {
-    bytes: [u8; LONGEST],
+    bytes: [u8; 4080],
     len: usize,
 }
 
@@ -28,7 +28,7 @@ impl Value {
         ensures { result ≡ [] }
     {
         Value {
-            bytes: [0; LONGEST],
+            bytes: [0; 4080],
             len: 0,
         }
     }
@@ -47,6 +47,13 @@ impl Value {
         ensures { self.new ≡ other.now }
     {
         self.set(&other.bytes[..other.len]);
+    }
+
+    /// The bytes.
+    pub fn as_slice(&self) -> &[u8]
+        ensures { result.now ≡ self.now }
+    {
+        &self.bytes[..self.len]
     }
 
     /// The bytes in a vector of their own.

@@ -2,13 +2,13 @@
 ghost use Rattle.std.specs.Prelude.{◌≡◌, ℕ, ◌<◌, ◌≤◌, List, [], ◌∷◌, length, take, IfOk, IfErr, OnErr};
 ghost use Rattle.snap_history.specs.History.{IsBeginning};
 ghost use Rattle.snap_world.specs.Machine.{State};
-ghost use Rattle.snap_world.specs.Phases.{Moves, TellsEnabled, TakesMemory, StopsAt};
-ghost use Rattle.snap_world.specs.Start.{start_state, start_phases};
-ghost use Rattle.snap_world.specs.Stands.{PartsStand};
+ghost use Rattle.snap_world.specs.NodePhases.{TellsWhether, PhasesMove, NeedsMemory, StopsAt};
+ghost use Rattle.snap_world.specs.Start.{start_state, start_world_phases, AreFormatted};
+ghost use Rattle.snap_world.specs.NodeStands.{NodeStands};
 ghost use Rattle.snap_world.specs.declared.event.Reply.{Reply};
 
 use super::event::{Event, Reply};
-use super::parts::Parts;
+use super::node::Node;
 use std::alloc::{AllocError, Global};
 
 /// Memory ran out. The world stands after the first `done` events.
@@ -18,7 +18,7 @@ pub struct Stopped {
     pub done: usize,
 }
 
-/// Registers, writers and scanners, on which events are done one after the other.
+/// Registers, devices, writers and scanners, on which events are done one after the other.
 ///
 /// It has no condition but those of [`World::new`]: any list of events may be done on any world. It
 /// stores no history; `StandsFor world state` says for which states of the abstract machine it
@@ -26,16 +26,17 @@ pub struct Stopped {
 #[derive(Drop)]
 pub struct World {
     alloc: Global,
-    parts: Parts,
-    ghost stands: { ∥ ((x : State) × PartsStand parts x) ∥₁ },
+    node: Node,
+    ghost stands: { ∥ ((x : State) × NodeStands node x) ∥₁ },
 }
 
 impl World {
-    ghost use Rattle.snap_world.specs.Surface.{StandsFor, IsRun, segments_of, phases_of};
+    ghost use Rattle.snap_world.specs.Surface.{StandsFor, IsRun, segments_of, phases_of, devices_of};
 
     /// A world of this many segments and scanners, 1 to 16 each: every segment has number 0 and the
-    /// empty value, and nobody is at work. The world keeps the allocator, and takes the memory of
-    /// all its calls but `Answer` and the replies of `run` here.
+    /// empty value, its device is formatted, and nobody is at work. The world keeps the allocator,
+    /// and takes the memory of all its calls here, but for the replies of `Answer`, `Serve` and
+    /// `run`.
     ///
     /// Where memory runs out it answers the `AllocError`, and nothing is kept.
     pub fn new(alloc: Global, segments: usize, scanners: usize) -> Result<World, AllocError>
@@ -44,42 +45,45 @@ impl World {
         requires scanners_least { 0 < scanners }
         requires scanners_most { scanners ≤ 16 }
         ensures segments { IfOk result (λ w. segments_of w ≡ segments) }
-        ensures phases { IfOk result (λ w. phases_of w ≡ start_phases segments scanners) }
+        ensures phases { IfOk result (λ w. phases_of w ≡ start_world_phases segments scanners) }
+        ensures devices { IfOk result (λ w. AreFormatted segments (devices_of w)) }
         ensures stands { IfOk result (λ w. StandsFor w (start_state segments scanners)) }
     {
-        let parts = Parts::new(alloc, segments, scanners)?;
-        Ok(World { alloc, parts })
+        let node = Node::new(alloc, segments, scanners)?;
+        Ok(World { alloc, node })
     }
 
     /// One event: a run of that event alone. [`Reply::NotNow`] comes exactly where the event may
     /// not come, and the world is then unchanged.
     ///
-    /// Only `Answer` takes memory. Where that runs out the result is the `AllocError`, and the
-    /// world is unchanged.
+    /// Only `Answer` and `Serve` take memory. Where that runs out the result is the `AllocError`,
+    /// and the world is unchanged.
     pub fn step(&mut self, event: &Event) -> Result<Reply, AllocError>
         ensures run { IfOk result (λ reply. IsRun self.old (event.now ∷ []) (reply ∷ []) self.new) }
         ensures enabled { IfOk result (λ reply. (x : State) → StandsFor self.old x
-            → TellsEnabled x (phases_of self.old) event.now reply) }
+            → TellsWhether x (phases_of self.old) event.now reply) }
         ensures phases { IfOk result (λ reply. (x : State) → StandsFor self.old x
-            → Moves (segments_of self.old) x (phases_of self.old) event.now reply (phases_of self.new)) }
+            → PhasesMove (segments_of self.old) x (phases_of self.old) event.now reply (phases_of self.new)) }
         ensures unchanged { IfOk result (λ reply. reply ≡ Reply.NotNow → self.new ≡ self.old) }
-        ensures memory { OnErr result (TakesMemory (phases_of self.old) event.now) }
+        ensures memory { OnErr result (NeedsMemory (phases_of self.old) event.now) }
         ensures err { OnErr result (self.new ≡ self.old) }
     {
-        self.parts.step(self.alloc, event)
+        self.node.step(self.alloc, event)
     }
 
     /// Does the events, one after the other, and gives the reply to each.
     ///
     /// This is the theorem of the world. From each state of the abstract machine that the world
-    /// stood for, the events with their replies are a run of that machine, with the phases that the
-    /// world had and has, to a state that the world stands for now. So each scan answers the memory
-    /// as it stood at one moment between its beginning and its last look, and `NotNow` comes
-    /// exactly where an event may not come.
+    /// stood for, the events with their replies are a run of that machine, with the phases and the
+    /// devices that the world had and has, to a state that the world stands for now. So over any
+    /// list of events, with device faults and crashes at any step or inside any write, each restart
+    /// serves the memory after all updates visible by then, followed by at most one begun update of
+    /// each writer; each scan answers the memory as it stood at one moment between its beginning
+    /// and its last look; and `NotNow` comes exactly where an event may not come.
     ///
     /// The memory of the list of replies is taken before the first event. Where memory runs out,
-    /// there or at an `Answer`, the result is [`Stopped`], and all this holds of the events already
-    /// done.
+    /// there or at an `Answer` or a `Serve`, the result is [`Stopped`], and all this holds of the
+    /// events already done.
     pub fn run(&mut self, events: &[Event]) -> Result<Vec<Reply>, Stopped>
         ensures run { IfOk result (λ replies. IsRun self.old events.now replies.items self.new) }
         ensures stopped { IfErr result (λ stopped. (stopped.done ≤ length events.now)
@@ -95,13 +99,14 @@ impl World {
         if replies.reserve(events.len()).is_err() {
             return Err(Stopped { done: 0 });
         }
-        for (done, event) in events.iter().enumerate() {
-            let Ok(reply) = self.step(event) else {
-                return Err(Stopped { done });
-            };
-            let Ok(()) = replies.push(reply) else {
-                return Err(Stopped { done: done + 1 });
-            };
+        for i in 0..events.len() {
+            match self.step(&events[i]) {
+                Ok(reply) => match replies.push(reply) {
+                    Ok(()) => {}
+                    Err(_) => return Err(Stopped { done: i + 1 }),
+                },
+                Err(_) => return Err(Stopped { done: i }),
+            }
         }
         Ok(replies)
     }

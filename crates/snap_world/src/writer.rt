@@ -1,7 +1,9 @@
 //! The writers: what each event of a writer does.
-ghost use Rattle.std.specs.Prelude.{◌≡◌, ◌≤◌, ◌<◌};
-ghost use Rattle.snap_world.specs.Stands.{Stand};
-ghost use Rattle.snap_world.specs.Steps.{IsPartsStep};
+ghost use Rattle.std.specs.Prelude.{◌≡◌, ◌≤◌, ◌<◌, ℕ, true, List, slice_get};
+ghost use Rattle.snap_world.specs.Machine.{State, WriterState, Begun, with_writer};
+ghost use Rattle.snap_world.specs.Phases.{WriterIs, writer_to};
+ghost use Rattle.snap_world.specs.Stands.{Stand, PartsStand};
+ghost use Rattle.snap_world.specs.Steps.{IsPartsStep, phases_of_parts};
 ghost use Rattle.snap_world.specs.declared.event.Actor.{Actor};
 ghost use Rattle.snap_world.specs.declared.event.Event.{Event};
 
@@ -18,10 +20,14 @@ pub enum WriterPhase {
     Idle,
     /// The scan that is embedded in its update has a look to make.
     Scanning,
-    /// Its update may be published.
+    /// Its store has a device call to make.
+    Storing,
+    /// Its update is stored, and may be published.
     Stored,
     /// Its update is visible, and not acknowledged yet.
     Shown,
+    /// A call of its store has failed: it takes no update until the next restart.
+    Fenced,
 }
 
 /// The writer of one segment, with the value of its update and the embedded scan.
@@ -59,8 +65,7 @@ impl Parts {
         }
     }
 
-    /// A writer's embedded scan looks once. Without devices its update is stored as soon as the
-    /// scan has its answer.
+    /// A writer's embedded scan looks once. Once it has its answer, the store is to begin.
     pub fn look_writer(&mut self, segment: usize) -> Reply
         requires stands { Stand self.old }
         ensures step { IsPartsStep self.old (Event.Look (Actor.Writer segment)) result self.new }
@@ -79,12 +84,11 @@ impl Parts {
                 match writer.collector.scan.next() {
                     Next::Look(_) => Reply::Number(number),
                     _ => {
-                        writer.phase = WriterPhase::Stored;
+                        writer.phase = WriterPhase::Storing;
                         Reply::Number(number)
                     }
                 }
             }
-            // It never comes here: the scan of a writer in this phase has a look to make.
             _ => Reply::NotNow,
         }
     }
@@ -127,5 +131,29 @@ impl Parts {
             }
             _ => Reply::NotNow,
         }
+    }
+
+    /// The last device call of a writer's store has succeeded.
+    pub fn end_store(&mut self, segment: usize)
+        requires stands { Stand self.old }
+        requires within { segment < self.old.segments }
+        ensures segments { self.new.segments ≡ self.old.segments }
+        ensures registers { self.new.registers ≡ self.old.registers }
+        ensures stands { (x : State) → PartsStand self.old x → WriterIs (phases_of_parts self.old) segment WriterPhase.Storing → PartsStand self.new x }
+        ensures phases { phases_of_parts self.new ≡ writer_to (phases_of_parts self.old) segment WriterPhase.Stored }
+    {
+        self.writers[segment].phase = WriterPhase::Stored;
+    }
+
+    /// A device call of a writer's store has failed.
+    pub fn fence(&mut self, segment: usize)
+        requires stands { Stand self.old }
+        requires within { segment < self.old.segments }
+        ensures segments { self.new.segments ≡ self.old.segments }
+        ensures stands { (x : State) → PartsStand self.old x → (s : WriterState) (v : List ℕ) → slice_get x.writers segment ≡ Some s → s.pending ≡ Begun v
+            → PartsStand self.new (with_writer x segment (record { pending = s.pending; fenced = true; told = s.told })) }
+        ensures phases { phases_of_parts self.new ≡ writer_to (phases_of_parts self.old) segment WriterPhase.Fenced }
+    {
+        self.writers[segment].phase = WriterPhase::Fenced;
     }
 }

@@ -219,57 +219,60 @@ Example:
   snapd check manifest.snap";
 
 const SCRIPT_HELP: &str = "\
-A script is lines of words, which single spaces part. Empty lines are skipped.
-The first other line is `world N S`: a new world of N segments and S scanners,
-1 to 16 each. Every other line is one event. For each line one is printed: what
-the world answers, or `not now` where the event may not come.
+A script is lines of words, which single spaces part. Empty lines are skipped. The first other
+line is `world N S`: a new world of N segments and S scanners, 1 to 16 each. Every other line is
+one event, and for each line one is printed: what the world answers, or `not now` where the event
+may not come.
 
-  Line         Prints          What happens
-  world N S    world N S       every segment has number 0 and the empty value
-  begin W HEX  begun           writer W begins an update by this value
-  look wW      number K        writer W's embedded scan looks at the next
-                               segment, whose number is K
-  show W       shown           writer W's update is visible from now on
-  ack W        stored K        writer W's update is acknowledged, as number K
-  scan S       scanning        scanner S begins a scan
-  look sS      number K        scanner S looks at the next segment
-  answer S     memory HEX ..   scanner S answers the value of each segment
+  Line             Prints            What happens
+  world N S        world N S         every segment has number 0 and the empty value
+  begin W HEX      begun             writer W begins an update by this value; `-` is the empty one
+  look wW          number K          writer W's embedded scan looks at the next segment: number K
+  call W           called KIND       the next device call of writer W's store succeeds
+  fail W FILL      device failed     it fails, and the segment is fenced until a restart
+  show W           shown             writer W's update is visible from now on
+  ack W            stored K          writer W's update is acknowledged, as number K
+  scan S           scanning          scanner S begins a scan
+  look sS          number K          scanner S looks at the next segment: number K
+  answer S         memory HEX ..     scanner S answers the value of each segment, in order
+  crash FILL ..    crashed           every device crashes, with one fill each
+  restart          restarting        the node starts again
+  recall           called KIND       the next device call of the restart succeeds
+  refail FILL      device failed     it fails, and the node is down again
+  serve            memory HEX ..     the restart ends with the recovered memory
 
-W is a segment and S a scanner, counted from 0, of 1 to 19 digits. HEX is two
-hexadecimal digits for each byte, or `-` for no byte. `call W`, `fail W FILL`,
-`crash FILL ..`, `restart`, `recall`, `refail FILL` and `serve` are read too,
-and print `not now`: this world has no devices yet. FILL is `keep`, two
-hexadecimal digits, or `at:OFFSET:HEX`.
+W is a segment and S a scanner, both counted from 0. HEX is two hexadecimal digits for each byte.
+KIND is close, body, open, sync or read. FILL says what touched bytes get: `keep` what they had,
+two hexadecimal digits that byte, `at:OFFSET:HEX` these bytes from that place on.
 
-A line that can't be read ends the program with status 2, after the lines
-before it were done.
+A line that can't be read ends the program with status 2, after the lines before it were done.
 
-Example: the one writer shows `hi` between two looks of a scan. The scan's
-first two looks differ, so it looks twice more.
+Example: a crash after the gate of a stored value was written, and before it was synced. With
+`crash 00` in place of `crash a5` the memory is the one before the update.
 
   $ snapd script <<END
   world 1 1
   begin 0 6869
   look w0
   look w0
-  scan 0
-  look s0
-  show 0
-  look s0
-  ack 0
-  look s0
-  look s0
-  answer 0
+  call 0
+  call 0
+  call 0
+  crash a5
+  restart
+  recall
+  recall
+  serve
   END
   world 1 1
   begun
   number 0
   number 0
-  scanning
-  number 0
-  shown
-  number 1
-  stored 1
-  number 1
-  number 1
+  called body
+  called sync
+  called open
+  crashed
+  restarting
+  called sync
+  called read
   memory 6869";

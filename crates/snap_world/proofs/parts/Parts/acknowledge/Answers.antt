@@ -1,14 +1,20 @@
-use Rattle.std.proofs.Common.{◌≡◌, ◌<◌, [], refl, ap, subst, ◌∙◌}
+use Rattle.std.proofs.Common.{◌≡◌, ◌<◌, [], length, refl, ap, subst, ◌∙◌, arith}
 use Rattle.snap_world.specs.Machine.{WriterState, Free, with_writer}
 use Rattle.snap_world.specs.Phases.{WriterIs}
-use Rattle.snap_world.specs.Stands.{WriterStands, IsAtPhase}
+use Rattle.snap_world.specs.Stands.{WriterStands, IsAtPhase, is_fenced}
 use Rattle.snap_world.specs.Steps.{phases_of_parts}
 use Rattle.snap_world.specs.declared.writer.Writer.{Writer}
 use Rattle.snap_world.specs.declared.writer.WriterPhase.TheVariants as writer
 use Rattle.snap_world.proofs.Moves.{the_writer, the_register, writer_moves, same_read}
-use Rattle.snap_world.proofs.Phasing.{writer_is, other_writer, writer_moved, refused, came}
-use Rattle.snap_world.proofs.Sizes.{writer_fits, writer_there, register_fits}
+use Rattle.snap_world.proofs.Phasing.{writer_is, other_writer, no_writer, writer_moved, refused, came}
+use Rattle.snap_world.proofs.Sizes.{writers_size, writer_fits, writer_there, register_fits}
 use Rattle.snap_world.proofs.parts.Parts.acknowledge.Goals as goal
+
+pub returns-then-segment-self : goal.returns-then-segment-self
+returns-then-segment-self c =
+    let w = c.args.self.now in
+    let s : length w.writers.items ≡ w.segments = writers_size w c.requires.stands in
+    record { step = refused w _ (λ x stands e. no_writer w c.args.segment writer.Shown (omega arith) e) }
 
 pub index-requires : goal.index-requires
 index-requires c = writer_fits c.args.self.now c.args.segment c.requires.stands c.if-segment-self.false
@@ -36,7 +42,7 @@ returns-in-Shown c =
           let r = the_register w x stands i c.index-in-Shown.result.now l c.index-in-Shown.ensures in
           let shown = subst (IsAtPhase w.segments x.history stands.since i old a.0) phase a.2.phase in
           let state : WriterState = record { pending = Free; fenced = a.0.fenced; told = [] } in
-          let here : WriterStands w.segments x.history stands.since i new state = record { size = a.2.size; fenced = a.2.fenced; phase = refl } in
+          let here : WriterStands w.segments x.history stands.since i new state = record { size = a.2.size; fenced = a.2.fenced ∙ ap is_fenced phase; phase = refl } in
           (with_writer x i state, (a.0, shown.0, a.1, shown.1, r.number, refl), writer_moves w x stands i new state l here)))
           (λ x stands. subst (WriterIs (phases_of_parts w) i) phase (writer_is w i old there c.index_mut.ensures.value))
           (λ x stands. writer_moved w i new);

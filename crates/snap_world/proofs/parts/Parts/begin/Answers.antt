@@ -1,8 +1,8 @@
-use Rattle.std.proofs.Common.{◌≡◌, ◌-◌, ◌^◌, ◌<◌, ◌≤◌, false, [], length, refl, ap, subst, ◌∙◌, sym, arith}
+use Rattle.std.proofs.Common.{◌≡◌, ℕ, ◌-◌, ◌^◌, ◌<◌, ◌≤◌, false, List, [], length, refl, ap, subst, ◌∙◌, sym, arith}
 use Rattle.snap_history.specs.History.{from_nothing, number_after}
 use Rattle.snap_world.specs.Machine.{WriterState, Begun, Free, with_writer}
 use Rattle.snap_world.specs.Phases.{WriterIs}
-use Rattle.snap_world.specs.Stands.{WriterStands, IsAtPhase}
+use Rattle.snap_world.specs.Stands.{WriterStands, IsAtPhase, is_fenced}
 use Rattle.snap_world.specs.Steps.{phases_of_parts}
 use Rattle.snap_world.specs.declared.writer.Writer.{Writer}
 use Rattle.snap_world.specs.declared.writer.WriterPhase.TheVariants as writer
@@ -67,6 +67,7 @@ returns-in-Idle c =
                 e = length x.history;
                 born = stands.within;
                 pending = ap Begun value;
+                fits = subst (λ (v : List ℕ). length v ≤ 4080) value short;
                 room = (omega arith);
                 own = number_now x.history i;
                 gathers = Gathers-none w.segments x.history _ c.new-writer.ensures.stands c.new-writer.ensures.size c.new-writer.ensures.first a.2.size;
@@ -74,7 +75,7 @@ returns-in-Idle c =
               (0, c.new-writer.ensures.first),
             );
           } in
-          (with_writer x i state, (a.0, a.1, free, a.2.fenced, refl), writer_moves w x stands i new state l here)))
+          (with_writer x i state, (a.0, a.1, free, a.2.fenced ∙ ap is_fenced phase, refl), writer_moves w x stands i new state l here)))
           (λ x stands. (
           let r = the_register w x stands i c.index.result.now l c.index.ensures in
           let number : c.index.result.now.number ≡ number_after from_nothing x.history i = r.number in

@@ -6,9 +6,14 @@ use Rattle.snap_world.specs.Steps.{phases_of_parts}
 use Rattle.snap_world.specs.declared.scanner.Scanner.{Scanner}
 use Rattle.snap_world.specs.declared.scanner.ScannerPhase.TheVariants as scanner
 use Rattle.snap_world.proofs.Moves.{the_scanner, scanner_moves, scanner_goes_on, Gathers-none, same_read}
-use Rattle.snap_world.proofs.Phasing.{scanner_is, other_scanner, scanner_moved, refused, came}
+use Rattle.snap_world.proofs.Phasing.{scanner_is, other_scanner, no_scanner, scanner_moved, refused, came}
 use Rattle.snap_world.proofs.Sizes.{segments_least, segments_most}
 use Rattle.snap_world.proofs.parts.Parts.scan.Goals as goal
+
+pub returns-then-at-len : goal.returns-then-at-len
+returns-then-at-len c =
+    let w = c.args.self.now in
+    record { step = refused w _ (λ x stands e. no_scanner w c.args.at scanner.Idle (omega (arith, w.scanners.ok.0)) e) }
 
 pub new-scanner-requires-clause-least : goal.new-scanner-requires-clause-least
 new-scanner-requires-clause-least c = segments_least c.args.self.now c.requires.stands

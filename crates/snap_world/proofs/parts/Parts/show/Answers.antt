@@ -4,7 +4,7 @@ use Rattle.std.proofs.Common.{◌≡◌, ◌+◌, ◌<◌, ◌≤◌, ◌^◌, [
 use Rattle.snap_history.specs.History.{from_nothing, number_after, IsMemory}
 use Rattle.snap_world.specs.Machine.{WriterState, Shown}
 use Rattle.snap_world.specs.Phases.{WriterIs}
-use Rattle.snap_world.specs.Stands.{WriterStands, IsAtPhase}
+use Rattle.snap_world.specs.Stands.{WriterStands, IsAtPhase, is_fenced}
 use Rattle.snap_world.specs.Steps.{phases_of_parts}
 use Rattle.snap_world.specs.declared.register.Register.{Register}
 use Rattle.snap_world.specs.declared.writer.Writer.{Writer}
@@ -75,7 +75,7 @@ returns-in-Stored c =
           let state : WriterState = record { pending = Shown v; fenced = a.0.fenced; told = a.0.told } in
           let here_r = shown_register w.segments h stands.since i v register answer.p (omega arith) (own_moment w.segments h stands.since i old a.0 begun answer.p answer.after answer.until)
           (ap (λ y. y + 1) r.number) c.copy_from.ensures (ap length c.copy_all.ensures ∙ a.2.size) (subst (IsMemory w.segments from_nothing (take answer.p h)) (sym c.copy_all.ensures) answer.is_memory) in
-          let here_a : WriterStands w.segments (h ++ record { segment = i; value = v } ∷ []) stands.since i new state = record { size = a.2.size; fenced = a.2.fenced; phase = (v, refl) } in (
+          let here_a : WriterStands w.segments (h ++ record { segment = i; value = v } ∷ []) stands.since i new state = record { size = a.2.size; fenced = a.2.fenced ∙ ap is_fenced phase; phase = (v, refl) } in (
             record { history = h ++ record { segment = i; value = v } ∷ []; writers = slice_set x.writers i state; scanners = x.scanners },
             (a.0, v, a.1, begun.pending, refl),
             world_shows w x stands i v register new state l here_r here_a,

@@ -1,19 +1,19 @@
 use Rattle.std.proofs.Common.{◌≡◌, Ok, Err, IfOk, OnErr, sym, subst}
 use Rattle.std.proofs.Math.Logic.{∥∥₁_map}
-use Rattle.snap_world.specs.Stands.{Stand}
-use Rattle.snap_world.specs.Steps.{IsPartsStep}
+use Rattle.snap_world.specs.NodeStands.{NodeStand}
+use Rattle.snap_world.specs.NodeSteps.{IsNodeStep}
 use Rattle.snap_world.proofs.Runs.{IsRun-step}
 use Rattle.snap_world.proofs.world.World.step.Goals as goal
 
 pub invariant_of-self : goal.invariant_of-self
 invariant_of-self c =
-    let old = c.args.self.now.parts in
+    let old = c.args.self.now.node in
     let new = c.step.new.self in
-    let was : Stand old = c.args.self.now.stands in
+    let was : NodeStand old = c.args.self.now.stands in
     record {
-      stands = elim c.step.result as (λ r. IfOk r (λ reply. IsPartsStep old c.args.event.now reply new) → OnErr r (new ≡ old) → Stand new) [
-        | Ok reply ↦ (λ s e. ∥∥₁_map was (λ q. (let y = s.step q.0 q.1 in (y.0, y.2))))
-        | Err error ↦ (λ s e. subst Stand (sym e) was)
+      stands = elim c.step.result as (λ r. IfOk r (λ reply. IsNodeStep old c.args.event.now reply new) → OnErr r (new ≡ old) → NodeStand new) [
+        | Ok reply ↦ (λ s e. ∥∥₁_map was (λ q. (let y = s.step q.0 q.1 in (y.0, y.3))))
+        | Err error ↦ (λ s e. subst NodeStand (sym e) was)
       ] c.step.ensures.step c.step.ensures.err;
     }
 

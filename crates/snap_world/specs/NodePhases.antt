@@ -1,0 +1,113 @@
+-- The phases of a world: of its node, of its writers and scanners, and of the stores on its devices.
+use Rattle.std.specs.Prelude.{◌≡◌, ◌⊎◌, ℕ, ◌+◌, ◌*◌, ◌%◌, ◌<◌, ◌==◌, if◌then◌else◌, true, List, [], ◌∷◌, length, replicate, Some, slice_get, slice_set}
+use Rattle.snap_world.specs.Machine.{State}
+use Rattle.snap_world.specs.Phases.{Phases, TakesMemory, WriterIs, writer_to, IsEnabled, Moves}
+use Rattle.snap_world.specs.Calls.{store_kinds}
+use Rattle.snap_world.specs.declared.event.Event.{Event}
+use Rattle.snap_world.specs.declared.event.Event.TheVariants.{Call, Fail, Crash, Restart, RestartCall, RestartFail, Serve}
+use Rattle.snap_world.specs.declared.event.Kind.{Kind}
+use Rattle.snap_world.specs.declared.event.Kind.TheVariants as kind
+use Rattle.snap_world.specs.declared.event.Reply.{Reply}
+use Rattle.snap_world.specs.declared.event.Reply.TheVariants.{Called, DeviceFailed, Crashed, Restarting as Restarting_reply, Memory, NotNow}
+use Rattle.snap_world.specs.declared.node.NodePhase.{NodePhase}
+use Rattle.snap_world.specs.declared.node.NodePhase.TheVariants.{Up, Down, Restarting}
+use Rattle.snap_world.specs.declared.writer.WriterPhase.TheVariants as writer
+use Rattle.snap_world.specs.declared.scanner.ScannerPhase.TheVariants as scanner
+
+-- `calls` has for each segment the kinds of the device calls that are left of the store under way, or
+-- of the next one
+pub record WorldPhases : Type 0 where
+  pub node : NodePhase
+  pub actors : Phases
+  pub calls : List (List Kind)
+
+-- how many segments there are
+abbrev pub segments_in : WorldPhases → ℕ
+segments_in p = length p.calls
+
+-- in state x with phases p the event may come
+abbrev pub MayCome : State → WorldPhases → Event → Type 0
+MayCome x p (Call w) = (p.node ≡ Up) × WriterIs p.actors w writer.Storing
+MayCome x p (Fail w fill) = (p.node ≡ Up) × WriterIs p.actors w writer.Storing
+-- a crash comes with a fill for each device
+MayCome x p (Crash fills) = length fills.items ≡ segments_in p
+MayCome x p Restart = p.node ≡ Down
+-- a restart makes two calls for each segment
+MayCome x p RestartCall = (calls : ℕ) × (p.node ≡ Restarting calls) × (calls < 2 * segments_in p)
+MayCome x p (RestartFail fill) = (calls : ℕ) × (p.node ≡ Restarting calls) × (calls < 2 * segments_in p)
+-- and serves once they are made
+MayCome x p Serve = p.node ≡ Restarting (2 * segments_in p)
+-- writers and scanners act only while the node is up
+MayCome x p event = (p.node ≡ Up) × IsEnabled x p.actors event
+
+-- the reply is `NotNow` exactly where the event may not come
+pub record TellsWhether (x : State) (p : WorldPhases) (event : Event) (reply : Reply) : Type 0 where
+  pub refused : reply ≡ NotNow → MayCome x p event → ⊥
+  pub came : (reply ≡ NotNow → ⊥) → MayCome x p event
+
+-- after a call with these ones left; once none is left the update is stored, and the next store finds
+-- its spare gate open
+abbrev pub AfterCall : WorldPhases → ℕ → List Kind → WorldPhases → Type 0
+AfterCall p w [] q = q ≡ record {
+  node = p.node;
+  actors = writer_to p.actors w writer.Stored;
+  calls = slice_set p.calls w (store_kinds true);
+}
+AfterCall p w (kind ∷ kinds) q = q ≡ record {
+  node = p.node;
+  actors = p.actors;
+  calls = slice_set p.calls w (kind ∷ kinds);
+}
+
+-- nobody is at work
+abbrev pub all_idle : Phases → Phases
+all_idle p = record {
+  writers = replicate (length p.writers) writer.Idle;
+  scanners = replicate (length p.scanners) scanner.Idle;
+}
+
+-- the same phases but for the node's
+abbrev pub node_to : WorldPhases → NodePhase → WorldPhases
+node_to p node = record { node = node; actors = p.actors; calls = p.calls }
+
+-- the calls of a restart: for each segment a sync and then a read
+abbrev pub restart_kind : ℕ → Kind
+restart_kind calls = if calls % 2 == 0 then kind.Sync else kind.Read
+
+-- in state x with phases p, over n segments, the event with this reply leaves the phases q
+abbrev pub PhasesMove : ℕ → State → WorldPhases → Event → Reply → WorldPhases → Type 0
+PhasesMove n x p event NotNow q = q ≡ p
+PhasesMove n x p (Call w) (Called kind) q =
+    (rest : List Kind) × (slice_get p.calls w ≡ Some (kind ∷ rest)) × AfterCall p w rest q
+PhasesMove n x p (Fail w fill) DeviceFailed q = q ≡ record {
+  node = p.node;
+  actors = writer_to p.actors w writer.Fenced;
+  calls = slice_set p.calls w [];
+}
+PhasesMove n x p (Crash fills) Crashed q = q ≡ record {
+  node = Down;
+  actors = all_idle p.actors;
+  calls = p.calls;
+}
+PhasesMove n x p Restart Restarting_reply q = q ≡ node_to p (Restarting 0)
+PhasesMove n x p RestartCall (Called kind) q =
+    (calls : ℕ) × (p.node ≡ Restarting calls) × (kind ≡ restart_kind calls) × (q ≡ node_to p (Restarting (calls + 1)))
+PhasesMove n x p (RestartFail fill) DeviceFailed q = q ≡ node_to p Down
+-- everybody is idle again
+PhasesMove n x p Serve (Memory m) q =
+    (q.node ≡ Up) × (q.actors ≡ all_idle p.actors) × (segments_in q ≡ segments_in p)
+-- the events of writers and scanners
+PhasesMove n x p event reply q =
+    (q.node ≡ p.node) × Moves n x p.actors event reply q.actors × (q.calls ≡ p.calls)
+
+-- the event's reply holds values, and it may come
+abbrev pub NeedsMemory : WorldPhases → Event → Type 0
+NeedsMemory p event =
+    ((p.node ≡ Up) × TakesMemory p.actors event)
+    ⊎ ((event ≡ Serve) × (p.node ≡ Restarting (2 * segments_in p)))
+
+-- with these phases memory can have run out before this one of the events: the first, where the list
+-- of replies was to be made, or one whose reply holds values
+abbrev pub StopsAt : WorldPhases → List Event → ℕ → Type 0
+StopsAt p events done =
+    (done ≡ 0) ⊎ ((event : Event) × (slice_get events done ≡ Some event) × NeedsMemory p event)

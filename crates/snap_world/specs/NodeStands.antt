@@ -1,0 +1,73 @@
+-- Which abstract states a node stands for.
+use Rattle.std.specs.Prelude.{◌≡◌, ℕ, ◌+◌, ◌*◌, ◌<◌, ◌≤◌, List, length, Some, slice_get}
+use Rattle.snap_disk.specs.Device.{IsSettled}
+use Rattle.snap_slot.specs.Findings.{IsFound}
+use Rattle.snap_history.specs.Pairs.{Pairs}
+use Rattle.snap_world.specs.Disks.{DisksStand, DisksDown, device_of}
+use Rattle.snap_world.specs.Machine.{State, WriterState, ScannerState, Closed}
+use Rattle.snap_world.specs.Stands.{PartsStand}
+use Rattle.snap_world.specs.Steps.{phases_of_parts}
+use Rattle.snap_world.specs.declared.disk.SegmentDisk.{SegmentDisk}
+use Rattle.snap_world.specs.declared.node.Node.{Node}
+use Rattle.snap_world.specs.declared.node.NodePhase.{NodePhase}
+use Rattle.snap_world.specs.declared.node.NodePhase.TheVariants.{Up, Down, Restarting}
+use Rattle.snap_world.specs.declared.parts.Parts.{Parts}
+use Rattle.snap_world.specs.declared.register.Register.{Register}
+use Rattle.snap_world.specs.declared.writer.Writer.{Writer}
+use Rattle.snap_world.specs.declared.writer.WriterPhase.TheVariants as writer
+use Rattle.snap_world.specs.declared.scanner.Scanner.{Scanner}
+use Rattle.snap_world.specs.declared.scanner.ScannerPhase.TheVariants as scanner
+
+-- a writer and a scanner without work
+pub record WriterRests (n : ℕ) (a : Writer) (s : WriterState) : Type 0 where
+  pub size : length a.collector.memory.items ≡ n
+  pub idle : a.phase ≡ writer.Idle
+
+pub record ScannerRests (n : ℕ) (a : Scanner) (s : ScannerState) : Type 0 where
+  pub size : length a.collector.memory.items ≡ n
+  pub idle : a.phase ≡ scanner.Idle
+  pub closed : s ≡ Closed
+
+-- while it is up, its parts and each device stand for the state
+pub record IsUp (parts : Parts) (disks : List SegmentDisk) (x : State) : Type 0 where
+  pub parts_stand : PartsStand parts x
+  pub disks_stand : DisksStand parts.segments x.history x.writers (phases_of_parts parts).writers disks
+
+-- nobody is at work, and the places for values and scans have their sizes
+pub record PartsRest (w : Parts) (x : State) : Type 0 where
+  pub least : 0 < w.segments
+  pub most : w.segments ≤ 16
+  pub registers_n : length w.registers.items ≡ w.segments
+  pub views_n : (i : ℕ) (r : Register) → slice_get w.registers.items i ≡ Some r
+      → length r.view.items ≡ w.segments
+  pub writers_n : length w.writers.items ≡ w.segments
+  pub writers : Pairs (λ i. WriterRests w.segments) w.writers.items x.writers
+  pub scanners : Pairs (λ i. ScannerRests w.segments) w.scanners.items x.scanners
+
+-- while it is down
+pub record IsDown (parts : Parts) (disks : List SegmentDisk) (x : State) : Type 0 where
+  pub parts_rest : PartsRest parts x
+  pub disks_down : DisksDown parts.segments x.history x.writers disks
+
+-- while it restarts, with this many calls done: the devices that were synced have no open place, and
+-- what was found in those that were read is what they hold
+pub record IsRestarting (parts : Parts) (disks : List SegmentDisk) (x : State) (calls : ℕ) : Type 0 where
+  pub down : IsDown parts disks x
+  pub few : calls ≤ 2 * parts.segments
+  pub synced : (i : ℕ) (d : SegmentDisk) → slice_get disks i ≡ Some d → 2 * i < calls
+      → IsSettled (device_of d)
+  pub read : (i : ℕ) (d : SegmentDisk) → slice_get disks i ≡ Some d → 2 * i + 1 < calls
+      → IsFound i parts.segments (device_of d).bytes d.found
+
+abbrev pub IsNodeAt : Parts → List SegmentDisk → State → NodePhase → Type 0
+IsNodeAt parts disks x Up = IsUp parts disks x
+IsNodeAt parts disks x Down = IsDown parts disks x
+IsNodeAt parts disks x (Restarting calls) = IsRestarting parts disks x calls
+
+pub record NodeStands (w : Node) (x : State) : Type 0 where
+  pub disks_n : length w.disks.items ≡ w.parts.segments
+  pub at : IsNodeAt w.parts w.disks.items x w.phase
+
+-- the node stands for some state
+abbrev pub NodeStand : Node → Type 0
+NodeStand w = ∥ ((x : State) × NodeStands w x) ∥₁

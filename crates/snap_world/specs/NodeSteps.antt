@@ -1,0 +1,66 @@
+-- One event of a node.
+use Rattle.std.specs.Prelude.{◌≡◌, ℕ, List, map}
+use Rattle.snap_disk.specs.Device.{Device}
+use Rattle.snap_persist.specs.Stage.{calls_left}
+use Rattle.snap_world.specs.Calls.{kinds_of}
+use Rattle.snap_world.specs.Devices.{DevicesMove, GatesTold}
+use Rattle.snap_world.specs.Disks.{device_of}
+use Rattle.snap_world.specs.Machine.{State, Step}
+use Rattle.snap_world.specs.NodePhases.{WorldPhases, TellsWhether, PhasesMove}
+use Rattle.snap_world.specs.NodeStands.{NodeStands}
+use Rattle.snap_world.specs.Phases.{WriterIs}
+use Rattle.snap_world.specs.Steps.{phases_of_parts}
+use Rattle.snap_world.specs.declared.event.Event.{Event}
+use Rattle.snap_world.specs.declared.event.Event.TheVariants.{Call, Fail, Crash, Restart, RestartCall, RestartFail, Serve}
+use Rattle.snap_world.specs.declared.event.Kind.{Kind}
+use Rattle.snap_world.specs.declared.event.Reply.{Reply}
+use Rattle.snap_world.specs.declared.event.Reply.TheVariants.{NotNow}
+use Rattle.snap_world.specs.declared.disk.SegmentDisk.{SegmentDisk}
+use Rattle.snap_world.specs.declared.node.Node.{Node}
+use Rattle.snap_world.specs.declared.node.NodePhase.TheVariants.{Up}
+use Rattle.snap_world.specs.declared.writer.WriterPhase.TheVariants as writer
+
+-- the devices of the segments, in order
+abbrev pub devices_of_node : Node → List Device
+devices_of_node w = map device_of w.disks.items
+
+abbrev pub kinds_left : SegmentDisk → List Kind
+kinds_left d = kinds_of (calls_left d.order.stage)
+
+abbrev pub phases_of_node : Node → WorldPhases
+phases_of_node w = record {
+  node = w.phase;
+  actors = phases_of_parts w.parts;
+  calls = map kinds_left w.disks.items;
+}
+
+-- an event of a writer or a scanner
+abbrev pub IsActors : Event → Type 0
+IsActors (Call w) = ⊥
+IsActors (Fail w fill) = ⊥
+IsActors (Crash fills) = ⊥
+IsActors Restart = ⊥
+IsActors RestartCall = ⊥
+IsActors (RestartFail fill) = ⊥
+IsActors Serve = ⊥
+IsActors event = Unit {0}
+
+-- the store of this segment has a call to make
+abbrev pub MayStore : Node → ℕ → Type 0
+MayStore node w = (node.phase ≡ Up) × WriterIs (phases_of_parts node.parts) w writer.Storing
+
+-- from each state that the node stood for, the event with its reply is a step to one that it stands for
+-- now, and leaves these devices; the reply tells whether the event may come, the phases move by their
+-- table, and after `NotNow` nothing has changed
+pub record IsNodeStep (old : Node) (event : Event) (reply : Reply) (new : Node) : Type 0 where
+  pub segments : new.parts.segments ≡ old.parts.segments
+  pub step : (x : State) → NodeStands old x
+      → (y : State) × Step old.parts.segments x event reply y
+      × DevicesMove old.parts.segments x (phases_of_node old) (devices_of_node old) event reply y (devices_of_node new)
+      × NodeStands new y
+  pub comes : (x : State) → NodeStands old x → TellsWhether x (phases_of_node old) event reply
+  pub phases : (x : State) → NodeStands old x
+      → PhasesMove old.parts.segments x (phases_of_node old) event reply (phases_of_node new)
+  pub gates : (x : State) → NodeStands old x
+      → GatesTold event reply (phases_of_node new) (devices_of_node new)
+  pub unchanged : reply ≡ NotNow → new ≡ old

@@ -1,0 +1,83 @@
+//! A node: its parts in memory, the devices of its segments, and what one event does to them.
+ghost use Rattle.std.specs.Prelude.{◌≡◌, ℕ, ◌<◌, ◌≤◌, IfOk, OnErr};
+ghost use Rattle.snap_world.specs.Start.{start_state, start_world_phases, AreFormatted};
+ghost use Rattle.snap_world.specs.NodePhases.{NeedsMemory};
+ghost use Rattle.snap_world.specs.NodeStands.{NodeStands, NodeStand};
+ghost use Rattle.snap_world.specs.NodeSteps.{IsNodeStep, IsActors, phases_of_node, devices_of_node};
+
+use super::disk::{SegmentDisk, new_disks};
+use super::event::{Event, Reply};
+use super::parts::Parts;
+use std::alloc::{AllocError, Global};
+
+/// How far a node is with its restart.
+#[derive(Clone, Copy, Debug, Drop, PartialEq, Eq)]
+pub enum NodePhase {
+    /// Its writers and scanners are at work.
+    Up,
+    /// It has crashed.
+    Down,
+    /// It restarts, and has done this many of the device calls of its restart: for each segment a sync and a read.
+    Restarting(usize),
+}
+
+/// What is in memory, and the device of each segment.
+#[derive(Drop)]
+pub struct Node {
+    pub phase: NodePhase,
+    pub parts: Parts,
+    pub disks: Vec<SegmentDisk>,
+}
+
+impl Node {
+    /// Formatted devices, and nobody is at work.
+    pub fn new(alloc: Global, segments: usize, scanners: usize) -> Result<Node, AllocError>
+        requires least { 0 < segments }
+        requires most { segments ≤ 16 }
+        ensures segments { IfOk result (λ w. w.parts.segments ≡ segments) }
+        ensures phases { IfOk result (λ w. phases_of_node w ≡ start_world_phases segments scanners) }
+        ensures devices { IfOk result (λ w. AreFormatted segments (devices_of_node w)) }
+        ensures stands { IfOk result (λ w. NodeStands w (start_state segments scanners)) }
+    {
+        let parts = Parts::new(alloc, segments, scanners)?;
+        let disks = new_disks(alloc, segments)?;
+        Ok(Node {
+            phase: NodePhase::Up,
+            parts,
+            disks,
+        })
+    }
+
+    /// One event.
+    pub fn step(&mut self, alloc: Global, event: &Event) -> Result<Reply, AllocError>
+        requires stands { NodeStand self.old }
+        ensures step { IfOk result (λ reply. IsNodeStep self.old event.now reply self.new) }
+        ensures memory { OnErr result (NeedsMemory (phases_of_node self.old) event.now) }
+        ensures err { OnErr result (self.new ≡ self.old) }
+    {
+        match event {
+            Event::Call(segment) => Ok(self.call(*segment)),
+            Event::Fail(segment, fill) => Ok(self.fail(*segment, fill)),
+            Event::Crash(fills) => Ok(self.crash(fills)),
+            Event::Restart => Ok(self.restart()),
+            Event::RestartCall => Ok(self.restart_call()),
+            Event::RestartFail(fill) => Ok(self.restart_fail(fill)),
+            Event::Serve => self.serve(alloc),
+            _ => self.act(alloc, event),
+        }
+    }
+
+    /// An event of a writer or a scanner.
+    fn act(&mut self, alloc: Global, event: &Event) -> Result<Reply, AllocError>
+        requires stands { NodeStand self.old }
+        requires actors { IsActors event.now }
+        ensures step { IfOk result (λ reply. IsNodeStep self.old event.now reply self.new) }
+        ensures memory { OnErr result (NeedsMemory (phases_of_node self.old) event.now) }
+        ensures err { OnErr result (self.new ≡ self.old) }
+    {
+        match self.phase {
+            NodePhase::Up => self.parts.step(alloc, event),
+            _ => Ok(Reply::NotNow),
+        }
+    }
+}

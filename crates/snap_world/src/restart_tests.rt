@@ -1,0 +1,251 @@
+//! Worked runs of device faults, crashes and restarts.
+use super::event::{Actor, Event, Kind, Reply};
+use super::tests::{FIRST_STORE, LATER_STORE, answer, begin, calls, expect, looks, show, store};
+use super::world::World;
+use snap_disk::Fill;
+use std::alloc::{AllocError, Global};
+use std::process::Abort;
+use std::test::Fail;
+
+/// Fills by these bytes; a fill by none keeps.
+fn fills(alloc: Global, bytes: &[Option<u8>]) -> Result<Vec<Fill>, AllocError> {
+    let mut all = Vec::new(alloc);
+    for byte in bytes {
+        all.push(fill(*byte))?;
+    }
+    Ok(all)
+}
+
+fn fill(byte: Option<u8>) -> Fill {
+    match byte {
+        Some(byte) => Fill::All(byte),
+        None => Fill::Keep,
+    }
+}
+
+/// The devices crash with these fills.
+fn crash(
+    rt: &impl Abort,
+    alloc: Global,
+    world: &mut World,
+    bytes: &[Option<u8>],
+) -> Result<(), AllocError> {
+    let crash = Event::Crash(fills(alloc, bytes)?);
+    expect(rt, world, crash, Reply::Crashed)
+}
+
+/// A restart of this many segments, which serves these texts.
+fn restart(
+    rt: &impl Abort,
+    alloc: Global,
+    world: &mut World,
+    texts: &[&str],
+) -> Result<(), AllocError> {
+    expect(rt, world, Event::Restart, Reply::Restarting)?;
+    let mut memory = Vec::new(alloc);
+    for text in texts {
+        expect(rt, world, Event::Serve, Reply::NotNow)?;
+        expect(rt, world, Event::RestartCall, Reply::Called(Kind::Sync))?;
+        expect(rt, world, Event::RestartCall, Reply::Called(Kind::Read))?;
+        memory.push(text.as_bytes().to_vec(alloc)?)?;
+    }
+    expect(rt, world, Event::RestartCall, Reply::NotNow)?;
+    expect(rt, world, Event::Serve, Reply::Memory(memory))
+}
+
+#[test]
+fn worked_script(rt: HostRuntime) -> Result<(), Fail> {
+    let alloc = rt.alloc();
+    let mut world = World::new(alloc, 1, 1)?;
+    begin(&rt, alloc, &mut world, 0, "hi", &[0, 0])?;
+    calls(&rt, &mut world, 0, &[Kind::Body, Kind::Sync, Kind::Open])?;
+    expect(&rt, &mut world, Event::Scan(0), Reply::ScanBegun)?;
+    looks(&rt, &mut world, Actor::Scanner(0), &[0, 0])?;
+    answer(&rt, alloc, &mut world, &[""])?;
+    crash(&rt, alloc, &mut world, &[Some(0xA5)])?;
+    restart(&rt, alloc, &mut world, &["hi"])?;
+    expect(&rt, &mut world, Event::Acknowledge(0), Reply::NotNow)?;
+    begin(&rt, alloc, &mut world, 0, "yo", &[1, 1])?;
+    calls(&rt, &mut world, 0, &[Kind::Close])?;
+    let fault = Event::Fail(0, Fill::All(0));
+    expect(&rt, &mut world, fault, Reply::DeviceFailed)?;
+    let again = Event::Begin(0, b"yo".to_vec(alloc)?);
+    expect(&rt, &mut world, again, Reply::NotNow)?;
+    crash(&rt, alloc, &mut world, &[None])?;
+    expect(&rt, &mut world, Event::Restart, Reply::Restarting)?;
+    let fault = Event::RestartFail(Fill::All(0xA5));
+    expect(&rt, &mut world, fault, Reply::DeviceFailed)?;
+    expect(&rt, &mut world, Event::Serve, Reply::NotNow)?;
+    restart(&rt, alloc, &mut world, &["hi"])?;
+    Ok(())
+}
+
+#[test]
+fn crash_with_writers_at_the_gate(rt: HostRuntime) -> Result<(), Fail> {
+    let alloc = rt.alloc();
+    for is_crashed_again in [true, false] {
+        let mut world = World::new(alloc, 2, 1)?;
+        begin(&rt, alloc, &mut world, 0, "a", &[0, 0, 0, 0])?;
+        begin(&rt, alloc, &mut world, 1, "b", &[0, 0, 0, 0])?;
+        calls(&rt, &mut world, 0, &[Kind::Body, Kind::Sync, Kind::Open])?;
+        calls(&rt, &mut world, 1, &[Kind::Body, Kind::Sync, Kind::Open])?;
+        crash(&rt, alloc, &mut world, &[Some(0xA5), Some(0)])?;
+        if is_crashed_again {
+            expect(&rt, &mut world, Event::Restart, Reply::Restarting)?;
+            for kind in [Kind::Sync, Kind::Read] {
+                expect(&rt, &mut world, Event::RestartCall, Reply::Called(kind))?;
+            }
+            crash(&rt, alloc, &mut world, &[Some(0), Some(0xA5)])?;
+            restart(&rt, alloc, &mut world, &["a", "b"])?;
+        } else {
+            restart(&rt, alloc, &mut world, &["a", ""])?;
+        }
+    }
+    Ok(())
+}
+
+#[test]
+fn restart_sync_fails(rt: HostRuntime) -> Result<(), Fail> {
+    let alloc = rt.alloc();
+    let mut world = World::new(alloc, 2, 1)?;
+    crash(&rt, alloc, &mut world, &[None, None])?;
+    expect(&rt, &mut world, Event::Restart, Reply::Restarting)?;
+    for kind in [Kind::Sync, Kind::Read] {
+        expect(&rt, &mut world, Event::RestartCall, Reply::Called(kind))?;
+    }
+    let fault = Event::RestartFail(Fill::Keep);
+    expect(&rt, &mut world, fault, Reply::DeviceFailed)?;
+    expect(&rt, &mut world, Event::Scan(0), Reply::NotNow)?;
+    expect(&rt, &mut world, Event::RestartCall, Reply::NotNow)?;
+    Ok(())
+}
+
+#[test]
+fn four_calls_after_a_torn_body(rt: HostRuntime) -> Result<(), Fail> {
+    let alloc = rt.alloc();
+    let mut world = World::new(alloc, 1, 1)?;
+    for _ in 0..2 {
+        begin(&rt, alloc, &mut world, 0, "hi", &[0, 0])?;
+        calls(&rt, &mut world, 0, &[Kind::Body])?;
+        crash(&rt, alloc, &mut world, &[Some(0xA5)])?;
+        restart(&rt, alloc, &mut world, &[""])?;
+    }
+    store(&rt, alloc, &mut world, 0, "hi", &[0, 0], &FIRST_STORE)?;
+    show(&rt, &mut world, 0, 1)?;
+    Ok(())
+}
+
+#[test]
+fn crash_after_the_closing_write(rt: HostRuntime) -> Result<(), Fail> {
+    let alloc = rt.alloc();
+    for byte in [0xA5, 0] {
+        let mut world = World::new(alloc, 1, 1)?;
+        store(&rt, alloc, &mut world, 0, "hi", &[0, 0], &FIRST_STORE)?;
+        show(&rt, &mut world, 0, 1)?;
+        begin(&rt, alloc, &mut world, 0, "yo", &[1, 1])?;
+        calls(&rt, &mut world, 0, &[Kind::Close])?;
+        crash(&rt, alloc, &mut world, &[Some(byte)])?;
+        restart(&rt, alloc, &mut world, &["hi"])?;
+
+        // The next store closes the spare gate only where the crash left it open.
+        let kinds = if byte == 0 {
+            FIRST_STORE.as_slice()
+        } else {
+            LATER_STORE.as_slice()
+        };
+        store(&rt, alloc, &mut world, 0, "yo", &[1, 1], kinds)?;
+        show(&rt, &mut world, 0, 2)?;
+    }
+    Ok(())
+}
+
+#[test]
+fn the_client_sends_again(rt: HostRuntime) -> Result<(), Fail> {
+    let alloc = rt.alloc();
+    for byte in [0, 0xA5] {
+        let mut world = World::new(alloc, 1, 1)?;
+        begin(&rt, alloc, &mut world, 0, "hi", &[0, 0])?;
+        calls(&rt, &mut world, 0, &[Kind::Body, Kind::Sync, Kind::Open])?;
+        let fault = Event::Fail(0, Fill::Keep);
+        expect(&rt, &mut world, fault, Reply::DeviceFailed)?;
+        expect(&rt, &mut world, Event::Show(0), Reply::NotNow)?;
+        expect(&rt, &mut world, Event::Scan(0), Reply::ScanBegun)?;
+        looks(&rt, &mut world, Actor::Scanner(0), &[0, 0])?;
+        answer(&rt, alloc, &mut world, &[""])?;
+        crash(&rt, alloc, &mut world, &[Some(byte)])?;
+        if byte == 0 {
+            restart(&rt, alloc, &mut world, &[""])?;
+            store(&rt, alloc, &mut world, 0, "hi", &[0, 0], &FIRST_STORE)?;
+            show(&rt, &mut world, 0, 1)?;
+        } else {
+            restart(&rt, alloc, &mut world, &["hi"])?;
+            store(&rt, alloc, &mut world, 0, "yo", &[1, 1], &LATER_STORE)?;
+            show(&rt, &mut world, 0, 2)?;
+        }
+    }
+    Ok(())
+}
+
+/// The gate's byte after it was touched with this fill.
+fn touched(gate: u8, byte: Option<u8>) -> u8 {
+    byte.unwrap_or(gate)
+}
+
+/// A world of one segment, at number 1 with `u` where the store is a later one, and a store of `v`
+/// with this many calls done.
+fn store_until(
+    rt: &impl Abort,
+    alloc: Global,
+    kinds: &[Kind],
+    is_later: bool,
+) -> Result<World, AllocError> {
+    let mut world = World::new(alloc, 1, 1)?;
+    if is_later {
+        store(rt, alloc, &mut world, 0, "u", &[0, 0], &FIRST_STORE)?;
+        show(rt, &mut world, 0, 1)?;
+        begin(rt, alloc, &mut world, 0, "v", &[1, 1])?;
+    } else {
+        begin(rt, alloc, &mut world, 0, "v", &[0, 0])?;
+    }
+    calls(rt, &mut world, 0, kinds)?;
+    Ok(world)
+}
+
+// Each call of a store is the last one before a crash, or fails before it. The new value comes back
+// exactly where the opening write was made or failed and its gate was left open.
+#[test]
+fn each_call_of_a_store_fails_or_crashes(rt: HostRuntime) -> Result<(), Fail> {
+    let alloc = rt.alloc();
+    let choices = [None, Some(0), Some(0xA5)];
+    for (is_later, kinds) in [
+        (false, FIRST_STORE.as_slice()),
+        (true, LATER_STORE.as_slice()),
+    ] {
+        let old = if is_later { "u" } else { "" };
+        for done in 0..=kinds.len() {
+            let left = kinds.len() - done;
+            for at_crash in choices {
+                let mut world = store_until(&rt, alloc, &kinds[..done], is_later)?;
+                crash(&rt, alloc, &mut world, &[at_crash])?;
+                let is_new = left == 0 || (left == 1 && touched(0xA5, at_crash) == 0xA5);
+                let text = if is_new { "v" } else { old };
+                restart(&rt, alloc, &mut world, &[text])?;
+                for at_fault in choices {
+                    if left == 0 {
+                        continue;
+                    }
+                    let mut world = store_until(&rt, alloc, &kinds[..done], is_later)?;
+                    let fault = Event::Fail(0, fill(at_fault));
+                    expect(&rt, &mut world, fault, Reply::DeviceFailed)?;
+                    crash(&rt, alloc, &mut world, &[at_crash])?;
+                    let before = if left == 1 { 0xA5 } else { 0 };
+                    let gate = touched(touched(before, at_fault), at_crash);
+                    let is_new = left <= 2 && gate == 0xA5;
+                    let text = if is_new { "v" } else { old };
+                    restart(&rt, alloc, &mut world, &[text])?;
+                }
+            }
+        }
+    }
+    Ok(())
+}
