@@ -23,6 +23,7 @@ tests: build
 
 bench: build
 	cd crates/bench_store && rt run -- "$$(mktemp -d)/F" 1
+	cd crates/bench_world && rt run -- 2 3 8
 	python3 bench/run.py
 
 clean:

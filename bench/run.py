@@ -5,6 +5,9 @@
 The files lie in FOLDER, by default a fresh folder beside this repository's own files, so that they are on a disk and
 not in memory. The runs of the two programs alternate; printed are both medians and the median of the ratios of each pair.
 A whole process is to cost at most 1.3 times the C program's, and a store inside a process at most 1.05 times.
+
+Then it counts events a second of a world and lines a second of a script, each also ten times as long: the cost of an event
+is not to grow with their number.
 """
 
 import argparse
@@ -12,6 +15,7 @@ import pathlib
 import subprocess
 import sys
 import tempfile
+import time
 
 TOP = pathlib.Path(__file__).resolve().parent.parent
 sys.dont_write_bytecode = True
@@ -43,6 +47,46 @@ def allocations(program, folder, stores):
     env = {"LD_PRELOAD": library("allocations"), "ALLOCATIONS_COUNT": str(count)}
     subprocess.run([program, folder / f"stores{stores}", str(stores)], env=env, check=True, stdout=subprocess.DEVNULL)
     return int(count.read_text())
+
+
+def seconds(*line, stdin=b"", tries=5):
+    """The least time of a few runs, and what the last one printed."""
+    least = None
+    for _ in range(tries):
+        began = time.perf_counter()
+        run = subprocess.run(line, check=True, input=stdin, stdout=subprocess.PIPE)
+        took = time.perf_counter() - began
+        least = took if least is None else min(least, took)
+    return least, run.stdout
+
+
+def worlds():
+    """Events a second of the world, devices included, and how much of the time copies of the longest values take."""
+    program = str(TOP / "crates" / "bench_world" / "out" / "bench_world")
+    print(f"\n{'events of a world, values of 8 bytes':<44} {'a second':>12} {'10 x more':>12}   of 4,080 bytes: a second, in copying")
+    for segments, rounds in ((1, 20_000), (4, 4_000), (16, 500)):
+        idle, _ = seconds(program, str(segments), "0", "8")
+        rates, times = [], []
+        for more, length in ((1, 8), (10, 8), (10, 4_080)):
+            took, printed = seconds(program, str(segments), str(more * rounds), str(length))
+            times.append(took - idle)
+            rates.append(int(printed) / (took - idle))
+        share = 1 - times[1] / times[2]
+        print(f"  {segments:>2} segments{'':<31} {rates[0]:>12,.0f} {rates[1]:>12,.0f} {rates[2]:>16,.0f} {share:.0%}")
+
+
+def scripts():
+    """Lines a second of `snapd script` on a megabyte of short lines, and on a tenth of that."""
+    snapd = str(TOP / "bin" / "snapd")
+    update = b"begin 0 61\nlook w0\nlook w0\n" + b"call 0\n" * 6 + b"show 0\nack 0\nscan 0\nlook s0\nlook s0\nanswer 0\n"
+    head = b"world 1 1\n"
+    idle, _ = seconds(snapd, "script", stdin=head)
+    rates = []
+    for size in (100_000, 1_048_000):
+        text = head + update * (size // len(update))
+        took, _ = seconds(snapd, "script", stdin=text)
+        rates.append(text.count(b"\n") / (took - idle))
+    print(f"\n{'lines of a script':<44} {rates[0]:>12,.0f} {rates[1]:>12,.0f}   a second, at 100 kB and at 1 MB")
 
 
 def main():
@@ -79,6 +123,8 @@ def main():
         )
         few, more = allocations(many, folder, 1), allocations(many, folder, STORES)
         print(f"allocations with 1 store and with {STORES}: {few} and {more}")
+        worlds()
+        scripts()
         return 0 if few == more else 1
 
 

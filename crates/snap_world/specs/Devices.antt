@@ -94,7 +94,8 @@ abbrev pub next_slot : State → ℕ → ℕ
 next_slot x w = next_number x w % 2
 
 -- in state x with phases p, the event with this reply, which leads to state y, leaves these devices
-abbrev pub DevicesMove : ℕ → State → WorldPhases → List Device → Event → Reply → State → List Device → Type 0
+abbrev pub DevicesMove :
+    ℕ → State → WorldPhases → List Device → Event → Reply → State → List Device → Type 0
 DevicesMove n x p old event NotNow y new = new ≡ old
 -- a call of a store of the next number and the begun value
 DevicesMove n x p old (Call w) (Called kind) y new =

@@ -91,7 +91,8 @@ PhasesMove n x p (Crash fills) Crashed q = q ≡ record {
 }
 PhasesMove n x p Restart Restarting_reply q = q ≡ node_to p (Restarting 0)
 PhasesMove n x p RestartCall (Called kind) q =
-    (calls : ℕ) × (p.node ≡ Restarting calls) × (kind ≡ restart_kind calls) × (q ≡ node_to p (Restarting (calls + 1)))
+    (calls : ℕ) × (p.node ≡ Restarting calls) × (kind ≡ restart_kind calls)
+    × (q ≡ node_to p (Restarting (calls + 1)))
 PhasesMove n x p (RestartFail fill) DeviceFailed q = q ≡ node_to p Down
 -- everybody is idle again
 PhasesMove n x p Serve (Memory m) q =

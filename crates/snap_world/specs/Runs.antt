@@ -25,6 +25,7 @@ pub record Passes (n : ℕ) (a : Moment) (event : Event) (reply : Reply) (b : Mo
 -- these events with these replies lead from moment a to moment b
 abbrev pub Run : ℕ → Moment → List Event → List Reply → Moment → Type 0
 Run n a [] [] b = b ≡ a
-Run n a (event ∷ events) (reply ∷ replies) b = (c : Moment) × Passes n a event reply c × Run n c events replies b
+Run n a (event ∷ events) (reply ∷ replies) b =
+    (c : Moment) × Passes n a event reply c × Run n c events replies b
 Run n a [] (reply ∷ replies) b = ⊥
 Run n a (event ∷ events) [] b = ⊥

@@ -23,7 +23,8 @@ use snap_slot::{
 };
 use std::alloc::{AllocError, Global};
 
-/// The device of one segment, with the order of the store that is under way on it, or of the next one.
+/// The device of one segment, with the order of the store that is under way on it, or of the next
+/// one.
 #[derive(Drop)]
 pub struct SegmentDisk {
     pub image: Image,
@@ -69,8 +70,10 @@ impl SegmentDisk {
         requires going { calls_left self.old.order.stage ≢ [] }
         ensures slot { self.new.order.slot ≡ self.old.order.slot }
         ensures stage { self.new.order.stage ≡ after_call self.old.order.stage }
-        ensures kind { kinds_of (calls_left self.old.order.stage) ≡ result ∷ kinds_of (calls_left self.new.order.stage) }
-        ensures made { IsMade self.old.order.slot (body_block number value.now) result (device_of self.old) (device_of self.new) }
+        ensures kind { kinds_of (calls_left self.old.order.stage)
+            ≡ result ∷ kinds_of (calls_left self.new.order.stage) }
+        ensures made { IsMade self.old.order.slot (body_block number value.now) result
+            (device_of self.old) (device_of self.new) }
     {
         let kind = match self.order.next() {
             Next::Write(write) => {
@@ -94,8 +97,8 @@ impl SegmentDisk {
         requires number { number < 2 ^ 63 }
         requires fits { length value.now ≤ 4080 }
         ensures order { self.new.order ≡ self.old.order }
-        ensures written { IsJustWritten (write_at self.old.order.slot write) (write_bytes (body_block number value.now) write)
-            (device_of self.old) (device_of self.new) }
+        ensures written { IsJustWritten (write_at self.old.order.slot write)
+            (write_bytes (body_block number value.now) write) (device_of self.old) (device_of self.new) }
     {
         let slot = self.order.slot();
         match write {
@@ -109,13 +112,15 @@ impl SegmentDisk {
         }
     }
 
-    /// The next call of the store, which fails: the touched places get the fill, and the store is over.
+    /// The next call of the store, which fails: the touched places get the fill, and the store is
+    /// over.
     pub fn fail(&mut self, fill: &Fill)
         requires size { length (device_of self.old).bytes ≡ 20480 }
         requires slot { self.old.order.slot < 2 }
         requires going { calls_left self.old.order.stage ≢ [] }
         ensures stage { self.new.order.stage ≡ Stage.Fenced }
-        ensures missed { (kind : Kind) × (rest : List Kind) × (kinds_of (calls_left self.old.order.stage) ≡ kind ∷ rest)
+        ensures missed { (kind : Kind) × (rest : List Kind)
+            × (kinds_of (calls_left self.old.order.stage) ≡ kind ∷ rest)
             × IsMissed self.old.order.slot fill.now kind (device_of self.old) (device_of self.new) }
     {
         match self.order.next() {
@@ -131,7 +136,8 @@ impl SegmentDisk {
         requires size { length (device_of self.old).bytes ≡ 20480 }
         requires slot { self.old.order.slot < 2 }
         ensures order { self.new.order ≡ self.old.order }
-        ensures failed { IsWriteFailed (write_at self.old.order.slot write) (write_len write) fill.now (device_of self.old) (device_of self.new) }
+        ensures failed { IsWriteFailed (write_at self.old.order.slot write) (write_len write) fill.now
+            (device_of self.old) (device_of self.new) }
     {
         let slot = self.order.slot();
         match write {

@@ -1,4 +1,5 @@
-//! Long lists of events, drawn from fixed seeds, whose memories are compared with the plain program.
+//! Long lists of events, drawn from fixed seeds, whose memories are compared with the plain
+//! program.
 ghost use Rattle.std.specs.Prelude.{◌<◌};
 
 use super::event::{Actor, Event, Reply};

@@ -17,7 +17,8 @@ pub enum NodePhase {
     Up,
     /// It has crashed.
     Down,
-    /// It restarts, and has done this many of the device calls of its restart: for each segment a sync and a read.
+    /// It restarts, and has done this many of the device calls of its restart: for each segment a
+    /// sync and a read.
     Restarting(usize),
 }
 

@@ -12,7 +12,8 @@ use snap_disk::Fill;
 use std::alloc::{AllocError, Global};
 
 impl Node {
-    /// Each device crashes with its fill, of which there has to be one for each. Nobody is at work any more.
+    /// Each device crashes with its fill, of which there has to be one for each. Nobody is at work
+    /// any more.
     pub fn crash(&mut self, fills: &Vec<Fill>) -> Reply
         requires stands { NodeStand self.old }
         ensures step { IsNodeStep self.old (Event.Crash fills.now) result self.new }
@@ -89,7 +90,8 @@ impl Node {
     pub fn serve(&mut self, alloc: Global) -> Result<Reply, AllocError>
         requires stands { NodeStand self.old }
         ensures step { IfOk result (λ reply. IsNodeStep self.old Event.Serve reply self.new) }
-        ensures memory { OnErr result (self.old.phase ≡ NodePhase.Restarting (2 * length self.old.disks.items)) }
+        ensures memory { OnErr result
+            (self.old.phase ≡ NodePhase.Restarting (2 * length self.old.disks.items)) }
         ensures err { OnErr result (self.new ≡ self.old) }
     {
         match self.phase {

@@ -139,8 +139,10 @@ impl Parts {
         requires within { segment < self.old.segments }
         ensures segments { self.new.segments ≡ self.old.segments }
         ensures registers { self.new.registers ≡ self.old.registers }
-        ensures stands { (x : State) → PartsStand self.old x → WriterIs (phases_of_parts self.old) segment WriterPhase.Storing → PartsStand self.new x }
-        ensures phases { phases_of_parts self.new ≡ writer_to (phases_of_parts self.old) segment WriterPhase.Stored }
+        ensures stands { (x : State) → PartsStand self.old x
+            → WriterIs (phases_of_parts self.old) segment WriterPhase.Storing → PartsStand self.new x }
+        ensures phases { phases_of_parts self.new
+            ≡ writer_to (phases_of_parts self.old) segment WriterPhase.Stored }
     {
         self.writers[segment].phase = WriterPhase::Stored;
     }
@@ -150,9 +152,12 @@ impl Parts {
         requires stands { Stand self.old }
         requires within { segment < self.old.segments }
         ensures segments { self.new.segments ≡ self.old.segments }
-        ensures stands { (x : State) → PartsStand self.old x → (s : WriterState) (v : List ℕ) → slice_get x.writers segment ≡ Some s → s.pending ≡ Begun v
-            → PartsStand self.new (with_writer x segment (record { pending = s.pending; fenced = true; told = s.told })) }
-        ensures phases { phases_of_parts self.new ≡ writer_to (phases_of_parts self.old) segment WriterPhase.Fenced }
+        ensures stands { (x : State) → PartsStand self.old x
+            → (s : WriterState) (v : List ℕ) → slice_get x.writers segment ≡ Some s → s.pending ≡ Begun v
+            → PartsStand self.new
+            (with_writer x segment (record { pending = s.pending; fenced = true; told = s.told })) }
+        ensures phases { phases_of_parts self.new
+            ≡ writer_to (phases_of_parts self.old) segment WriterPhase.Fenced }
     {
         self.writers[segment].phase = WriterPhase::Fenced;
     }
