@@ -12,7 +12,7 @@ pub enum Garbage {
 }
 
 impl Garbage {
-    pub fn fill(self) -> Fill {
+    pub(crate) fn fill(self) -> Fill {
         match self {
             Garbage::Keep => Fill::Keep,
             Garbage::Shut => Fill::All(0x00),
@@ -42,7 +42,7 @@ pub enum Stop {
 
 impl Stop {
     /// The plan of a device that has made so many calls before the run.
-    pub fn plan(self, alloc: Global, made: u64) -> Result<FaultPlan, AllocError> {
+    pub(crate) fn plan(self, alloc: Global, made: u64) -> Result<FaultPlan, AllocError> {
         let mut plan = FaultPlan::new(alloc);
         match self {
             Stop::Fault { call, garbage } => {

@@ -19,7 +19,7 @@ pub enum Subject {
 }
 
 impl Subject {
-    pub fn title(self) -> &'static str {
+    pub(crate) fn title(self) -> &'static str {
         match self {
             Subject::Format => {
                 "format on zeros; then a crash with keep | 00 | a5, an opening, and a second format"
@@ -34,7 +34,7 @@ impl Subject {
     }
 
     /// How many device calls a whole run makes.
-    pub fn calls(self) -> u64 {
+    pub(crate) fn calls(self) -> u64 {
         match self {
             Subject::Format => 7,
             Subject::StoreShut => 4,
@@ -43,7 +43,7 @@ impl Subject {
     }
 
     /// Runs until the stop. Answers what the run answered, in words, and the device.
-    pub fn run(self, alloc: Global, stop: Stop) -> io::Result<(String, MemDisk)> {
+    pub(crate) fn run(self, alloc: Global, stop: Stop) -> io::Result<(String, MemDisk)> {
         match self {
             Subject::Format => run_format(alloc, stop),
             Subject::StoreShut => run_store(alloc, fresh(alloc)?, stop, b"hi"),
@@ -52,7 +52,7 @@ impl Subject {
     }
 
     /// What the device is opened as after the restart, in words. A format is tried again.
-    pub fn found(self, alloc: Global, mut disk: MemDisk) -> io::Result<String> {
+    pub(crate) fn found(self, alloc: Global, mut disk: MemDisk) -> io::Result<String> {
         disk.set_plan(FaultPlan::new(alloc));
         let (opened, mut disk) = opened(alloc, disk)?;
         match self {
