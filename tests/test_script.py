@@ -81,7 +81,7 @@ def test_worked_script(snapd, _):
     assert snapd("script", stdin=script).output.endswith(b"\nmemory -\n")
 
 
-def test_a_crash_of_two_at_the_gate(snapd, _):
+def test_crash_with_writers_at_the_gate(snapd, _):
     """Two writers after their opening writes, and a crash whose fills differ; a second crash inside the restart."""
     stores = [f"{verb} {w}" for w in (0, 1) for verb in ["begin", *["look"] * 4, *["call"] * 3]]
     stores = [line.replace("begin 0", "begin 0 61").replace("begin 1", "begin 1 62").replace("look ", "look w") for line in stores]
@@ -90,6 +90,74 @@ def test_a_crash_of_two_at_the_gate(snapd, _):
     assert snapd("script", stdin=lines([*script, *restart])).output.endswith(b"\nmemory 61 -\n")
     script += ["restart", "recall", "recall", "crash 00 a5"]
     assert snapd("script", stdin=lines([*script, *restart])).output.endswith(b"\nmemory 61 62\n")
+
+
+RESTART = [("restart", "restarting"), ("recall", "called sync"), ("recall", "called read")]
+
+
+def begun(hex, number=0):
+    return [(f"begin 0 {hex}", "begun"), *[("look w0", f"number {number}")] * 2]
+
+
+def called(*kinds):
+    return [("call 0", f"called {kind}") for kind in kinds]
+
+
+def shown(number):
+    return [("show 0", "shown"), ("ack 0", f"stored {number}")]
+
+
+def plays(snapd, *rows):
+    script, printed = zip(("world 1 1", "world 1 1"), *rows)
+    snapd("script", stdin=lines(script)).gave(0, lines(printed))
+
+
+TORN = [*begun("6869"), *called("body"), ("crash a5", "crashed"), *RESTART, ("serve", "memory -")]
+
+
+def test_torn_body_is_not_opened(snapd, _):
+    plays(snapd, *TORN)
+
+
+def test_four_calls_after_a_torn_body(snapd, _):
+    plays(snapd, *TORN, *begun("6869"), *called("body", "sync", "open", "sync"), *shown(1))
+    plays(snapd, *TORN, *begun("6869"), *called("body"), ("crash a5", "crashed"), *RESTART, ("serve", "memory -"))
+
+
+def test_crash_after_the_closing_write(snapd, _):
+    first = [*begun("6869"), *called("body", "sync", "open", "sync"), *shown(1)]
+    for fill in ("a5", "00"):
+        crash = [(f"crash {fill}", "crashed"), *RESTART, ("serve", "memory 6869")]
+        plays(snapd, *first, *begun("796f", 1), *called("close"), *crash)
+
+
+def test_crash_before_the_last_sync(snapd, _):
+    for fill, memory in (("a5", "6869"), ("00", "-")):
+        plays(snapd, *begun("6869"), *called("body", "sync", "open"), (f"crash {fill}", "crashed"), *RESTART, ("serve", f"memory {memory}"))
+
+
+FENCED = [*begun("6869"), *called("body", "sync", "open"), ("fail 0 keep", "device failed")]
+
+
+def test_fault_fences_the_segment(snapd, _):
+    """The value of the failed store is never shown, and no other is taken until a restart."""
+    scan = [("scan 0", "scanning"), *[("look s0", "number 0")] * 2, ("answer 0", "memory -")]
+    no = [(line, "not now") for line in ("show 0", "begin 0 6869", "call 0", "fail 0 keep")]
+    plays(snapd, *FENCED, *scan, *no)
+
+
+def test_the_client_sends_again(snapd, _):
+    """After a restart the update is stored exactly once, whether or not the crash kept it."""
+    lost = [("crash 00", "crashed"), *RESTART, ("serve", "memory -")]
+    plays(snapd, *FENCED, *lost, *begun("6869"), *called("body", "sync", "open", "sync"), *shown(1))
+    plays(snapd, *FENCED, ("crash a5", "crashed"), *RESTART, ("serve", "memory 6869"), *begun("796f", 1))
+
+
+def test_restart_sync_fails(snapd, _):
+    script = ["world 2 1", "crash keep keep", "restart", "recall", "recall", "refail keep", "scan 0", "serve"]
+    snapd("script", stdin=lines(script)).gave(
+        0, "world 2 1\ncrashed\nrestarting\ncalled sync\ncalled read\ndevice failed\nnot now\nnot now\n"
+    )
 
 
 def test_nothing_to_do(snapd, _):
