@@ -8,7 +8,7 @@ use Rattle.std.proofs.lemmas.Bool.Decides.{nat_tests}
 use Rattle.snap_history.proofs.Lists.{get-set_same, get-set_other}
 use Rattle.snap_scan.specs.Looks.{IsClean, IsBorrow, IsTurn, IsNoFall}
 use Rattle.snap_scan.proofs.Places.{same_segment}
-use Rattle.snap_collect.specs.Collects.{Numbers, Entries, IsRising, IsKept, Collects, Tells, IsMoment, IsThen}
+use Rattle.snap_collect.specs.Collects.{Numbers, Entries, IsRising, IsKept, Collects, IsMoment, IsThen}
 
 -- a function with one more value
 abbrev more_at : (ℕ → ℕ) → ℕ → ℕ → ℕ → ℕ
@@ -19,6 +19,15 @@ at_old f end v t l = let e : nat_lt t end ≡ true = grind (arith, nat_tests) in
 
 at_new : (f : ℕ → ℕ) (end v t : ℕ) → t ≡ end → more_at f end v t ≡ v
 at_new f end v t l = let e : nat_lt t end ≡ false = grind (arith, nat_tests) in ap (λ b. if b then f t else v) e
+
+-- a borrow is from the segment of the last look
+pub same_turn : (n : ℕ) (L : List ℕ) (k i j : ℕ) → IsTurn n L j → IsBorrow n (L ++ k ∷ []) i → i ≡ j
+same_turn n L k i j turn borrowed =
+    let within : j < n = turn.0 in
+    let place : length L ≡ turn.1.0 * n + j = turn.1.1 in
+    let long : length (L ++ k ∷ []) ≡ length L + 1 = length_push L k in
+    let last : length (L ++ k ∷ []) ≡ borrowed.last.0 * n + i + 1 = borrowed.last.1 in
+    same_segment n borrowed.last.0 i turn.1.0 j borrowed.segment within (omega arith)
 
 module _ (A : Type 0) (n : ℕ) (number : Numbers) (entry : Entries A) (b e : ℕ) where
   -- nothing was looked at yet
@@ -182,13 +191,7 @@ module _ (A : Type 0) (n : ℕ) (number : Numbers) (entry : Entries A) (b e : �
               until = pl;
               tells = record {
                 clean = λ cl. absurd (not_clean cl);
-                borrow = λ i br. (
-                    let within : j < n = turn.0 in
-                    let place : length L ≡ turn.1.0 * n + j = turn.1.1 in
-                    let x : length (L ++ number t j ∷ []) ≡ length L + 1 = length_push L (number t j) in
-                    let f : length (L ++ number t j ∷ []) ≡ br.last.0 * n + i + 1 = br.last.1 in
-                    let g : i ≡ j = same_segment n br.last.0 i turn.1.0 j br.segment within (omega arith) in
-                    ap (λ v. number p v + 1) g ∙ before ∙ sym last_is);
+                borrow = λ i br. ap (λ v. number p v + 1) (same_turn n L (number t j) i j turn br) ∙ before ∙ sym last_is;
               };
             }
 

@@ -31,8 +31,8 @@ pub record Collects (A : Type 0) (n : ℕ) (number : Numbers) (entry : Entries A
       → slice_get latest i ≡ Some (entry (moment (m * n + i)) i)
 
 -- the numbers told decide an answer
-abbrev pub HasAnswer : ℕ → List ℕ → Type 0
-HasAnswer n told = IsClean n told ⊎ ((j : ℕ) × IsBorrow n told j)
+abbrev pub IsDecided : ℕ → List ℕ → Type 0
+IsDecided n told = IsClean n told ⊎ ((j : ℕ) × IsBorrow n told j)
 
 -- the numbers told tell moment p: after a clean end the last n of them are the numbers at p, and after a
 -- borrow from j the last of them is one above the number of j at p

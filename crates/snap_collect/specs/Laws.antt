@@ -1,5 +1,5 @@
 -- The laws of a scan's looks, at entries that are values.
-use Rattle.std.specs.Prelude.{◌≡◌, ℕ, ◌+◌, ◌*◌, ◌<◌, ◌≤◌, List, [], ◌∷◌, ◌++◌, length, slice_set}
+use Rattle.std.specs.Prelude.{◌≡◌, ℕ, ◌+◌, ◌<◌, ◌≤◌, List, [], ◌∷◌, ◌++◌, length, slice_set}
 use Rattle.snap_scan.specs.Looks.{IsClean, IsBorrow, IsTurn, IsNoFall}
 use Rattle.snap_collect.specs.Collects.{Numbers, Entries, IsRising, IsKept, Collects, IsMoment, IsThen}
 
