@@ -1,0 +1,50 @@
+"""The documents point at what is there: files, headings, functions with the clauses that are named, and definitions."""
+
+import pathlib
+import re
+
+TOP = pathlib.Path(__file__).resolve().parent.parent
+DOCUMENTS = [TOP / "README.md", *sorted((TOP / "docs").glob("*.md"))]
+LINK = re.compile(r"\[([^\]]*)\]\(([^)\s]+)\)")
+# [`store`](../crates/snap_segment/src/segment.rt): `any_moment`, `last`
+CITED = re.compile(r"\[`([\w:]+)`\]\(([^)\s]+\.rt)\)((?::|,|, and| and)(?: `[a-z_]+`(?:,| and)?)+)?")
+DEFINED = re.compile(r"\[`([\w-]+)`\]\(([^)\s]+\.antt)\)")
+
+
+def anchors(text):
+    """The anchors of a document's headings."""
+    for heading in re.findall(r"^#+ (.*)$", text, re.M):
+        yield re.sub(r"[^\w\- ]", "", heading.lower()).replace(" ", "-")
+
+
+def test_links_point_at_what_is_there(snapd, random):
+    for document in DOCUMENTS:
+        for _, target in LINK.findall(document.read_text()):
+            path, _, anchor = target.partition("#")
+            file = document.parent / path if path else document
+            assert file.exists(), f"{document.name}: {target}"
+            assert not anchor or anchor in anchors(file.read_text()), f"{document.name}: {target}"
+
+
+def test_clauses_stand_at_the_functions_that_are_named(snapd, random):
+    cited = 0
+    for document in DOCUMENTS:
+        for name, target, clauses in CITED.findall(document.read_text()):
+            source = (document.parent / target).read_text()
+            name = name.rpartition("::")[2]
+            at = re.search(rf"\bfn {name}\b.*?(?=^\s*(?:pub(?:\([a-z]+\))? )?(?:const )?fn |\Z)", source, re.S | re.M)
+            assert at, f"{document.name}: there is no function {name} in {target}"
+            for clause in re.findall(r"`([a-z_]+)`", clauses):
+                cited += 1
+                assert re.search(rf"ensures {clause} ", at[0]), f"{document.name}: {name} has no clause {clause}"
+    assert cited, "no clause is named"
+
+
+def test_definitions_stand_where_they_are_named(snapd, random):
+    for document in DOCUMENTS:
+        for name, target in DEFINED.findall(document.read_text()):
+            source = (document.parent / target).read_text()
+            word = re.escape(name)
+            assert re.search(rf"^(?:pub )?(?:abbrev |unfoldable )?(?:pub )?(?:record |data )?{word}(?= |$)", source, re.M), (
+                f"{document.name}: {target} has no {name}"
+            )
