@@ -1,7 +1,7 @@
 -- The phases of writers and scanners: where each event may come, and what it makes of them.
 use Rattle.std.specs.Prelude.{◌≡◌, ℕ, ◌-◌, ◌^◌, ◌<◌, ◌≤◌, ◌⊎◌, List, [], ◌∷◌, ◌++◌, length, Some, slice_get, slice_set}
 use Rattle.snap_history.specs.History.{from_nothing, number_after}
-use Rattle.snap_collect.specs.Collects.{IsDecided}
+use Rattle.snap_scan.specs.Looks.{IsDecided}
 use Rattle.snap_world.specs.Answers.{ScanState}
 use Rattle.snap_world.specs.Machine.{State, WriterState, Opened}
 use Rattle.snap_world.specs.declared.event.Actor.TheVariants as actor
