@@ -1,6 +1,7 @@
 -- Which numbers a scan's machine was told. It keeps only the first looks and the latest ones.
 use Rattle.std.specs.Prelude.{◌≡◌, ℕ, ◌+◌, ◌*◌, ◌<◌, ◌≤◌, List, length, slice_index, Bool, true, false}
 use Rattle.snap_scan.specs.Looks.{IsClean, IsBorrow, IsNoFall}
+use Rattle.snap_scan.specs.declared.limits.TheConstants.{MAX_SEGMENTS}
 use Rattle.snap_scan.specs.declared.machine.Machine.{Machine}
 use Rattle.snap_scan.specs.declared.next.Next.{Next}
 use Rattle.snap_scan.specs.declared.next.Next.TheVariants.{Look, Clean, Borrow}
@@ -55,9 +56,9 @@ Says s L (Borrow j) = IsBorrow s.segments L j × IsFirst s.segments L
 -- the machine was told these numbers, in this order
 pub record StandsFor (s : Machine) (L : List ℕ) : Type 0 where
   pub least : 0 < s.segments
-  pub most : s.segments ≤ 16
-  pub firsts : length s.first ≡ 16
-  pub latests : length s.latest ≡ 16
+  pub most : s.segments ≤ MAX_SEGMENTS
+  pub firsts : length s.first ≡ MAX_SEGMENTS
+  pub latests : length s.latest ≡ MAX_SEGMENTS
   pub looks : s.looks ≡ length L
   pub says : Says s L s.next
 

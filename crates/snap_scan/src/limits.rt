@@ -7,7 +7,7 @@ pub const MAX_SEGMENTS: usize = 16;
 
 /// The most looks that a scan of this many segments makes: n(n + 2).
 pub const fn most_looks(segments: usize) -> usize
-    requires { segments ≤ 16 }
+    requires { segments ≤ MAX_SEGMENTS }
     ensures { result ≡ most_looks segments }
 {
     segments * (segments + 2)

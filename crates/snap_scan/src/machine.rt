@@ -26,7 +26,7 @@ impl Machine {
     /// A machine that was told nothing.
     pub(crate) fn new(segments: usize) -> Machine
         requires least { 0 < segments }
-        requires most { segments ≤ 16 }
+        requires most { segments ≤ MAX_SEGMENTS }
         ensures size { result.segments ≡ segments }
         ensures first { result.next ≡ Next.Look 0 }
         ensures stands { StandsFor result [] }
@@ -87,7 +87,7 @@ impl Machine {
 
     /// Takes in a number that decides nothing by itself.
     fn keep(&mut self, segment: usize, number: u64)
-        requires place { segment < 16 }
+        requires place { segment < MAX_SEGMENTS }
         requires room { self.old.looks + 1 < 2 ^ 64 }
         ensures { self.new ≡ record self.old {
           looks = self.old.looks + 1;

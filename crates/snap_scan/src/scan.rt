@@ -3,13 +3,13 @@ ghost use Rattle.std.specs.Prelude.{◌≡◌, ◌<◌, ◌≤◌, [], ◌∷◌
 ghost use Rattle.snap_scan.specs.Looks.{IsNoFall};
 ghost use Rattle.snap_scan.specs.Course.{IsNext};
 
+use crate::limits::MAX_SEGMENTS;
 use crate::machine::Machine;
 use crate::next::Next;
 use crate::told::Told;
 use std::marker::Model;
 
-/// One scan of 1 to [`MAX_SEGMENTS`](crate::MAX_SEGMENTS) segments, from its beginning to its
-/// answer.
+/// One scan of 1 to [`MAX_SEGMENTS`] segments, from its beginning to its answer.
 ///
 /// Look where [`Scan::next`] says, tell the number by [`Scan::told`], and go on until `next` is
 /// `Clean` or `Borrow`. It takes no memory. Its contracts see the number of segments, the list of
@@ -37,11 +37,11 @@ impl Model for Scan {
 }
 
 impl Scan {
-    /// A scan of this many segments, 1 to [`MAX_SEGMENTS`](crate::MAX_SEGMENTS), that was told
-    /// nothing. Its first look is at segment 0.
+    /// A scan of this many segments, 1 to [`MAX_SEGMENTS`], that was told nothing. Its first look
+    /// is at segment 0.
     pub fn new(segments: usize) -> Scan
         requires least { 0 < segments }
-        requires most { segments ≤ 16 }
+        requires most { segments ≤ MAX_SEGMENTS }
         ensures segments { result.segments ≡ segments }
         ensures told { result.told ≡ [] }
         ensures first { result.next ≡ Next.Look 0 }

@@ -17,7 +17,7 @@ fn is_no_fall(segments: usize, numbers: &[u64], look: usize) -> bool
 /// turn it is. Before the last of them it has no answer.
 fn answer_to(rt: &impl Abort, segments: usize, numbers: &[u64]) -> Next
     requires least { 0 < segments }
-    requires most { segments ≤ 16 }
+    requires most { segments ≤ MAX_SEGMENTS }
 {
     let mut scan = Scan::new(segments);
     for look in 0..numbers.len() {
@@ -37,7 +37,7 @@ fn answer_to(rt: &impl Abort, segments: usize, numbers: &[u64]) -> Next
 /// Whether the last two collects showed the same numbers, where a collect has just ended.
 fn is_clean(segments: usize, numbers: &[u64]) -> bool
     requires least { 0 < segments }
-    requires most { segments ≤ 16 }
+    requires most { segments ≤ MAX_SEGMENTS }
 {
     let looks = numbers.len();
     if looks % segments != 0 || looks < 2 * segments {
@@ -55,7 +55,7 @@ fn is_clean(segments: usize, numbers: &[u64]) -> bool
 /// What comes next after these numbers, by the rule on the whole list.
 fn expected_after(segments: usize, numbers: &[u64]) -> Next
     requires least { 0 < segments }
-    requires most { segments ≤ 16 }
+    requires most { segments ≤ MAX_SEGMENTS }
     requires some { 0 < length numbers.now }
 {
     let last = numbers.len() - 1;
@@ -89,18 +89,25 @@ fn rise(numbers: &mut [u64; LONGEST], looks: usize) -> usize
     0
 }
 
+/// How many lists there were, and the looks of the longest that decides an answer.
+#[derive(Debug, Drop, PartialEq)]
+struct Walk {
+    lists: usize,
+    most: usize,
+}
+
 /// Asks a scan of this many segments and the rule after every list of numbers up to the greatest,
-/// in which none falls and that decides nothing before its end. Gives the most looks of a scan.
-fn most_looks_of_all(rt: &impl Abort, segments: usize) -> usize
+/// in which none falls and that decides nothing before its end.
+fn ask_all(rt: &impl Abort, segments: usize) -> Walk
     requires least { 0 < segments }
     requires most { segments ≤ 3 }
 {
     let mut numbers = [0; LONGEST];
     let mut looks = 1;
     let mut most = 0;
-    for _ in 0..1_000_000 {
+    for lists in 0..1_000_000 {
         if looks == 0 {
-            return most;
+            return Walk { lists, most };
         }
         assert!(rt; looks <= LONGEST);
         let next = expected_after(segments, &numbers[..looks]);
@@ -164,10 +171,23 @@ fn bound_of_each_size(rt: HostRuntime) {
     assert_eq!(rt; most_looks(MAX_SEGMENTS), 288);
 }
 
-/// Numbers that start anywhere up to 3 and reach 3 at most, none of them falling.
+/// Numbers that start anywhere up to 3 and reach 3 at most, none of them falling. A program of
+/// another language counted the lists.
 #[test]
 fn all_short_lists(rt: HostRuntime) {
-    assert_eq!(rt; most_looks_of_all(&rt, 1), 3);
-    assert_eq!(rt; most_looks_of_all(&rt, 2), 8);
-    assert_eq!(rt; most_looks_of_all(&rt, 3), 15);
+    assert_eq!(rt; ask_all(&rt, 1), Walk { lists: 20, most: 3 });
+    assert_eq!(rt;
+        ask_all(&rt, 2),
+        Walk {
+            lists: 364,
+            most: 8
+        }
+    );
+    assert_eq!(rt;
+        ask_all(&rt, 3),
+        Walk {
+            lists: 7260,
+            most: 15
+        }
+    );
 }
