@@ -11,6 +11,7 @@ pub mod Fresh
 pub mod Calls
 pub mod Halting
 pub mod Serving
+pub mod Crashes
 pub mod Devices
 pub mod Disks
 pub mod NodePhases

@@ -1,10 +1,7 @@
-use Rattle.std.proofs.Common.{◌≡◌, ℕ, false, [], length, map, replicate, Some, slice_get, refl, ap, sym, ◌∙◌, subst, ◌<◌, arith}
-use Rattle.std.specs.Prelude.{option_map}
+use Rattle.std.proofs.Common.{◌≡◌, ℕ, false, [], length, map, replicate, Some, slice_get, refl, ap, sym, ◌∙◌, subst}
 use Rattle.std.proofs.lemmas.List.{length-map}
-use Rattle.std.proofs.lemmas.Option.{slice_get-map, slice_get_within, same_Some}
 use Rattle.snap_slot.specs.States.{IsAtRest}
 use Rattle.snap_persist.specs.Stage.{calls_left}
-use Rattle.snap_history.proofs.Pairing.{element}
 use Rattle.snap_history.proofs.Lists.{get-replicate}
 use Rattle.snap_world.specs.Calls.{kinds_of, store_kinds}
 use Rattle.snap_world.specs.Disks.{DiskStands, IsFormatted, IsReady, device_of}
