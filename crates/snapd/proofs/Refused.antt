@@ -3,7 +3,7 @@ use Rattle.std.proofs.Common.{◌≡◌, ℕ, ◌-◌, ◌^◌, List, refl, Opti
 use Rattle.std.specs.Io.KnownBytes.{Keeps}
 use Rattle.snap_disk.specs.Device.{Device}
 use Rattle.snap_disk.specs.declared.refusal.Refusal.{Refusal}
-use Rattle.snap_disk.specs.declared.refusal.Refusal.TheVariants.{Malformed, NoSegment, TooLong, Conflict, OutOfStep, Fenced, Full, NoMemory, Exhausted, Damaged, Unformatted, AlreadyFormatted, DeviceFailed, WrongFile, TooLarge, NotNow}
+use Rattle.snap_disk.specs.declared.refusal.Refusal.TheVariants.{Malformed, NoSegment, TooLong, Conflict, OutOfStep, Fenced, Full, NoMemory, Exhausted, Damaged, Unformatted, AlreadyFormatted, DeviceFailed, WrongFile, TooLarge, NotNow, Worn}
 use Rattle.snap_slot.specs.Layout.{Head, Holds}
 use Rattle.snap_slot.specs.Findings.{IsNoOpening}
 use Rattle.snap_segment.specs.Refusals.{IsStoreRefusal, IsOpenRefusal}
@@ -28,6 +28,7 @@ refused_store honest i n v old new out out' DeviceFailed is long fenced last kee
 refused_store honest i n v old new out out' WrongFile is long fenced last keeps = absurd is
 refused_store honest i n v old new out out' TooLarge is long fenced last keeps = absurd is
 refused_store honest i n v old new out out' NotNow is long fenced last keeps = absurd is
+refused_store honest i n v old new out out' Worn is long fenced last keeps = absurd is
 
 pub refused_open : (honest : Type 0) (i n : ℕ) (v : List ℕ) (old new : Device) (out out' : Option (List ℕ)) (why : Refusal) → IsOpenRefusal why → (honest → IsNoOpening i n old.bytes why) → Keeps out out' → EndsStore honest i n v old new out out' (Err (Refused why))
 refused_open honest i n v old new out out' Malformed is not_open keeps = absurd is
@@ -46,6 +47,7 @@ refused_open honest i n v old new out out' DeviceFailed is not_open keeps = ((λ
 refused_open honest i n v old new out out' WrongFile is not_open keeps = (not_open, keeps)
 refused_open honest i n v old new out out' TooLarge is not_open keeps = absurd is
 refused_open honest i n v old new out out' NotNow is not_open keeps = absurd is
+refused_open honest i n v old new out out' Worn is not_open keeps = absurd is
 
 pub not_fenced : (begun : Option (List ℕ)) → begun ≡ None → IsSome begun → ⊥
 not_fenced None is_none fenced = cc

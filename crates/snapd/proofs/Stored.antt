@@ -4,7 +4,7 @@ use Rattle.std.specs.Io.KnownBytes.{Consumes, IsAtEnd}
 use Rattle.snap_disk.specs.Device.{Device, IsSettled, MayLeave}
 use Rattle.snap_slot.specs.Layout.{Head, Holds, IsFileOf}
 use Rattle.snapd.specs.Commands.{IsStored, End, EndsStore, EndsPut, Had}
-use Rattle.snap_disk.specs.declared.refusal.Refusal.TheVariants.{Malformed, NoSegment, TooLong, Conflict, OutOfStep, Fenced, Full, NoMemory, Exhausted, Damaged, Unformatted, AlreadyFormatted, DeviceFailed, WrongFile, TooLarge, NotNow}
+use Rattle.snap_disk.specs.declared.refusal.Refusal.TheVariants.{Malformed, NoSegment, TooLong, Conflict, OutOfStep, Fenced, Full, NoMemory, Exhausted, Damaged, Unformatted, AlreadyFormatted, DeviceFailed, WrongFile, TooLarge, NotNow, Worn}
 use Rattle.snapd.specs.declared.failure.Failure.TheVariants.{Refused, Input, Output, Unsaid, Errors, BadLine, LongScript}
 
 pub stored : (i n i' n' k : ℕ) (u v : List ℕ) (old new : Device) → i' ≡ i → n' ≡ n → Head old.bytes i n → Holds old.bytes k u
@@ -52,5 +52,6 @@ store_ends_put honest i n known v old new out out' (Err (Refused DeviceFailed)) 
 store_ends_put honest i n known v old new out out' (Err (Refused WrongFile)) had ends = (v, had, ends)
 store_ends_put honest i n known v old new out out' (Err (Refused TooLarge)) had ends = (v, had, ends)
 store_ends_put honest i n known v old new out out' (Err (Refused NotNow)) had ends = (v, had, ends)
+store_ends_put honest i n known v old new out out' (Err (Refused Worn)) had ends = (v, had, ends)
 store_ends_put honest i n known v old new out out' (Err (BadLine number fault)) had ends = absurd ends
 store_ends_put honest i n known v old new out out' (Err LongScript) had ends = absurd ends
