@@ -1,27 +1,43 @@
--- Whether the numbers told decide an answer, by what the scan does next.
-use Rattle.std.proofs.Common.{◌≡◌, ℕ, ◌<◌, List, inl, inr, refl, sym, subst}
-use Rattle.snap_history.specs.History.{Update}
-use Rattle.snap_scan.specs.Stands.{Says, segments_of, next_of}
+-- What a scan does next, by the numbers told.
+use Rattle.std.proofs.Common.{◌≡◌, ℕ, List, inl, inr, refl, subst}
+use Rattle.std.specs.Prelude.{◌↔◌}
+use Rattle.std.proofs.Math.Logic.{∥∥₁_elim}
+use Rattle.std.proofs.Props.{props}
+use Rattle.snap_scan.specs.Looks.{IsClean, IsBorrow, IsTurn}
+use Rattle.snap_scan.specs.Stands.{StandsFor, IsLooking, segments_of, next_of}
 use Rattle.snap_scan.specs.declared.scan.Scan.{Scan}
 use Rattle.snap_scan.specs.declared.next.Next.{Next}
 use Rattle.snap_scan.specs.declared.next.Next.TheVariants.{Look, Clean, Borrow}
-use Rattle.snap_scan.proofs.Verdict.{IsClean-next, next-clean, IsBorrow-next, next-borrow}
-use Rattle.snap_world.specs.Answers.{HasAnswer}
-use Rattle.snap_world.specs.Gathers.{Gathers}
-use Rattle.snap_world.specs.declared.collector.Collector.{Collector}
+use Rattle.snap_scan.proofs.Verdict.{IsClean-next, next-clean, IsBorrow-next, next-borrow, look-next}
+use Rattle.snap_collect.specs.Collects.{IsDecided}
 
-undecided : (s : Scan) (told : List ℕ) (v : Next) (j : ℕ) → 0 < segments_of s → Says s told v → v ≡ Look j → HasAnswer (segments_of s) told → ⊥
-undecided s told v j least says e (inl clean) = let f : v ≡ Clean = next-clean s told v least says clean in cc
-undecided s told v j least says e (inr borrow) = let f : v ≡ Borrow borrow.0 = next-borrow s told v borrow.0 says borrow.1 in cc
+pub record IsNext (n : ℕ) (L : List ℕ) (v : Next) : Type 0 where
+  pub clean : (v ≡ Clean) ↔ IsClean n L
+  pub borrow : (j : ℕ) → (v ≡ Borrow j) ↔ IsBorrow n L j
+  pub look : (j : ℕ) → v ≡ Look j → IsTurn n L j
 
-decided : (s : Scan) (told : List ℕ) (v : Next) → Says s told v → ((j : ℕ) → v ≡ Look j → ⊥) → HasAnswer (segments_of s) told
-decided s told (Look j) says none = absurd (none j refl)
-decided s told Clean says none = inl (IsClean-next s told Clean says refl)
-decided s told (Borrow j) says none = inr (j, IsBorrow-next s told (Borrow j) j says refl)
+next_says : (s : Scan) (L : List ℕ) → StandsFor s L → IsNext (segments_of s) L (next_of s)
+next_says s L stands = record {
+  clean = (IsClean-next s L (next_of s) stands.says, next-clean s L (next_of s) stands.least stands.says);
+  borrow = λ j. (IsBorrow-next s L (next_of s) j stands.says, next-borrow s L (next_of s) j stands.says);
+  look = λ j e. (let at : IsLooking s L j = look-next s L (next_of s) j stands.says e in (at.within, (at.m, at.place)));
+}
+
+pub next_is : (n : ℕ) (s : Scan) (L : List ℕ) → segments_of s ≡ n → StandsFor s L → IsNext n L (next_of s)
+next_is n s L e stands = subst (λ m. IsNext m L (next_of s)) e (next_says s L stands)
 
 -- a scan that has a look to make has no answer, and each other one has
-pub no_answer : (n : ℕ) (h : List Update) (b e : ℕ) (told : List ℕ) (c : Collector) → Gathers n h b e told c → (j : ℕ) → next_of c.scan ≡ Look j → HasAnswer n told → ⊥
-no_answer n h b e told c g j next has = undecided c.scan told (next_of c.scan) j g.stands.least g.stands.says next (subst (λ m. HasAnswer m told) (sym g.segments) has)
+pub undecided : (n : ℕ) (L : List ℕ) (v : Next) (j : ℕ) → IsNext n L v → v ≡ Look j → IsDecided n L → ⊥
+undecided n L v j is e (inl clean) = let f : v ≡ Clean = is.clean.1 clean in cc
+undecided n L v j is e (inr borrow) = let f : v ≡ Borrow borrow.0 = (is.borrow borrow.0).1 borrow.1 in cc
 
-pub has_answer : (n : ℕ) (h : List Update) (b e : ℕ) (told : List ℕ) (c : Collector) → Gathers n h b e told c → ((j : ℕ) → next_of c.scan ≡ Look j → ⊥) → HasAnswer n told
-has_answer n h b e told c g done = subst (λ m. HasAnswer m told) g.segments (decided c.scan told (next_of c.scan) g.stands.says done)
+pub decided : (n : ℕ) (L : List ℕ) (v : Next) → IsNext n L v → ((j : ℕ) → v ≡ Look j → ⊥) → IsDecided n L
+decided n L (Look j) is none = absurd (none j refl)
+decided n L Clean is none = inl (is.clean.0 refl)
+decided n L (Borrow j) is none = inr (j, (is.borrow j).0 refl)
+
+-- which look it is follows from that there is one
+pub look_from : (v : Next) → ∥ ((j : ℕ) × (v ≡ Look j)) ∥₁ → (j : ℕ) × (v ≡ Look j)
+look_from (Look j) some = (j, refl)
+look_from Clean some = absurd (∥∥₁_elim some (hlevel props) (λ q. (let e : Clean ≡ Look q.0 = q.1 in cc)))
+look_from (Borrow j) some = absurd (∥∥₁_elim some (hlevel props) (λ q. (let e : Borrow j ≡ Look q.0 = q.1 in cc)))

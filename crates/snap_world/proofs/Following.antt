@@ -1,5 +1,5 @@
 -- The devices while writers and scanners act.
-use Rattle.std.proofs.Common.{◌≡◌, ◌≢◌, ◌⊎◌, ℕ, zero, suc, ◌+◌, inl, inr, Bool, false, true, List, [], ◌∷◌, ◌++◌, Some, slice_get, slice_set, refl, sym, ◌∙◌, subst}
+use Rattle.std.proofs.Common.{◌≡◌, ◌≢◌, ◌⊎◌, ℕ, zero, suc, ◌+◌, inl, inr, Bool, false, true, List, [], ◌∷◌, ◌++◌, length, Some, slice_get, slice_set, refl, sym, ◌∙◌, subst}
 use Rattle.std.proofs.lemmas.Bool.{cases_eq}
 use Rattle.snap_disk.specs.Device.{Device}
 use Rattle.snap_persist.specs.Device.{IsAtStage}
@@ -9,6 +9,7 @@ use Rattle.snap_persist.proofs.Stages.{begins}
 use Rattle.snap_history.specs.History.{Update, from_nothing, number_after, value_after}
 use Rattle.snap_history.proofs.Lists.{get-set_other}
 use Rattle.snap_history.proofs.Moments.{number-push, number-push_other, value-push, value-push_other}
+use Rattle.snap_world.specs.Answers.{scan_from}
 use Rattle.snap_world.specs.Disks.{IsReady, IsStoring, IsDiskAt, DiskStands, DisksStand, device_of}
 use Rattle.snap_world.specs.Machine.{State, WriterState, Free, Begun, Shown, Step}
 use Rattle.snap_world.specs.Phases.{Phases, TellsEnabled, Moves, writer_to, scanner_to}
@@ -113,20 +114,20 @@ pub disks_follow : (n : ℕ) (x : State) (p : Phases) (event : Event) (reply : R
     → Step n x event reply y → TellsEnabled x p event reply → Moves n x p event reply q → DisksStand n x.history x.writers p.writers ds → DisksStand n y.history y.writers q.writers ds
 disks_follow n x p event NotNow y q ds a s t m stand = to n ds x y p q s m stand
 disks_follow n x p (Begin w v) Begun_reply y q ds a s t m stand =
-    to n ds _ y _ q s.4 m (writer_changes n x.history x.writers p.writers ds stand w (record { pending = Begun v.items; fenced = false; told = [] }) writer.Scanning
+    to n ds _ y _ q s.4 m (writer_changes n x.history x.writers p.writers ds stand w (record s.0 { pending = Begun v.items; scan = scan_from (length x.history) }) writer.Scanning
     (λ d ed. stand w d s.0 writer.Idle ed s.1 (t.came (λ e. cc)).0))
 disks_follow n x p (Look (actor.Writer w)) (Number k) y q ds a s t m stand =
-    subst (λ (z : State). Follows n ds z q) (sym s.5)
-    (look_follows n x.history x.writers p q ds stand w s.0 (record { pending = s.0.pending; fenced = s.0.fenced; told = s.0.told ++ k ∷ [] }) s.1 (t.came (λ e. cc)) refl (m s.0 s.1).either)
+    subst (λ (z : State). Follows n ds z q) (sym s.4)
+    (look_follows n x.history x.writers p q ds stand w s.0 (record s.0 { scan = s.2 }) s.1 (t.came (λ e. cc)) refl (m s.0 s.1).either)
 disks_follow n x p (Look (actor.Scanner i)) (Number k) y q ds a s t m stand =
-    subst (λ (z : State). Follows n ds z q) (sym s.7) (scanner_follows n x.history x.writers p q ds i stand (m s.0 s.1 s.2 s.3).either)
+    subst (λ (z : State). Follows n ds z q) (sym s.4) (scanner_follows n x.history x.writers p q ds i stand (m s.0 s.1).either)
 disks_follow n x p (Show w) Shown_reply y q ds a s t m stand =
-    to n ds _ y _ q s.4 m (writer_shows n x.history x.writers p.writers ds stand w s.0 (record { pending = Shown s.1; fenced = s.0.fenced; told = s.0.told }) s.1 s.2 s.3 (t.came (λ e. cc)))
+    to n ds _ y _ q s.4 m (writer_shows n x.history x.writers p.writers ds stand w s.0 (record s.0 { pending = Shown s.1; view = s.0.scan.moment }) s.1 s.2 s.3 (t.came (λ e. cc)))
 disks_follow n x p (Acknowledge w) (Stored k) y q ds a s t m stand =
-    to n ds _ y _ q s.5 m (writer_changes n x.history x.writers p.writers ds stand w (record { pending = Free; fenced = s.0.fenced; told = [] }) writer.Idle
+    to n ds _ y _ q s.5 m (writer_changes n x.history x.writers p.writers ds stand w (record s.0 { pending = Free; scan = scan_from 0 }) writer.Idle
     (λ d ed. stand w d s.0 writer.Shown ed s.2 (t.came (λ e. cc))))
 disks_follow n x p (Scan i) ScanBegun y q ds a s t m stand = to n ds _ y _ q s.1 m stand
-disks_follow n x p (Answer i) (Memory l) y q ds a s t m stand = to n ds _ y _ q s.5 m stand
+disks_follow n x p (Answer i) (Memory l) y q ds a s t m stand = to n ds _ y _ q s.3 m stand
 disks_follow n x p (Call w) reply y q ds a s t m stand = absurd a
 disks_follow n x p (Fail w fill) reply y q ds a s t m stand = absurd a
 disks_follow n x p event reply y q ds a s t m stand = absurd m

@@ -1,4 +1,3 @@
-pub mod Collecting
 pub mod Looking
 pub mod Moves
 pub mod Runs

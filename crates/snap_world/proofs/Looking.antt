@@ -1,121 +1,144 @@
--- One look of a collector.
-use Rattle.std.proofs.Common.{◌≡◌, ℕ, ◌+◌, ◌-◌, ◌*◌, ◌<◌, ◌≤◌, inl, inr, List, [], ◌∷◌, ◌++◌, length, get_or, slice_index, slice_set, refl, ap, sym, ◌∙◌, subst, arith}
+-- One look of a collector is a look of the abstract machine.
+use Rattle.std.proofs.Common.{◌≡◌, ℕ, ◌+◌, ◌<◌, ◌≤◌, inl, inr, List, [], ◌∷◌, ◌++◌, length, take, get_or, Option, Some, None, slice_set, refl, ap, sym, ◌∙◌, subst, arith}
 use Rattle.std.proofs.lemmas.Option.{slice_get_read}
-use Rattle.std.proofs.lemmas.List.{length-set, length_push, get_or_push, get_or_append_left}
-use Rattle.std.proofs.lemmas.Bool.{cases_lt}
-use Rattle.snap_scan.proofs.Places.{same_segment}
-use Rattle.snap_history.specs.History.{Update, from_nothing, number_after, value_after}
-use Rattle.snap_history.proofs.Moments.{number-le}
-use Rattle.snap_scan.specs.Looks.{IsClean, IsBorrow, IsNoFall}
-use Rattle.snap_scan.specs.Stands.{StandsFor, IsLooking, segments_of, next_of}
+use Rattle.std.proofs.lemmas.List.{length-set}
+use Rattle.snap_history.specs.History.{Update, from_nothing, number_after, value_after, IsMemory}
+use Rattle.snap_history.proofs.Moments.{number-le, value_same, take-now}
+use Rattle.snap_history.proofs.Pairing.{partner}
+use Rattle.snap_scan.specs.Looks.{IsClean, IsBorrow, IsTurn, IsNoFall}
+use Rattle.snap_scan.specs.Stands.{StandsFor, segments_of, next_of}
 use Rattle.snap_scan.specs.declared.scan.Scan.{Scan}
 use Rattle.snap_scan.specs.declared.next.Next.{Next}
 use Rattle.snap_scan.specs.declared.next.Next.TheVariants.{Look, Clean, Borrow}
-use Rattle.snap_scan.proofs.Verdict.{look-next}
-use Rattle.snap_world.specs.Answers.{IsAnswer, number_at}
-use Rattle.snap_world.specs.Gathers.{Gathers, Gathered, Collects, RegisterStands, RegistersStand}
+use Rattle.snap_collect.specs.Collects.{IsRising, IsKept, Collects}
+use Rattle.snap_collect.proofs.Collecting.{same_turn, Collects-push, no_fall, rose, borrow_moment, clean_moment}
+use Rattle.snap_world.specs.Answers.{ScanState, number_at, value_at}
+use Rattle.snap_world.specs.Gathers.{Gathers, Gathered, RegisterStands, ViewStands, RegistersStand}
+use Rattle.snap_world.specs.Machine.{State, WriterState, ShownWith, Decides, looked, IsLook}
 use Rattle.snap_world.specs.declared.register.Register.{Register}
 use Rattle.snap_world.specs.declared.collector.Collector.{Collector}
-use Rattle.snap_world.proofs.Collecting.{Collects-push, IsAnswer-clean, IsAnswer-borrow, number_now}
+use Rattle.snap_world.proofs.Ending.{IsNext, next_is, undecided}
 
-pub register_at : (n : ℕ) (h : List Update) (g : ℕ) (rs : List Register) (j : ℕ) (r : Register) → RegistersStand n h g rs → j < n → r ≡ get_or rs j r → RegisterStands n h g j r
-register_at n h g rs j r stand l e = stand.each j r (slice_get_read rs n j r (sym stand.size) l e)
+pub number_now : (h : List Update) (i : ℕ) → number_at h (length h) i ≡ number_after from_nothing h i
+number_now h i = ap (λ g. number_after from_nothing g i) (take-now h)
 
-pub no_fall : (n : ℕ) (h : List Update) (b e : ℕ) (L : List ℕ) (memory : List (List ℕ)) (j k : ℕ) → e ≤ length h → Collects n h b e L memory → j < n → k ≡ number_after from_nothing h j → IsNoFall n L j k
-no_fall n h b e L memory j k end c l number m place =
-    let early : m * n + j < length L = omega arith in
-    let seen : slice_index L (m * n + j) ≡ number_at h (c.moment (m * n + j)) j = c.numbers m j l early in
-    let until : c.moment (m * n + j) ≤ e = c.until (m * n + j) early in
-    let below : number_at h (c.moment (m * n + j)) j ≤ number_at h (length h) j = number-le from_nothing h j (c.moment (m * n + j)) (length h) (omega arith) in
-    let here : number_at h (length h) j ≡ number_after from_nothing h j = number_now h j in
-    omega arith
+pub value_now : (h : List Update) (i : ℕ) → value_at h (length h) i ≡ value_after from_nothing h i
+value_now h i = ap (λ g. value_after from_nothing g i) (take-now h)
 
-gathered_other : (n : ℕ) (h : List Update) (b : ℕ) (L : List ℕ) (memory : List (List ℕ)) (v : Next) → b ≤ length h → 0 < n → length memory ≡ n → Collects n h b (length h) L memory
-    → ((i : ℕ) → v ≡ Borrow i → ⊥) → (v ≡ Clean → IsClean n L) → ((i : ℕ) → IsBorrow n L i → v ≡ Borrow i) → Gathered n h b (length h) L memory v
-gathered_other n h b L memory (Look i) start pos size c not_borrow clean borrow = c
-gathered_other n h b L memory Clean start pos size c not_borrow clean borrow =
-    IsAnswer-clean n h b (length h) L memory start (omega arith) c pos size (clean refl) (λ i br. not_borrow i (borrow i br))
-gathered_other n h b L memory (Borrow i) start pos size c not_borrow clean borrow = absurd (not_borrow i refl)
+rising : (h : List Update) → IsRising (number_at h)
+rising h i s t l = number-le from_nothing h i s t l
 
-module _ (n : ℕ) (h : List Update) (b e : ℕ) (L : List ℕ) (col : Collector) (g : Gathers n h b e L col) (j : ℕ) (turn : (next_of col.scan) ≡ Look j) where
-  pub looking : IsLooking col.scan L j
-  looking = look-next col.scan L (next_of col.scan) j g.stands.says turn
+kept : (h : List Update) → IsKept (List ℕ) (number_at h) (value_at h)
+kept h i s t l e = value_same from_nothing h i s t l e
 
-  pub collects : Collects n h b e L col.memory.items
-  collects = subst (Gathered n h b e L col.memory.items) turn g.gathered
+pub register_at : (n : ℕ) (x : State) (g : ℕ) (rs : List Register) (j : ℕ) (r : Register) → RegistersStand n x g rs → j < n → r ≡ get_or rs j r → RegisterStands n x.history j r
+register_at n x g rs j r stand l e = stand.each j r (slice_get_read rs n j r (sym stand.size) l e)
+
+module _ (n : ℕ) (x : State) (g : ℕ) (s : ScanState) (col : Collector) (gat : Gathers n x.history s col) (j : ℕ) (turn : next_of col.scan ≡ Look j) where
+  abbrev h : List Update
+  h = x.history
+
+  abbrev now : ℕ
+  now = length x.history
+
+  -- the number of the segment now
+  abbrev k : ℕ
+  k = number_at x.history (length x.history) j
+
+  pub here : IsTurn n s.told j
+  here = (next_is n col.scan s.told gat.segments gat.stands).look j turn
 
   pub turn_within : j < n
-  turn_within = let w : j < segments_of col.scan = looking.within in let s : segments_of col.scan ≡ n = g.segments in omega arith
+  turn_within = here.0
 
-  pub turn_place : length L ≡ looking.m * n + j
-  turn_place = subst (λ x. length L ≡ looking.m * x + j) g.segments looking.place
+  collects : Collects (List ℕ) n (number_at h) (value_at h) s.start s.last s.told col.memory.items
+  collects = (subst (Gathered n h s col.memory.items) turn gat.gathered).0
 
-  pub told_fits : (k : ℕ) → k ≡ number_after from_nothing h j → IsNoFall (segments_of col.scan) L j k
-  told_fits k number = subst (λ x. IsNoFall x L j k) (sym g.segments) (no_fall n h b e L col.memory.items j k g.end collects turn_within number)
+  end2 : s.start ≤ now
+  end2 = let a : s.start ≤ s.last = gat.start in let b : s.last ≤ now = gat.end in omega arith
 
-  module _ (since : ℕ) (born : since ≤ b) (r : Register) (stand : RegisterStands n h since j r) (t : Scan) (same_n : segments_of t ≡ segments_of col.scan)
-      (told : StandsFor t (L ++ r.number ∷ [])) (v : Next) (same : v ≡ next_of t)
-      (clean : (v ≡ Clean → IsClean (segments_of t) (L ++ r.number ∷ [])) × (IsClean (segments_of t) (L ++ r.number ∷ []) → v ≡ Clean))
-      (borrow : (i : ℕ) → (v ≡ Borrow i → IsBorrow (segments_of t) (L ++ r.number ∷ []) i) × (IsBorrow (segments_of t) (L ++ r.number ∷ []) i → v ≡ Borrow i)) where
-    t_n : segments_of t ≡ n
-    t_n = same_n ∙ g.segments
+  pub told_fits : (number : ℕ) → number ≡ number_after from_nothing h j → IsNoFall (segments_of col.scan) s.told j number
+  told_fits number e =
+      let fits : IsNoFall n s.told j k = no_fall (List ℕ) n (number_at h) (value_at h) s.start s.last s.told col.memory.items collects (rising h) now j gat.end turn_within in
+      subst (λ m. IsNoFall m s.told j number) (sym gat.segments) (subst (IsNoFall n s.told j) (number_now h j ∙ sym e) fits)
 
-    end2 : b ≤ length h
-    end2 = let x : b ≤ e = g.start in let y : e ≤ length h = g.end in omega arith
+  -- the moment and the values after a look, by what the scan does next
+  abbrev Goes : List (List ℕ) → Next → Type 0
+  Goes memory v = (m : Option ℕ) × Decides n x (looked x s k m) m × Gathered n h (looked x s k m) memory v
 
-    pub look_other : ((i : ℕ) → v ≡ Borrow i → ⊥) → (col2 : Collector) → col2.scan ≡ t → col2.memory.items ≡ slice_set col.memory.items j r.value → Gathers n h b (length h) (L ++ r.number ∷ []) col2
+  goes_other : (v : Next) (memory : List (List ℕ)) → length memory ≡ n → IsNext n (s.told ++ k ∷ []) v → ((i : ℕ) → v ≡ Borrow i → ⊥) → Collects (List ℕ) n (number_at h) (value_at h) s.start now (s.told ++ k ∷ []) memory → Goes memory v
+  goes_other (Look i) memory size is none c = (None, undecided n (s.told ++ k ∷ []) (Look i) i is refl, (c, refl))
+  goes_other (Borrow i) memory size is none c = absurd (none i refl)
+  goes_other Clean memory size is none c =
+      let no_borrow : (i : ℕ) → IsBorrow n (s.told ++ k ∷ []) i → ⊥ = λ i br. none i ((is.borrow i).1 br) in
+      let clean : IsClean n (s.told ++ k ∷ []) = is.clean.0 refl in
+      let pos : 0 < n = (let w : j < n = turn_within in omega arith) in
+      let p = clean_moment (List ℕ) n (number_at h) (value_at h) s.start now (s.told ++ k ∷ []) memory c (rising h) (kept h) pos clean no_borrow in (
+        Some p.0,
+        (inl clean, p.1, λ i br. absurd (no_borrow i br)),
+        record { p = p.0; moment = refl; is_moment = p.1; is_memory = record { size = size; values = p.2 } },
+      )
+
+  goes_borrow : (i : ℕ) (memory : List (List ℕ)) (p : ℕ) → IsNext n (s.told ++ k ∷ []) (Borrow i) → p ≤ now → number_at h p j + 1 ≡ k → ShownWith x j p → IsMemory n from_nothing (take p h) memory → Goes memory (Borrow i)
+  goes_borrow i memory p is pl before shown mem =
+      let br : IsBorrow n (s.told ++ k ∷ []) i = (is.borrow i).0 refl in
+      let same : i ≡ j = same_turn n s.told k i j here br in
+      let brj : IsBorrow n (s.told ++ k ∷ []) j = subst (IsBorrow n (s.told ++ k ∷ [])) same br in
+      let not_clean : IsClean n (s.told ++ k ∷ []) → ⊥ = λ cl. (let e : Borrow i ≡ Clean = is.clean.1 cl in cc) in
+      let m = borrow_moment (List ℕ) n (number_at h) (value_at h) s.start s.last s.told col.memory.items collects (rising h) now j gat.end here brj p pl before not_clean in (
+        Some p,
+        (inr (i, br), m, λ l bl. subst (λ z. ShownWith x z p) (sym (same_turn n s.told k l j here bl)) shown),
+        record { p = p; moment = refl; is_moment = m; is_memory = mem },
+      )
+
+  module _ (rs : List Register) (born : g ≤ s.start) (regs : RegistersStand n x g rs) (r : Register) (read : r ≡ get_or rs j r)
+      (t : Scan) (same_n : segments_of t ≡ segments_of col.scan) (told : StandsFor t (s.told ++ r.number ∷ [])) (v : Next) (same : v ≡ next_of t) where
+    stand : RegisterStands n h j r
+    stand = register_at n x g rs j r regs turn_within read
+
+    number_is : r.number ≡ k
+    number_is = stand.number ∙ sym (number_now h j)
+
+    told_k : StandsFor t (s.told ++ k ∷ [])
+    told_k = subst (λ z. StandsFor t (s.told ++ z ∷ [])) number_is told
+
+    is : IsNext n (s.told ++ k ∷ []) v
+    is = subst (IsNext n (s.told ++ k ∷ [])) (sym same) (next_is n t (s.told ++ k ∷ []) (same_n ∙ gat.segments) told_k)
+
+    goes : (col2 : Collector) → col2.scan ≡ t → length col2.memory.items ≡ n → Goes col2.memory.items v → (u : ScanState) × IsLook n x s r.number u × Gathers n x.history u col2
+    goes col2 scan-is size f = (
+      looked x s k f.0,
+      record { segment = j; turn = here; number = stand.number; after = ap (λ z. looked x s z f.0) (sym number_is); decides = f.1 },
+      record {
+        stands = subst (λ z. StandsFor z (s.told ++ k ∷ [])) (sym scan-is) told_k;
+        segments = ap segments_of scan-is ∙ same_n ∙ gat.segments;
+        size = size;
+        start = end2;
+        end = omega arith;
+        gathered = subst (Gathered n h (looked x s k f.0) col2.memory.items) (same ∙ ap next_of (sym scan-is)) f.2;
+      },
+    )
+
+    pub look_other : ((i : ℕ) → v ≡ Borrow i → ⊥) → (col2 : Collector) → col2.scan ≡ t → col2.memory.items ≡ slice_set col.memory.items j r.value → (u : ScanState) × IsLook n x s r.number u × Gathers n x.history u col2
     look_other not_borrow col2 scan-is memory-is =
-        let value : r.value ≡ value_after from_nothing h j = stand.value in
-        let pos : 0 < n = (let w : j < n = turn_within in omega arith) in
-        let size : length (slice_set col.memory.items j r.value) ≡ n = length-set col.memory.items j r.value ∙ g.size in
-        let c : Collects n h b (length h) (L ++ r.number ∷ []) (slice_set col.memory.items j r.value) =
-        subst (λ x. Collects n h b (length h) (L ++ r.number ∷ []) (slice_set col.memory.items j x)) (sym value)
-        (Collects-push n h b e L col.memory.items g.start g.end collects looking.m j r.number turn_within turn_place g.size stand.number) in
-        let gat : Gathered n h b (length h) (L ++ r.number ∷ []) (slice_set col.memory.items j r.value) v =
-        gathered_other n h b _ _ v end2 pos size c not_borrow
-        (λ is_clean. subst (λ x. IsClean x (L ++ r.number ∷ [])) t_n (clean.0 is_clean))
-        (λ i br. (borrow i).1 (subst (λ x. IsBorrow x (L ++ r.number ∷ []) i) (sym t_n) br)) in
-        record {
-          stands = subst (λ x. StandsFor x (L ++ r.number ∷ [])) (sym scan-is) told;
-          segments = ap segments_of scan-is ∙ t_n;
-          size = ap length memory-is ∙ size;
-          start = end2;
-          end = omega arith;
-          gathered = subst (Gathered n h b (length h) (L ++ r.number ∷ []) col2.memory.items) (same ∙ ap next_of (sym scan-is))
-              (subst (λ m. Gathered n h b (length h) (L ++ r.number ∷ []) m v) (sym memory-is) gat);
-        }
+        let memory : List (List ℕ) = slice_set col.memory.items j (value_at h now j) in
+        let is_memory : col2.memory.items ≡ memory = memory-is ∙ ap (slice_set col.memory.items j) (stand.value ∙ sym (value_now h j)) in
+        let size : length memory ≡ n = length-set col.memory.items j (value_at h now j) ∙ gat.size in
+        let c : Collects (List ℕ) n (number_at h) (value_at h) s.start now (s.told ++ k ∷ []) memory =
+        Collects-push (List ℕ) n (number_at h) (value_at h) s.start s.last s.told col.memory.items collects now j gat.end here end2 gat.size in
+        goes col2 scan-is (ap length is_memory ∙ size) (subst (λ z. Goes z v) (sym is_memory) (goes_other v memory size is not_borrow c))
 
-    pub look_borrow : (i : ℕ) → v ≡ Borrow i → (col2 : Collector) → col2.scan ≡ t → col2.memory.items ≡ r.view.items → Gathers n h b (length h) (L ++ r.number ∷ []) col2
+    pub look_borrow : (i : ℕ) → v ≡ Borrow i → (col2 : Collector) → col2.scan ≡ t → col2.memory.items ≡ r.view.items → (u : ScanState) × IsLook n x s r.number u × Gathers n x.history u col2
     look_borrow i is_borrow col2 scan-is memory-is =
-        let br : IsBorrow n (L ++ r.number ∷ []) i = subst (λ x. IsBorrow x (L ++ r.number ∷ []) i) t_n ((borrow i).0 is_borrow) in
-        let long : length (L ++ r.number ∷ []) ≡ length L + 1 = length_push L r.number in
-        let x : length (L ++ r.number ∷ []) ≡ br.last.0 * n + i + 1 = br.last.1 in
-        let place : length L ≡ looking.m * n + j = turn_place in
-        let here : i ≡ j = same_segment n br.last.0 i looking.m j br.segment turn_within (omega arith) in
-        let brj : IsBorrow n (L ++ r.number ∷ []) j = subst (IsBorrow n (L ++ r.number ∷ [])) here br in
-        let last : slice_index (L ++ r.number ∷ []) (length (L ++ r.number ∷ []) - 1) ≡ r.number = get_or_push L r.number 0 (length (L ++ r.number ∷ []) - 1) (omega arith) in
-        let moved : slice_index (L ++ r.number ∷ []) j + 2 ≤ slice_index (L ++ r.number ∷ []) (length (L ++ r.number ∷ []) - 1) = brj.moved in
-        let early : j < length L = elim (cases_lt j (length L)) [
-          | inl lt ↦ lt
-          | inr ge ↦ (let z : slice_index (L ++ r.number ∷ []) j ≡ r.number = get_or_push L r.number 0 j (omega arith) in absurd (omega arith))
-        ] in
-        let old_first : slice_index (L ++ r.number ∷ []) j ≡ slice_index L j = get_or_append_left L (r.number ∷ []) 0 j early in
-        let at0 : 0 * n + j ≡ j = omega arith in
-        let seen : slice_index L (0 * n + j) ≡ number_at h (collects.moment (0 * n + j)) j = collects.numbers 0 j turn_within (omega arith) in
-        let seen2 : slice_index L j ≡ slice_index L (0 * n + j) = ap (slice_index L) (sym at0) in
-        let low : number_at h b j ≤ number_at h (collects.moment (0 * n + j)) j = number-le from_nothing h j b (collects.moment (0 * n + j)) (collects.after (0 * n + j) (omega arith)) in
-        let base : number_at h since j ≤ number_at h b j = number-le from_nothing h j since b born in
-        let view = stand.view (omega arith) in
-        let answer : IsAnswer n h b (length h) (L ++ r.number ∷ []) r.view.items =
-        IsAnswer-borrow n h b e L col.memory.items g.start g.end collects looking.m j r.number turn_within turn_place r.view.items view.0 view.1 view.2 view.3 brj
-        (λ cl. let is_clean : v ≡ Clean = clean.1 (subst (λ y. IsClean y (L ++ r.number ∷ [])) (sym t_n) cl) in cc) in
-        let gat : Gathered n h b (length h) (L ++ r.number ∷ []) r.view.items v = subst (Gathered n h b (length h) (L ++ r.number ∷ []) r.view.items) (sym is_borrow) answer in
-        record {
-          stands = subst (λ x. StandsFor x (L ++ r.number ∷ [])) (sym scan-is) told;
-          segments = ap segments_of scan-is ∙ t_n;
-          size = ap length memory-is ∙ stand.size;
-          start = end2;
-          end = omega arith;
-          gathered = subst (Gathered n h b (length h) (L ++ r.number ∷ []) col2.memory.items) (same ∙ ap next_of (sym scan-is))
-              (subst (λ m. Gathered n h b (length h) (L ++ r.number ∷ []) m v) (sym memory-is) gat);
-        }
+        let there = slice_get_read rs n j r (sym regs.size) turn_within read in
+        let own = partner (λ l q (z : WriterState). ViewStands n h g l q z.view) rs x.writers j r regs.views there in
+        let next : IsNext n (s.told ++ k ∷ []) (Borrow i) = subst (IsNext n (s.told ++ k ∷ [])) is_borrow is in
+        let br : IsBorrow n (s.told ++ k ∷ []) i = (next.borrow i).0 refl in
+        let brj : IsBorrow n (s.told ++ k ∷ []) j = subst (IsBorrow n (s.told ++ k ∷ [])) (same_turn n s.told k i j here br) br in
+        let high : number_at h s.start j + 2 ≤ k = rose (List ℕ) n (number_at h) (value_at h) s.start s.last s.told col.memory.items collects (rising h) now j gat.end here brj in
+        let base : number_at h g j ≤ number_at h s.start j = number-le from_nothing h j g s.start born in
+        let is_k : r.number ≡ k = number_is in
+        let p = own.2.kept (omega arith) in
+        let view = own.2.is_view p.0 p.1 in
+        goes col2 scan-is (ap length memory-is ∙ stand.size) (subst (Goes col2.memory.items) (sym is_borrow)
+        (goes_borrow i col2.memory.items p.0 next view.until (view.before ∙ is_k) (own.0, own.1, p.1) (subst (IsMemory n from_nothing (take p.0 h)) (sym memory-is) view.is_memory)))

@@ -1,16 +1,14 @@
--- One look of a writer's embedded scan, or of a scanner, as a step of the abstract machine.
+-- One look of a writer's embedded scan, or of a scanner, as a step of the parts.
 use Rattle.std.proofs.Common.{◌≡◌, ℕ, ◌<◌, ◌≤◌, inl, inr, List, [], ◌∷◌, ◌++◌, length, get_or, Some, slice_get, refl, ap, sym, ◌∙◌, subst}
 use Rattle.std.specs.Vec.{with_item}
 use Rattle.std.proofs.lemmas.Option.{same_Some}
-use Rattle.snap_history.specs.History.{Update, from_nothing, number_after}
-use Rattle.snap_scan.specs.Looks.{IsTurn}
-use Rattle.snap_scan.specs.Stands.{next_of}
-use Rattle.snap_scan.specs.declared.next.Next.TheVariants.{Look as Next_look}
-use Rattle.snap_world.specs.Answers.{HasAnswer}
-use Rattle.snap_world.specs.Gathers.{Gathers, IsLook, IsUnderWay, RegistersStand}
-use Rattle.snap_world.specs.Machine.{State, WriterState, ScannerState, Opened, Step, with_writer, with_scanner}
+use Rattle.snap_scan.specs.Stands.{StandsFor, segments_of, next_of}
+use Rattle.snap_collect.specs.Collects.{IsDecided}
+use Rattle.snap_world.specs.Answers.{ScanState, number_at}
+use Rattle.snap_world.specs.Gathers.{Gathers, IsLookOf, IsUnderWay, RegistersStand}
+use Rattle.snap_world.specs.Machine.{State, WriterState, ScannerState, Begun, Opened, Step, IsLook, with_writer, with_scanner}
 use Rattle.snap_world.specs.Phases.{Moves}
-use Rattle.snap_world.specs.Stands.{PartsStand, WriterStands, ScannerStands, HasBegun, IsAtPhase, IsScannerAt}
+use Rattle.snap_world.specs.Stands.{PartsStand, WriterStands, ScannerStands, HasBegun, IsAtPhase, IsScannerAt, is_fenced}
 use Rattle.snap_world.specs.Steps.{phases_of_parts}
 use Rattle.snap_world.specs.declared.event.Actor.TheVariants as actor
 use Rattle.snap_world.specs.declared.event.Event.TheVariants.{Look}
@@ -21,14 +19,9 @@ use Rattle.snap_world.specs.declared.writer.Writer.{Writer}
 use Rattle.snap_world.specs.declared.writer.WriterPhase.TheVariants as writer
 use Rattle.snap_world.specs.declared.scanner.Scanner.{Scanner}
 use Rattle.snap_world.specs.declared.scanner.ScannerPhase.TheVariants as scanner
-use Rattle.snap_world.proofs.Ending.{no_answer, has_answer}
-use Rattle.snap_world.proofs.Looking.{turn_within, turn_place, looking}
-use Rattle.snap_world.proofs.Moves.{the_writer, the_scanner, writer_moves, scanner_moves, writer_goes_on, writer_done, scanner_goes_on, scanner_done}
+use Rattle.snap_world.proofs.Ending.{next_is, undecided}
+use Rattle.snap_world.proofs.Moves.{the_writer, the_scanner, writer_moves, scanner_moves, has_answer}
 use Rattle.snap_world.proofs.Phasing.{writer_moved, writer_kept, scanner_moved, scanner_kept}
-
--- whose turn it is
-turn_of : (n : ℕ) (h : List Update) (b e : ℕ) (told : List ℕ) (c : Collector) → Gathers n h b e told c → (j : ℕ) → next_of c.scan ≡ Next_look j → IsTurn n told j
-turn_of n h b e told c g j turn = (turn_within n h b e told c g j turn, ((looking n h b e told c g j turn).m, turn_place n h b e told c g j turn))
 
 -- the parts with one writer, or one scanner, changed
 abbrev pub with_parts_writer : Parts → ℕ → Writer → Parts
@@ -36,6 +29,23 @@ with_parts_writer w i a = record { segments = w.segments; registers = w.register
 
 abbrev pub with_parts_scanner : Parts → ℕ → Scanner → Parts
 with_parts_scanner w i a = record { segments = w.segments; registers = w.registers; writers = w.writers; scanners = with_item w.scanners i a }
+
+-- what a collector says of the numbers told once a look was made
+told_is : (n : ℕ) (x : State) (s : ScanState) (k : ℕ) (t : ScanState) → IsLook n x s k t → t.told ≡ s.told ++ k ∷ []
+told_is n x s k t look = ap (λ (z : ScanState). z.told) look.after
+
+start_is : (n : ℕ) (x : State) (s : ScanState) (k : ℕ) (t : ScanState) → IsLook n x s k t → t.start ≡ s.start
+start_is n x s k t look = ap (λ (z : ScanState). z.start) look.after
+
+open_still : (n : ℕ) (x : State) (t : ScanState) (c : Collector) → Gathers n x.history t c → IsUnderWay c → IsDecided n t.told → ⊥
+open_still n x t c g under_way = undecided n t.told (next_of c.scan) under_way.0 (next_is n c.scan t.told g.segments g.stands) under_way.1
+
+-- the collector says that the scan has its answer
+abbrev pub Tells : Collector → Type 0
+Tells c = (told : List ℕ) → StandsFor c.scan told → IsDecided (segments_of c.scan) told
+
+over : (n : ℕ) (x : State) (t : ScanState) (c : Collector) → Gathers n x.history t c → Tells c → IsDecided n t.told
+over n x t c g tells = subst (λ m. IsDecided m t.told) g.segments (tells t.told g.stands)
 
 module _ (w : Parts) (x : State) (stands : PartsStand w x) (i : ℕ) (l : i < w.segments) (old : Writer) (read : old ≡ get_or w.writers.items i old) (scanning : old.phase ≡ writer.Scanning) where
   state : (s : WriterState) × (slice_get x.writers i ≡ Some s) × WriterStands w.segments x.history stands.since i old s
@@ -47,106 +57,132 @@ module _ (w : Parts) (x : State) (stands : PartsStand w x) (i : ℕ) (l : i < w.
   pub writer_under_way : IsUnderWay old.collector
   writer_under_way = at.1
 
-  pub writer_may_look : (n : ℕ) × (h : List Update) × (g b e : ℕ) × (told : List ℕ) × (g ≤ b) × RegistersStand n h g w.registers.items × Gathers n h b e told old.collector
-  writer_may_look = (w.segments, x.history, stands.since, at.0.b, at.0.e, state.0.told, at.0.born, stands.registers, at.0.gathers)
+  pub writer_may_look : (n : ℕ) × (y : State) × (g : ℕ) × (s : ScanState) × (g ≤ s.start) × RegistersStand n y g w.registers.items × Gathers n y.history s old.collector
+  writer_may_look = (w.segments, x, stands.since, state.0.scan, at.0.born, stands.registers, at.0.gathers)
 
-  module _ (j k : ℕ) (turn : next_of old.collector.scan ≡ Next_look j) (col : Collector) (look : IsLook w.registers.items old.collector j k col) where
-    looked : (k ≡ number_after from_nothing x.history j) × Gathers w.segments x.history at.0.b (length x.history) (state.0.told ++ k ∷ []) col
-    looked = look w.segments x.history stands.since at.0.b at.0.e state.0.told at.0.born stands.registers at.0.gathers
-
-    here : IsTurn w.segments state.0.told j
-    here = turn_of w.segments x.history at.0.b at.0.e state.0.told old.collector at.0.gathers j turn
+  module _ (k : ℕ) (col : Collector) (look : IsLookOf w.registers.items old.collector k col) where
+    result : (t : ScanState) × IsLook w.segments x state.0.scan k t × Gathers w.segments x.history t col
+    result = look w.segments x stands.since state.0.scan at.0.born stands.registers at.0.gathers
 
     next : WriterState
-    next = record { pending = state.0.pending; fenced = state.0.fenced; told = state.0.told ++ k ∷ [] }
+    next = record state.0 { scan = result.0 }
 
-    same_told : (s : WriterState) → slice_get x.writers i ≡ Some s → state.0.told ≡ s.told
-    same_told s e = ap (λ v. v.told) (same_Some state.0 s (sym state.1 ∙ e))
+    begun : (a : Writer) → a.value ≡ old.value → a.collector ≡ col → HasBegun w.segments x.history stands.since i a (record state.0 { scan = result.0 })
+    begun a value collector =
+        let start : result.0.start ≡ state.0.scan.start = start_is w.segments x state.0.scan k result.0 result.1 in
+        record {
+          born = subst (λ b. stands.since ≤ b) (sym start) at.0.born;
+          pending = at.0.pending ∙ ap Begun (sym value);
+          fits = subst (λ (v : List ℕ). length v ≤ 4080) (sym value) at.0.fits;
+          room = at.0.room;
+          own = ap (λ b. number_at x.history b i) start ∙ at.0.own;
+          gathers = subst (Gathers w.segments x.history result.0) (sym collector) result.2;
+        }
+
+    same_told : (s : WriterState) → slice_get x.writers i ≡ Some s → result.0.told ≡ s.scan.told ++ k ∷ []
+    same_told s e = told_is w.segments x state.0.scan k result.0 result.1 ∙ ap (λ (z : WriterState). z.scan.told ++ k ∷ []) (same_Some state.0 s (sym state.1 ∙ e))
 
     -- the scan has a further look to make
     pub writer_looks : IsUnderWay col → (y : State) × Step w.segments x (Look (actor.Writer i)) (Number k) y × PartsStand (with_parts_writer w i (record { phase = old.phase; value = old.value; collector = col })) y
     unfolding next
     writer_looks under_way = (
       with_writer x i next,
-      (state.0, state.1, j, here, looked.0, refl),
-      writer_moves w x stands i _ next l (writer_goes_on w.segments x.history stands.since i old state.0 state.2 scanning at.0 k col looked.1 old.phase scanning under_way),
+      (state.0, state.1, result.0, result.1, refl),
+      writer_moves w x stands i _ state.0 next l state.1 refl (record {
+        size = result.2.size;
+        fenced = state.2.fenced;
+        phase = subst (IsAtPhase w.segments x.history stands.since i (record { phase = old.phase; value = old.value; collector = col }) (record state.0 { scan = result.0 })) (sym scanning)
+            (begun (record { phase = old.phase; value = old.value; collector = col }) refl refl, under_way);
+      }),
     )
 
     pub writer_stays : IsUnderWay col → Moves w.segments x (phases_of_parts w) (Look (actor.Writer i)) (Number k) (phases_of_parts (with_parts_writer w i (record { phase = old.phase; value = old.value; collector = col })))
     writer_stays under_way s e = record {
-      ends = λ has. absurd (no_answer w.segments x.history at.0.b (length x.history) (state.0.told ++ k ∷ []) col looked.1 under_way.0 under_way.1
-          (subst (λ told. HasAnswer w.segments (told ++ k ∷ [])) (sym (same_told s e)) has));
+      ends = λ has. absurd (open_still w.segments x result.0 col result.2 under_way (subst (IsDecided w.segments) (sym (same_told s e)) has));
       goes_on = λ none. writer_kept w i (record { phase = old.phase; value = old.value; collector = col }) old read refl;
       either = inr (writer_kept w i (record { phase = old.phase; value = old.value; collector = col }) old read refl);
     }
 
     -- the scan has its answer
-    pub writer_ends : ((m : ℕ) → next_of col.scan ≡ Next_look m → ⊥) → (y : State) × Step w.segments x (Look (actor.Writer i)) (Number k) y × PartsStand (with_parts_writer w i (record { phase = writer.Storing; value = old.value; collector = col })) y
+    pub writer_ends : (IsUnderWay col → ⊥) → Tells col → (y : State) × Step w.segments x (Look (actor.Writer i)) (Number k) y × PartsStand (with_parts_writer w i (record { phase = writer.Storing; value = old.value; collector = col })) y
     unfolding next
-    writer_ends done = (
+    writer_ends done tells = (
       with_writer x i next,
-      (state.0, state.1, j, here, looked.0, refl),
-      writer_moves w x stands i _ next l (writer_done w.segments x.history stands.since i old state.0 state.2 scanning at.0 k col looked.1 done),
+      (state.0, state.1, result.0, result.1, refl),
+      writer_moves w x stands i _ state.0 next l state.1 refl (record {
+        size = result.2.size;
+        fenced = state.2.fenced ∙ ap is_fenced scanning;
+        phase = (
+          begun (record { phase = writer.Storing; value = old.value; collector = col }) refl refl,
+          has_answer w.segments x.history result.0 col result.2 (over w.segments x result.0 col result.2 tells) done,
+        );
+      }),
     )
 
-    pub writer_goes : ((m : ℕ) → next_of col.scan ≡ Next_look m → ⊥) → Moves w.segments x (phases_of_parts w) (Look (actor.Writer i)) (Number k) (phases_of_parts (with_parts_writer w i (record { phase = writer.Storing; value = old.value; collector = col })))
-    writer_goes done s e = record {
+    pub writer_goes : Tells col → Moves w.segments x (phases_of_parts w) (Look (actor.Writer i)) (Number k) (phases_of_parts (with_parts_writer w i (record { phase = writer.Storing; value = old.value; collector = col })))
+    writer_goes tells s e = record {
       ends = λ has. writer_moved w i (record { phase = writer.Storing; value = old.value; collector = col });
       either = inl (writer_moved w i (record { phase = writer.Storing; value = old.value; collector = col }));
-      goes_on = λ none. absurd (none (subst (λ told. HasAnswer w.segments (told ++ k ∷ [])) (same_told s e)
-          (has_answer w.segments x.history at.0.b (length x.history) (state.0.told ++ k ∷ []) col looked.1 done)));
+      goes_on = λ none. absurd (none (subst (IsDecided w.segments) (same_told s e) (over w.segments x result.0 col result.2 tells)));
     }
 
 module _ (w : Parts) (x : State) (stands : PartsStand w x) (i : ℕ) (l : i < length w.scanners.items) (old : Scanner) (read : old ≡ get_or w.scanners.items i old) (scanning : old.phase ≡ scanner.Scanning) where
   scanner_state : (s : ScannerState) × (slice_get x.scanners i ≡ Some s) × ScannerStands w.segments x.history stands.since i old s
   scanner_state = the_scanner w x stands i old l read
 
-  opened : (b e : ℕ) × (told : List ℕ) × (scanner_state.0 ≡ Opened b e told) × (stands.since ≤ b) × Gathers w.segments x.history b e told old.collector × IsUnderWay old.collector
+  opened : (scan : ScanState) × (scanner_state.0 ≡ Opened scan) × (stands.since ≤ scan.start) × Gathers w.segments x.history scan old.collector × IsUnderWay old.collector
   opened = subst (IsScannerAt w.segments x.history stands.since old scanner_state.0) scanning scanner_state.2.phase
 
   pub scanner_under_way : IsUnderWay old.collector
-  scanner_under_way = opened.6
+  scanner_under_way = opened.4
 
-  pub scanner_may_look : (n : ℕ) × (h : List Update) × (g b e : ℕ) × (told : List ℕ) × (g ≤ b) × RegistersStand n h g w.registers.items × Gathers n h b e told old.collector
-  scanner_may_look = (w.segments, x.history, stands.since, opened.0, opened.1, opened.2, opened.4, stands.registers, opened.5)
+  pub scanner_may_look : (n : ℕ) × (y : State) × (g : ℕ) × (s : ScanState) × (g ≤ s.start) × RegistersStand n y g w.registers.items × Gathers n y.history s old.collector
+  scanner_may_look = (w.segments, x, stands.since, opened.0, opened.2, stands.registers, opened.3)
 
-  module _ (j k : ℕ) (turn : next_of old.collector.scan ≡ Next_look j) (col : Collector) (look : IsLook w.registers.items old.collector j k col) where
-    scanner_looked : (k ≡ number_after from_nothing x.history j) × Gathers w.segments x.history opened.0 (length x.history) (opened.2 ++ k ∷ []) col
-    scanner_looked = look w.segments x.history stands.since opened.0 opened.1 opened.2 opened.4 stands.registers opened.5
+  module _ (k : ℕ) (col : Collector) (look : IsLookOf w.registers.items old.collector k col) where
+    scanner_result : (t : ScanState) × IsLook w.segments x opened.0 k t × Gathers w.segments x.history t col
+    scanner_result = look w.segments x stands.since opened.0 opened.2 stands.registers opened.3
 
-    scanner_here : IsTurn w.segments opened.2 j
-    scanner_here = turn_of w.segments x.history opened.0 opened.1 opened.2 old.collector opened.5 j turn
+    scanner_told : (s : ScanState) → slice_get x.scanners i ≡ Some (Opened s) → scanner_result.0.told ≡ s.told ++ k ∷ []
+    scanner_told s f =
+        let same : Opened opened.0 ≡ Opened s = sym opened.1 ∙ same_Some scanner_state.0 (Opened s) (sym scanner_state.1 ∙ f) in
+        let one : opened.0 ≡ s = cc in
+        told_is w.segments x opened.0 k scanner_result.0 scanner_result.1 ∙ ap (λ (z : ScanState). z.told ++ k ∷ []) one
 
-    scanner_told : (b e : ℕ) (told : List ℕ) → slice_get x.scanners i ≡ Some (Opened b e told) → opened.2 ≡ told
-    scanner_told b e told f =
-        let same : Opened opened.0 opened.1 opened.2 ≡ Opened b e told = sym opened.3 ∙ same_Some scanner_state.0 (Opened b e told) (sym scanner_state.1 ∙ f) in cc
+    scanner_born : stands.since ≤ scanner_result.0.start
+    scanner_born = subst (λ b. stands.since ≤ b) (sym (start_is w.segments x opened.0 k scanner_result.0 scanner_result.1)) opened.2
 
     pub scanner_looks : IsUnderWay col → (y : State) × Step w.segments x (Look (actor.Scanner i)) (Number k) y × PartsStand (with_parts_scanner w i (record { phase = old.phase; collector = col })) y
     scanner_looks under_way = (
-      with_scanner x i (Opened opened.0 (length x.history) (opened.2 ++ k ∷ [])),
-      (opened.0, opened.1, opened.2, scanner_state.1 ∙ ap (λ z. Some z) opened.3, j, scanner_here, scanner_looked.0, refl),
-      scanner_moves w x stands i _ _ l (scanner_goes_on w.segments x.history stands.since i opened.0 opened.4 (opened.2 ++ k ∷ []) col scanner_looked.1 old.phase scanning under_way),
+      with_scanner x i (Opened scanner_result.0),
+      (opened.0, scanner_state.1 ∙ ap (λ z. Some z) opened.1, scanner_result.0, scanner_result.1, refl),
+      scanner_moves w x stands i _ _ l (record {
+        size = scanner_result.2.size;
+        phase = subst (IsScannerAt w.segments x.history stands.since (record { phase = old.phase; collector = col }) (Opened scanner_result.0)) (sym scanning)
+            (scanner_result.0, refl, scanner_born, scanner_result.2, under_way);
+      }),
     )
 
     pub scanner_stays : IsUnderWay col → Moves w.segments x (phases_of_parts w) (Look (actor.Scanner i)) (Number k) (phases_of_parts (with_parts_scanner w i (record { phase = old.phase; collector = col })))
-    scanner_stays under_way b e told f = record {
-      ends = λ has. absurd (no_answer w.segments x.history opened.0 (length x.history) (opened.2 ++ k ∷ []) col scanner_looked.1 under_way.0 under_way.1
-          (subst (λ t. HasAnswer w.segments (t ++ k ∷ [])) (sym (scanner_told b e told f)) has));
+    scanner_stays under_way s f = record {
+      ends = λ has. absurd (open_still w.segments x scanner_result.0 col scanner_result.2 under_way (subst (IsDecided w.segments) (sym (scanner_told s f)) has));
       goes_on = λ none. scanner_kept w i (record { phase = old.phase; collector = col }) old read refl;
       either = inr (scanner_kept w i (record { phase = old.phase; collector = col }) old read refl);
     }
 
-    pub scanner_ends : ((m : ℕ) → next_of col.scan ≡ Next_look m → ⊥) → (y : State) × Step w.segments x (Look (actor.Scanner i)) (Number k) y × PartsStand (with_parts_scanner w i (record { phase = scanner.Ready; collector = col })) y
-    scanner_ends done = (
-      with_scanner x i (Opened opened.0 (length x.history) (opened.2 ++ k ∷ [])),
-      (opened.0, opened.1, opened.2, scanner_state.1 ∙ ap (λ z. Some z) opened.3, j, scanner_here, scanner_looked.0, refl),
-      scanner_moves w x stands i _ _ l (scanner_done w.segments x.history stands.since i opened.0 opened.4 (opened.2 ++ k ∷ []) col scanner_looked.1 done),
+    pub scanner_ends : (IsUnderWay col → ⊥) → Tells col → (y : State) × Step w.segments x (Look (actor.Scanner i)) (Number k) y × PartsStand (with_parts_scanner w i (record { phase = scanner.Ready; collector = col })) y
+    scanner_ends done tells = (
+      with_scanner x i (Opened scanner_result.0),
+      (opened.0, scanner_state.1 ∙ ap (λ z. Some z) opened.1, scanner_result.0, scanner_result.1, refl),
+      scanner_moves w x stands i _ _ l (record {
+        size = scanner_result.2.size;
+        phase = (scanner_result.0, refl, scanner_result.2.end, has_answer w.segments x.history scanner_result.0 col scanner_result.2 (over w.segments x scanner_result.0 col scanner_result.2 tells) done);
+      }),
     )
 
-    pub scanner_goes : ((m : ℕ) → next_of col.scan ≡ Next_look m → ⊥) → Moves w.segments x (phases_of_parts w) (Look (actor.Scanner i)) (Number k) (phases_of_parts (with_parts_scanner w i (record { phase = scanner.Ready; collector = col })))
-    scanner_goes done b e told f = record {
+    pub scanner_goes : Tells col → Moves w.segments x (phases_of_parts w) (Look (actor.Scanner i)) (Number k) (phases_of_parts (with_parts_scanner w i (record { phase = scanner.Ready; collector = col })))
+    scanner_goes tells s f = record {
       ends = λ has. scanner_moved w i (record { phase = scanner.Ready; collector = col });
       either = inl (scanner_moved w i (record { phase = scanner.Ready; collector = col }));
-      goes_on = λ none. absurd (none (subst (λ t. HasAnswer w.segments (t ++ k ∷ [])) (scanner_told b e told f)
-          (has_answer w.segments x.history opened.0 (length x.history) (opened.2 ++ k ∷ []) col scanner_looked.1 done)));
+      goes_on = λ none. absurd (none (subst (IsDecided w.segments) (scanner_told s f) (over w.segments x scanner_result.0 col scanner_result.2 tells)));
     }

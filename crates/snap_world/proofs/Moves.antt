@@ -1,18 +1,20 @@
 -- What stays of a world when one writer, one scanner or the history moves on.
-use Rattle.std.proofs.Common.{◌≡◌, ◌≢◌, ℕ, ◌+◌, ◌^◌, ◌<◌, ◌≤◌, inl, inr, List, [], ◌∷◌, ◌++◌, length, take, get_or, Some, slice_get, slice_set, refl, ap, sym, ◌∙◌, subst, arith}
+use Rattle.std.proofs.Common.{◌≡◌, ◌≢◌, ℕ, ◌+◌, ◌^◌, ◌<◌, ◌≤◌, inl, inr, List, [], ◌∷◌, ◌++◌, length, take, get_or, Option, Some, slice_get, slice_set, refl, ap, sym, ◌∙◌, subst, arith}
 use Rattle.std.specs.Vec.{with_item}
 use Rattle.std.proofs.lemmas.List.{length-set, length_push}
 use Rattle.std.proofs.lemmas.Option.{slice_get_read, same_Some}
 use Rattle.std.proofs.lemmas.Bool.{cases_eq}
-use Rattle.snap_history.specs.History.{Update, from_nothing, number_after, IsMemory}
+use Rattle.snap_history.specs.History.{Update, from_nothing, number_after, value_after, IsMemory}
 use Rattle.snap_history.proofs.Moments.{number-push, number-push_other, value-push, value-push_other, take-push, number-le}
 use Rattle.snap_scan.specs.Stands.{StandsFor, segments_of, next_of}
 use Rattle.snap_scan.specs.declared.next.Next.{Next}
 use Rattle.snap_scan.specs.declared.next.Next.TheVariants.{Look, Clean, Borrow}
-use Rattle.snap_world.specs.Answers.{IsAnswer, number_at}
-use Rattle.snap_world.specs.Gathers.{Gathers, Gathered, IsUnderWay, RegisterStands, RegistersStand}
-use Rattle.snap_world.specs.Machine.{State, WriterState, ScannerState, Opened, with_writer, with_scanner}
-use Rattle.snap_world.specs.Stands.{HasBegun, WriterStands, ScannerStands, PartsStand, IsAtPhase, IsScannerAt, is_fenced}
+use Rattle.snap_collect.specs.Collects.{IsDecided}
+use Rattle.snap_collect.proofs.Collecting.{Collects-none, Collects-same, IsMoment-same}
+use Rattle.snap_world.specs.Answers.{ScanState, scan_from, IsAnswer, number_at, value_at}
+use Rattle.snap_world.specs.Gathers.{Gathers, Gathered, IsUnderWay, RegisterStands, IsView, ViewStands, RegistersStand}
+use Rattle.snap_world.specs.Machine.{State, WriterState, ScannerState, with_writer, with_scanner, with_update}
+use Rattle.snap_world.specs.Stands.{HasBegun, HasAnswer, WriterStands, ScannerStands, PartsStand, IsAtPhase, IsScannerAt}
 use Rattle.snap_world.specs.declared.register.Register.{Register}
 use Rattle.snap_world.specs.declared.collector.Collector.{Collector}
 use Rattle.snap_world.specs.declared.parts.Parts.{Parts}
@@ -23,19 +25,18 @@ use Rattle.snap_world.specs.declared.writer.WriterPhase.TheVariants as writer
 use Rattle.snap_world.specs.declared.scanner.ScannerPhase.{ScannerPhase}
 use Rattle.snap_world.specs.declared.scanner.ScannerPhase.TheVariants as scanner
 use Rattle.snap_history.proofs.Lists.{get-set_same, get-set_other}
-use Rattle.snap_history.proofs.Pairing.{partner, Pairs-set, Pairs-left, Pairs-map}
-use Rattle.snap_world.proofs.Collecting.{Collects-none, Collects-grow, IsAnswer-grow, number_now}
-use Rattle.snap_world.proofs.Looking.{register_at}
+use Rattle.snap_history.proofs.Pairing.{partner, Pairs-set, Pairs-left, Pairs-right, Pairs-map}
+use Rattle.snap_world.proofs.Looking.{register_at, number_now}
 
 -- a scan that was told nothing
-pub Gathers-none : (n : ℕ) (h : List Update) (c : Collector) → StandsFor c.scan [] → segments_of c.scan ≡ n → (next_of c.scan) ≡ Look 0 → length c.memory.items ≡ n → Gathers n h (length h) (length h) [] c
+pub Gathers-none : (n : ℕ) (h : List Update) (c : Collector) → StandsFor c.scan [] → segments_of c.scan ≡ n → (next_of c.scan) ≡ Look 0 → length c.memory.items ≡ n → Gathers n h (scan_from (length h)) c
 Gathers-none n h c stands segments next size = record {
   stands = stands;
   segments = segments;
   size = size;
   start = omega arith;
   end = omega arith;
-  gathered = subst (Gathered n h (length h) (length h) [] c.memory.items) (sym next) (Collects-none n h (length h) (length h) c.memory.items);
+  gathered = subst (Gathered n h (scan_from (length h)) c.memory.items) (sym next) (Collects-none (List ℕ) n (number_at h) (value_at h) (length h) (length h) c.memory.items, refl);
 }
 
 module _ (w : Parts) (x : State) (stands : PartsStand w x) where
@@ -43,22 +44,38 @@ module _ (w : Parts) (x : State) (stands : PartsStand w x) where
   pub the_writer : (i : ℕ) (a : Writer) → i < w.segments → a ≡ get_or w.writers.items i a → (s : WriterState) × (slice_get x.writers i ≡ Some s) × WriterStands w.segments x.history stands.since i a s
   the_writer i a l e = partner (WriterStands w.segments x.history stands.since) w.writers.items x.writers i a stands.writers (slice_get_read w.writers.items w.segments i a (sym stands.writers_n) l e)
 
-  pub the_register : (i : ℕ) (r : Register) → i < w.segments → r ≡ get_or w.registers.items i r → RegisterStands w.segments x.history stands.since i r
-  the_register i r l e = register_at w.segments x.history stands.since w.registers.items i r stands.registers l e
+  pub the_register : (i : ℕ) (r : Register) → i < w.segments → r ≡ get_or w.registers.items i r → RegisterStands w.segments x.history i r
+  the_register i r l e = register_at w.segments x stands.since w.registers.items i r stands.registers l e
 
   pub the_scanner : (i : ℕ) (a : Scanner) → i < length w.scanners.items → a ≡ get_or w.scanners.items i a → (s : ScannerState) × (slice_get x.scanners i ≡ Some s) × ScannerStands w.segments x.history stands.since i a s
   the_scanner i a l e = partner (ScannerStands w.segments x.history stands.since) w.scanners.items x.scanners i a stands.scanners (slice_get_read w.scanners.items (length w.scanners.items) i a refl l e)
 
-  pub writer_moves : (i : ℕ) (a : Writer) (s : WriterState) → i < w.segments → WriterStands w.segments x.history stands.since i a s
+  -- the register of segment i, with the moment of its view
+  pub the_view : (i : ℕ) (r : Register) → i < w.segments → r ≡ get_or w.registers.items i r → (s : WriterState) → slice_get x.writers i ≡ Some s → ViewStands w.segments x.history stands.since i r s.view
+  the_view i r l e s there = stands.registers.views.each i r s (slice_get_read w.registers.items w.segments i r (sym stands.registers.size) l e) there
+
+  -- the registers after a writer whose view stayed
+  registers_stay : (i : ℕ) (old s : WriterState) → i < w.segments → slice_get x.writers i ≡ Some old → s.view ≡ old.view → RegistersStand w.segments (with_writer x i s) stands.since w.registers.items
+  registers_stay i old s l there same =
+      let size : length w.writers.items ≡ w.segments = stands.writers_n in
+      let long : length w.writers.items ≡ length x.writers = stands.writers.size in
+      record {
+        size = stands.registers.size;
+        each = stands.registers.each;
+        views = Pairs-right (λ j r (z : WriterState). ViewStands w.segments x.history stands.since j r z.view) w.registers.items x.writers i s (omega arith)
+            (λ r er. subst (ViewStands w.segments x.history stands.since i r) (sym same) (stands.registers.views.each i r old er there)) stands.registers.views;
+      }
+
+  pub writer_moves : (i : ℕ) (a : Writer) (old s : WriterState) → i < w.segments → slice_get x.writers i ≡ Some old → s.view ≡ old.view → WriterStands w.segments x.history stands.since i a s
       → PartsStand (record { segments = w.segments; registers = w.registers; writers = with_item w.writers i a; scanners = w.scanners }) (with_writer x i s)
-  writer_moves i a s l here =
+  writer_moves i a old s l there same here =
       let size : length w.writers.items ≡ w.segments = stands.writers_n in
       record {
         least = stands.least;
         most = stands.most;
         since = stands.since;
         within = stands.within;
-        registers = stands.registers;
+        registers = registers_stay i old s l there same;
         writers_n = length-set w.writers.items i a ∙ size;
         writers = Pairs-set (WriterStands w.segments x.history stands.since) (WriterStands w.segments x.history stands.since) w.writers.items x.writers i a s (omega arith) (λ j c d ne r. r) here stands.writers;
         scanners = stands.scanners;
@@ -87,7 +104,7 @@ module _ (w : Parts) (x : State) (stands : PartsStand w x) where
     most = stands.most;
     since = stands.since;
     within = stands.within;
-    registers = stands.registers;
+    registers = record { size = stands.registers.size; each = stands.registers.each; views = stands.registers.views };
     writers_n = stands.writers_n;
     writers = stands.writers;
     scanners = Pairs-set (ScannerStands w.segments x.history stands.since) (ScannerStands w.segments x.history stands.since) w.scanners.items x.scanners i a s l (λ j c d ne r. r) here stands.scanners;
@@ -95,52 +112,71 @@ module _ (w : Parts) (x : State) (stands : PartsStand w x) where
 
 -- the history grows by one update of segment u.segment
 
-Gathered-grow : (n : ℕ) (h : List Update) (b e : ℕ) (L : List ℕ) (memory : List (List ℕ)) (u : Update) (v : Next) → b ≤ e → e ≤ length h → Gathered n h b e L memory v → Gathered n (h ++ u ∷ []) b e L memory v
-Gathered-grow n h b e L memory u (Look j) start end g = Collects-grow n h b e L memory start end g u
-Gathered-grow n h b e L memory u Clean start end g = IsAnswer-grow n h b e L memory u end g
-Gathered-grow n h b e L memory u (Borrow j) start end g = IsAnswer-grow n h b e L memory u end g
+numbers_stay : (h : List Update) (u : Update) (e : ℕ) → e ≤ length h → (t i : ℕ) → t ≤ e → number_at (h ++ u ∷ []) t i ≡ number_at h t i
+numbers_stay h u e end t i l = ap (λ g. number_after from_nothing g i) (take-push h u t (omega arith))
 
-pub Gathers-grow : (n : ℕ) (h : List Update) (b e : ℕ) (L : List ℕ) (c : Collector) (u : Update) → Gathers n h b e L c → Gathers n (h ++ u ∷ []) b e L c
-Gathers-grow n h b e L c u g = record {
+values_stay : (h : List Update) (u : Update) (e : ℕ) → e ≤ length h → (t i : ℕ) → t ≤ e → value_at (h ++ u ∷ []) t i ≡ value_at h t i
+values_stay h u e end t i l = ap (λ g. value_after from_nothing g i) (take-push h u t (omega arith))
+
+IsAnswer-grow : (n : ℕ) (h : List Update) (s : ScanState) (memory : List (List ℕ)) (u : Update) → s.last ≤ length h → IsAnswer n h s memory → IsAnswer n (h ++ u ∷ []) s memory
+IsAnswer-grow n h s memory u end a =
+    let until : a.p ≤ s.last = a.is_moment.until in
+    record {
+      p = a.p;
+      moment = a.moment;
+      is_moment = IsMoment-same n (number_at h) (number_at (h ++ u ∷ [])) s.start s.last s.told a.p (numbers_stay h u s.last end) a.is_moment;
+      is_memory = subst (λ g. IsMemory n from_nothing g memory) (sym (take-push h u a.p (omega arith))) a.is_memory;
+    }
+
+HasAnswer-grow : (n : ℕ) (h : List Update) (s : ScanState) (c : Collector) (u : Update) → s.last ≤ length h → HasAnswer n h s c → HasAnswer n (h ++ u ∷ []) s c
+HasAnswer-grow n h s c u end a = record { decided = a.decided; answer = IsAnswer-grow n h s c.memory.items u end a.answer }
+
+Gathered-grow : (n : ℕ) (h : List Update) (s : ScanState) (memory : List (List ℕ)) (u : Update) (v : Next) → s.last ≤ length h → Gathered n h s memory v → Gathered n (h ++ u ∷ []) s memory v
+Gathered-grow n h s memory u (Look j) end g =
+    (Collects-same (List ℕ) n (number_at h) (value_at h) s.start s.last s.told memory g.0 (number_at (h ++ u ∷ [])) (value_at (h ++ u ∷ [])) (numbers_stay h u s.last end) (values_stay h u s.last end), g.1)
+Gathered-grow n h s memory u Clean end g = IsAnswer-grow n h s memory u end g
+Gathered-grow n h s memory u (Borrow j) end g = IsAnswer-grow n h s memory u end g
+
+later : (h : List Update) (u : Update) (e : ℕ) → e ≤ length h → e ≤ length (h ++ u ∷ [])
+later h u e l = let y : length (h ++ u ∷ []) ≡ length h + 1 = length_push h u in omega arith
+
+pub Gathers-grow : (n : ℕ) (h : List Update) (s : ScanState) (c : Collector) (u : Update) → Gathers n h s c → Gathers n (h ++ u ∷ []) s c
+Gathers-grow n h s c u g = record {
   stands = g.stands;
   segments = g.segments;
   size = g.size;
   start = g.start;
-  end = (let x : e ≤ length h = g.end in let y : length (h ++ u ∷ []) ≡ length h + 1 = length_push h u in omega arith);
-  gathered = Gathered-grow n h b e L c.memory.items u (next_of c.scan) g.start g.end g.gathered;
+  end = later h u s.last g.end;
+  gathered = Gathered-grow n h s c.memory.items u (next_of c.scan) g.end g.gathered;
 }
 
 pub HasBegun-grow : (n : ℕ) (h : List Update) (since i : ℕ) (w : Writer) (s : WriterState) (u : Update) → u.segment ≢ i → HasBegun n h since i w s → HasBegun n (h ++ u ∷ []) since i w s
 HasBegun-grow n h since i w s u ne g =
     let same : number_after from_nothing (h ++ u ∷ []) i ≡ number_after from_nothing h i = number-push_other from_nothing h u i ne in
-    let start : g.b ≤ g.e = g.gathers.start in
-    let end : g.e ≤ length h = g.gathers.end in
-    let kept : take g.b (h ++ u ∷ []) ≡ take g.b h = take-push h u g.b (omega arith) in
+    let start : s.scan.start ≤ s.scan.last = g.gathers.start in
+    let end : s.scan.last ≤ length h = g.gathers.end in
     let room : number_after from_nothing h i + 1 < 2 ^ 63 = g.room in
     record {
-      b = g.b;
       born = g.born;
-      e = g.e;
       pending = g.pending;
       fits = g.fits;
       room = subst (λ x. x + 1 < 2 ^ 63) (sym same) room;
-      own = ap (λ x. number_after from_nothing x i) kept ∙ g.own ∙ sym same;
-      gathers = Gathers-grow n h g.b g.e s.told w.collector u g.gathers;
+      own = numbers_stay h u s.scan.last end s.scan.start i start ∙ g.own ∙ sym same;
+      gathers = Gathers-grow n h s.scan w.collector u g.gathers;
     }
 
 phase-grow : (n : ℕ) (h : List Update) (since i : ℕ) (w : Writer) (s : WriterState) (u : Update) (p : WriterPhase) → u.segment ≢ i → IsAtPhase n h since i w s p → IsAtPhase n (h ++ u ∷ []) since i w s p
-unfolding HasBegun-grow
 phase-grow n h since i w s u writer.Idle ne g = g
 phase-grow n h since i w s u writer.Scanning ne g = (HasBegun-grow n h since i w s u ne g.0, g.1)
-phase-grow n h since i w s u writer.Storing ne g = (HasBegun-grow n h since i w s u ne g.0, IsAnswer-grow n h g.0.b g.0.e s.told w.collector.memory.items u g.0.gathers.end g.1)
-phase-grow n h since i w s u writer.Stored ne g = (HasBegun-grow n h since i w s u ne g.0, IsAnswer-grow n h g.0.b g.0.e s.told w.collector.memory.items u g.0.gathers.end g.1)
+phase-grow n h since i w s u writer.Storing ne g = (HasBegun-grow n h since i w s u ne g.0, HasAnswer-grow n h s.scan w.collector u g.0.gathers.end g.1)
+phase-grow n h since i w s u writer.Stored ne g = (HasBegun-grow n h since i w s u ne g.0, HasAnswer-grow n h s.scan w.collector u g.0.gathers.end g.1)
 phase-grow n h since i w s u writer.Shown ne g = g
 phase-grow n h since i w s u writer.Fenced ne g = g
 
 scanner_phase-grow : (n : ℕ) (h : List Update) (since : ℕ) (c : Scanner) (s : ScannerState) (u : Update) (p : ScannerPhase) → IsScannerAt n h since c s p → IsScannerAt n (h ++ u ∷ []) since c s p
 scanner_phase-grow n h since c s u scanner.Idle g = g
-scanner_phase-grow n h since c s u scanner.Scanning g = (g.0, g.1, g.2, g.3, g.4, Gathers-grow n h g.0 g.1 g.2 c.collector u g.5, g.6)
-scanner_phase-grow n h since c s u scanner.Ready g = (g.0, g.1, g.2, g.3, (let x : g.1 ≤ length h = g.4 in let y : length (h ++ u ∷ []) ≡ length h + 1 = length_push h u in omega arith), IsAnswer-grow n h g.0 g.1 g.2 c.collector.memory.items u g.4 g.5)
+scanner_phase-grow n h since c s u scanner.Scanning g = (g.0, g.1, g.2, Gathers-grow n h g.0 c.collector u g.3, g.4)
+scanner_phase-grow n h since c s u scanner.Ready g = (g.0, g.1, later h u g.0.last g.2, HasAnswer-grow n h g.0 c.collector u g.2 g.3)
 
 pub WriterStands-grow : (n : ℕ) (h : List Update) (since i : ℕ) (w : Writer) (s : WriterState) (u : Update) → u.segment ≢ i → WriterStands n h since i w s → WriterStands n (h ++ u ∷ []) since i w s
 WriterStands-grow n h since i w s u ne g = record { size = g.size; fenced = g.fenced; phase = phase-grow n h since i w s u w.phase ne g.phase }
@@ -148,63 +184,79 @@ WriterStands-grow n h since i w s u ne g = record { size = g.size; fenced = g.fe
 pub ScannerStands-grow : (n : ℕ) (h : List Update) (since i : ℕ) (c : Scanner) (s : ScannerState) (u : Update) → ScannerStands n h since i c s → ScannerStands n (h ++ u ∷ []) since i c s
 ScannerStands-grow n h since i c s u g = record { size = g.size; phase = scanner_phase-grow n h since c s u c.phase g.phase }
 
-pub RegisterStands-grow : (n : ℕ) (h : List Update) (since i : ℕ) (r : Register) (u : Update) → since ≤ length h → u.segment ≢ i → RegisterStands n h since i r → RegisterStands n (h ++ u ∷ []) since i r
-RegisterStands-grow n h since i r u old ne g = record {
+RegisterStands-grow : (n : ℕ) (h : List Update) (i : ℕ) (r : Register) (u : Update) → u.segment ≢ i → RegisterStands n h i r → RegisterStands n (h ++ u ∷ []) i r
+RegisterStands-grow n h i r u ne g = record {
   number = g.number ∙ sym (number-push_other from_nothing h u i ne);
   value = g.value ∙ sym (value-push_other from_nothing h u i ne);
   size = g.size;
-  view = λ pos. (
-      let base : number_at (h ++ u ∷ []) since i ≡ number_at h since i = ap (λ g2. number_after from_nothing g2 i) (take-push h u since old) in
-      let v = g.view (omega arith) in
-      let x : v.0 ≤ length h = v.1 in
-      let y : length (h ++ u ∷ []) ≡ length h + 1 = length_push h u in
-      let kept : take v.0 h ≡ take v.0 (h ++ u ∷ []) = sym (take-push h u v.0 v.1) in
-      (v.0, omega arith, ap (λ g2. number_after from_nothing g2 i + 1) (sym kept) ∙ v.2, subst (λ g2. IsMemory n from_nothing g2 r.view.items) kept v.3));
 }
 
--- a writer shows its update: its register has the next number, its value and the view
-pub shown_register : (n : ℕ) (h : List Update) (since i : ℕ) (v : List ℕ) (r : Register) (p : ℕ) → p ≤ length h → number_at h p i ≡ number_after from_nothing h i
-    → r.number ≡ number_after from_nothing h i + 1 → r.value ≡ v → length r.view.items ≡ n → IsMemory n from_nothing (take p h) r.view.items
-    → RegisterStands n (h ++ record { segment = i; value = v } ∷ []) since i r
-shown_register n h since i v r p pl own number value size memory =
+IsView-grow : (n : ℕ) (h : List Update) (i : ℕ) (r : Register) (p : ℕ) (u : Update) → IsView n h i r p → IsView n (h ++ u ∷ []) i r p
+IsView-grow n h i r p u v = record {
+  until = later h u p v.until;
+  before = ap (λ k. k + 1) (numbers_stay h u p v.until p i (omega arith)) ∙ v.before;
+  is_memory = subst (λ g. IsMemory n from_nothing g r.view.items) (sym (take-push h u p v.until)) v.is_memory;
+}
+
+ViewStands-grow : (n : ℕ) (h : List Update) (since i : ℕ) (r : Register) (view : Option ℕ) (u : Update) → since ≤ length h → ViewStands n h since i r view → ViewStands n (h ++ u ∷ []) since i r view
+ViewStands-grow n h since i r view u old g = record {
+  kept = λ above. (let base : number_at (h ++ u ∷ []) since i ≡ number_at h since i = numbers_stay h u since old since i (omega arith) in g.kept (omega arith));
+  is_view = λ p e. IsView-grow n h i r p u (g.is_view p e);
+}
+
+-- a writer shows its update: its register has the next number, its value, and the view of its scan's moment
+pub shown_register : (n : ℕ) (h : List Update) (i : ℕ) (v : List ℕ) (r : Register) → r.number ≡ number_after from_nothing h i + 1 → r.value ≡ v → length r.view.items ≡ n
+    → RegisterStands n (h ++ record { segment = i; value = v } ∷ []) i r
+shown_register n h i v r number value size =
     let u : Update = record { segment = i; value = v } in
-    let kept : take p h ≡ take p (h ++ u ∷ []) = sym (take-push h u p pl) in
-    let y : length (h ++ u ∷ []) ≡ length h + 1 = length_push h u in
     record {
       number = number ∙ sym (number-push from_nothing h u);
       value = value ∙ sym (value-push from_nothing h u);
       size = size;
-      view = λ pos. (p, omega arith, ap (λ g. number_after from_nothing g i + 1) (sym kept) ∙ ap (λ x. x + 1) own ∙ sym number, subst (λ g. IsMemory n from_nothing g r.view.items) kept memory);
     }
 
-pub registers_show : (n : ℕ) (h : List Update) (since : ℕ) (rs : List Register) (i : ℕ) (v : List ℕ) (r : Register) → i < n → since ≤ length h → RegistersStand n h since rs
-    → RegisterStands n (h ++ record { segment = i; value = v } ∷ []) since i r → RegistersStand n (h ++ record { segment = i; value = v } ∷ []) since (slice_set rs i r)
-registers_show n h since rs i v r l old stand here =
-    let size : length rs ≡ n = stand.size in
-    record {
-      size = length-set rs i r ∙ size;
-      each = λ j c ec. elim (cases_eq j i) [
-        | inl e ↦ (
-            let ec2 : slice_get (slice_set rs i r) i ≡ Some c = subst (λ k. slice_get (slice_set rs i r) k ≡ Some c) e ec in
-            let rc : r ≡ c = same_Some _ _ (sym (get-set_same rs i r (omega arith)) ∙ ec2) in
-            subst (λ k. RegisterStands n (h ++ record { segment = i; value = v } ∷ []) since k c) (sym e) (subst (RegisterStands n (h ++ record { segment = i; value = v } ∷ []) since i) rc here))
-        | inr ne ↦ RegisterStands-grow n h since j c (record { segment = i; value = v }) old (λ f. ne (sym f)) (stand.each j c (sym (get-set_other rs i j r ne) ∙ ec))
-      ];
-    }
+pub shown_view : (n : ℕ) (h : List Update) (since i : ℕ) (u : Update) (r : Register) (s : WriterState) (p : ℕ) → s.view ≡ Some p → p ≤ length h → number_at h p i + 1 ≡ r.number → IsMemory n from_nothing (take p h) r.view.items
+    → ViewStands n (h ++ u ∷ []) since i r s.view
+shown_view n h since i u r s p is pl before memory = record {
+  kept = λ above. (p, is);
+  is_view = λ q e. (
+      let same : p ≡ q = same_Some p q (sym is ∙ e) in
+      let here : IsView n h i r p = record { until = pl; before = before; is_memory = memory } in
+      subst (IsView n (h ++ u ∷ []) i r) same (IsView-grow n h i r p u here));
+}
+
+each_show : (n : ℕ) (h : List Update) (rs : List Register) (i : ℕ) (v : List ℕ) (r : Register) → i < length rs → ((j : ℕ) (c : Register) → slice_get rs j ≡ Some c → RegisterStands n h j c)
+    → RegisterStands n (h ++ record { segment = i; value = v } ∷ []) i r → (j : ℕ) (c : Register) → slice_get (slice_set rs i r) j ≡ Some c → RegisterStands n (h ++ record { segment = i; value = v } ∷ []) j c
+each_show n h rs i v r l stand here j c ec =
+    let u : Update = record { segment = i; value = v } in
+    elim (cases_eq j i) [
+      | inl e ↦ (
+          let ec2 : slice_get (slice_set rs i r) i ≡ Some c = subst (λ k. slice_get (slice_set rs i r) k ≡ Some c) e ec in
+          let rc : r ≡ c = same_Some _ _ (sym (get-set_same rs i r l) ∙ ec2) in
+          subst (λ k. RegisterStands n (h ++ u ∷ []) k c) (sym e) (subst (RegisterStands n (h ++ u ∷ []) i) rc here))
+      | inr ne ↦ RegisterStands-grow n h j c u (λ f. ne (sym f)) (stand j c (sym (get-set_other rs i j r ne) ∙ ec))
+    ]
 
 pub world_shows : (w : Parts) (x : State) (stands : PartsStand w x) (i : ℕ) (v : List ℕ) (r : Register) (a : Writer) (s : WriterState) → i < w.segments
-    → RegisterStands w.segments (x.history ++ record { segment = i; value = v } ∷ []) stands.since i r → WriterStands w.segments (x.history ++ record { segment = i; value = v } ∷ []) stands.since i a s
-    → PartsStand (record { segments = w.segments; registers = with_item w.registers i r; writers = with_item w.writers i a; scanners = w.scanners })
-    (record { history = x.history ++ record { segment = i; value = v } ∷ []; writers = slice_set x.writers i s; scanners = x.scanners })
-world_shows w x stands i v r a s l here_r here_a =
+    → RegisterStands w.segments (x.history ++ record { segment = i; value = v } ∷ []) i r → ViewStands w.segments (x.history ++ record { segment = i; value = v } ∷ []) stands.since i r s.view
+    → WriterStands w.segments (x.history ++ record { segment = i; value = v } ∷ []) stands.since i a s
+    → PartsStand (record { segments = w.segments; registers = with_item w.registers i r; writers = with_item w.writers i a; scanners = w.scanners }) (with_update x i v s)
+world_shows w x stands i v r a s l here_r here_v here_a =
     let size : length w.writers.items ≡ w.segments = stands.writers_n in
+    let many : length w.registers.items ≡ w.segments = stands.registers.size in
     let u : Update = record { segment = i; value = v } in
+    let View : List Update → ℕ → Register → WriterState → Type 0 = λ h j c d. ViewStands w.segments h stands.since j c d.view in
     record {
       least = stands.least;
       most = stands.most;
       since = stands.since;
-      within = (let o : stands.since ≤ length x.history = stands.within in let y : length (x.history ++ u ∷ []) ≡ length x.history + 1 = length_push x.history u in omega arith);
-      registers = registers_show w.segments x.history stands.since w.registers.items i v r l stands.within stands.registers here_r;
+      within = later x.history u stands.since stands.within;
+      registers = record {
+        size = length-set w.registers.items i r ∙ many;
+        each = each_show w.segments x.history w.registers.items i v r (omega arith) stands.registers.each here_r;
+        views = Pairs-set (View x.history) (View (x.history ++ u ∷ [])) w.registers.items x.writers i r s (omega arith)
+            (λ j c d ne g. ViewStands-grow w.segments x.history stands.since j c d.view u stands.within g) here_v stands.registers.views;
+      };
       writers_n = length-set w.writers.items i a ∙ size;
       writers = Pairs-set (WriterStands w.segments x.history stands.since) (WriterStands w.segments (x.history ++ u ∷ []) stands.since) w.writers.items x.writers i a s (omega arith)
           (λ j c d ne g. WriterStands-grow w.segments x.history stands.since j c d u (λ f. ne (sym f)) g) here_a stands.writers;
@@ -213,54 +265,22 @@ world_shows w x stands i v r a s l here_r here_a =
     }
 
 -- a scan whose machine has no look to make has its answer
-pub answered : (n : ℕ) (h : List Update) (b e : ℕ) (L : List ℕ) (memory : List (List ℕ)) (v : Next) → ((j : ℕ) → v ≡ Look j → ⊥) → Gathered n h b e L memory v → IsAnswer n h b e L memory
-answered n h b e L memory (Look j) done g = absurd (done j refl)
-answered n h b e L memory Clean done g = g
-answered n h b e L memory (Borrow j) done g = g
+answered : (n : ℕ) (h : List Update) (s : ScanState) (memory : List (List ℕ)) (v : Next) → ((j : ℕ) → v ≡ Look j → ⊥) → Gathered n h s memory v → IsAnswer n h s memory
+answered n h s memory (Look j) done g = absurd (done j refl)
+answered n h s memory Clean done g = g
+answered n h s memory (Borrow j) done g = g
 
-module _ (n : ℕ) (h : List Update) (since i : ℕ) (a : Writer) (s : WriterState) (stands : WriterStands n h since i a s) (scanning : a.phase ≡ writer.Scanning) (begun : HasBegun n h since i a s)
-    (k : ℕ) (col : Collector) (g : Gathers n h begun.b (length h) (s.told ++ k ∷ []) col) where
-  pub writer_goes_on : (p : WriterPhase) → p ≡ writer.Scanning → IsUnderWay col
-      → WriterStands n h since i (record { phase = p; value = a.value; collector = col }) (record { pending = s.pending; fenced = s.fenced; told = s.told ++ k ∷ [] })
-  writer_goes_on p e under_way = record {
-    size = g.size;
-    fenced = stands.fenced ∙ ap is_fenced (scanning ∙ sym e);
-    phase = subst (IsAtPhase n h since i (record { phase = p; value = a.value; collector = col }) (record { pending = s.pending; fenced = s.fenced; told = s.told ++ k ∷ [] })) (sym e)
-        (record { b = begun.b; e = length h; born = begun.born; pending = begun.pending; fits = begun.fits; room = begun.room; own = begun.own; gathers = g }, under_way);
-  }
-
-  pub writer_done : ((j : ℕ) → (next_of col.scan) ≡ Look j → ⊥)
-      → WriterStands n h since i (record { phase = writer.Storing; value = a.value; collector = col }) (record { pending = s.pending; fenced = s.fenced; told = s.told ++ k ∷ [] })
-  writer_done done = record {
-    size = g.size;
-    fenced = stands.fenced ∙ ap is_fenced scanning;
-    phase = (
-      record { b = begun.b; e = length h; born = begun.born; pending = begun.pending; fits = begun.fits; room = begun.room; own = begun.own; gathers = g },
-      answered n h begun.b (length h) (s.told ++ k ∷ []) col.memory.items (next_of col.scan) done g.gathered,
-    );
-  }
-
-module _ (n : ℕ) (h : List Update) (since i b : ℕ) (born : since ≤ b) (L : List ℕ) (col : Collector) (g : Gathers n h b (length h) L col) where
-  pub scanner_goes_on : (p : ScannerPhase) → p ≡ scanner.Scanning → IsUnderWay col → ScannerStands n h since i (record { phase = p; collector = col }) (Opened b (length h) L)
-  scanner_goes_on p e under_way = record {
-    size = g.size;
-    phase = subst (IsScannerAt n h since (record { phase = p; collector = col }) (Opened b (length h) L)) (sym e) (b, length h, L, refl, born, g, under_way);
-  }
-
-  pub scanner_done : ((j : ℕ) → (next_of col.scan) ≡ Look j → ⊥) → ScannerStands n h since i (record { phase = scanner.Ready; collector = col }) (Opened b (length h) L)
-  scanner_done done = record {
-    size = g.size;
-    phase = (b, length h, L, refl, omega arith, answered n h b (length h) L col.memory.items (next_of col.scan) done g.gathered);
-  }
+pub has_answer : (n : ℕ) (h : List Update) (s : ScanState) (c : Collector) → Gathers n h s c → IsDecided n s.told → (IsUnderWay c → ⊥) → HasAnswer n h s c
+has_answer n h s c g decided done = record { decided = decided; answer = answered n h s c.memory.items (next_of c.scan) (λ j e. done (j, e)) g.gathered }
 
 -- the moment of the answer comes after the writer's update before, and no update of its own came since
-pub own_moment : (n : ℕ) (h : List Update) (since i : ℕ) (a : Writer) (s : WriterState) (begun : HasBegun n h since i a s) (p : ℕ) → begun.b ≤ p → p ≤ begun.e → number_at h p i ≡ number_after from_nothing h i
+pub own_moment : (n : ℕ) (h : List Update) (since i : ℕ) (a : Writer) (s : WriterState) (begun : HasBegun n h since i a s) (p : ℕ) → s.scan.start ≤ p → p ≤ s.scan.last → number_at h p i ≡ number_after from_nothing h i
 own_moment n h since i a s begun p lo hi =
-    let x : number_at h begun.b i ≤ number_at h p i = number-le from_nothing h i begun.b p lo in
-    let end : begun.e ≤ length h = begun.gathers.end in
+    let x : number_at h s.scan.start i ≤ number_at h p i = number-le from_nothing h i s.scan.start p lo in
+    let end : s.scan.last ≤ length h = begun.gathers.end in
     let y : number_at h p i ≤ number_at h (length h) i = number-le from_nothing h i p (length h) (omega arith) in
     let z : number_at h (length h) i ≡ number_after from_nothing h i = number_now h i in
-    let v : number_at h begun.b i ≡ number_after from_nothing h i = begun.own in
+    let v : number_at h s.scan.start i ≡ number_after from_nothing h i = begun.own in
     omega arith
 
 -- two reads of one place of a list

@@ -1,5 +1,5 @@
 -- The end of a restart, as a step of the node.
-use Rattle.std.proofs.Common.{◌≡◌, ℕ, ◌+◌, ◌*◌, ◌%◌, ◌<◌, ◌≤◌, ◌⊎◌, inl, inr, Bool, false, List, [], length, map, replicate, Some, slice_get, refl, ap, sym, ◌∙◌, subst, arith}
+use Rattle.std.proofs.Common.{◌≡◌, ℕ, ◌+◌, ◌*◌, ◌%◌, ◌<◌, ◌≤◌, ◌⊎◌, inl, inr, Bool, List, length, map, replicate, Some, None, slice_get, refl, ap, sym, ◌∙◌, subst, arith}
 use Rattle.std.specs.Prelude.{option_map}
 use Rattle.std.proofs.lemmas.List.{length-map}
 use Rattle.std.proofs.lemmas.Option.{slice_get-map, slice_get_within, same_Some}
@@ -17,8 +17,8 @@ use Rattle.snap_world.specs.Answers.{number_at}
 use Rattle.snap_world.specs.Calls.{kinds_of, store_kinds}
 use Rattle.snap_world.specs.Devices.{IsServed, AreServed}
 use Rattle.snap_world.specs.Disks.{IsReady, DiskStands, DisksStand, HoldsEither, device_of}
-use Rattle.snap_world.specs.Gathers.{RegisterStands}
-use Rattle.snap_world.specs.Machine.{State, WriterState, ScannerState, Free, Begun, Closed, history_with, served}
+use Rattle.snap_world.specs.Gathers.{RegisterStands, ViewStands}
+use Rattle.snap_world.specs.Machine.{State, WriterState, ScannerState, Begun, Closed, resting, history_with, served}
 use Rattle.snap_world.specs.NodePhases.{all_idle}
 use Rattle.snap_world.specs.NodeStands.{NodeStands, WriterRests, ScannerRests, IsRestarting, IsNodeAt}
 use Rattle.snap_world.specs.NodeSteps.{kinds_left}
@@ -38,7 +38,7 @@ use Rattle.snap_world.specs.declared.writer.WriterPhase.TheVariants as writer
 use Rattle.snap_world.specs.declared.scanner.Scanner.{Scanner}
 use Rattle.snap_world.specs.declared.scanner.ScannerPhase.{ScannerPhase}
 use Rattle.snap_world.specs.declared.scanner.ScannerPhase.TheVariants as scanner
-use Rattle.snap_world.proofs.Collecting.{number_now}
+use Rattle.snap_world.proofs.Looking.{number_now}
 use Rattle.snap_world.proofs.Served.{Given, marks-exist, served-none, served-some}
 use Rattle.snap_world.proofs.Starting.{all_same}
 use Rattle.snap_world.proofs.Sweeping.{map_element, map_same}
@@ -168,7 +168,7 @@ module _ (w : Node) (x : State) (stands : NodeStands w x) (calls : ℕ) (restart
         let d = element ds i (omega arith) in
         (d.0, d.1, resumed.each i d.0 e d.1 ee)
 
-    register_stands : (i : ℕ) (r : Register) → slice_get parts.registers.items i ≡ Some r → RegisterStands n h (length h) i r
+    register_stands : (i : ℕ) (r : Register) → slice_get parts.registers.items i ≡ Some r → RegisterStands n h i r
     register_stands i r er =
         let l : i < length parts.registers.items = slice_get_within parts.registers.items i r er in
         let s : length parts.registers.items ≡ length w.parts.registers.items = sym recovered.size in
@@ -182,14 +182,19 @@ module _ (w : Node) (x : State) (stands : NodeStands w x) (calls : ℕ) (restart
           number = is.number ∙ after.0;
           value = is.value ∙ after.1;
           size = ap (λ v. length v.items) is.view ∙ at.down.parts_rest.views_n i o.0 o.1;
-          view = λ above. (
-              let now : number_at h (length h) i ≡ number_after from_nothing h i = number_now h i in
-              let number : r.number ≡ number_after from_nothing h i = is.number ∙ after.0 in
-              absurd (omega arith));
         }
 
     abbrev free : WriterState
-    free = record { pending = Free; fenced = false; told = [] }
+    free = resting
+
+    -- nothing was shown yet since the restart
+    view_stands : (i : ℕ) (r : Register) (s : WriterState) → slice_get parts.registers.items i ≡ Some r → slice_get (map (λ (z : WriterState). free) x.writers) i ≡ Some s → ViewStands n h (length h) i r s.view
+    view_stands i r s er es =
+        let old = map_element (λ (z : WriterState). free) x.writers i s es in
+        let none : s.view ≡ None = ap (λ (z : WriterState). z.view) (sym old.2) in
+        let number : r.number ≡ number_after from_nothing h i = (register_stands i r er).number in
+        let now : number_at h (length h) i ≡ number_after from_nothing h i = number_now h i in
+        record { kept = λ above. absurd (omega arith); is_view = λ p e. cc }
 
     writer_stands : (i : ℕ) (a : Writer) (s : WriterState) → slice_get parts.writers.items i ≡ Some a → slice_get (map (λ (z : WriterState). free) x.writers) i ≡ Some s → WriterStands n h (length h) i a s
     writer_stands i a s ea es =
@@ -218,7 +223,17 @@ module _ (w : Node) (x : State) (stands : NodeStands w x) (calls : ℕ) (restart
       within = omega arith;
       registers = record {
         size = sym recovered.size ∙ at.down.parts_rest.registers_n ∙ sym segments;
-        each = λ i r er. subst (λ m. RegisterStands m h (length h) i r) (sym segments) (register_stands i r er);
+        each = λ i r er. subst (λ m. RegisterStands m h i r) (sym segments) (register_stands i r er);
+        views = record {
+          size = (
+              let a : length w.parts.registers.items ≡ n = at.down.parts_rest.registers_n in
+              let b : length w.parts.writers.items ≡ n = at.down.parts_rest.writers_n in
+              let c : length w.parts.writers.items ≡ length x.writers = at.down.parts_rest.writers.size in
+              let d : length w.parts.registers.items ≡ length parts.registers.items = recovered.size in
+              let e : length (map (λ (z : WriterState). free) x.writers) ≡ length x.writers = length-map x.writers (λ (z : WriterState). free) in
+              omega arith);
+          each = λ i r s er es. subst (λ m. ViewStands m h (length h) i r s.view) (sym segments) (view_stands i r s er es);
+        };
       };
       writers_n = ap (λ v. length v.items) writers ∙ at.down.parts_rest.writers_n ∙ sym segments;
       writers = record {

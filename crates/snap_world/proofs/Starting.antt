@@ -1,7 +1,7 @@
 -- A new world stands for the start.
-use Rattle.std.proofs.Common.{◌≡◌, ℕ, suc, ◌<◌, ◌≤◌, false, List, [], ◌∷◌, length, map, replicate, Some, slice_get, refl, ap, sym, ◌∙◌, subst, arith}
+use Rattle.std.proofs.Common.{◌≡◌, ℕ, suc, ◌<◌, ◌≤◌, List, [], ◌∷◌, length, map, replicate, Some, slice_get, refl, ap, sym, ◌∙◌, subst, arith}
 use Rattle.std.proofs.lemmas.List.{length-replicate}
-use Rattle.snap_world.specs.Machine.{WriterState, ScannerState, Free, Closed}
+use Rattle.snap_world.specs.Machine.{WriterState, ScannerState, Closed, resting}
 use Rattle.snap_world.specs.Stands.{PartsStand, WriterStands, ScannerStands, IsAtPhase, IsScannerAt, is_fenced}
 use Rattle.snap_world.specs.Fresh.{Each, IsFreshRegister, IsFreshWriter, IsFreshScanner}
 use Rattle.snap_world.specs.Start.{start_state, start_phases}
@@ -13,10 +13,7 @@ use Rattle.snap_world.specs.declared.writer.WriterPhase.TheVariants as writer
 use Rattle.snap_world.specs.declared.scanner.ScannerPhase.TheVariants as scanner
 use Rattle.snap_history.proofs.Lists.{get-replicate}
 
-fresh : WriterState
-fresh = record { pending = Free; fenced = false; told = [] }
-
-fresh_writer : (n i : ℕ) (a : Writer) (s : WriterState) → IsFreshWriter n a → record { pending = Free; fenced = false; told = [] } ≡ s → WriterStands n [] 0 i a s
+fresh_writer : (n i : ℕ) (a : Writer) (s : WriterState) → IsFreshWriter n a → resting ≡ s → WriterStands n [] 0 i a s
 fresh_writer n i a s f e = record {
   size = f.size;
   fenced = sym (ap is_fenced f.phase ∙ ap (λ (v : WriterState). v.fenced) e);
@@ -42,8 +39,14 @@ starts w count least most nr nw ns regs writers scanners = record {
       number = f.number;
       value = f.value;
       size = f.size;
-      view = λ pos. (let z : r.number ≡ 0 = f.number in absurd (omega arith));
     });
+    views = record {
+      size = nr ∙ sym (length-replicate w.segments _);
+      each = λ i r s er es. (
+          let z : r.number ≡ 0 = (regs i r er).number in
+          let new : resting ≡ s = get-replicate w.segments i _ s es in
+          record { kept = λ above. absurd (omega arith); is_view = λ p e. cc });
+    };
   };
   writers_n = nw;
   writers = record { size = nw ∙ sym (length-replicate w.segments _); each = λ i a s ea es. fresh_writer w.segments i a s (writers i a ea) (get-replicate w.segments i _ s es) };

@@ -190,13 +190,13 @@ module _ (w : Node) (x : State) (stands : NodeStands w x) (i : ℕ) (may : MaySt
     -- a call that failed
     pub call_fails : (e : SegmentDisk) (fill : Fill) (kind : Kind) (rest : List Kind) (parts : Parts) → kinds_left d ≡ kind ∷ rest → IsMissed d.order.slot fill kind (device_of d) (device_of e)
         → parts.segments ≡ w.parts.segments
-        → ((s : WriterState) (z : List ℕ) → slice_get x.writers i ≡ Some s → s.pending ≡ Begun z → PartsStand parts (with_writer x i (record { pending = s.pending; fenced = true; told = s.told })))
+        → ((s : WriterState) (z : List ℕ) → slice_get x.writers i ≡ Some s → s.pending ≡ Begun z → PartsStand parts (with_writer x i (record s { fenced = true })))
         → phases_of_parts parts ≡ writer_to (phases_of_parts w.parts) i writer.Fenced
         → (y : State) × Step n x (Fail i fill) DeviceFailed y × DevicesMove n x (phases_of_node w) (devices_of_node w) (Fail i fill) DeviceFailed y (map device_of (slice_set w.disks.items i e))
         × NodeStands (with_disk_and_parts w i e parts) y
     call_fails e fill kind rest parts asked missed segments parts_stand moved =
         let leaves : (b : List ℕ) → MayLeave (device_of e) b → IsEither i n k u v b = store_missed i n k u v room fits (device_of d) (device_of e) d.order fill kind rest asked storing missed in
-        let s : WriterState = record { pending = state.0.pending; fenced = true; told = state.0.told } in
+        let s : WriterState = record state.0 { fenced = true } in
         let disks : DisksStand n x.history (slice_set x.writers i s) (slice_set (phases_of_parts w.parts).writers i writer.Fenced) (slice_set w.disks.items i e) =
         disks_change n x.history x.history x.writers (slice_set x.writers i s) (phases_of_parts w.parts).writers (slice_set (phases_of_parts w.parts).writers i writer.Fenced) w.disks.items (slice_set w.disks.items i e) i
         (λ j ne. get-set_other x.writers i j s ne) (λ j ne. get-set_other (phases_of_parts w.parts).writers i j writer.Fenced ne) (λ j ne. get-set_other w.disks.items i j e ne) (nothing_grows x.history i)

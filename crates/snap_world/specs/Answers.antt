@@ -1,8 +1,8 @@
 -- What a scan may answer: the memory as it stood at one moment. A moment is told by a number: how many
 -- updates the history had then.
-use Rattle.std.specs.Prelude.{◌≡◌, ℕ, ◌+◌, ◌-◌, ◌<◌, ◌≤◌, ◌⊎◌, List, length, take, slice_index}
+use Rattle.std.specs.Prelude.{◌≡◌, ℕ, List, [], Option, Some, None, take}
 use Rattle.snap_history.specs.History.{Update, from_nothing, number_after, value_after, IsMemory}
-use Rattle.snap_scan.specs.Looks.{IsClean, IsBorrow}
+use Rattle.snap_collect.specs.Collects.{IsMoment}
 
 -- number and value of segment i after the first t updates
 abbrev pub number_at : List Update → ℕ → ℕ → ℕ
@@ -11,17 +11,22 @@ number_at h t i = number_after from_nothing (take t h) i
 abbrev pub value_at : List Update → ℕ → ℕ → List ℕ
 value_at h t i = value_after from_nothing (take t h) i
 
--- the numbers told decide an answer
-abbrev pub HasAnswer : ℕ → List ℕ → Type 0
-HasAnswer n told = IsClean n told ⊎ ((j : ℕ) × IsBorrow n told j)
+-- a scan: the moments of its beginning and of its last look, the numbers told, and, once they decide
+-- an answer, the moment that it answers
+pub record ScanState : Type 0 where
+  pub start : ℕ
+  pub last : ℕ
+  pub told : List ℕ
+  pub moment : Option ℕ
 
--- the memory as it stood at one moment p between b and e, the one that the numbers told tell: after a
--- clean end the last n of them are the numbers at p, and after a borrow from j the last of them is one
--- above the number of j at p
-pub record IsAnswer (n : ℕ) (h : List Update) (b e : ℕ) (told : List ℕ) (memory : List (List ℕ)) : Type 0 where
+-- one that begins at moment b
+abbrev pub scan_from : ℕ → ScanState
+scan_from b = record { start = b; last = b; told = []; moment = None }
+
+-- the memory as it stood at the scan's moment, which lies between its beginning and its last look, and
+-- is the one that the numbers told tell
+pub record IsAnswer (n : ℕ) (h : List Update) (s : ScanState) (memory : List (List ℕ)) : Type 0 where
   pub p : ℕ
-  pub after : b ≤ p
-  pub until : p ≤ e
+  pub moment : s.moment ≡ Some p
+  pub is_moment : IsMoment n (number_at h) s.start s.last s.told p
   pub is_memory : IsMemory n from_nothing (take p h) memory
-  pub clean : IsClean n told → (i : ℕ) → i < n → number_at h p i ≡ slice_index told (length told - n + i)
-  pub borrow : (j : ℕ) → IsBorrow n told j → number_at h p j + 1 ≡ slice_index told (length told - 1)

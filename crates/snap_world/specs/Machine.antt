@@ -1,10 +1,11 @@
--- The abstract machine: a history of updates, what each writer has begun or shown, and where each
--- scan began and looked last.
+-- The abstract machine: a history of updates, what each writer has begun or shown, where each scan began
+-- and looked last, and which moment it answers.
 use Rattle.std.proofs.Common.{suc}
-use Rattle.std.specs.Prelude.{◌≡◌, ℕ, Bool, true, false, List, [], ◌∷◌, ◌++◌, length, map, Some, slice_get, slice_set}
+use Rattle.std.specs.Prelude.{◌≡◌, ℕ, Bool, true, false, List, [], ◌∷◌, ◌++◌, length, map, Option, Some, None, slice_get, slice_set}
 use Rattle.snap_history.specs.History.{Update, from_nothing, number_after, IsMemory}
-use Rattle.snap_scan.specs.Looks.{IsTurn}
-use Rattle.snap_world.specs.Answers.{IsAnswer}
+use Rattle.snap_scan.specs.Looks.{IsTurn, IsBorrow}
+use Rattle.snap_collect.specs.Collects.{IsDecided, IsMoment}
+use Rattle.snap_world.specs.Answers.{ScanState, scan_from, IsAnswer, number_at}
 use Rattle.snap_world.specs.declared.event.Actor.TheVariants.{Writer, Scanner}
 use Rattle.snap_world.specs.declared.event.Event.{Event}
 use Rattle.snap_world.specs.declared.event.Event.TheVariants.{Begin, Look, Call, Fail, Show, Acknowledge, Scan, Answer, Crash, Restart, RestartCall, RestartFail, Serve}
@@ -17,16 +18,22 @@ pub data Pending : Type 0 where
   Begun : (v : List ℕ) → Pending
   Shown : (v : List ℕ) → Pending
 
--- a segment: its update under way, whether it is fenced, and the numbers told in its embedded scan
+-- a segment: its update under way, whether it is fenced, the scan that is embedded in the update, and the
+-- moment with which its last update was shown, where it has shown one since the node began to serve
 pub record WriterState : Type 0 where
   pub pending : Pending
   pub fenced : Bool
-  pub told : List ℕ
+  pub scan : ScanState
+  pub view : Option ℕ
 
--- a scanner: none, or the lengths of the history at its beginning and at its last look, and the numbers told
+-- a segment without work, which has shown nothing yet
+abbrev pub resting : WriterState
+resting = record { pending = Free; fenced = false; scan = scan_from 0; view = None }
+
+-- a scanner: its scan, if it has one
 pub data ScannerState : Type 0 where
   Closed : ScannerState
-  Opened : (b e : ℕ) → (told : List ℕ) → ScannerState
+  Opened : (scan : ScanState) → ScannerState
 
 pub record State : Type 0 where
   pub history : List Update
@@ -56,6 +63,36 @@ with_update x w v s = record {
   scanners = x.scanners;
 }
 
+-- the last update of segment j was shown with moment p
+abbrev pub ShownWith : State → ℕ → ℕ → Type 0
+ShownWith x j p = (s : WriterState) × (slice_get x.writers j ≡ Some s) × (s.view ≡ Some p)
+
+-- in state x the moment of a scan that looked just now: none where the numbers told decide nothing, else
+-- one from its beginning to now that they tell; and where they borrow from segment j, the very moment with
+-- which its last update was shown
+abbrev pub Decides : ℕ → State → ScanState → Option ℕ → Type 0
+Decides n x s None = IsDecided n s.told → ⊥
+Decides n x s (Some p) =
+    IsDecided n s.told × IsMoment n (number_at x.history) s.start s.last s.told p
+    × ((j : ℕ) → IsBorrow n s.told j → ShownWith x j p)
+
+-- scan s after a look in state x that told the number k
+abbrev pub looked : State → ScanState → ℕ → Option ℕ → ScanState
+looked x s k moment = record {
+  start = s.start;
+  last = length x.history;
+  told = s.told ++ k ∷ [];
+  moment = moment;
+}
+
+-- in state x scan s is told the number k of the segment whose turn it is, and is scan t then
+pub record IsLook (n : ℕ) (x : State) (s : ScanState) (k : ℕ) (t : ScanState) : Type 0 where
+  pub segment : ℕ
+  pub turn : IsTurn n s.told segment
+  pub number : k ≡ number_after from_nothing x.history segment
+  pub after : t ≡ looked x s k t.moment
+  pub decides : Decides n x t t.moment
+
 -- a crash: what was shown is done, what was begun stays, and no scan is open
 abbrev pub crashed_pending : Pending → Pending
 crashed_pending Free = Free
@@ -63,7 +100,12 @@ crashed_pending (Begun v) = Begun v
 crashed_pending (Shown v) = Free
 
 abbrev pub crashed_writer : WriterState → WriterState
-crashed_writer s = record { pending = crashed_pending s.pending; fenced = s.fenced; told = [] }
+crashed_writer s = record {
+  pending = crashed_pending s.pending;
+  fenced = s.fenced;
+  scan = scan_from 0;
+  view = None;
+}
 
 abbrev pub crashed : State → State
 crashed x = record {
@@ -93,7 +135,7 @@ history_with x marks = x.history ++ chosen 0 x.writers marks
 abbrev pub served : State → List Bool → State
 served x marks = record {
   history = history_with x marks;
-  writers = map (λ s. record { pending = Free; fenced = false; told = [] }) x.writers;
+  writers = map (λ s. resting) x.writers;
   scanners = map (λ s. Closed) x.scanners;
 }
 
@@ -103,36 +145,36 @@ abbrev pub Step : ℕ → State → Event → Reply → State → Type 0
 Step n x event NotNow y = y ≡ x
 Step n x (Begin w v) Begun_reply y =
     (s : WriterState) × (slice_get x.writers w ≡ Some s) × (s.pending ≡ Free) × (s.fenced ≡ false)
-    × (y ≡ with_writer x w (record { pending = Begun v.items; fenced = false; told = [] }))
+    × (y ≡ with_writer x w (record s { pending = Begun v.items; scan = scan_from (length x.history) }))
 -- a look tells the number of the segment whose turn it is
 Step n x (Look (Writer w)) (Number k) y =
     (s : WriterState) × (slice_get x.writers w ≡ Some s)
-    × (j : ℕ) × IsTurn n s.told j × (k ≡ number_after from_nothing x.history j)
-    × (y ≡ with_writer x w (record { pending = s.pending; fenced = s.fenced; told = s.told ++ k ∷ [] }))
+    × (t : ScanState) × IsLook n x s.scan k t
+    × (y ≡ with_writer x w (record s { scan = t }))
 Step n x (Look (Scanner i)) (Number k) y =
-    (b e : ℕ) × (told : List ℕ) × (slice_get x.scanners i ≡ Some (Opened b e told))
-    × (j : ℕ) × IsTurn n told j × (k ≡ number_after from_nothing x.history j)
-    × (y ≡ with_scanner x i (Opened b (length x.history) (told ++ k ∷ [])))
+    (s : ScanState) × (slice_get x.scanners i ≡ Some (Opened s))
+    × (t : ScanState) × IsLook n x s k t
+    × (y ≡ with_scanner x i (Opened t))
 -- a device call that succeeds leaves the state as it is; after one that fails the segment is fenced
 Step n x (Call w) (Called kind) y = y ≡ x
 Step n x (Fail w fill) DeviceFailed y =
     (s : WriterState) × (v : List ℕ) × (slice_get x.writers w ≡ Some s) × (s.pending ≡ Begun v)
-    × (y ≡ with_writer x w (record { pending = s.pending; fenced = true; told = s.told }))
--- a publication adds the begun update to the history
+    × (y ≡ with_writer x w (record s { fenced = true }))
+-- a publication adds the begun update to the history, with the moment of its embedded scan
 Step n x (Show w) Shown_reply y =
     (s : WriterState) × (v : List ℕ) × (slice_get x.writers w ≡ Some s) × (s.pending ≡ Begun v)
-    × (y ≡ with_update x w v (record { pending = Shown v; fenced = s.fenced; told = s.told }))
+    × (y ≡ with_update x w v (record s { pending = Shown v; view = s.scan.moment }))
 Step n x (Acknowledge w) (Stored k) y =
     (s : WriterState) × (v : List ℕ) × (slice_get x.writers w ≡ Some s) × (s.pending ≡ Shown v)
     × (k ≡ number_after from_nothing x.history w)
-    × (y ≡ with_writer x w (record { pending = Free; fenced = s.fenced; told = [] }))
+    × (y ≡ with_writer x w (record s { pending = Free; scan = scan_from 0 }))
 Step n x (Scan i) ScanBegun y =
     (slice_get x.scanners i ≡ Some Closed)
-    × (y ≡ with_scanner x i (Opened (length x.history) (length x.history) []))
--- the memory as it stood at one moment between the scan's beginning and its last look
+    × (y ≡ with_scanner x i (Opened (scan_from (length x.history))))
+-- the memory as it stood at the scan's moment, between its beginning and its last look
 Step n x (Answer i) (Memory m) y =
-    (b e : ℕ) × (told : List ℕ) × (slice_get x.scanners i ≡ Some (Opened b e told))
-    × IsAnswer n x.history b e told (map (λ v. v.items) m.items)
+    (s : ScanState) × (slice_get x.scanners i ≡ Some (Opened s))
+    × IsAnswer n x.history s (map (λ v. v.items) m.items)
     × (y ≡ with_scanner x i Closed)
 Step n x (Crash fills) Crashed y = y ≡ crashed x
 Step n x Restart Restarting y = y ≡ x

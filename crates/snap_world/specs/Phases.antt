@@ -1,7 +1,8 @@
 -- The phases of writers and scanners: where each event may come, and what it makes of them.
 use Rattle.std.specs.Prelude.{◌≡◌, ℕ, ◌-◌, ◌^◌, ◌<◌, ◌≤◌, ◌⊎◌, List, [], ◌∷◌, ◌++◌, length, Some, slice_get, slice_set}
 use Rattle.snap_history.specs.History.{from_nothing, number_after}
-use Rattle.snap_world.specs.Answers.{HasAnswer}
+use Rattle.snap_collect.specs.Collects.{IsDecided}
+use Rattle.snap_world.specs.Answers.{ScanState}
 use Rattle.snap_world.specs.Machine.{State, WriterState, Opened}
 use Rattle.snap_world.specs.declared.event.Actor.TheVariants as actor
 use Rattle.snap_world.specs.declared.event.Event.{Event}
@@ -53,8 +54,8 @@ pub record TellsEnabled (x : State) (p : Phases) (event : Event) (reply : Reply)
 
 -- after a look the phases go on to r where the numbers told decide an answer, and stay otherwise
 pub record LooksOn (n : ℕ) (told : List ℕ) (p r q : Phases) : Type 0 where
-  pub ends : HasAnswer n told → q ≡ r
-  pub goes_on : (HasAnswer n told → ⊥) → q ≡ p
+  pub ends : IsDecided n told → q ≡ r
+  pub goes_on : (IsDecided n told → ⊥) → q ≡ p
   pub either : (q ≡ r) ⊎ (q ≡ p)
 
 -- in state x with phases p, over n segments, the event with this reply leaves the phases q
@@ -63,10 +64,10 @@ Moves n x p event NotNow q = q ≡ p
 Moves n x p (Begin w v) Begun q = q ≡ writer_to p w writer.Scanning
 Moves n x p (Look (actor.Writer w)) (Number k) q =
     (s : WriterState) → slice_get x.writers w ≡ Some s
-    → LooksOn n (s.told ++ k ∷ []) p (writer_to p w writer.Storing) q
+    → LooksOn n (s.scan.told ++ k ∷ []) p (writer_to p w writer.Storing) q
 Moves n x p (Look (actor.Scanner i)) (Number k) q =
-    (b e : ℕ) (told : List ℕ) → slice_get x.scanners i ≡ Some (Opened b e told)
-    → LooksOn n (told ++ k ∷ []) p (scanner_to p i scanner.Ready) q
+    (s : ScanState) → slice_get x.scanners i ≡ Some (Opened s)
+    → LooksOn n (s.told ++ k ∷ []) p (scanner_to p i scanner.Ready) q
 Moves n x p (Show w) Shown q = q ≡ writer_to p w writer.Shown
 Moves n x p (Acknowledge w) (Stored k) q = q ≡ writer_to p w writer.Idle
 Moves n x p (Scan i) ScanBegun q = q ≡ scanner_to p i scanner.Scanning

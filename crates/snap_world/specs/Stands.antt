@@ -2,9 +2,11 @@
 use Rattle.std.specs.Prelude.{◌≡◌, ℕ, ◌+◌, ◌^◌, ◌<◌, ◌≤◌, Bool, true, false, List, length}
 use Rattle.snap_history.specs.History.{Update, from_nothing, number_after}
 use Rattle.snap_history.specs.Pairs.{Pairs}
-use Rattle.snap_world.specs.Answers.{IsAnswer, number_at}
+use Rattle.snap_collect.specs.Collects.{IsDecided}
+use Rattle.snap_world.specs.Answers.{ScanState, IsAnswer, number_at}
 use Rattle.snap_world.specs.Gathers.{Gathers, IsUnderWay, RegistersStand}
 use Rattle.snap_world.specs.Machine.{State, WriterState, ScannerState, Free, Begun, Shown, Closed, Opened}
+use Rattle.snap_world.specs.declared.collector.Collector.{Collector}
 use Rattle.snap_world.specs.declared.parts.Parts.{Parts}
 use Rattle.snap_world.specs.declared.writer.Writer.{Writer}
 use Rattle.snap_world.specs.declared.writer.WriterPhase.{WriterPhase}
@@ -13,26 +15,27 @@ use Rattle.snap_world.specs.declared.scanner.Scanner.{Scanner}
 use Rattle.snap_world.specs.declared.scanner.ScannerPhase.{ScannerPhase}
 use Rattle.snap_world.specs.declared.scanner.ScannerPhase.TheVariants as scanner
 
--- the writer has begun an update of segment i with its value. Its embedded scan began at moment b,
--- after the segment's update before. History h is that of the parts, and g the length that it had when
--- the node last began to serve
+-- the writer has begun an update of segment i with its value, and its embedded scan began after the
+-- segment's update before. History h is that of the parts, and g the length that it had when the node
+-- last began to serve
 pub record HasBegun (n : ℕ) (h : List Update) (g i : ℕ) (w : Writer) (s : WriterState) : Type 0 where
-  pub b : ℕ
-  pub e : ℕ
-  pub born : g ≤ b
+  pub born : g ≤ s.scan.start
   pub pending : s.pending ≡ Begun w.value
   pub fits : length w.value ≤ 4080
   pub room : number_after from_nothing h i + 1 < 2 ^ 63
-  pub own : number_at h b i ≡ number_after from_nothing h i
-  pub gathers : Gathers n h b e s.told w.collector
+  pub own : number_at h s.scan.start i ≡ number_after from_nothing h i
+  pub gathers : Gathers n h s.scan w.collector
+
+-- the scan has its answer: the numbers told decide one, and the collector has it
+pub record HasAnswer (n : ℕ) (h : List Update) (s : ScanState) (c : Collector) : Type 0 where
+  pub decided : IsDecided n s.told
+  pub answer : IsAnswer n h s c.memory.items
 
 abbrev pub IsAtPhase : ℕ → List Update → ℕ → ℕ → Writer → WriterState → WriterPhase → Type 0
 IsAtPhase n h g i w s writer.Idle = s.pending ≡ Free
 IsAtPhase n h g i w s writer.Scanning = HasBegun n h g i w s × IsUnderWay w.collector
-IsAtPhase n h g i w s writer.Storing =
-    (begun : HasBegun n h g i w s) × IsAnswer n h begun.b begun.e s.told w.collector.memory.items
-IsAtPhase n h g i w s writer.Stored =
-    (begun : HasBegun n h g i w s) × IsAnswer n h begun.b begun.e s.told w.collector.memory.items
+IsAtPhase n h g i w s writer.Storing = HasBegun n h g i w s × HasAnswer n h s.scan w.collector
+IsAtPhase n h g i w s writer.Stored = HasBegun n h g i w s × HasAnswer n h s.scan w.collector
 IsAtPhase n h g i w s writer.Shown = (v : List ℕ) × (s.pending ≡ Shown v)
 IsAtPhase n h g i w s writer.Fenced = (v : List ℕ) × (s.pending ≡ Begun v)
 
@@ -48,11 +51,11 @@ pub record WriterStands (n : ℕ) (h : List Update) (g i : ℕ) (w : Writer) (s 
 abbrev pub IsScannerAt : ℕ → List Update → ℕ → Scanner → ScannerState → ScannerPhase → Type 0
 IsScannerAt n h g c s scanner.Idle = s ≡ Closed
 IsScannerAt n h g c s scanner.Scanning =
-    (b e : ℕ) × (told : List ℕ) × (s ≡ Opened b e told) × (g ≤ b)
-    × Gathers n h b e told c.collector × IsUnderWay c.collector
+    (scan : ScanState) × (s ≡ Opened scan) × (g ≤ scan.start)
+    × Gathers n h scan c.collector × IsUnderWay c.collector
 IsScannerAt n h g c s scanner.Ready =
-    (b e : ℕ) × (told : List ℕ) × (s ≡ Opened b e told) × (e ≤ length h)
-    × IsAnswer n h b e told c.collector.memory.items
+    (scan : ScanState) × (s ≡ Opened scan) × (scan.last ≤ length h)
+    × HasAnswer n h scan c.collector
 
 pub record ScannerStands (n : ℕ) (h : List Update) (g i : ℕ) (c : Scanner) (s : ScannerState) : Type 0 where
   pub size : length c.collector.memory.items ≡ n
@@ -65,7 +68,7 @@ pub record PartsStand (w : Parts) (x : State) : Type 0 where
   -- the length of the history when the node last began to serve
   pub since : ℕ
   pub within : since ≤ length x.history
-  pub registers : RegistersStand w.segments x.history since w.registers.items
+  pub registers : RegistersStand w.segments x since w.registers.items
   pub writers_n : length w.writers.items ≡ w.segments
   pub writers : Pairs (WriterStands w.segments x.history since) w.writers.items x.writers
   pub scanners : Pairs (ScannerStands w.segments x.history since) w.scanners.items x.scanners

@@ -3,7 +3,7 @@ use Rattle.std.specs.Prelude.{◌≡◌, ℕ, false, List, [], length, replicate
 use Rattle.snap_disk.specs.Device.{Device}
 use Rattle.snap_slot.specs.States.{IsAtRest}
 use Rattle.snap_world.specs.Calls.{store_kinds}
-use Rattle.snap_world.specs.Machine.{State, Free, Closed}
+use Rattle.snap_world.specs.Machine.{State, Closed, resting}
 use Rattle.snap_world.specs.NodePhases.{WorldPhases}
 use Rattle.snap_world.specs.Phases.{Phases}
 use Rattle.snap_world.specs.declared.node.NodePhase.TheVariants.{Up}
@@ -13,7 +13,7 @@ use Rattle.snap_world.specs.declared.scanner.ScannerPhase.TheVariants as scanner
 abbrev pub start_state : ℕ → ℕ → State
 start_state n scanners = record {
   history = [];
-  writers = replicate n (record { pending = Free; fenced = false; told = [] });
+  writers = replicate n resting;
   scanners = replicate scanners Closed;
 }
 

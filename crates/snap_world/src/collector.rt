@@ -1,10 +1,11 @@
 //! One scan in progress: its double collects, and the values that it saw last.
-ghost use Rattle.std.specs.Prelude.{◌≡◌, length, map, IfOk};
-ghost use Rattle.snap_scan.specs.Stands.{next_of};
-ghost use Rattle.snap_world.specs.Gathers.{IsLook, MayLook};
+ghost use Rattle.std.specs.Prelude.{◌≡◌, ◌↔◌, ℕ, List, length, map, IfOk, IsTrue, MatchBool};
+ghost use Rattle.snap_scan.specs.Stands.{StandsFor, segments_of};
+ghost use Rattle.snap_collect.specs.Collects.{IsDecided};
+ghost use Rattle.snap_world.specs.Gathers.{IsLookOf, IsUnderWay, MayLook};
 
-use super::register::Register;
-use super::value::Value;
+use crate::register::Register;
+use crate::value::Value;
 use snap_scan::{Next, Scan};
 use std::alloc::{AllocError, Global};
 
@@ -19,11 +20,19 @@ pub struct Collector {
 impl Collector {
     /// One look, at the segment whose turn it is: its number. The value is copied or, where the
     /// scan borrows, the view.
-    pub fn look(&mut self, segment: usize, registers: &Vec<Register>) -> u64
-        requires turn { next_of self.old.scan ≡ Next.Look segment }
+    ///
+    /// A borrow is right because the segment's number rose by two since this scan's first look at
+    /// it: its last update began after the one before was shown, so after this scan began, and the
+    /// view is the memory at a moment since then. No register has a view from before a crash here,
+    /// since both updates were shown while this scan went on.
+    pub fn look(&mut self, registers: &Vec<Register>) -> u64
+        requires under_way { IsUnderWay self.old }
         requires stands { MayLook registers.now.items self.old }
-        ensures look { IsLook registers.now.items self.old segment result self.new }
+        ensures look { IsLookOf registers.now.items self.old result self.new }
     {
+        let Next::Look(segment) = self.scan.next() else {
+            unreachable!();
+        };
         let register = &registers[segment];
         let number = register.number;
         self.scan.told(segment, number);
@@ -32,6 +41,18 @@ impl Collector {
             _ => self.memory[segment].copy_from(&register.value),
         }
         number
+    }
+
+    /// Whether the scan has its answer.
+    pub fn is_done(&self) -> bool
+        ensures under_way { MatchBool result (IsUnderWay self.now → ⊥) (IsUnderWay self.now) }
+        ensures decided { (told : List ℕ) → StandsFor self.now.scan told
+            → IsTrue result ↔ IsDecided (segments_of self.now.scan) told }
+    {
+        match self.scan.next() {
+            Next::Look(_) => false,
+            Next::Clean | Next::Borrow(_) => true,
+        }
     }
 }
 

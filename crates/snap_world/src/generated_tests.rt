@@ -2,8 +2,8 @@
 //! program.
 ghost use Rattle.std.specs.Prelude.{◌<◌};
 
-use super::event::{Actor, Event, Reply};
-use super::world::World;
+use crate::event::{Actor, Event, Reply};
+use crate::world::World;
 use snap_disk::Fill;
 use snap_history::{Update, memory_after};
 use std::alloc::{AllocError, Global};

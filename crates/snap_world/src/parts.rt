@@ -7,11 +7,11 @@ ghost use Rattle.snap_world.specs.Halting.{IsHalted, IsScannerHalted};
 ghost use Rattle.snap_history.specs.Pairs.{Pairs};
 ghost use Rattle.snap_world.specs.Steps.{IsPartsStep, phases_of_parts};
 
-use super::event::{Actor, Event, Reply};
-use super::register::Register;
-use super::scanner::{Scanner, ScannerPhase};
-use super::start::{new_registers, new_scanners, new_writers};
-use super::writer::{Writer, WriterPhase};
+use crate::event::{Actor, Event, Reply};
+use crate::register::Register;
+use crate::scanner::{Scanner, ScannerPhase};
+use crate::start::{new_registers, new_scanners, new_writers};
+use crate::writer::{Writer, WriterPhase};
 use std::alloc::{AllocError, Global};
 
 /// The registers of all segments, with the writer of each, and the scanners.

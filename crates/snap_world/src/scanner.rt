@@ -6,10 +6,10 @@ ghost use Rattle.snap_world.specs.Steps.{IsPartsStep, phases_of_parts};
 ghost use Rattle.snap_world.specs.declared.event.Actor.{Actor};
 ghost use Rattle.snap_world.specs.declared.event.Event.{Event};
 
-use super::collector::{Collector, bytes_of_all};
-use super::event::Reply;
-use super::parts::Parts;
-use snap_scan::{Next, Scan};
+use crate::collector::{Collector, bytes_of_all};
+use crate::event::Reply;
+use crate::parts::Parts;
+use snap_scan::Scan;
 use std::alloc::{AllocError, Global};
 
 /// How far a scanner is with its scan.
@@ -59,20 +59,13 @@ impl Parts {
             return Reply::NotNow;
         }
         match self.scanners[at].phase {
-            ScannerPhase::Scanning => {}
-            _ => return Reply::NotNow,
-        }
-        match self.scanners[at].collector.scan.next() {
-            Next::Look(turn) => {
+            ScannerPhase::Scanning => {
                 let scanner = &mut self.scanners[at];
-                let number = scanner.collector.look(turn, &self.registers);
-                match scanner.collector.scan.next() {
-                    Next::Look(_) => Reply::Number(number),
-                    _ => {
-                        scanner.phase = ScannerPhase::Ready;
-                        Reply::Number(number)
-                    }
+                let number = scanner.collector.look(&self.registers);
+                if scanner.collector.is_done() {
+                    scanner.phase = ScannerPhase::Ready;
                 }
+                Reply::Number(number)
             }
             _ => Reply::NotNow,
         }

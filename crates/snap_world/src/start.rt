@@ -2,11 +2,11 @@
 ghost use Rattle.std.specs.Prelude.{◌≡◌, ℕ, ◌<◌, ◌≤◌, length, IfOk};
 ghost use Rattle.snap_world.specs.Fresh.{IsFreshRegister, IsFreshWriter, IsFreshScanner, Each};
 
-use super::collector::Collector;
-use super::register::Register;
-use super::scanner::{Scanner, ScannerPhase};
-use super::value::Value;
-use super::writer::{Writer, WriterPhase};
+use crate::collector::Collector;
+use crate::register::Register;
+use crate::scanner::{Scanner, ScannerPhase};
+use crate::value::Value;
+use crate::writer::{Writer, WriterPhase};
 use snap_scan::Scan;
 use std::alloc::{AllocError, Global};
 

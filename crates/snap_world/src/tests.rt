@@ -1,7 +1,7 @@
 //! Worked runs of scans and updates.
 
-use super::event::{Actor, Event, Kind, Reply};
-use super::world::World;
+use crate::event::{Actor, Event, Kind, Reply};
+use crate::world::World;
 use std::alloc::{AllocError, Global};
 use std::process::Abort;
 use std::test::Fail;
@@ -157,6 +157,26 @@ fn borrowed_view(rt: HostRuntime) -> Result<(), Fail> {
     store(&rt, alloc, &mut world, 0, "b", &[1, 0, 1, 0], &LATER_STORE)?;
     show(&rt, &mut world, 0, 2)?;
     looks(&rt, &mut world, Actor::Scanner(0), &[0, 2])?;
+    answer(&rt, alloc, &mut world, &["a", ""])?;
+    Ok(())
+}
+
+/// Another writer shows between the end of the embedded scan and the publication behind it: the
+/// borrowed view hasn't got that update.
+#[test]
+fn borrowed_view_is_of_the_embedded_scan(rt: HostRuntime) -> Result<(), Fail> {
+    let alloc = rt.alloc();
+    let mut world = World::new(alloc, 2, 1)?;
+    expect(&rt, &mut world, Event::Scan(0), Reply::ScanBegun)?;
+    looks(&rt, &mut world, Actor::Scanner(0), &[0])?;
+    store(&rt, alloc, &mut world, 0, "a", &[0, 0, 0, 0], &FIRST_STORE)?;
+    show(&rt, &mut world, 0, 1)?;
+    looks(&rt, &mut world, Actor::Scanner(0), &[0, 1])?;
+    store(&rt, alloc, &mut world, 0, "b", &[1, 0, 1, 0], &LATER_STORE)?;
+    store(&rt, alloc, &mut world, 1, "c", &[1, 0, 1, 0], &FIRST_STORE)?;
+    show(&rt, &mut world, 1, 1)?;
+    show(&rt, &mut world, 0, 2)?;
+    looks(&rt, &mut world, Actor::Scanner(0), &[1, 2])?;
     answer(&rt, alloc, &mut world, &["a", ""])?;
     Ok(())
 }

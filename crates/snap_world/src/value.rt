@@ -1,16 +1,14 @@
 //! A value in a place of its own, so that no copy of one takes memory.
 ghost use Rattle.std.specs.Prelude.{◌≡◌, ℕ, ◌<◌, ◌≤◌, List, [], length, take, IfOk};
 
+use snap_slot::MAX_VALUE_LEN;
 use std::alloc::{AllocError, Global};
 use std::marker::Model;
-
-/// The most bytes that a value has.
-pub const LONGEST: usize = 4080;
 
 /// A value: a list of at most 4,080 bytes.
 #[derive(Drop)]
 pub struct Value {
-    bytes: [u8; 4080],
+    bytes: [u8; MAX_VALUE_LEN],
     len: usize,
 }
 
@@ -28,7 +26,7 @@ impl Value {
         ensures { result ≡ [] }
     {
         Value {
-            bytes: [0; 4080],
+            bytes: [0; MAX_VALUE_LEN],
             len: 0,
         }
     }

@@ -7,8 +7,8 @@ ghost use Rattle.snap_world.specs.Start.{start_state, start_world_phases, AreFor
 ghost use Rattle.snap_world.specs.NodeStands.{NodeStands};
 ghost use Rattle.snap_world.specs.declared.event.Reply.{Reply};
 
-use super::event::{Event, Reply};
-use super::node::Node;
+use crate::event::{Event, Reply};
+use crate::node::Node;
 use std::alloc::{AllocError, Global};
 
 /// Memory ran out. The world stands after the first `done` events.

@@ -7,11 +7,12 @@ ghost use Rattle.snap_world.specs.Steps.{IsPartsStep, phases_of_parts};
 ghost use Rattle.snap_world.specs.declared.event.Actor.{Actor};
 ghost use Rattle.snap_world.specs.declared.event.Event.{Event};
 
-use super::collector::{Collector, copy_all};
-use super::event::Reply;
-use super::parts::Parts;
-use super::value::{LONGEST, Value};
-use snap_scan::{Next, Scan};
+use crate::collector::{Collector, copy_all};
+use crate::event::Reply;
+use crate::parts::Parts;
+use crate::value::Value;
+use snap_scan::Scan;
+use snap_slot::{LAST_NUMBER, MAX_VALUE_LEN};
 
 /// How far a writer is with its update.
 #[derive(Clone, Copy, Debug, Drop, PartialEq, Eq)]
@@ -38,16 +39,13 @@ pub struct Writer {
     pub collector: Collector,
 }
 
-/// The greatest number of a segment.
-const LAST_NUMBER: u64 = 9_223_372_036_854_775_807;
-
 impl Parts {
     /// A writer begins an update.
     pub fn begin(&mut self, segment: usize, value: &Vec<u8>) -> Reply
         requires stands { Stand self.old }
         ensures step { IsPartsStep self.old (Event.Begin segment value.now) result self.new }
     {
-        if segment >= self.segments || value.len() > LONGEST {
+        if segment >= self.segments || value.len() > MAX_VALUE_LEN {
             return Reply::NotNow;
         }
         if self.registers[segment].number >= LAST_NUMBER {
@@ -74,20 +72,13 @@ impl Parts {
             return Reply::NotNow;
         }
         match self.writers[segment].phase {
-            WriterPhase::Scanning => {}
-            _ => return Reply::NotNow,
-        }
-        match self.writers[segment].collector.scan.next() {
-            Next::Look(turn) => {
+            WriterPhase::Scanning => {
                 let writer = &mut self.writers[segment];
-                let number = writer.collector.look(turn, &self.registers);
-                match writer.collector.scan.next() {
-                    Next::Look(_) => Reply::Number(number),
-                    _ => {
-                        writer.phase = WriterPhase::Storing;
-                        Reply::Number(number)
-                    }
+                let number = writer.collector.look(&self.registers);
+                if writer.collector.is_done() {
+                    writer.phase = WriterPhase::Storing;
                 }
+                Reply::Number(number)
             }
             _ => Reply::NotNow,
         }
@@ -155,7 +146,7 @@ impl Parts {
         ensures stands { (x : State) → PartsStand self.old x
             → (s : WriterState) (v : List ℕ) → slice_get x.writers segment ≡ Some s → s.pending ≡ Begun v
             → PartsStand self.new
-            (with_writer x segment (record { pending = s.pending; fenced = true; told = s.told })) }
+            (with_writer x segment (record s { fenced = true })) }
         ensures phases { phases_of_parts self.new
             ≡ writer_to (phases_of_parts self.old) segment WriterPhase.Fenced }
     {

@@ -1,4 +1,5 @@
-use Rattle.std.proofs.Common.{◌≡◌, ◌<◌, [], length, refl, ap, subst, ◌∙◌, arith}
+use Rattle.std.proofs.Common.{◌≡◌, ◌<◌, length, refl, ap, subst, ◌∙◌, arith}
+use Rattle.snap_world.specs.Answers.{scan_from}
 use Rattle.snap_world.specs.Machine.{WriterState, Free, with_writer}
 use Rattle.snap_world.specs.Phases.{WriterIs}
 use Rattle.snap_world.specs.Stands.{WriterStands, IsAtPhase, is_fenced}
@@ -41,9 +42,9 @@ returns-in-Shown c =
           let a = the_writer w x stands i old l c.index_mut.ensures.value in
           let r = the_register w x stands i c.index-in-Shown.result.now l c.index-in-Shown.ensures in
           let shown = subst (IsAtPhase w.segments x.history stands.since i old a.0) phase a.2.phase in
-          let state : WriterState = record { pending = Free; fenced = a.0.fenced; told = [] } in
+          let state : WriterState = record a.0 { pending = Free; scan = scan_from 0 } in
           let here : WriterStands w.segments x.history stands.since i new state = record { size = a.2.size; fenced = a.2.fenced ∙ ap is_fenced phase; phase = refl } in
-          (with_writer x i state, (a.0, shown.0, a.1, shown.1, r.number, refl), writer_moves w x stands i new state l here)))
+          (with_writer x i state, (a.0, shown.0, a.1, shown.1, r.number, refl), writer_moves w x stands i new a.0 state l a.1 refl here)))
           (λ x stands. subst (WriterIs (phases_of_parts w) i) phase (writer_is w i old there c.index_mut.ensures.value))
           (λ x stands. writer_moved w i new);
     }

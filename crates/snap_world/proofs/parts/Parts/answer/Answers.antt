@@ -27,9 +27,9 @@ returns-in_ok-values-in-Ready-clause-step c =
     (λ x stands. (
     let a = the_scanner w x stands i old l read in
     let at = subst (IsScannerAt w.segments x.history stands.since old a.0) phase a.2.phase in
-    let answer = subst (IsAnswer w.segments x.history at.0 at.1 at.2) values at.5 in
+    let answer = subst (IsAnswer w.segments x.history at.0) values at.3.answer in
     let here : ScannerStands w.segments x.history stands.since i new Closed = record { size = a.2.size; phase = refl } in
-    (with_scanner x i Closed, (at.0, at.1, at.2, a.1 ∙ ap (λ z. Some z) at.3, answer, refl), scanner_moves w x stands i new Closed l here)))
+    (with_scanner x i Closed, (at.0, a.1 ∙ ap (λ z. Some z) at.1, answer, refl), scanner_moves w x stands i new Closed l here)))
     (λ x stands. subst (ScannerIs (phases_of_parts w) i) phase (scanner_is w i old l read))
     (λ x stands. scanner_moved w i new)
 

@@ -1,12 +1,13 @@
-use Rattle.std.proofs.Common.{◌≡◌, ℕ, ◌-◌, ◌^◌, ◌<◌, ◌≤◌, false, List, [], length, refl, ap, subst, ◌∙◌, sym, arith}
+use Rattle.std.proofs.Common.{◌≡◌, ℕ, ◌-◌, ◌^◌, ◌<◌, ◌≤◌, List, length, refl, ap, subst, ◌∙◌, sym, arith}
 use Rattle.snap_history.specs.History.{from_nothing, number_after}
+use Rattle.snap_world.specs.Answers.{scan_from}
 use Rattle.snap_world.specs.Machine.{WriterState, Begun, Free, with_writer}
 use Rattle.snap_world.specs.Phases.{WriterIs}
 use Rattle.snap_world.specs.Stands.{WriterStands, IsAtPhase, is_fenced}
 use Rattle.snap_world.specs.Steps.{phases_of_parts}
 use Rattle.snap_world.specs.declared.writer.Writer.{Writer}
 use Rattle.snap_world.specs.declared.writer.WriterPhase.TheVariants as writer
-use Rattle.snap_world.proofs.Collecting.{number_now}
+use Rattle.snap_world.proofs.Looking.{number_now}
 use Rattle.snap_world.proofs.Moves.{the_writer, the_register, writer_moves, Gathers-none, same_read}
 use Rattle.snap_world.proofs.Phasing.{writer_is, other_writer, writer_moved, refused, came}
 use Rattle.snap_world.proofs.Sizes.{segments_most, writer_fits, writer_there, register_fits}
@@ -57,14 +58,12 @@ returns-in-Idle c =
           let r = the_register w x stands i c.index.result.now l c.index.ensures in
           let number : c.index.result.now.number ≡ number_after from_nothing x.history i = r.number in
           let free : a.0.pending ≡ Free = subst (IsAtPhase w.segments x.history stands.since i old a.0) phase a.2.phase in
-          let state : WriterState = record { pending = Begun c.args.value.now.items; fenced = false; told = [] } in
+          let state : WriterState = record a.0 { pending = Begun c.args.value.now.items; scan = scan_from (length x.history) } in
           let here : WriterStands w.segments x.history stands.since i new state = record {
             size = a.2.size;
-            fenced = refl;
+            fenced = a.2.fenced ∙ ap is_fenced phase;
             phase = (
               record {
-                b = length x.history;
-                e = length x.history;
                 born = stands.within;
                 pending = ap Begun value;
                 fits = subst (λ (v : List ℕ). length v ≤ 4080) value short;
@@ -75,7 +74,7 @@ returns-in-Idle c =
               (0, c.new-writer.ensures.first),
             );
           } in
-          (with_writer x i state, (a.0, a.1, free, a.2.fenced ∙ ap is_fenced phase, refl), writer_moves w x stands i new state l here)))
+          (with_writer x i state, (a.0, a.1, free, a.2.fenced ∙ ap is_fenced phase, refl), writer_moves w x stands i new a.0 state l a.1 refl here)))
           (λ x stands. (
           let r = the_register w x stands i c.index.result.now l c.index.ensures in
           let number : c.index.result.now.number ≡ number_after from_nothing x.history i = r.number in

@@ -22,7 +22,7 @@ returns-clause-stands c x stands storing =
     let a = the_writer w x stands i old l c.index_mut.ensures.value in
     let at = subst (IsAtPhase w.segments x.history stands.since i old a.0) phase a.2.phase in
     let new : Writer = record { phase = writer.Stored; value = old.value; collector = old.collector } in
-    let begun : HasBegun w.segments x.history stands.since i new a.0 = record { b = at.0.b; e = at.0.e; born = at.0.born; pending = at.0.pending; fits = at.0.fits; room = at.0.room; own = at.0.own; gathers = at.0.gathers } in
+    let begun : HasBegun w.segments x.history stands.since i new a.0 = record { born = at.0.born; pending = at.0.pending; fits = at.0.fits; room = at.0.room; own = at.0.own; gathers = at.0.gathers } in
     let here : WriterStands w.segments x.history stands.since i new a.0 = record { size = a.2.size; fenced = a.2.fenced ∙ ap is_fenced phase; phase = (begun, at.1) } in
     writer_stays w x stands i new l a.0 a.1 here
 

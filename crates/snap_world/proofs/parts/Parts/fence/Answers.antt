@@ -19,9 +19,9 @@ returns-clause-stands c x stands s v there begun =
     let old = c.index_mut.result.now in
     let a = the_writer w x stands i old l c.index_mut.ensures.value in
     let new : Writer = record { phase = writer.Fenced; value = old.value; collector = old.collector } in
-    let state : WriterState = record { pending = s.pending; fenced = true; told = s.told } in
+    let state : WriterState = record s { fenced = true } in
     let here : WriterStands w.segments x.history stands.since i new state = record { size = a.2.size; fenced = refl; phase = (v, begun) } in
-    writer_moves w x stands i new state l here
+    writer_moves w x stands i new s state l there refl here
 
 pub returns-clause-phases : goal.returns-clause-phases
 returns-clause-phases c = writer_moved c.args.self.now c.args.segment (record { phase = writer.Fenced; value = c.index_mut.result.now.value; collector = c.index_mut.result.now.collector })

@@ -1,11 +1,12 @@
-use Rattle.std.proofs.Common.{◌≡◌, ◌<◌, [], length, Some, refl, ap, subst, ◌∙◌, arith}
+use Rattle.std.proofs.Common.{◌≡◌, ◌<◌, length, Some, refl, ap, subst, ◌∙◌, arith}
+use Rattle.snap_world.specs.Answers.{scan_from}
 use Rattle.snap_world.specs.Machine.{ScannerState, Closed, Opened, with_scanner}
 use Rattle.snap_world.specs.Phases.{ScannerIs}
 use Rattle.snap_world.specs.Stands.{ScannerStands, IsScannerAt}
 use Rattle.snap_world.specs.Steps.{phases_of_parts}
 use Rattle.snap_world.specs.declared.scanner.Scanner.{Scanner}
 use Rattle.snap_world.specs.declared.scanner.ScannerPhase.TheVariants as scanner
-use Rattle.snap_world.proofs.Moves.{the_scanner, scanner_moves, scanner_goes_on, Gathers-none, same_read}
+use Rattle.snap_world.proofs.Moves.{the_scanner, scanner_moves, Gathers-none, same_read}
 use Rattle.snap_world.proofs.Phasing.{scanner_is, other_scanner, no_scanner, scanner_moved, refused, came}
 use Rattle.snap_world.proofs.Sizes.{segments_least, segments_most}
 use Rattle.snap_world.proofs.parts.Parts.scan.Goals as goal
@@ -35,10 +36,17 @@ returns-in-Idle c =
           (λ x stands. (
           let a = the_scanner w x stands i old l c.index_mut-scanner.ensures.value in
           let closed : a.0 ≡ Closed = subst (IsScannerAt w.segments x.history stands.since old a.0) phase a.2.phase in
-          let state : ScannerState = Opened (length x.history) (length x.history) [] in
-          let here : ScannerStands w.segments x.history stands.since i new state =
-          scanner_goes_on w.segments x.history stands.since i (length x.history) stands.within [] new.collector (Gathers-none w.segments x.history new.collector c.new-scanner.ensures.stands c.new-scanner.ensures.size c.new-scanner.ensures.first a.2.size)
-          scanner.Scanning refl (0, c.new-scanner.ensures.first) in
+          let state : ScannerState = Opened (scan_from (length x.history)) in
+          let here : ScannerStands w.segments x.history stands.since i new state = record {
+            size = a.2.size;
+            phase = (
+              scan_from (length x.history),
+              refl,
+              stands.within,
+              Gathers-none w.segments x.history new.collector c.new-scanner.ensures.stands c.new-scanner.ensures.size c.new-scanner.ensures.first a.2.size,
+              (0, c.new-scanner.ensures.first),
+            );
+          } in
           (with_scanner x i state, (a.1 ∙ ap (λ z. Some z) closed, refl), scanner_moves w x stands i new state l here)))
           (λ x stands. subst (ScannerIs (phases_of_parts w) i) phase (scanner_is w i old l c.index_mut-scanner.ensures.value))
           (λ x stands. scanner_moved w i new);

@@ -1,15 +1,16 @@
 use Rattle.std.proofs.Math.Logic.{∥∥₁_elim}
 use Rattle.std.proofs.Props.{props}
-use Rattle.std.proofs.Common.{◌≡◌, ◌+◌, ◌<◌, ◌≤◌, ◌^◌, [], ◌∷◌, ◌++◌, length, take, slice_set, refl, ap, subst, ◌∙◌, sym, arith}
+use Rattle.std.proofs.Common.{◌≡◌, ◌+◌, ◌<◌, ◌≤◌, ◌^◌, [], ◌∷◌, ◌++◌, length, take, refl, ap, subst, ◌∙◌, sym, arith}
 use Rattle.snap_history.specs.History.{from_nothing, number_after, IsMemory}
-use Rattle.snap_world.specs.Machine.{WriterState, Shown}
+use Rattle.snap_world.specs.Answers.{number_at}
+use Rattle.snap_world.specs.Machine.{WriterState, Shown, with_update}
 use Rattle.snap_world.specs.Phases.{WriterIs}
 use Rattle.snap_world.specs.Stands.{WriterStands, IsAtPhase, is_fenced}
 use Rattle.snap_world.specs.Steps.{phases_of_parts}
 use Rattle.snap_world.specs.declared.register.Register.{Register}
 use Rattle.snap_world.specs.declared.writer.Writer.{Writer}
 use Rattle.snap_world.specs.declared.writer.WriterPhase.TheVariants as writer
-use Rattle.snap_world.proofs.Moves.{the_writer, the_register, own_moment, world_shows, shown_register, same_read}
+use Rattle.snap_world.proofs.Moves.{the_writer, the_register, own_moment, world_shows, shown_register, shown_view, same_read}
 use Rattle.snap_world.proofs.Phasing.{writer_is, other_writer, writer_moved, refused, came}
 use Rattle.snap_world.proofs.Sizes.{writer_fits, writer_there, register_fits}
 use Rattle.snap_world.proofs.parts.Parts.show.Goals as goal
@@ -68,17 +69,20 @@ returns-in-Stored c =
           let r = the_register w x stands i c.index_mut-register.result.now l c.index_mut-register.ensures.value in
           let at = subst (IsAtPhase w.segments x.history stands.since i old a.0) phase a.2.phase in
           let begun = at.0 in
-          let answer = at.1 in
+          let answer = at.1.answer in
           let h = x.history in
-          let end : begun.e ≤ length h = begun.gathers.end in
-          let until : answer.p ≤ begun.e = answer.until in
-          let state : WriterState = record { pending = Shown v; fenced = a.0.fenced; told = a.0.told } in
-          let here_r = shown_register w.segments h stands.since i v register answer.p (omega arith) (own_moment w.segments h stands.since i old a.0 begun answer.p answer.after answer.until)
-          (ap (λ y. y + 1) r.number) c.copy_from.ensures (ap length c.copy_all.ensures ∙ a.2.size) (subst (IsMemory w.segments from_nothing (take answer.p h)) (sym c.copy_all.ensures) answer.is_memory) in
+          let end : a.0.scan.last ≤ length h = begun.gathers.end in
+          let after : a.0.scan.start ≤ answer.p = answer.is_moment.after in
+          let until : answer.p ≤ a.0.scan.last = answer.is_moment.until in
+          let state : WriterState = record a.0 { pending = Shown v; view = a.0.scan.moment } in
+          let here_r = shown_register w.segments h i v register (ap (λ y. y + 1) r.number) c.copy_from.ensures (ap length c.copy_all.ensures ∙ a.2.size) in
+          let before : number_at h answer.p i + 1 ≡ register.number = ap (λ y. y + 1) (own_moment w.segments h stands.since i old a.0 begun answer.p after until ∙ sym r.number) in
+          let here_v = shown_view w.segments h stands.since i (record { segment = i; value = v }) register state answer.p answer.moment (omega arith) before
+          (subst (IsMemory w.segments from_nothing (take answer.p h)) (sym c.copy_all.ensures) answer.is_memory) in
           let here_a : WriterStands w.segments (h ++ record { segment = i; value = v } ∷ []) stands.since i new state = record { size = a.2.size; fenced = a.2.fenced ∙ ap is_fenced phase; phase = (v, refl) } in (
-            record { history = h ++ record { segment = i; value = v } ∷ []; writers = slice_set x.writers i state; scanners = x.scanners },
+            with_update x i v state,
             (a.0, v, a.1, begun.pending, refl),
-            world_shows w x stands i v register new state l here_r here_a,
+            world_shows w x stands i v register new state l here_r here_v here_a,
           )))
           (λ x stands. subst (WriterIs (phases_of_parts w) i) phase (writer_is w i old there c.index_mut-writer.ensures.value))
           (λ x stands. writer_moved w i new);
