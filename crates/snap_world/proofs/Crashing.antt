@@ -15,21 +15,21 @@ use Rattle.snap_persist.specs.Stage.{Order, calls_left}
 use Rattle.snap_history.specs.History.{Update, from_nothing, number_after, value_after}
 use Rattle.snap_history.specs.Pairs.{Pairs}
 use Rattle.snap_history.proofs.Pairing.{element, partner}
-use Rattle.snap_world.specs.Calls.{kinds_of}
 use Rattle.snap_world.specs.Devices.{AreRefilled, IsRefilled}
 use Rattle.snap_world.specs.Disks.{IsDiskAt, DisksDown, HoldsEither, IsCrashed, AreCrashed, device_of}
 use Rattle.snap_world.specs.Halting.{IsHalted, IsScannerHalted}
 use Rattle.snap_world.specs.Machine.{State, WriterState, ScannerState, Pending, Begun, Closed, crashed, crashed_pending, crashed_writer}
 use Rattle.snap_world.specs.NodePhases.{all_idle}
 use Rattle.snap_world.specs.NodeStands.{NodeStand, PartsRest, WriterRests, ScannerRests, IsUp, IsDown, IsNodeAt}
-use Rattle.snap_world.specs.NodeSteps.{kinds_left}
+use Rattle.snap_world.specs.NodeSteps.{store_left}
 use Rattle.snap_world.specs.Phases.{Phases}
 use Rattle.snap_world.specs.Stands.{PartsStand, WriterStands, ScannerStands, IsAtPhase}
 use Rattle.snap_world.specs.Steps.{phases_of_parts}
 use Rattle.snap_world.specs.declared.disk.SegmentDisk.{SegmentDisk}
 use Rattle.snap_world.specs.declared.node.Node.{Node}
 use Rattle.snap_world.specs.declared.node.NodePhase.{NodePhase}
-use Rattle.snap_world.specs.declared.node.NodePhase.TheVariants.{Up, Down, Restarting}
+use Rattle.snap_world.specs.declared.node.NodePhase.TheVariants.{Up, Down, Restarting, Ready}
+use Rattle.snap_world.specs.declared.node.OpeningCall.TheVariants as opening
 use Rattle.snap_world.specs.declared.parts.Parts.{Parts}
 use Rattle.snap_world.specs.declared.register.Register.{Register}
 use Rattle.snap_world.specs.declared.writer.Writer.{Writer}
@@ -88,7 +88,9 @@ down_leaves n h ss ds down i d s ed es b left = either_stays i n (number_after f
 leaves : (parts : Parts) (ds : List SegmentDisk) (x : State) (phase : NodePhase) → IsNodeAt parts ds x phase → Leaves parts.segments x.history x.writers ds
 leaves parts ds x Up at = up_leaves parts ds x at
 leaves parts ds x Down at = down_leaves parts.segments x.history x.writers ds at.disks_down
-leaves parts ds x (Restarting calls) at = down_leaves parts.segments x.history x.writers ds at.down.disks_down
+leaves parts ds x (Restarting i opening.Sync) at = down_leaves parts.segments x.history x.writers ds at.1.down.disks_down
+leaves parts ds x (Restarting i opening.Read) at = down_leaves parts.segments x.history x.writers ds at.1.down.disks_down
+leaves parts ds x Ready at = down_leaves parts.segments x.history x.writers ds at.down.disks_down
 
 crashed_disks : (n : ℕ) (h : List Update) (ss : List WriterState) (ds es : List SegmentDisk) (fills : List Fill) → length fills ≡ length ds → Leaves n h ss ds → AreCrashed fills ds es → DisksDown n h (map crashed_writer ss) es
 crashed_disks n h ss ds es fills size left crash i e t ee et b may =
@@ -142,7 +144,9 @@ sized_rest w x rest = record {
 pub sized : (parts : Parts) (ds : List SegmentDisk) (x : State) (phase : NodePhase) → IsNodeAt parts ds x phase → IsSized parts x
 sized parts ds x Up at = sized_up parts x at.parts_stand
 sized parts ds x Down at = sized_rest parts x at.parts_rest
-sized parts ds x (Restarting calls) at = sized_rest parts x at.down.parts_rest
+sized parts ds x (Restarting i opening.Sync) at = sized_rest parts x at.1.down.parts_rest
+sized parts ds x (Restarting i opening.Read) at = sized_rest parts x at.1.down.parts_rest
+sized parts ds x Ready at = sized_rest parts x at.down.parts_rest
 
 module _ (w new : Parts) (segments : new.segments ≡ w.segments) (registers : new.registers ≡ w.registers)
     (writers : Pairs (λ i. IsHalted) w.writers.items new.writers.items) (scanners : Pairs (λ i. IsScannerHalted) w.scanners.items new.scanners.items) where
@@ -211,11 +215,11 @@ crashed_devices ds es fills crash = record {
       subst (λ z. IsRefilled fill z after) d.2 (subst (λ z. IsRefilled fill (device_of d.0) z) e.2 (record { left = here.left; filled = here.filled })));
 }
 
-pub crashed_calls : (ds es : List SegmentDisk) (fills : List Fill) → length fills ≡ length ds → AreCrashed fills ds es → map kinds_left es ≡ map kinds_left ds
-crashed_calls ds es fills size crash = map_same kinds_left es ds (sym crash.size) (λ i e d ee ed. (
+pub crashed_calls : (ds es : List SegmentDisk) (fills : List Fill) → length fills ≡ length ds → AreCrashed fills ds es → map store_left es ≡ map store_left ds
+crashed_calls ds es fills size crash = map_same store_left es ds (sym crash.size) (λ i e d ee ed. (
     let low : i < length ds = slice_get_within ds i d ed in
     let f = element fills i (omega arith) in
-    ap (λ (o : Order). kinds_of (calls_left o.stage)) (crash.each i d e ed ee f.0 f.1).order))
+    ap (λ (o : Order). calls_left o.stage) (crash.each i d e ed ee f.0 f.1).order))
 
 -- how many devices there are
 pub few_disks : (w : Node) → NodeStand w → (length w.disks.items ≤ 16) × (length w.disks.items ≡ w.parts.segments)

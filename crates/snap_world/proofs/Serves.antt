@@ -1,5 +1,5 @@
 -- The end of a restart, as a step of the node.
-use Rattle.std.proofs.Common.{◌≡◌, ℕ, ◌+◌, ◌*◌, ◌%◌, ◌<◌, ◌≤◌, ◌⊎◌, inl, inr, Bool, List, length, map, replicate, Some, None, slice_get, refl, ap, sym, ◌∙◌, subst, arith}
+use Rattle.std.proofs.Common.{◌≡◌, ℕ, ◌+◌, ◌%◌, ◌<◌, ◌≤◌, ◌⊎◌, inl, inr, Bool, List, length, map, replicate, Some, None, slice_get, refl, ap, sym, ◌∙◌, subst, arith}
 use Rattle.std.specs.Prelude.{option_map}
 use Rattle.std.proofs.lemmas.List.{length-map}
 use Rattle.std.proofs.lemmas.Option.{slice_get-map, slice_get_within, same_Some}
@@ -14,22 +14,22 @@ use Rattle.snap_history.specs.History.{Update, from_nothing, number_after, value
 use Rattle.snap_history.specs.Pairs.{Pairs}
 use Rattle.snap_history.proofs.Pairing.{element, partner}
 use Rattle.snap_world.specs.Answers.{number_at}
-use Rattle.snap_world.specs.Calls.{kinds_of, store_kinds}
+use Rattle.snap_persist.specs.Stage.{store_calls}
 use Rattle.snap_world.specs.Devices.{IsServed, AreServed}
 use Rattle.snap_world.specs.Disks.{IsReady, DiskStands, DisksStand, HoldsEither, device_of}
 use Rattle.snap_world.specs.Gathers.{RegisterStands, ViewStands}
 use Rattle.snap_world.specs.Machine.{State, WriterState, ScannerState, Begun, Closed, resting, history_with, served}
 use Rattle.snap_world.specs.NodePhases.{all_idle}
-use Rattle.snap_world.specs.NodeStands.{NodeStands, WriterRests, ScannerRests, IsRestarting, IsNodeAt}
-use Rattle.snap_world.specs.NodeSteps.{kinds_left}
+use Rattle.snap_world.specs.NodeStands.{NodeStands, WriterRests, ScannerRests, IsRecovering, IsNodeAt}
+use Rattle.snap_world.specs.NodeSteps.{store_left}
 use Rattle.snap_world.specs.Phases.{Phases}
 use Rattle.snap_world.specs.Serving.{found_value, IsReadable, IsResumed, IsRecovered, AreRecovered}
 use Rattle.snap_world.specs.Stands.{PartsStand, WriterStands, ScannerStands, IsAtPhase, IsScannerAt, is_fenced}
 use Rattle.snap_world.specs.Steps.{phases_of_parts}
 use Rattle.snap_world.specs.declared.disk.SegmentDisk.{SegmentDisk}
-use Rattle.snap_world.specs.declared.event.Kind.{Kind}
+use Rattle.snap_persist.specs.declared.persist.Next.{Next}
 use Rattle.snap_world.specs.declared.node.Node.{Node}
-use Rattle.snap_world.specs.declared.node.NodePhase.TheVariants.{Restarting}
+use Rattle.snap_world.specs.declared.node.NodePhase.TheVariants.{Ready}
 use Rattle.snap_world.specs.declared.parts.Parts.{Parts}
 use Rattle.snap_world.specs.declared.register.Register.{Register}
 use Rattle.snap_world.specs.declared.writer.Writer.{Writer}
@@ -43,15 +43,15 @@ use Rattle.snap_world.proofs.Served.{Given, marks-exist, served-none, served-som
 use Rattle.snap_world.proofs.Starting.{all_same}
 use Rattle.snap_world.proofs.Sweeping.{map_element, map_same}
 
-module _ (w : Node) (x : State) (stands : NodeStands w x) (calls : ℕ) (restarting : w.phase ≡ Restarting calls) (done : calls ≡ 2 * length w.disks.items) where
+module _ (w : Node) (x : State) (stands : NodeStands w x) (is_ready : w.phase ≡ Ready) where
   abbrev pub n : ℕ
   n = w.parts.segments
 
   abbrev pub ds : List SegmentDisk
   ds = w.disks.items
 
-  pub at : IsRestarting w.parts ds x calls
-  at = subst (IsNodeAt w.parts ds x) restarting stands.at
+  pub at : IsRecovering w.parts ds x n n
+  at = subst (IsNodeAt w.parts ds x) is_ready stands.at
 
   size : length ds ≡ n
   size = stands.disks_n
@@ -64,10 +64,10 @@ module _ (w : Node) (x : State) (stands : NodeStands w x) (calls : ℕ) (restart
     low_n = let l : i < length ds = low in let s : length ds ≡ n = size in omega arith
 
     pub settled : IsSettled (device_of d)
-    settled = let l : i < length ds = low in at.synced i d there (omega arith)
+    settled = let l : i < length ds = low in at.settled i d there low_n
 
     pub found : IsFound i n (device_of d).bytes d.found
-    found = let l : i < length ds = low in at.read i d there (omega arith)
+    found = let l : i < length ds = low in at.found i d there low_n
 
     pub state : (s : WriterState) × (slice_get x.writers i ≡ Some s)
     state =
@@ -284,11 +284,11 @@ module _ (w : Node) (x : State) (stands : NodeStands w x) (calls : ℕ) (restart
         } in
         subst (IsServed i n y) same here
 
-    pub gates : (i : ℕ) (device : Device) (kinds : List Kind) → slice_get (map device_of es) i ≡ Some device → slice_get (map kinds_left es) i ≡ Some kinds
-        → (spare_open : Bool) × (kinds ≡ store_kinds spare_open) × ((k : ℕ) (v : List ℕ) → Holds device.bytes k v → IsSpare spare_open device.bytes k)
-    gates i device kinds there called =
+    pub gates : (i : ℕ) (device : Device) (calls : List Next) → slice_get (map device_of es) i ≡ Some device → slice_get (map store_left es) i ≡ Some calls
+        → (spare_open : Bool) × (calls ≡ store_calls spare_open) × ((k : ℕ) (v : List ℕ) → Holds device.bytes k v → IsSpare spare_open device.bytes k)
+    gates i device calls there called =
         let e = map_element device_of es i device there in
-        let f = map_element kinds_left es i kinds called in
+        let f = map_element store_left es i calls called in
         let d = was i e.0 e.1 in
         let same : device_of d.0 ≡ device = ap image_device (sym d.2.image) ∙ e.2 in
         let one : f.0 ≡ e.0 = same_Some _ _ (sym f.1 ∙ e.1) in
@@ -296,7 +296,7 @@ module _ (w : Node) (x : State) (stands : NodeStands w x) (calls : ℕ) (restart
         let Spare : Device → Type 0 = λ z. (k : ℕ) (v : List ℕ) → Holds z.bytes k v → IsSpare d.0.found.spare_open z.bytes k in
         let spare : Spare (device_of d.0) = λ k v holds. subst (IsSpare d.0.found.spare_open (device_of d.0).bytes)
         (holds_same (device_of d.0).bytes d.0.found.number k (found_value d.0) v (found_holds i n (device_of d.0).bytes d.0.found is) holds).0 is.held.spare in
-        (d.0.found.spare_open, sym f.2 ∙ ap kinds_left one ∙ ap kinds_of d.2.calls, subst Spare same spare)
+        (d.0.found.spare_open, sym f.2 ∙ ap store_left one ∙ d.2.calls, subst Spare same spare)
 
     pub idle_phases : phases_of_parts parts ≡ all_idle (phases_of_parts w.parts)
     idle_phases =

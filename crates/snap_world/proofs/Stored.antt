@@ -11,18 +11,19 @@ use Rattle.snap_disk.specs.declared.fill.Fill.{Fill}
 use Rattle.snap_slot.specs.Layout.{body_block}
 use Rattle.snap_slot.specs.States.{IsEither}
 use Rattle.snap_persist.specs.Stage.{Order, calls_left, first_stage, after_call}
-use Rattle.snap_persist.specs.declared.persist.Stage.{Stage}
 use Rattle.snap_persist.specs.declared.persist.Stage.TheVariants as stage
 use Rattle.snap_history.specs.History.{from_nothing, number_after, value_after}
 use Rattle.snap_history.proofs.Lists.{get-set_other}
 use Rattle.snap_history.proofs.Pairing.{element, partner}
-use Rattle.snap_world.specs.Calls.{kinds_of, store_kinds}
+use Rattle.snap_persist.specs.declared.persist.Next.{Next}
+use Rattle.snap_persist.specs.Stage.{store_calls}
+use Rattle.snap_world.specs.Calls.{store_call}
 use Rattle.snap_world.specs.Devices.{IsMade, IsMissed, Changes, DevicesMove}
 use Rattle.snap_world.specs.Disks.{IsReady, IsStoring, DiskStands, DisksStand, device_of}
 use Rattle.snap_world.specs.Machine.{State, WriterState, Begun, Step, with_writer}
 use Rattle.snap_world.specs.NodePhases.{WorldPhases, AfterCall, PhasesMove}
 use Rattle.snap_world.specs.NodeStands.{NodeStands, NodeStand, IsUp, IsNodeAt}
-use Rattle.snap_world.specs.NodeSteps.{MayStore, phases_of_node, devices_of_node, kinds_left}
+use Rattle.snap_world.specs.NodeSteps.{MayStore, phases_of_node, devices_of_node, store_left}
 use Rattle.snap_world.specs.Phases.{Phases, WriterIs, writer_to}
 use Rattle.snap_world.specs.Stands.{Stand, PartsStand, WriterStands, HasBegun, IsAtPhase}
 use Rattle.snap_world.specs.Steps.{phases_of_parts}
@@ -126,8 +127,8 @@ module _ (w : Node) (x : State) (stands : NodeStands w x) (i : ℕ) (may : MaySt
     low_disk : i < length w.disks.items
     low_disk = slice_get_within w.disks.items i d there
 
-    calls_there : slice_get (map kinds_left w.disks.items) i ≡ Some (kinds_left d)
-    calls_there = slice_get-map kinds_left w.disks.items i ∙ ap (option_map kinds_left) there
+    calls_there : slice_get (map store_left w.disks.items) i ≡ Some (store_left d)
+    calls_there = slice_get-map store_left w.disks.items i ∙ ap (option_map store_left) there
 
     changes : (R : Device → Device → Type 0) (e : SegmentDisk) → R (device_of d) (device_of e) → Changes i R (devices_of_node w) (map device_of (slice_set w.disks.items i e))
     changes R e change = record {
@@ -138,16 +139,16 @@ module _ (w : Node) (x : State) (stands : NodeStands w x) (i : ℕ) (may : MaySt
       others = map-set device_of w.disks.items i e;
     }
 
-    module _ (e : SegmentDisk) (kind : Kind) (made : IsMade d.order.slot (body_block (k + 1) v) kind (device_of d) (device_of e)) where
-      made_here : Changes i (IsMade ((k + 1) % 2) (body_block (k + 1) v) kind) (devices_of_node w) (map device_of (slice_set w.disks.items i e))
-      made_here = changes (IsMade ((k + 1) % 2) (body_block (k + 1) v) kind) e (subst (λ s. IsMade s (body_block (k + 1) v) kind (device_of d) (device_of e)) storing.slot made)
+    module _ (e : SegmentDisk) (kind : Kind) (made : IsMade d.order.slot (body_block (k + 1) v) (store_call kind) (device_of d) (device_of e)) where
+      made_here : Changes i (IsMade ((k + 1) % 2) (body_block (k + 1) v) (store_call kind)) (devices_of_node w) (map device_of (slice_set w.disks.items i e))
+      made_here = changes (IsMade ((k + 1) % 2) (body_block (k + 1) v) (store_call kind)) e (subst (λ s. IsMade s (body_block (k + 1) v) (store_call kind) (device_of d) (device_of e)) storing.slot made)
 
       -- a call that is not the last one
-      pub call_goes : kinds_left d ≡ kind ∷ kinds_left e → e.order.slot ≡ d.order.slot → e.order.stage ≡ after_call d.order.stage → calls_left e.order.stage ≢ []
+      pub call_goes : store_left d ≡ store_call kind ∷ store_left e → e.order.slot ≡ d.order.slot → e.order.stage ≡ after_call d.order.stage → calls_left e.order.stage ≢ []
           → (y : State) × Step n x (Call i) (Called kind) y × DevicesMove n x (phases_of_node w) (devices_of_node w) (Call i) (Called kind) y (map device_of (slice_set w.disks.items i e))
           × NodeStands (with_disk w i e) y
       call_goes asked slot_same stage going =
-          let goes : IsStoring i n k u v (device_of e) e.order = store_goes i n k u v room fits (device_of d) (device_of e) d.order e.order kind asked slot_same stage going storing made in
+          let goes : IsStoring i n k u v (device_of e) e.order = store_goes i n k u v room fits (device_of d) (device_of e) d.order e.order (store_call kind) asked slot_same stage going storing made in
           let now : IsUp w.parts (slice_set w.disks.items i e) x = record {
             parts_stand = up.parts_stand;
             disks_stand = disks_change n x.history x.history x.writers x.writers (phases_of_parts w.parts).writers (phases_of_parts w.parts).writers w.disks.items (slice_set w.disks.items i e) i
@@ -163,13 +164,13 @@ module _ (w : Node) (x : State) (stands : NodeStands w x) (i : ℕ) (may : MaySt
           )
 
       -- the last one, after which the device is ready for the next store
-      pub call_ends : (next : Order) (parts : Parts) → kinds_left d ≡ kind ∷ kinds_of (calls_left next.stage) → next.stage ≡ after_call d.order.stage → next.stage ≡ stage.Stored
+      pub call_ends : (next : Order) (parts : Parts) → store_left d ≡ store_call kind ∷ calls_left next.stage → next.stage ≡ after_call d.order.stage → next.stage ≡ stage.Stored
           → e.order.stage ≡ first_stage true → e.order.slot ≡ (k + 1 + 1) % 2 → parts.segments ≡ w.parts.segments → PartsStand parts x
           → phases_of_parts parts ≡ writer_to (phases_of_parts w.parts) i writer.Stored
           → (y : State) × Step n x (Call i) (Called kind) y × DevicesMove n x (phases_of_node w) (devices_of_node w) (Call i) (Called kind) y (map device_of (slice_set w.disks.items i e))
           × NodeStands (with_disk_and_parts w i e parts) y
       call_ends next parts asked at done first slot segments parts_stand moved =
-          let ends : IsReady i n (k + 1) v (device_of e) e.order = store_ends i n k u v room fits (device_of d) (device_of e) d.order next e.order kind asked at done first slot storing made in
+          let ends : IsReady i n (k + 1) v (device_of e) e.order = store_ends i n k u v room fits (device_of d) (device_of e) d.order next e.order (store_call kind) asked at done first slot storing made in
           let disks : DisksStand n x.history x.writers (slice_set (phases_of_parts w.parts).writers i writer.Stored) (slice_set w.disks.items i e) =
           disks_change n x.history x.history x.writers x.writers (phases_of_parts w.parts).writers (slice_set (phases_of_parts w.parts).writers i writer.Stored) w.disks.items (slice_set w.disks.items i e) i
           (λ j ne. refl) (λ j ne. get-set_other (phases_of_parts w.parts).writers i j writer.Stored ne) (λ j ne. get-set_other w.disks.items i j e ne) (nothing_grows x.history i)
@@ -188,14 +189,14 @@ module _ (w : Node) (x : State) (stands : NodeStands w x) (i : ℕ) (may : MaySt
           )
 
     -- a call that failed
-    pub call_fails : (e : SegmentDisk) (fill : Fill) (kind : Kind) (rest : List Kind) (parts : Parts) → kinds_left d ≡ kind ∷ rest → IsMissed d.order.slot fill kind (device_of d) (device_of e)
+    pub call_fails : (e : SegmentDisk) (fill : Fill) (call : Next) (rest : List Next) (parts : Parts) → store_left d ≡ call ∷ rest → IsMissed d.order.slot fill call (device_of d) (device_of e)
         → parts.segments ≡ w.parts.segments
         → ((s : WriterState) (z : List ℕ) → slice_get x.writers i ≡ Some s → s.pending ≡ Begun z → PartsStand parts (with_writer x i (record s { fenced = true })))
         → phases_of_parts parts ≡ writer_to (phases_of_parts w.parts) i writer.Fenced
         → (y : State) × Step n x (Fail i fill) DeviceFailed y × DevicesMove n x (phases_of_node w) (devices_of_node w) (Fail i fill) DeviceFailed y (map device_of (slice_set w.disks.items i e))
         × NodeStands (with_disk_and_parts w i e parts) y
-    call_fails e fill kind rest parts asked missed segments parts_stand moved =
-        let leaves : (b : List ℕ) → MayLeave (device_of e) b → IsEither i n k u v b = store_missed i n k u v room fits (device_of d) (device_of e) d.order fill kind rest asked storing missed in
+    call_fails e fill call rest parts asked missed segments parts_stand moved =
+        let leaves : (b : List ℕ) → MayLeave (device_of e) b → IsEither i n k u v b = store_missed i n k u v room fits (device_of d) (device_of e) d.order fill call rest asked storing missed in
         let s : WriterState = record state.0 { fenced = true } in
         let disks : DisksStand n x.history (slice_set x.writers i s) (slice_set (phases_of_parts w.parts).writers i writer.Fenced) (slice_set w.disks.items i e) =
         disks_change n x.history x.history x.writers (slice_set x.writers i s) (phases_of_parts w.parts).writers (slice_set (phases_of_parts w.parts).writers i writer.Fenced) w.disks.items (slice_set w.disks.items i e) i
@@ -214,52 +215,43 @@ module _ (w : Node) (x : State) (stands : NodeStands w x) (i : ℕ) (may : MaySt
         } in (
           y,
           (state.0, v, state.1, begun.pending, refl),
-          (kind, rest, calls_there ∙ ap (λ z. Some z) asked, changes (IsMissed ((k + 1) % 2) fill kind) e (subst (λ z. IsMissed z fill kind (device_of d) (device_of e)) storing.slot missed)),
+          (call, rest, calls_there ∙ ap (λ z. Some z) asked, changes (IsMissed ((k + 1) % 2) fill call) e (subst (λ z. IsMissed z fill call (device_of d) (device_of e)) storing.slot missed)),
           record { disks_n = length-set w.disks.items i e ∙ stands.disks_n ∙ sym segments; at = subst (IsNodeAt parts (slice_set w.disks.items i e) y) (sym may.0) now },
         )
 
 -- the phases after a call
 
-kinds_going : (at : Stage) → calls_left at ≢ [] → kinds_of (calls_left at) ≢ []
-kinds_going stage.SpareOpen going e = cc
-kinds_going stage.Closing going e = cc
-kinds_going stage.SpareClosed going e = cc
-kinds_going stage.Writing going e = cc
-kinds_going stage.Written going e = cc
-kinds_going stage.Opening going e = cc
-kinds_going stage.Stored going e = going refl
-kinds_going stage.Fenced going e = going refl
-
-after_going : (p : WorldPhases) (w : ℕ) (kinds : List Kind) (q : WorldPhases) → kinds ≢ [] → q ≡ record { node = p.node; actors = p.actors; calls = slice_set p.calls w kinds } → AfterCall p w kinds q
+after_going : (p : WorldPhases) (w : ℕ) (calls : List Next) (q : WorldPhases) → calls ≢ [] → q ≡ record { node = p.node; actors = p.actors; calls = slice_set p.calls w calls } → AfterCall p w calls q
 after_going p w [] q going is = absurd (going refl)
-after_going p w (kind ∷ kinds) q going is = is
+after_going p w (call ∷ calls) q going is = is
 
-module _ (w : Node) (i : ℕ) (d : SegmentDisk) (there : slice_get w.disks.items i ≡ Some d) (kind : Kind) where
-  calls_are : slice_get (phases_of_node w).calls i ≡ Some (kinds_left d)
-  calls_are = slice_get-map kinds_left w.disks.items i ∙ ap (option_map kinds_left) there
+module _ (w : Node) (i : ℕ) (d : SegmentDisk) (there : slice_get w.disks.items i ≡ Some d) where
+  calls_are : slice_get (phases_of_node w).calls i ≡ Some (store_left d)
+  calls_are = slice_get-map store_left w.disks.items i ∙ ap (option_map store_left) there
 
-  pub call_moves : (n : ℕ) (x : State) (e : SegmentDisk) → kinds_left d ≡ kind ∷ kinds_left e → calls_left e.order.stage ≢ [] → PhasesMove n x (phases_of_node w) (Call i) (Called kind) (phases_of_node (with_disk w i e))
-  call_moves n x e asked going = (
-    kinds_left e,
-    calls_are ∙ ap (λ z. Some z) asked,
-    after_going (phases_of_node w) i (kinds_left e) (phases_of_node (with_disk w i e)) (kinds_going e.order.stage going)
-        (same_phases (record { node = w.phase; actors = phases_of_parts w.parts; calls = slice_set (map kinds_left w.disks.items) i (kinds_left e) }) (phases_of_node (with_disk w i e)) refl refl (map-set kinds_left w.disks.items i e)),
-  )
-
-  pub call_stores : (n : ℕ) (x : State) (e : SegmentDisk) (parts : Parts) → kinds_left d ≡ kind ∷ [] → kinds_left e ≡ store_kinds true → phases_of_parts parts ≡ writer_to (phases_of_parts w.parts) i writer.Stored
-      → PhasesMove n x (phases_of_node w) (Call i) (Called kind) (phases_of_node (with_disk_and_parts w i e parts))
-  call_stores n x e parts asked next moved = (
-    [],
-    calls_are ∙ ap (λ z. Some z) asked,
-    same_phases (record { node = w.phase; actors = writer_to (phases_of_parts w.parts) i writer.Stored; calls = slice_set (map kinds_left w.disks.items) i (store_kinds true) }) (phases_of_node (with_disk_and_parts w i e parts)) refl moved
-        (map-set kinds_left w.disks.items i e ∙ ap (slice_set (map kinds_left w.disks.items) i) next),
-  )
-
-  pub fail_moves : (n : ℕ) (x : State) (e : SegmentDisk) (parts : Parts) (fill : Fill) → kinds_left e ≡ [] → phases_of_parts parts ≡ writer_to (phases_of_parts w.parts) i writer.Fenced
+  pub fail_moves : (n : ℕ) (x : State) (e : SegmentDisk) (parts : Parts) (fill : Fill) → store_left e ≡ [] → phases_of_parts parts ≡ writer_to (phases_of_parts w.parts) i writer.Fenced
       → PhasesMove n x (phases_of_node w) (Fail i fill) DeviceFailed (phases_of_node (with_disk_and_parts w i e parts))
   fail_moves n x e parts fill none moved =
-      same_phases (record { node = w.phase; actors = writer_to (phases_of_parts w.parts) i writer.Fenced; calls = slice_set (map kinds_left w.disks.items) i [] }) (phases_of_node (with_disk_and_parts w i e parts)) refl moved
-      (map-set kinds_left w.disks.items i e ∙ ap (slice_set (map kinds_left w.disks.items) i) none)
+      same_phases (record { node = w.phase; actors = writer_to (phases_of_parts w.parts) i writer.Fenced; calls = slice_set (map store_left w.disks.items) i [] }) (phases_of_node (with_disk_and_parts w i e parts)) refl moved
+      (map-set store_left w.disks.items i e ∙ ap (slice_set (map store_left w.disks.items) i) none)
+
+  module _ (kind : Kind) where
+    pub call_moves : (n : ℕ) (x : State) (e : SegmentDisk) → store_left d ≡ store_call kind ∷ store_left e → calls_left e.order.stage ≢ [] → PhasesMove n x (phases_of_node w) (Call i) (Called kind) (phases_of_node (with_disk w i e))
+    call_moves n x e asked going = (
+      store_left e,
+      calls_are ∙ ap (λ z. Some z) asked,
+      after_going (phases_of_node w) i (store_left e) (phases_of_node (with_disk w i e)) going
+          (same_phases (record { node = w.phase; actors = phases_of_parts w.parts; calls = slice_set (map store_left w.disks.items) i (store_left e) }) (phases_of_node (with_disk w i e)) refl refl (map-set store_left w.disks.items i e)),
+    )
+
+    pub call_stores : (n : ℕ) (x : State) (e : SegmentDisk) (parts : Parts) → store_left d ≡ store_call kind ∷ [] → store_left e ≡ store_calls true → phases_of_parts parts ≡ writer_to (phases_of_parts w.parts) i writer.Stored
+        → PhasesMove n x (phases_of_node w) (Call i) (Called kind) (phases_of_node (with_disk_and_parts w i e parts))
+    call_stores n x e parts asked next moved = (
+      [],
+      calls_are ∙ ap (λ z. Some z) asked,
+      same_phases (record { node = w.phase; actors = writer_to (phases_of_parts w.parts) i writer.Stored; calls = slice_set (map store_left w.disks.items) i (store_calls true) }) (phases_of_node (with_disk_and_parts w i e parts)) refl moved
+          (map-set store_left w.disks.items i e ∙ ap (slice_set (map store_left w.disks.items) i) next),
+    )
 
 -- what the code may rely on
 

@@ -1,25 +1,27 @@
 -- The phases of a world: of its node, of its writers and scanners, and of the stores on its devices.
-use Rattle.std.specs.Prelude.{◌≡◌, ◌⊎◌, ℕ, ◌+◌, ◌*◌, ◌%◌, ◌<◌, ◌==◌, if◌then◌else◌, true, List, [], ◌∷◌, length, replicate, Some, slice_get, slice_set}
+use Rattle.std.specs.Prelude.{◌≡◌, ◌⊎◌, ℕ, ◌+◌, nat_lt, if◌then◌else◌, true, List, [], ◌∷◌, length, replicate, Some, slice_get, slice_set}
 use Rattle.snap_world.specs.Machine.{State}
 use Rattle.snap_world.specs.Phases.{Phases, TakesMemory, WriterIs, writer_to, IsEnabled, Moves}
-use Rattle.snap_world.specs.Calls.{store_kinds}
+use Rattle.snap_persist.specs.declared.persist.Next.{Next}
+use Rattle.snap_persist.specs.Stage.{store_calls}
+use Rattle.snap_world.specs.Calls.{store_call, opening_kind}
 use Rattle.snap_world.specs.declared.event.Event.{Event}
 use Rattle.snap_world.specs.declared.event.Event.TheVariants.{Call, Fail, Crash, Restart, RestartCall, RestartFail, Serve}
-use Rattle.snap_world.specs.declared.event.Kind.{Kind}
-use Rattle.snap_world.specs.declared.event.Kind.TheVariants as kind
 use Rattle.snap_world.specs.declared.event.Reply.{Reply}
 use Rattle.snap_world.specs.declared.event.Reply.TheVariants.{Called, DeviceFailed, Crashed, Restarting as Restarting_reply, Memory, NotNow}
 use Rattle.snap_world.specs.declared.node.NodePhase.{NodePhase}
-use Rattle.snap_world.specs.declared.node.NodePhase.TheVariants.{Up, Down, Restarting}
+use Rattle.snap_world.specs.declared.node.NodePhase.TheVariants.{Up, Down, Restarting, Ready}
+use Rattle.snap_world.specs.declared.node.OpeningCall.{OpeningCall}
+use Rattle.snap_world.specs.declared.node.OpeningCall.TheVariants as opening
 use Rattle.snap_world.specs.declared.writer.WriterPhase.TheVariants as writer
 use Rattle.snap_world.specs.declared.scanner.ScannerPhase.TheVariants as scanner
 
--- `calls` has for each segment the kinds of the device calls that are left of the store under way, or
--- of the next one
+-- `calls` has for each segment the device calls that are left of the store under way, or of the next
+-- one
 pub record WorldPhases : Type 0 where
   pub node : NodePhase
   pub actors : Phases
-  pub calls : List (List Kind)
+  pub calls : List (List Next)
 
 -- how many segments there are
 abbrev pub segments_in : WorldPhases → ℕ
@@ -32,11 +34,11 @@ MayCome x p (Fail w fill) = (p.node ≡ Up) × WriterIs p.actors w writer.Storin
 -- a crash comes with a fill for each device
 MayCome x p (Crash fills) = length fills.items ≡ segments_in p
 MayCome x p Restart = p.node ≡ Down
--- a restart makes two calls for each segment
-MayCome x p RestartCall = (calls : ℕ) × (p.node ≡ Restarting calls) × (calls < 2 * segments_in p)
-MayCome x p (RestartFail fill) = (calls : ℕ) × (p.node ≡ Restarting calls) × (calls < 2 * segments_in p)
+-- a restart makes its calls while one is left
+MayCome x p RestartCall = (i : ℕ) × (call : OpeningCall) × (p.node ≡ Restarting i call)
+MayCome x p (RestartFail fill) = (i : ℕ) × (call : OpeningCall) × (p.node ≡ Restarting i call)
 -- and serves once they are made
-MayCome x p Serve = p.node ≡ Restarting (2 * segments_in p)
+MayCome x p Serve = p.node ≡ Ready
 -- writers and scanners act only while the node is up
 MayCome x p event = (p.node ≡ Up) × IsEnabled x p.actors event
 
@@ -47,16 +49,16 @@ pub record TellsWhether (x : State) (p : WorldPhases) (event : Event) (reply : R
 
 -- after a call with these ones left; once none is left the update is stored, and the next store finds
 -- its spare gate open
-abbrev pub AfterCall : WorldPhases → ℕ → List Kind → WorldPhases → Type 0
+abbrev pub AfterCall : WorldPhases → ℕ → List Next → WorldPhases → Type 0
 AfterCall p w [] q = q ≡ record {
   node = p.node;
   actors = writer_to p.actors w writer.Stored;
-  calls = slice_set p.calls w (store_kinds true);
+  calls = slice_set p.calls w (store_calls true);
 }
-AfterCall p w (kind ∷ kinds) q = q ≡ record {
+AfterCall p w (call ∷ calls) q = q ≡ record {
   node = p.node;
   actors = p.actors;
-  calls = slice_set p.calls w (kind ∷ kinds);
+  calls = slice_set p.calls w (call ∷ calls);
 }
 
 -- nobody is at work
@@ -70,15 +72,17 @@ all_idle p = record {
 abbrev pub node_to : WorldPhases → NodePhase → WorldPhases
 node_to p node = record { node = node; actors = p.actors; calls = p.calls }
 
--- the calls of a restart: for each segment a sync and then a read
-abbrev pub restart_kind : ℕ → Kind
-restart_kind calls = if calls % 2 == 0 then kind.Sync else kind.Read
+-- of each of the segments a restart makes the sync and then the read; after this call of segment i
+abbrev pub after_opening_call : ℕ → ℕ → OpeningCall → NodePhase
+after_opening_call segments i opening.Sync = Restarting i opening.Read
+after_opening_call segments i opening.Read =
+    if nat_lt (i + 1) segments then Restarting (i + 1) opening.Sync else Ready
 
 -- in state x with phases p, over n segments, the event with this reply leaves the phases q
 abbrev pub PhasesMove : ℕ → State → WorldPhases → Event → Reply → WorldPhases → Type 0
 PhasesMove n x p event NotNow q = q ≡ p
 PhasesMove n x p (Call w) (Called kind) q =
-    (rest : List Kind) × (slice_get p.calls w ≡ Some (kind ∷ rest)) × AfterCall p w rest q
+    (rest : List Next) × (slice_get p.calls w ≡ Some (store_call kind ∷ rest)) × AfterCall p w rest q
 PhasesMove n x p (Fail w fill) DeviceFailed q = q ≡ record {
   node = p.node;
   actors = writer_to p.actors w writer.Fenced;
@@ -89,10 +93,10 @@ PhasesMove n x p (Crash fills) Crashed q = q ≡ record {
   actors = all_idle p.actors;
   calls = p.calls;
 }
-PhasesMove n x p Restart Restarting_reply q = q ≡ node_to p (Restarting 0)
+PhasesMove n x p Restart Restarting_reply q = q ≡ node_to p (Restarting 0 opening.Sync)
 PhasesMove n x p RestartCall (Called kind) q =
-    (calls : ℕ) × (p.node ≡ Restarting calls) × (kind ≡ restart_kind calls)
-    × (q ≡ node_to p (Restarting (calls + 1)))
+    (i : ℕ) × (call : OpeningCall) × (p.node ≡ Restarting i call) × (kind ≡ opening_kind call)
+    × (q ≡ node_to p (after_opening_call n i call))
 PhasesMove n x p (RestartFail fill) DeviceFailed q = q ≡ node_to p Down
 -- everybody is idle again
 PhasesMove n x p Serve (Memory m) q =
@@ -105,7 +109,7 @@ PhasesMove n x p event reply q =
 abbrev pub NeedsMemory : WorldPhases → Event → Type 0
 NeedsMemory p event =
     ((p.node ≡ Up) × TakesMemory p.actors event)
-    ⊎ ((event ≡ Serve) × (p.node ≡ Restarting (2 * segments_in p)))
+    ⊎ ((event ≡ Serve) × (p.node ≡ Ready))
 
 -- with these phases memory can have run out before this one of the events: the first, where the list
 -- of replies was to be made, or one whose reply holds values

@@ -1,5 +1,5 @@
 -- Which abstract states a node stands for.
-use Rattle.std.specs.Prelude.{◌≡◌, ℕ, ◌+◌, ◌*◌, ◌<◌, ◌≤◌, List, length, Some, slice_get}
+use Rattle.std.specs.Prelude.{◌≡◌, ℕ, ◌+◌, ◌<◌, ◌≤◌, List, length, Some, slice_get}
 use Rattle.snap_disk.specs.Device.{IsSettled}
 use Rattle.snap_slot.specs.Findings.{IsFound}
 use Rattle.snap_history.specs.Pairs.{Pairs}
@@ -10,7 +10,9 @@ use Rattle.snap_world.specs.Steps.{phases_of_parts}
 use Rattle.snap_world.specs.declared.disk.SegmentDisk.{SegmentDisk}
 use Rattle.snap_world.specs.declared.node.Node.{Node}
 use Rattle.snap_world.specs.declared.node.NodePhase.{NodePhase}
-use Rattle.snap_world.specs.declared.node.NodePhase.TheVariants.{Up, Down, Restarting}
+use Rattle.snap_world.specs.declared.node.NodePhase.TheVariants.{Up, Down, Restarting, Ready}
+use Rattle.snap_world.specs.declared.node.OpeningCall.{OpeningCall}
+use Rattle.snap_world.specs.declared.node.OpeningCall.TheVariants as opening
 use Rattle.snap_world.specs.declared.parts.Parts.{Parts}
 use Rattle.snap_world.specs.declared.register.Register.{Register}
 use Rattle.snap_world.specs.declared.writer.Writer.{Writer}
@@ -49,20 +51,24 @@ pub record IsDown (parts : Parts) (disks : List SegmentDisk) (x : State) : Type 
   pub parts_rest : PartsRest parts x
   pub disks_down : DisksDown parts.segments x.history x.writers disks
 
--- while it restarts, with this many calls done: the devices that were synced have no open place, and
--- what was found in those that were read is what they hold
-pub record IsRestarting (parts : Parts) (disks : List SegmentDisk) (x : State) (calls : ℕ) : Type 0 where
+-- while it restarts: the first `synced` devices have no open place, and what was found in the first
+-- `read` of them is what they hold
+pub record IsRecovering (parts : Parts) (disks : List SegmentDisk) (x : State) (synced read : ℕ) : Type 0 where
   pub down : IsDown parts disks x
-  pub few : calls ≤ 2 * parts.segments
-  pub synced : (i : ℕ) (d : SegmentDisk) → slice_get disks i ≡ Some d → 2 * i < calls
+  pub settled : (i : ℕ) (d : SegmentDisk) → slice_get disks i ≡ Some d → i < synced
       → IsSettled (device_of d)
-  pub read : (i : ℕ) (d : SegmentDisk) → slice_get disks i ≡ Some d → 2 * i + 1 < calls
+  pub found : (i : ℕ) (d : SegmentDisk) → slice_get disks i ≡ Some d → i < read
       → IsFound i parts.segments (device_of d).bytes d.found
+
+abbrev pub IsRestarting : Parts → List SegmentDisk → State → ℕ → OpeningCall → Type 0
+IsRestarting parts disks x i opening.Sync = IsRecovering parts disks x i i
+IsRestarting parts disks x i opening.Read = IsRecovering parts disks x (i + 1) i
 
 abbrev pub IsNodeAt : Parts → List SegmentDisk → State → NodePhase → Type 0
 IsNodeAt parts disks x Up = IsUp parts disks x
 IsNodeAt parts disks x Down = IsDown parts disks x
-IsNodeAt parts disks x (Restarting calls) = IsRestarting parts disks x calls
+IsNodeAt parts disks x (Restarting i call) = (i < parts.segments) × IsRestarting parts disks x i call
+IsNodeAt parts disks x Ready = IsRecovering parts disks x parts.segments parts.segments
 
 pub record NodeStands (w : Node) (x : State) : Type 0 where
   pub disks_n : length w.disks.items ≡ w.parts.segments

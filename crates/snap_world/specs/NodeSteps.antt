@@ -2,7 +2,6 @@
 use Rattle.std.specs.Prelude.{◌≡◌, ℕ, List, map}
 use Rattle.snap_disk.specs.Device.{Device}
 use Rattle.snap_persist.specs.Stage.{calls_left}
-use Rattle.snap_world.specs.Calls.{kinds_of}
 use Rattle.snap_world.specs.Devices.{DevicesMove, GatesTold}
 use Rattle.snap_world.specs.Disks.{device_of}
 use Rattle.snap_world.specs.Machine.{State, Step}
@@ -12,7 +11,7 @@ use Rattle.snap_world.specs.Phases.{WriterIs}
 use Rattle.snap_world.specs.Steps.{phases_of_parts}
 use Rattle.snap_world.specs.declared.event.Event.{Event}
 use Rattle.snap_world.specs.declared.event.Event.TheVariants.{Call, Fail, Crash, Restart, RestartCall, RestartFail, Serve}
-use Rattle.snap_world.specs.declared.event.Kind.{Kind}
+use Rattle.snap_persist.specs.declared.persist.Next.{Next}
 use Rattle.snap_world.specs.declared.event.Reply.{Reply}
 use Rattle.snap_world.specs.declared.event.Reply.TheVariants.{NotNow}
 use Rattle.snap_world.specs.declared.disk.SegmentDisk.{SegmentDisk}
@@ -24,14 +23,15 @@ use Rattle.snap_world.specs.declared.writer.WriterPhase.TheVariants as writer
 abbrev pub devices_of_node : Node → List Device
 devices_of_node w = map device_of w.disks.items
 
-abbrev pub kinds_left : SegmentDisk → List Kind
-kinds_left d = kinds_of (calls_left d.order.stage)
+-- the device calls that are left of the store under way on it, or of the next one
+abbrev pub store_left : SegmentDisk → List Next
+store_left d = calls_left d.order.stage
 
 abbrev pub phases_of_node : Node → WorldPhases
 phases_of_node w = record {
   node = w.phase;
   actors = phases_of_parts w.parts;
-  calls = map kinds_left w.disks.items;
+  calls = map store_left w.disks.items;
 }
 
 -- an event of a writer or a scanner

@@ -6,15 +6,15 @@ ghost use Rattle.snap_slot.specs.Layout.{body_block, IsFileOf};
 ghost use Rattle.snap_slot.specs.Findings.{IsFound};
 ghost use Rattle.snap_persist.specs.Device.{IsJustWritten, write_at, write_bytes};
 ghost use Rattle.snap_persist.specs.Stage.{calls_left, after_call, first_call};
-ghost use Rattle.snap_world.specs.Calls.{kinds_of, write_len};
+ghost use Rattle.snap_world.specs.Calls.{store_call, write_len};
 ghost use Rattle.snap_world.specs.Devices.{IsMade, IsMissed, IsWriteFailed};
 ghost use Rattle.snap_world.specs.Disks.{device_of, IsFormatted, AllReady, IsCrashed, AreCrashed};
 ghost use Rattle.snap_history.specs.Pairs.{Pairs};
 ghost use Rattle.snap_world.specs.Serving.{found_value, AllReadable, IsResumed, AreRecovered};
-ghost use Rattle.snap_world.specs.declared.event.Kind.{Kind};
+ghost use Rattle.snap_persist.specs.declared.persist.Next.{Next};
 
-use super::event::Kind;
-use super::register::Register;
+use crate::event::Kind;
+use crate::register::Register;
 use snap_disk::{Fill, Image};
 use snap_persist::{Answer, Next, Persist, Stage, Write};
 use snap_slot::{
@@ -70,15 +70,15 @@ impl SegmentDisk {
         requires going { calls_left self.old.order.stage ≢ [] }
         ensures slot { self.new.order.slot ≡ self.old.order.slot }
         ensures stage { self.new.order.stage ≡ after_call self.old.order.stage }
-        ensures kind { kinds_of (calls_left self.old.order.stage)
-            ≡ result ∷ kinds_of (calls_left self.new.order.stage) }
-        ensures made { IsMade self.old.order.slot (body_block number value.now) result
+        ensures kind { calls_left self.old.order.stage
+            ≡ store_call result ∷ calls_left self.new.order.stage }
+        ensures made { IsMade self.old.order.slot (body_block number value.now) (store_call result)
             (device_of self.old) (device_of self.new) }
     {
         let kind = match self.order.next() {
             Next::Write(write) => {
                 self.put(write, number, value);
-                kind_of(write)
+                Kind::Write(write)
             }
             Next::Sync => {
                 self.image.settle();
@@ -119,9 +119,9 @@ impl SegmentDisk {
         requires slot { self.old.order.slot < 2 }
         requires going { calls_left self.old.order.stage ≢ [] }
         ensures stage { self.new.order.stage ≡ Stage.Fenced }
-        ensures missed { (kind : Kind) × (rest : List Kind)
-            × (kinds_of (calls_left self.old.order.stage) ≡ kind ∷ rest)
-            × IsMissed self.old.order.slot fill.now kind (device_of self.old) (device_of self.new) }
+        ensures missed { (call : Next) × (rest : List Next)
+            × (calls_left self.old.order.stage ≡ call ∷ rest)
+            × IsMissed self.old.order.slot fill.now call (device_of self.old) (device_of self.new) }
     {
         match self.order.next() {
             Next::Write(write) => self.put_failed(write, fill),
@@ -243,17 +243,6 @@ pub fn crash_all(disks: &mut Vec<SegmentDisk>, fills: &Vec<Fill>)
 {
     for i in 0..disks.len() {
         disks[i].crash(&fills[i]);
-    }
-}
-
-/// The kind of a write.
-fn kind_of(write: Write) -> Kind
-    ensures { kinds_of (Next.Write write ∷ []) ≡ result ∷ [] }
-{
-    match write {
-        Write::Close => Kind::Close,
-        Write::Body => Kind::Body,
-        Write::Open => Kind::Open,
     }
 }
 

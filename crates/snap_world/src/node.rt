@@ -5,10 +5,17 @@ ghost use Rattle.snap_world.specs.NodePhases.{NeedsMemory};
 ghost use Rattle.snap_world.specs.NodeStands.{NodeStands, NodeStand};
 ghost use Rattle.snap_world.specs.NodeSteps.{IsNodeStep, IsActors, phases_of_node, devices_of_node};
 
-use super::disk::{SegmentDisk, new_disks};
-use super::event::{Event, Reply};
-use super::parts::Parts;
+use crate::disk::{SegmentDisk, new_disks};
+use crate::event::{Event, Reply};
+use crate::parts::Parts;
 use std::alloc::{AllocError, Global};
+
+/// A device call by which a restart opens a segment: first the sync, then the read of its file.
+#[derive(Clone, Copy, Debug, Drop, PartialEq, Eq)]
+pub enum OpeningCall {
+    Sync,
+    Read,
+}
 
 /// How far a node is with its restart.
 #[derive(Clone, Copy, Debug, Drop, PartialEq, Eq)]
@@ -17,9 +24,10 @@ pub enum NodePhase {
     Up,
     /// It has crashed.
     Down,
-    /// It restarts, and has done this many of the device calls of its restart: for each segment a
-    /// sync and a read.
-    Restarting(usize),
+    /// It restarts: the segments before this one are opened, and this call of it comes next.
+    Restarting { segment: usize, call: OpeningCall },
+    /// It restarts, all segments are opened, and what was found may be served.
+    Ready,
 }
 
 /// What is in memory, and the device of each segment.

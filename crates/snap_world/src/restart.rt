@@ -1,13 +1,14 @@
 //! Crashes and restarts.
 ghost use Rattle.std.specs.Prelude.{◌≡◌, ◌*◌, ◌<◌, length, IfOk, OnErr};
 ghost use Rattle.snap_disk.specs.declared.fill.Fill.{Fill};
+ghost use Rattle.snap_world.specs.NodePhases.{after_opening_call};
 ghost use Rattle.snap_world.specs.NodeStands.{NodeStand};
 ghost use Rattle.snap_world.specs.NodeSteps.{IsNodeStep};
 ghost use Rattle.snap_world.specs.declared.event.Event.{Event};
 
-use super::disk::{crash_all, found_values, recover_all, resume_all};
-use super::event::{Kind, Reply};
-use super::node::{Node, NodePhase};
+use crate::disk::{crash_all, found_values, recover_all, resume_all};
+use crate::event::{Kind, Reply};
+use crate::node::{Node, NodePhase, OpeningCall};
 use snap_disk::Fill;
 use std::alloc::{AllocError, Global};
 
@@ -34,7 +35,10 @@ impl Node {
     {
         match self.phase {
             NodePhase::Down => {
-                self.phase = NodePhase::Restarting(0);
+                self.phase = NodePhase::Restarting {
+                    segment: 0,
+                    call: OpeningCall::Sync,
+                };
                 Reply::Restarting
             }
             _ => Reply::NotNow,
@@ -47,20 +51,22 @@ impl Node {
         ensures step { IsNodeStep self.old Event.RestartCall result self.new }
     {
         match self.phase {
-            NodePhase::Restarting(calls) => {
-                if calls >= 2 * self.disks.len() {
-                    return Reply::NotNow;
-                }
-                let segment = calls / 2;
-                self.phase = NodePhase::Restarting(calls + 1);
-                if calls % 2 == 0 {
+            NodePhase::Restarting { segment, call } => match call {
+                OpeningCall::Sync => {
                     self.disks[segment].image.settle();
-                    return Reply::Called(Kind::Sync);
+                    self.phase = NodePhase::Restarting {
+                        segment,
+                        call: OpeningCall::Read,
+                    };
+                    Reply::Called(Kind::Sync)
                 }
-                let count = self.disks.len() as u8;
-                self.disks[segment].read(segment as u8, count);
-                Reply::Called(Kind::Read)
-            }
+                OpeningCall::Read => {
+                    let count = self.disks.len();
+                    self.disks[segment].read(segment as u8, count as u8);
+                    self.phase = after_read(count, segment);
+                    Reply::Called(Kind::Read)
+                }
+            },
             _ => Reply::NotNow,
         }
     }
@@ -71,16 +77,15 @@ impl Node {
         ensures step { IsNodeStep self.old (Event.RestartFail fill.now) result self.new }
     {
         match self.phase {
-            NodePhase::Restarting(calls) => {
-                if calls >= 2 * self.disks.len() {
-                    return Reply::NotNow;
-                }
+            NodePhase::Restarting { segment, call } => {
                 self.phase = NodePhase::Down;
-                if calls % 2 == 0 {
-                    self.disks[calls / 2].image.settle_failed(fill);
-                    return Reply::DeviceFailed;
+                match call {
+                    OpeningCall::Sync => {
+                        self.disks[segment].image.settle_failed(fill);
+                        Reply::DeviceFailed
+                    }
+                    OpeningCall::Read => Reply::DeviceFailed,
                 }
-                Reply::DeviceFailed
             }
             _ => Reply::NotNow,
         }
@@ -90,15 +95,11 @@ impl Node {
     pub fn serve(&mut self, alloc: Global) -> Result<Reply, AllocError>
         requires stands { NodeStand self.old }
         ensures step { IfOk result (λ reply. IsNodeStep self.old Event.Serve reply self.new) }
-        ensures memory { OnErr result
-            (self.old.phase ≡ NodePhase.Restarting (2 * length self.old.disks.items)) }
+        ensures memory { OnErr result (self.old.phase ≡ NodePhase.Ready) }
         ensures err { OnErr result (self.new ≡ self.old) }
     {
         match self.phase {
-            NodePhase::Restarting(calls) => {
-                if calls != 2 * self.disks.len() {
-                    return Ok(Reply::NotNow);
-                }
+            NodePhase::Ready => {
                 let values = found_values(alloc, &self.disks)?;
                 recover_all(&mut self.parts.registers, &self.disks);
                 resume_all(&mut self.disks);
@@ -107,5 +108,20 @@ impl Node {
             }
             _ => Ok(Reply::NotNow),
         }
+    }
+}
+
+/// The phase after the file of this segment was read.
+fn after_read(segments: usize, segment: usize) -> NodePhase
+    requires { segment < segments }
+    ensures { result ≡ after_opening_call segments segment OpeningCall.Read }
+{
+    if segment + 1 < segments {
+        NodePhase::Restarting {
+            segment: segment + 1,
+            call: OpeningCall::Sync,
+        }
+    } else {
+        NodePhase::Ready
     }
 }

@@ -5,9 +5,9 @@ ghost use Rattle.snap_world.specs.NodeStands.{NodeStand};
 ghost use Rattle.snap_world.specs.NodeSteps.{IsNodeStep, MayStore};
 ghost use Rattle.snap_world.specs.declared.event.Event.{Event};
 
-use super::event::Reply;
-use super::node::{Node, NodePhase};
-use super::writer::WriterPhase;
+use crate::event::Reply;
+use crate::node::{Node, NodePhase};
+use crate::writer::WriterPhase;
 use snap_disk::Fill;
 use snap_persist::{Next, Persist};
 use snap_slot::slot_of;

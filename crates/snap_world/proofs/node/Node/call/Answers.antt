@@ -5,7 +5,7 @@ use Rattle.snap_history.specs.History.{from_nothing, number_after}
 use Rattle.snap_slot.specs.Layout.{body_block}
 use Rattle.snap_persist.specs.Stage.{calls_left, first_call, after_call}
 use Rattle.snap_persist.specs.declared.persist.Next.TheVariants.{Done}
-use Rattle.snap_world.specs.Calls.{kinds_of}
+use Rattle.snap_world.specs.Calls.{store_call}
 use Rattle.snap_world.specs.Devices.{IsMade}
 use Rattle.snap_world.specs.Disks.{device_of}
 use Rattle.snap_world.specs.declared.disk.SegmentDisk.{SegmentDisk}
@@ -106,8 +106,8 @@ returns-in-Done c =
             let number = number_is w x stands i may c.index.result.now c.index.ensures in
             let value = c.as_slice.ensures ∙ same_value w x stands i may c.index-2.result.now c.index-2.ensures in
             let done = at ∙ going_done d.order.stage (storing w x stands i may d read).going last in
-            let made = subst (λ k. IsMade d.order.slot (body_block (k + 1) (found w x stands i may).0.value) kind (device_of d) (device_of e)) number
-            (subst (λ v. IsMade d.order.slot (body_block (c.index.result.now.number + 1) v) kind (device_of d) (device_of e)) value c.call-kind.ensures.made) in
+            let made = subst (λ k. IsMade d.order.slot (body_block (k + 1) (found w x stands i may).0.value) (store_call kind) (device_of d) (device_of e)) number
+            (subst (λ v. IsMade d.order.slot (body_block (c.index.result.now.number + 1) v) (store_call kind) (device_of d) (device_of e)) value c.call-kind.ensures.made) in
             call_ends w x stands i may d read e kind made mid.order parts c.call-kind.ensures.kind at done c.begin-disk.ensures.stage
             (c.begin-disk.ensures.slot ∙ c.slot_of.ensures ∙ ap (λ k. (k + 1 + 1) % 2) number) c.end_store.ensures.segments
             (c.end_store.ensures.stands x (is_up w x may.0 stands).parts_stand may.1) c.end_store.ensures.phases);
@@ -115,7 +115,7 @@ returns-in-Done c =
         phases = λ x stands. (
             let done = at ∙ going_done d.order.stage (storing w x stands i may d read).going last in
             call_stores w i d (there w x stands i may d read) kind w.parts.segments x e parts
-            (c.call-kind.ensures.kind ∙ ap (λ s. kind ∷ kinds_of (calls_left s)) done) (ap kinds_of c.begin-disk.ensures.calls) c.end_store.ensures.phases);
+            (c.call-kind.ensures.kind ∙ ap (λ s. store_call kind ∷ calls_left s) done) c.begin-disk.ensures.calls c.end_store.ensures.phases);
         gates = λ x stands. tt;
         unchanged = λ f. cc;
       };
@@ -137,8 +137,8 @@ returns-in_default c =
         step = λ x stands. (
             let number = number_is w x stands i may c.index.result.now c.index.ensures in
             let value = c.as_slice.ensures ∙ same_value w x stands i may c.index-2.result.now c.index-2.ensures in
-            let made = subst (λ k. IsMade d.order.slot (body_block (k + 1) (found w x stands i may).0.value) kind (device_of d) (device_of e)) number
-            (subst (λ v. IsMade d.order.slot (body_block (c.index.result.now.number + 1) v) kind (device_of d) (device_of e)) value c.call-kind.ensures.made) in
+            let made = subst (λ k. IsMade d.order.slot (body_block (k + 1) (found w x stands i may).0.value) (store_call kind) (device_of d) (device_of e)) number
+            (subst (λ v. IsMade d.order.slot (body_block (c.index.result.now.number + 1) v) (store_call kind) (device_of d) (device_of e)) value c.call-kind.ensures.made) in
             call_goes w x stands i may d read e kind made c.call-kind.ensures.kind c.call-kind.ensures.slot c.call-kind.ensures.stage going);
         comes = λ x stands. record { refused = λ f. cc; came = λ _. may };
         phases = λ x stands. call_moves w i d (there w x stands i may d read) kind w.parts.segments x e c.call-kind.ensures.kind going;

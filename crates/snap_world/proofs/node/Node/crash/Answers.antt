@@ -1,7 +1,7 @@
 use Rattle.std.proofs.Common.{◌≡◌, length, map, refl, sym, ◌∙◌, arith}
 use Rattle.std.proofs.lemmas.List.{length-map}
 use Rattle.snap_world.specs.Machine.{crashed}
-use Rattle.snap_world.specs.NodeSteps.{kinds_left, phases_of_node}
+use Rattle.snap_world.specs.NodeSteps.{store_left, phases_of_node}
 use Rattle.snap_world.specs.NodePhases.{WorldPhases, all_idle}
 use Rattle.snap_world.specs.Steps.{phases_of_parts}
 use Rattle.snap_world.specs.declared.node.Node.{Node}
@@ -20,7 +20,7 @@ returns c =
     let h = c.halt.ensures in
     let new : Node = record { phase = Down; parts = parts; disks = c.crash_all.new.disks } in
     let long : length fills ≡ length ds = omega (arith, c.args.fills.now.ok.0, w.disks.ok.0) in
-    let p : WorldPhases = record { node = Down; actors = all_idle (phases_of_parts w.parts); calls = map kinds_left ds } in
+    let p : WorldPhases = record { node = Down; actors = all_idle (phases_of_parts w.parts); calls = map store_left ds } in
     record {
       step = record {
         segments = h.segments;
@@ -33,7 +33,7 @@ returns c =
             at = goes_down w.parts parts h.segments h.registers h.writers h.scanners ds es fills x w.phase long stands.at c.crash_all.ensures;
           },
         );
-        comes = λ x stands. record { refused = λ e. cc; came = λ _. long ∙ sym (length-map ds kinds_left) };
+        comes = λ x stands. record { refused = λ e. cc; came = λ _. long ∙ sym (length-map ds store_left) };
         phases = λ x stands. same_phases p (phases_of_node new) refl (halted_phases w.parts parts h.segments h.registers h.writers h.scanners) (crashed_calls ds es fills long c.crash_all.ensures);
         gates = λ x stands. tt;
         unchanged = λ e. cc;

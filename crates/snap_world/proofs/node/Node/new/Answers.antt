@@ -3,10 +3,10 @@ use Rattle.std.proofs.lemmas.List.{length-map}
 use Rattle.snap_slot.specs.States.{IsAtRest}
 use Rattle.snap_persist.specs.Stage.{calls_left}
 use Rattle.snap_history.proofs.Lists.{get-replicate}
-use Rattle.snap_world.specs.Calls.{kinds_of, store_kinds}
+use Rattle.snap_persist.specs.Stage.{store_calls}
 use Rattle.snap_world.specs.Disks.{DiskStands, IsFormatted, IsReady, device_of}
 use Rattle.snap_world.specs.declared.disk.SegmentDisk.{SegmentDisk}
-use Rattle.snap_world.specs.NodeSteps.{kinds_left, phases_of_node}
+use Rattle.snap_world.specs.NodeSteps.{store_left, phases_of_node}
 use Rattle.snap_world.specs.Phases.{Phases}
 use Rattle.snap_world.specs.Start.{start_world_phases}
 use Rattle.snap_world.specs.declared.node.Node.{Node}
@@ -25,9 +25,9 @@ returns-clause-phases c =
     let n = c.args.segments in
     let disks = c.in_ok-disks.disks.items in
     let w : Node = record { phase = Up; parts = c.in_ok-parts.parts; disks = c.in_ok-disks.disks } in
-    let kinds : map kinds_left disks ≡ replicate (length disks) (store_kinds false) = all_same kinds_left (store_kinds false) disks (λ i d e. ap (λ s. kinds_of (calls_left s)) (c.in_ok-disks.ensures.1 i d e).stage) in
+    let calls : map store_left disks ≡ replicate (length disks) (store_calls false) = all_same store_left (store_calls false) disks (λ i d e. ap calls_left (c.in_ok-disks.ensures.1 i d e).stage) in
     same_phases (start_world_phases n c.args.scanners) (phases_of_node w) refl c.in_ok-parts.ensures.phases
-    (kinds ∙ ap (λ m. replicate m (store_kinds false)) c.in_ok-disks.ensures.0)
+    (calls ∙ ap (λ m. replicate m (store_calls false)) c.in_ok-disks.ensures.0)
 
 pub returns-clause-stands : goal.returns-clause-stands
 returns-clause-stands c =
