@@ -16,7 +16,7 @@ use Rattle.snap_persist.specs.declared.persist.Stage.TheVariants as stage
 use Rattle.snap_persist.proofs.Stages.{stage_leaves, write_leaves, write_goes, sync_goes, sync_leaves}
 use Rattle.snap_world.specs.Calls.{write_len}
 use Rattle.snap_world.specs.Devices.{IsMade, IsMissed, IsWriteFailed, IsRefilled}
-use Rattle.snap_world.specs.Disks.{IsReady, IsStoring}
+use Rattle.snap_world.specs.Drives.{IsReady, IsStoreUnderWay}
 
 -- the calls that are left, of which this one is the first
 left_from : (calls : List Next) (call : Next) → first_call calls ≡ call → (call ≡ next.Done → ⊥) → (rest : List Next) × (calls ≡ call ∷ rest)
@@ -60,12 +60,12 @@ module _ (i n k : ℕ) (u v : List ℕ) (small : k + 1 < 2 ^ 63) (fits : length 
   missed_leaves at fill next.Sync rest asked is missed = sync_leaves i n k u v small fits d e at is missed.left
   missed_leaves at fill next.Done rest asked is missed = absurd missed
 
-  pub store_missed : (order : Order) (fill : Fill) (call : Next) (rest : List Next) → calls_left order.stage ≡ call ∷ rest → IsStoring i n k u v d order → IsMissed order.slot fill call d e
+  pub store_missed : (order : Order) (fill : Fill) (call : Next) (rest : List Next) → calls_left order.stage ≡ call ∷ rest → IsStoreUnderWay i n k u v d order → IsMissed order.slot fill call d e
       → (b : List ℕ) → MayLeave e b → IsEither i n k u v b
   store_missed order fill call rest asked is missed = missed_leaves order.stage fill call rest asked is.at_stage (subst (λ s. IsMissed s fill call d e) is.slot missed)
 
   pub store_goes : (order next : Order) (call : Next) → calls_left order.stage ≡ call ∷ calls_left next.stage → next.slot ≡ order.slot → next.stage ≡ after_call order.stage → calls_left next.stage ≢ []
-      → IsStoring i n k u v d order → IsMade order.slot (body_block (k + 1) v) call d e → IsStoring i n k u v e next
+      → IsStoreUnderWay i n k u v d order → IsMade order.slot (body_block (k + 1) v) call d e → IsStoreUnderWay i n k u v e next
   store_goes order next call asked slot stage going is made = record {
     slot = slot ∙ is.slot;
     going = going;
@@ -75,7 +75,7 @@ module _ (i n k : ℕ) (u v : List ℕ) (small : k + 1 < 2 ^ 63) (fits : length 
 
   -- after the last call the device is ready for the next store
   pub store_ends : (order next after : Order) (call : Next) → calls_left order.stage ≡ call ∷ calls_left next.stage → next.stage ≡ after_call order.stage → next.stage ≡ stage.Stored
-      → after.stage ≡ first_stage true → after.slot ≡ (k + 1 + 1) % 2 → IsStoring i n k u v d order → IsMade order.slot (body_block (k + 1) v) call d e → IsReady i n (k + 1) v e after
+      → after.stage ≡ first_stage true → after.slot ≡ (k + 1 + 1) % 2 → IsStoreUnderWay i n k u v d order → IsMade order.slot (body_block (k + 1) v) call d e → IsReady i n (k + 1) v e after
   store_ends order next after call asked stage done first slot is made = record {
     spare_open = true;
     rest = let At : Stage → Type 0 = λ at. IsAtStage i n k u v at e in

@@ -13,9 +13,9 @@ use Rattle.snap_disk.proofs.Filling.{vec_of, any_crash, any_failed_write}
 use Rattle.snap_history.proofs.Lists.{get-set_same, get-set_other}
 use Rattle.snap_world.specs.Crashes.{CrashMayLeave, SomeCrashLeaves, AnyCrash, CrashInsideAnyWrite, AnyFault}
 use Rattle.snap_world.specs.Devices.{AreRefilled, Changes, IsRefilled}
-use Rattle.snap_world.specs.Disks.{device_of}
+use Rattle.snap_world.specs.Drives.{device_of}
 use Rattle.snap_world.specs.Surface.{devices_of}
-use Rattle.snap_world.specs.declared.disk.SegmentDisk.{SegmentDisk}
+use Rattle.snap_world.specs.declared.drive.Drive.{Drive}
 use Rattle.snap_world.specs.declared.world.World.{World}
 use Rattle.snap_world.proofs.Sweeping.{map_element}
 
@@ -116,24 +116,24 @@ fault_of devices small = record {
 
 -- the devices of a world are so, since each is an image in memory
 
-small_of : (disks : List SegmentDisk) → AllSmall (map device_of disks)
-small_of disks i device there =
-    let d = map_element device_of disks i device there in
+small_of : (drives : List Drive) → AllSmall (map device_of drives)
+small_of drives i device there =
+    let d = map_element device_of drives i device there in
     let bytes : Vec ℕ = d.0.image.bytes in
     let here : length (device_of d.0).bytes < 2 ^ 63 = omega (arith, bytes.ok.0, bytes.ok.1, bytes.small) in
     subst (λ x. length x.bytes < 2 ^ 63) d.2 here
 
-few_of : (disks : Vec SegmentDisk) → length (map device_of disks.items) < 2 ^ 63
-few_of disks = omega (arith, length-map disks.items device_of, disks.ok.0, disks.ok.1, disks.small)
+few_of : (drives : Vec Drive) → length (map device_of drives.items) < 2 ^ 63
+few_of drives = omega (arith, length-map drives.items device_of, drives.ok.0, drives.ok.1, drives.small)
 
 pub any_crash_of : (w : World) → AnyCrash (devices_of w)
-any_crash_of w = record { leaves = crash_of (devices_of w) (few_of w.node.disks) (small_of w.node.disks.items) }
+any_crash_of w = record { leaves = crash_of (devices_of w) (few_of w.node.drives) (small_of w.node.drives.items) }
 
 pub crash_inside_any_write_of : (w : World) → CrashInsideAnyWrite (devices_of w)
-crash_inside_any_write_of w = record { leaves = crash_inside_of (devices_of w) (few_of w.node.disks) (small_of w.node.disks.items) }
+crash_inside_any_write_of w = record { leaves = crash_inside_of (devices_of w) (few_of w.node.drives) (small_of w.node.drives.items) }
 
 pub any_fault_of : (w : World) → AnyFault (devices_of w)
-any_fault_of w = fault_of (devices_of w) (small_of w.node.disks.items)
+any_fault_of w = fault_of (devices_of w) (small_of w.node.drives.items)
 
 -- the three, for `World::run`
 pub ruleset no_bytes_left_out = (any_crash_of, crash_inside_any_write_of, any_fault_of)

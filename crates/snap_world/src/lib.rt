@@ -19,7 +19,7 @@
 #![tactic(auto)]
 
 mod collector;
-mod disk;
+mod drive;
 mod event;
 #[cfg(test)]
 mod generated_tests;

@@ -3,9 +3,10 @@ ghost use Rattle.std.specs.Prelude.{◌≡◌, ℕ, ◌<◌, ◌≤◌, IfOk, On
 ghost use Rattle.snap_world.specs.Start.{start_state, start_world_phases, AreFormatted};
 ghost use Rattle.snap_world.specs.NodePhases.{NeedsMemory};
 ghost use Rattle.snap_world.specs.NodeStands.{NodeStands, NodeStand};
-ghost use Rattle.snap_world.specs.NodeSteps.{IsNodeStep, IsActors, phases_of_node, devices_of_node};
+ghost use Rattle.snap_world.specs.NodeSteps.{IsNodeStep, phases_of_node, devices_of_node};
+ghost use Rattle.snap_world.specs.Steps.{IsActors};
 
-use crate::disk::{SegmentDisk, new_disks};
+use crate::drive::{Drive, new_drives};
 use crate::event::{Event, Reply};
 use crate::parts::Parts;
 use std::alloc::{AllocError, Global};
@@ -35,7 +36,7 @@ pub enum NodePhase {
 pub struct Node {
     pub phase: NodePhase,
     pub parts: Parts,
-    pub disks: Vec<SegmentDisk>,
+    pub drives: Vec<Drive>,
 }
 
 impl Node {
@@ -49,11 +50,11 @@ impl Node {
         ensures stands { IfOk result (λ w. NodeStands w (start_state segments scanners)) }
     {
         let parts = Parts::new(alloc, segments, scanners)?;
-        let disks = new_disks(alloc, segments)?;
+        let drives = new_drives(alloc, segments)?;
         Ok(Node {
             phase: NodePhase::Up,
             parts,
-            disks,
+            drives,
         })
     }
 

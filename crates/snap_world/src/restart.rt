@@ -1,14 +1,16 @@
 //! Crashes and restarts.
-ghost use Rattle.std.specs.Prelude.{◌≡◌, ◌*◌, ◌<◌, length, IfOk, OnErr};
+ghost use Rattle.std.specs.Prelude.{◌≡◌, ◌<◌, length, IfOk, OnErr};
 ghost use Rattle.snap_disk.specs.declared.fill.Fill.{Fill};
 ghost use Rattle.snap_world.specs.NodePhases.{after_opening_call};
 ghost use Rattle.snap_world.specs.NodeStands.{NodeStand};
 ghost use Rattle.snap_world.specs.NodeSteps.{IsNodeStep};
+ghost use Rattle.snap_world.specs.Serving.{AllReadable, AreRecovered};
 ghost use Rattle.snap_world.specs.declared.event.Event.{Event};
 
-use crate::disk::{crash_all, found_values, recover_all, resume_all};
+use crate::drive::{Drive, crash_all, found_values, resume_all};
 use crate::event::{Kind, Reply};
 use crate::node::{Node, NodePhase, OpeningCall};
+use crate::register::Register;
 use snap_disk::Fill;
 use std::alloc::{AllocError, Global};
 
@@ -19,10 +21,10 @@ impl Node {
         requires stands { NodeStand self.old }
         ensures step { IsNodeStep self.old (Event.Crash fills.now) result self.new }
     {
-        if fills.len() != self.disks.len() {
+        if fills.len() != self.drives.len() {
             return Reply::NotNow;
         }
-        crash_all(&mut self.disks, fills);
+        crash_all(&mut self.drives, fills);
         self.parts.halt();
         self.phase = NodePhase::Down;
         Reply::Crashed
@@ -53,7 +55,7 @@ impl Node {
         match self.phase {
             NodePhase::Restarting { segment, call } => match call {
                 OpeningCall::Sync => {
-                    self.disks[segment].image.settle();
+                    self.drives[segment].image.settle();
                     self.phase = NodePhase::Restarting {
                         segment,
                         call: OpeningCall::Read,
@@ -61,8 +63,8 @@ impl Node {
                     Reply::Called(Kind::Sync)
                 }
                 OpeningCall::Read => {
-                    let count = self.disks.len();
-                    self.disks[segment].read(segment as u8, count as u8);
+                    let count = self.drives.len();
+                    self.drives[segment].read(segment as u8, count as u8);
                     self.phase = after_read(count, segment);
                     Reply::Called(Kind::Read)
                 }
@@ -81,7 +83,7 @@ impl Node {
                 self.phase = NodePhase::Down;
                 match call {
                     OpeningCall::Sync => {
-                        self.disks[segment].image.settle_failed(fill);
+                        self.drives[segment].image.settle_failed(fill);
                         Reply::DeviceFailed
                     }
                     OpeningCall::Read => Reply::DeviceFailed,
@@ -100,9 +102,9 @@ impl Node {
     {
         match self.phase {
             NodePhase::Ready => {
-                let values = found_values(alloc, &self.disks)?;
-                recover_all(&mut self.parts.registers, &self.disks);
-                resume_all(&mut self.disks);
+                let values = found_values(alloc, &self.drives)?;
+                recover_all(&mut self.parts.registers, &self.drives);
+                resume_all(&mut self.drives);
                 self.phase = NodePhase::Up;
                 Ok(Reply::Memory(values))
             }
@@ -123,5 +125,18 @@ fn after_read(segments: usize, segment: usize) -> NodePhase
         }
     } else {
         NodePhase::Ready
+    }
+}
+
+/// Each register gets what the last restart found for its segment.
+fn recover_all(registers: &mut Vec<Register>, drives: &Vec<Drive>)
+    requires size { length registers.old.items ≡ length drives.now.items }
+    requires readable { ∥ AllReadable drives.now.items ∥₁ }
+    ensures { AreRecovered drives.now.items registers.old.items registers.new.items }
+{
+    for i in 0..registers.len() {
+        let register = &mut registers[i];
+        register.number = drives[i].found.number;
+        register.value.set(drives[i].found_value());
     }
 }

@@ -3,7 +3,7 @@ use Rattle.std.proofs.Math.Logic.{∥∥₁_elim}
 use Rattle.std.proofs.Props.{props}
 use Rattle.snap_persist.specs.Stage.{calls_left}
 use Rattle.snap_world.proofs.Acting.{is_up, refuses}
-use Rattle.snap_world.proofs.Stored.{call_fails, fail_moves, there, storing, size, slot_low, parts_of, store_within, disk_fits}
+use Rattle.snap_world.proofs.Stored.{call_fails, fail_moves, there, storing, size, slot_low, parts_of, store_within, drive_fits}
 use Rattle.snap_world.proofs.node.Node.fail.Goals as goal
 
 pub returns-then-not-may_store : goal.returns-then-not-may_store
@@ -12,7 +12,7 @@ returns-then-not-may_store c = record { step = refuses c.args.self.now _ (λ x s
 pub index_mut-requires : goal.index_mut-requires
 index_mut-requires c =
     let may = c.if-not-may_store.ensures.0 refl in
-    disk_fits c.args.self.now c.args.segment c.requires.stands (store_within c.args.self.now c.args.segment may c.requires.stands)
+    drive_fits c.args.self.now c.args.segment c.requires.stands (store_within c.args.self.now c.args.segment may c.requires.stands)
 
 pub fail-requires-clause-size : goal.fail-requires-clause-size
 fail-requires-clause-size c =

@@ -6,7 +6,7 @@ use Rattle.snap_history.specs.History.{from_nothing, IsMemory}
 use Rattle.snap_world.specs.NodeSteps.{store_left}
 use Rattle.snap_world.specs.declared.parts.Parts.{Parts}
 use Rattle.snap_world.proofs.Crashing.{sized}
-use Rattle.snap_world.proofs.Serves.{readable, marks, h, memory, y, parts_stand, disks_stand, same_devices, device_served, gates, idle_phases}
+use Rattle.snap_world.proofs.Serves.{readable, marks, h, memory, y, parts_stand, drives_stand, same_devices, device_served, gates, idle_phases}
 use Rattle.snap_world.proofs.node.Node.serve.Goals as goal
 
 pub found_values-requires : goal.found_values-requires
@@ -17,7 +17,7 @@ found_values-requires c =
 pub recover_all-requires-clause-size : goal.recover_all-requires-clause-size
 recover_all-requires-clause-size c =
     let w = c.args.self.now in
-    ∥∥₁_elim c.requires.stands (hlevel props) (λ q. (sized w.parts w.disks.items q.0 w.phase q.1.at).registers_n ∙ sym q.1.disks_n)
+    ∥∥₁_elim c.requires.stands (hlevel props) (λ q. (sized w.parts w.drives.items q.0 w.phase q.1.at).registers_n ∙ sym q.1.drives_n)
 
 pub recover_all-requires-clause-readable : goal.recover_all-requires-clause-readable
 recover_all-requires-clause-readable c =
@@ -34,10 +34,10 @@ returns-in_ok-values-in-Ready-clause-step c =
     let w = c.args.self.now in
     let is = c.in-Ready.is in
     let parts : Parts = record { segments = w.parts.segments; registers = c.recover_all.new.registers; writers = w.parts.writers; scanners = w.parts.scanners } in
-    let es = c.resume_all.new.disks.items in
+    let es = c.resume_all.new.drives.items in
     let got = c.recover_all.ensures in
     let set = c.resume_all.ensures in
-    let calls : length (map store_left w.disks.items) ≡ length w.disks.items = length-map w.disks.items store_left in
+    let calls : length (map store_left w.drives.items) ≡ length w.drives.items = length-map w.drives.items store_left in
     record {
       segments = refl;
       step = λ x stands. (
@@ -49,8 +49,8 @@ returns-in_ok-values-in-Ready-clause-step c =
         ),
         (same_devices w x stands is parts es refl refl refl got set, device_served w x stands is parts es refl refl refl got set),
         record {
-          disks_n = sym set.size ∙ stands.disks_n;
-          at = record { parts_stand = parts_stand w x stands is parts es refl refl refl got set; disks_stand = disks_stand w x stands is parts es refl refl refl got set };
+          drives_n = sym set.size ∙ stands.drives_n;
+          at = record { parts_stand = parts_stand w x stands is parts es refl refl refl got set; drives_stand = drives_stand w x stands is parts es refl refl refl got set };
         },
       );
       comes = λ x stands. record { refused = λ e. cc; came = λ _. is };

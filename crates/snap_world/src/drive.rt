@@ -8,13 +8,12 @@ ghost use Rattle.snap_persist.specs.Device.{IsJustWritten, write_at, write_bytes
 ghost use Rattle.snap_persist.specs.Stage.{calls_left, after_call, first_call};
 ghost use Rattle.snap_world.specs.Calls.{store_call, write_len};
 ghost use Rattle.snap_world.specs.Devices.{IsMade, IsMissed, IsWriteFailed};
-ghost use Rattle.snap_world.specs.Disks.{device_of, IsFormatted, AllReady, IsCrashed, AreCrashed};
+ghost use Rattle.snap_world.specs.Drives.{device_of, IsFormatted, AllReady, IsCrashed, AreCrashed};
 ghost use Rattle.snap_history.specs.Pairs.{Pairs};
-ghost use Rattle.snap_world.specs.Serving.{found_value, AllReadable, IsResumed, AreRecovered};
+ghost use Rattle.snap_world.specs.Serving.{found_value, AllReadable, IsResumed};
 ghost use Rattle.snap_persist.specs.declared.persist.Next.{Next};
 
 use crate::event::Kind;
-use crate::register::Register;
 use snap_disk::{Fill, Image};
 use snap_persist::{Answer, Next, Persist, Stage, Write};
 use snap_slot::{
@@ -26,16 +25,16 @@ use std::alloc::{AllocError, Global};
 /// The device of one segment, with the order of the store that is under way on it, or of the next
 /// one.
 #[derive(Drop)]
-pub struct SegmentDisk {
+pub struct Drive {
     pub image: Image,
     pub order: Persist,
     /// What the last restart found on it.
     pub found: Found,
 }
 
-impl SegmentDisk {
+impl Drive {
     /// The device of segment `index` of `count`, formatted: number 0 and the empty value.
-    pub fn format(alloc: Global, index: u8, count: u8) -> Result<SegmentDisk, AllocError>
+    pub fn format(alloc: Global, index: u8, count: u8) -> Result<Drive, AllocError>
         requires below { index < count }
         requires few { count ≤ 16 }
         ensures { IfOk result (IsFormatted index count) }
@@ -50,7 +49,7 @@ impl SegmentDisk {
         image.settle();
         image.put(HEADER_GATE_AT as usize, &[OPEN_GATE]);
         image.settle();
-        Ok(SegmentDisk {
+        Ok(Drive {
             image,
             order: Persist::begin(false, slot_of(1)),
             found: Found {
@@ -149,7 +148,7 @@ impl SegmentDisk {
     }
 }
 
-impl SegmentDisk {
+impl Drive {
     /// A crash: the open places get the fill.
     pub fn crash(&mut self, fill: &Fill)
         ensures { IsCrashed fill.now self.old self.new }
@@ -172,7 +171,7 @@ impl SegmentDisk {
     }
 }
 
-impl SegmentDisk {
+impl Drive {
     /// The value that the last restart found.
     pub fn found_value(&self) -> &[u8]
         requires size { length (device_of self.now).bytes ≡ 20480 }
@@ -202,58 +201,45 @@ impl SegmentDisk {
 }
 
 /// The values that the last restart found.
-pub fn found_values(alloc: Global, disks: &Vec<SegmentDisk>) -> Result<Vec<Vec<u8>>, AllocError>
-    requires { ∥ AllReadable disks.now.items ∥₁ }
-    ensures { IfOk result (λ m. map (λ v. v.items) m.items ≡ map found_value disks.now.items) }
+pub fn found_values(alloc: Global, drives: &Vec<Drive>) -> Result<Vec<Vec<u8>>, AllocError>
+    requires { ∥ AllReadable drives.now.items ∥₁ }
+    ensures { IfOk result (λ m. map (λ v. v.items) m.items ≡ map found_value drives.now.items) }
 {
     let mut all = Vec::new(alloc);
-    for i in 0..disks.len() {
-        all.push(disks[i].found_bytes(alloc)?)?;
+    for i in 0..drives.len() {
+        all.push(drives[i].found_bytes(alloc)?)?;
     }
     Ok(all)
 }
 
-/// Each register gets what the last restart found for its segment.
-pub fn recover_all(registers: &mut Vec<Register>, disks: &Vec<SegmentDisk>)
-    requires size { length registers.old.items ≡ length disks.now.items }
-    requires readable { ∥ AllReadable disks.now.items ∥₁ }
-    ensures { AreRecovered disks.now.items registers.old.items registers.new.items }
-{
-    for i in 0..registers.len() {
-        let register = &mut registers[i];
-        register.number = disks[i].found.number;
-        register.value.set(disks[i].found_value());
-    }
-}
-
 /// Each device is ready for its next store.
-pub fn resume_all(disks: &mut Vec<SegmentDisk>)
-    requires { ∥ AllReadable disks.old.items ∥₁ }
-    ensures { Pairs (λ i. IsResumed) disks.old.items disks.new.items }
+pub fn resume_all(drives: &mut Vec<Drive>)
+    requires { ∥ AllReadable drives.old.items ∥₁ }
+    ensures { Pairs (λ i. IsResumed) drives.old.items drives.new.items }
 {
-    for i in 0..disks.len() {
-        disks[i].resume();
+    for i in 0..drives.len() {
+        drives[i].resume();
     }
 }
 
 /// Each device crashes with its fill.
-pub fn crash_all(disks: &mut Vec<SegmentDisk>, fills: &Vec<Fill>)
-    requires { length fills.now.items ≡ length disks.old.items }
-    ensures { AreCrashed fills.now.items disks.old.items disks.new.items }
+pub fn crash_all(drives: &mut Vec<Drive>, fills: &Vec<Fill>)
+    requires { length fills.now.items ≡ length drives.old.items }
+    ensures { AreCrashed fills.now.items drives.old.items drives.new.items }
 {
-    for i in 0..disks.len() {
-        disks[i].crash(&fills[i]);
+    for i in 0..drives.len() {
+        drives[i].crash(&fills[i]);
     }
 }
 
 /// The formatted devices of a new world.
-pub fn new_disks(alloc: Global, segments: usize) -> Result<Vec<SegmentDisk>, AllocError>
+pub fn new_drives(alloc: Global, segments: usize) -> Result<Vec<Drive>, AllocError>
     requires most { segments ≤ 16 }
     ensures { IfOk result (λ v. (length v.items ≡ segments) × AllReady segments v.items) }
 {
-    let mut disks = Vec::new(alloc);
+    let mut drives = Vec::new(alloc);
     for i in 0..segments {
-        disks.push(SegmentDisk::format(alloc, i as u8, segments as u8)?)?;
+        drives.push(Drive::format(alloc, i as u8, segments as u8)?)?;
     }
-    Ok(disks)
+    Ok(drives)
 }
