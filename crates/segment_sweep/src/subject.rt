@@ -1,6 +1,6 @@
 //! The calls that are stopped, and what is found after the crash.
 use crate::stop::Stop;
-use snap_disk::{Disk, FaultPlan, MemDisk, Refusal};
+use snap_disk::{Disk, FILE_LEN, FaultPlan, MemDisk, Refusal};
 use snap_segment::{Segment, format};
 use std::alloc::Global;
 use std::io;
@@ -69,7 +69,7 @@ impl Subject {
 }
 
 fn run_format(alloc: Global, stop: Stop) -> io::Result<(String, MemDisk)> {
-    let mut disk = MemDisk::zeroed(alloc, 20_480)?;
+    let mut disk = MemDisk::zeroed(alloc, FILE_LEN as usize)?;
     disk.set_plan(stop.plan(alloc, 0)?);
     let answer = match try_format(&mut disk) {
         Ok(()) => "formatted",
@@ -131,7 +131,7 @@ fn opened(alloc: Global, disk: MemDisk) -> io::Result<(String, MemDisk)> {
 
 /// A file that was just formatted.
 fn fresh(alloc: Global) -> io::Result<MemDisk> {
-    let mut disk = MemDisk::zeroed(alloc, 20_480)?;
+    let mut disk = MemDisk::zeroed(alloc, FILE_LEN as usize)?;
     try_format(&mut disk).map_err(as_io)?;
     Ok(disk)
 }

@@ -198,9 +198,8 @@ module _ (A : Type 0) (n : ℕ) (number : Numbers) (entry : Entries A) (b e : �
       -- two equal collects tell the moment between them
       pub clean_moment : IsKept A number entry → 0 < n → IsClean n L → ((j : ℕ) → IsBorrow n L j → ⊥) → (p : ℕ) × IsMoment n number b e L p × IsThen A n entry p latest
       clean_moment kept pos clean not_borrow =
-          let d : ℕ = 2 * clean.rounds.0 in
-          let rounds : length L ≡ (clean.rounds.0 + 1) * (2 * n) = clean.rounds.1 in
-          let long : length L ≡ (d + 2) * n = omega arith in
+          let d = clean.rounds.0 in
+          let long : length L ≡ (d + 2) * n = clean.rounds.1 in
           let mid = (d + 1) * n + 0 in
           let p = c.moment mid in
           let first : (i : ℕ) → i < n → slice_index L (d * n + i) ≡ number (c.moment (d * n + i)) i = λ i l. c.numbers d i l (omega arith) in

@@ -1,6 +1,6 @@
 -- What the looks of one scan say of a history that only grows at its end. A moment is told by a number:
 -- how many updates there were by then.
-use Rattle.std.specs.Prelude.{◌≡◌, ℕ, ◌+◌, ◌-◌, ◌*◌, ◌<◌, ◌≤◌, ◌⊎◌, List, length, slice_index, slice_get, Some}
+use Rattle.std.specs.Prelude.{◌≡◌, ℕ, ◌+◌, ◌-◌, ◌*◌, ◌<◌, ◌≤◌, List, length, slice_index, slice_get, Some}
 use Rattle.snap_scan.specs.Looks.{IsClean, IsBorrow}
 
 -- the number of each segment at each moment, and what a look gives beside it
@@ -29,10 +29,6 @@ pub record Collects (A : Type 0) (n : ℕ) (number : Numbers) (entry : Entries A
       → slice_index told (m * n + i) ≡ number (moment (m * n + i)) i
   pub entries : (m i : ℕ) → i < n → m * n + i < length told → length told ≤ m * n + i + n
       → slice_get latest i ≡ Some (entry (moment (m * n + i)) i)
-
--- the numbers told decide an answer
-abbrev pub IsDecided : ℕ → List ℕ → Type 0
-IsDecided n told = IsClean n told ⊎ ((j : ℕ) × IsBorrow n told j)
 
 -- the numbers told tell moment p: after a clean end the last n of them are the numbers at p, and after a
 -- borrow from j the last of them is one above the number of j at p

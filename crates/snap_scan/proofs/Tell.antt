@@ -4,7 +4,7 @@ use Rattle.std.proofs.Math.Nat.{mul-le-mul_left}
 use Rattle.std.proofs.lemmas.List.{length_push, get_or_push, get_or_append_left}
 use Rattle.std.proofs.lemmas.Bool.{cases_lt, cases_eq}
 use Rattle.snap_scan.specs.Looks.{IsNoFall}
-use Rattle.snap_scan.specs.Stands.{IsUndecided, AllLow, Same, IsChanged}
+use Rattle.snap_scan.specs.Stands.{IsUndecided, IsRising, AllLow, Same, IsChanged}
 use Rattle.snap_scan.proofs.Places.{same_collect, same_segment}
 
 module _ (n : ℕ) (L : List ℕ) (m j k : ℕ) (within : j < n) (place : length L ≡ m * n + j) where
@@ -52,8 +52,7 @@ module _ (n : ℕ) (L : List ℕ) (m j k : ℕ) (within : j < n) (place : length
             ])
       ]
 
-  pub rising_push : ((p i : ℕ) → i < n → (p + 1) * n + i < length L → slice_index L (p * n + i) ≤ slice_index L ((p + 1) * n + i)) → IsNoFall n L j k
-      → (p i : ℕ) → i < n → (p + 1) * n + i < length (L ++ k ∷ []) → slice_index (L ++ k ∷ []) (p * n + i) ≤ slice_index (L ++ k ∷ []) ((p + 1) * n + i)
+  pub rising_push : IsRising n L → IsNoFall n L j k → IsRising n (L ++ k ∷ [])
   rising_push rising fall p i hi lt =
       let len : length (L ++ k ∷ []) ≡ length L + 1 = long in
       let a : slice_index (L ++ k ∷ []) (p * n + i) ≡ slice_index L (p * n + i) = old (p * n + i) (omega arith) in
@@ -93,37 +92,47 @@ module _ (n : ℕ) (L : List ℕ) (m j k : ℕ) (within : j < n) (place : length
             a ∙ d ∙ at ∙ sym b)
       ]
 
-  pub undecided_push : IsUndecided n L → IsNoFall n L j k → ((j < length L) → k < slice_index L j + 2)
-      → ((c : ℕ) → (c + 1) * (2 * n) ≡ length L + 1 → Same n (L ++ k ∷ []) (2 * c) n → ⊥) → IsUndecided n (L ++ k ∷ [])
-  undecided_push u fall small fresh = record {
+  pub undecided_push : IsUndecided n L (length L) → ((j < length L) → k < slice_index L j + 2)
+      → ((c : ℕ) → (c + 2) * n ≡ length L + 1 → Same n (L ++ k ∷ []) c n → ⊥) → IsUndecided n (L ++ k ∷ []) (length (L ++ k ∷ []))
+  undecided_push u small fresh = record {
     low = low_push u.low small;
-    rising = rising_push u.rising fall;
     no_clean = λ c h same. (
         let len : length (L ++ k ∷ []) ≡ length L + 1 = long in
-        elim (cases_lt (length L) ((c + 1) * (2 * n))) [
+        elim (cases_lt (length L) ((c + 2) * n)) [
           | inl lt ↦ fresh c (omega arith) same
-          | inr le ↦ u.no_clean c le (Same-old (2 * c) n (omega arith) (omega arith) same)
+          | inr le ↦ u.no_clean c le (Same-old c n (omega arith) (omega arith) same)
         ]);
   }
 
+  -- the numbers before the last one decide as little as they did
+  pub undecided_before : IsUndecided n L (length L) → (b : ℕ) → length (L ++ k ∷ []) ≡ b + 1 → IsUndecided n (L ++ k ∷ []) b
+  undecided_before u b e =
+      let len : length (L ++ k ∷ []) ≡ length L + 1 = long in
+      let at : b ≡ length L = omega arith in
+      record {
+        low = λ p i hi lt. (
+            let x : slice_index (L ++ k ∷ []) (p * n + i) ≡ slice_index L (p * n + i) = old (p * n + i) (omega arith) in
+            let y : slice_index (L ++ k ∷ []) i ≡ slice_index L i = old i (omega arith) in
+            let z : slice_index L (p * n + i) < slice_index L i + 2 = u.low p i hi (omega arith) in
+            omega arith);
+        no_clean = λ c h same. u.no_clean c (omega arith) (Same-old c n (omega arith) (omega arith) same);
+      }
+
   -- what the flag says, one number on
-  pub changed_push : (second changed flag : Bool) → IsChanged second changed n L m j
-      → ((p : ℕ) → m ≡ p + 1 → (flag ≡ false → second ≡ true → slice_index L (p * n + j) ≡ k))
-      → (flag ≡ false → changed ≡ false)
-      → (flag ≡ true → (changed ≡ true) ⊎ ((second ≡ true) × ((p : ℕ) → m ≡ p + 1 → slice_index L (p * n + j) ≢ k)))
-      → IsChanged second flag n (L ++ k ∷ []) m (j + 1)
-  changed_push second changed false h at stays differs =
-      let was : IsChanged second false n L m j = subst (λ x. IsChanged second x n L m j) (stays refl) h in
-      λ on p e. Same-more p e (was on p e) (at p e refl on)
-  changed_push second changed true h at stays differs =
+  pub changed_push : (changed flag : Bool) → IsChanged changed n L m j
+      → (flag ≡ false → (changed ≡ false) × ((p : ℕ) → m ≡ p + 1 → slice_index L (p * n + j) ≡ k))
+      → (flag ≡ true → (changed ≡ true) ⊎ ((p : ℕ) → m ≡ p + 1 → slice_index L (p * n + j) ≢ k))
+      → IsChanged flag n (L ++ k ∷ []) m (j + 1)
+  changed_push changed false h stays differs =
+      let now_same = stays refl in
+      let was : IsChanged false n L m j = subst (λ x. IsChanged x n L m j) now_same.0 h in
+      (was.0, was.1, Same-more was.0 was.1 was.2 (now_same.1 was.0 was.1))
+  changed_push changed true h stays differs =
       elim (differs refl) [
         | inl e ↦ (
-            let was : IsChanged second true n L m j = subst (λ x. IsChanged second x n L m j) e h in
-            (was.0, λ p f same. was.1 p f (let g : m * n ≡ (p + 1) * n = ap (λ x. x * n) f in Same-old p j (omega arith) (omega arith) (λ i l. same i (omega arith)))))
-        | inr d ↦ (
-          d.0,
-          λ p f same. d.1 p f (
-              let g : m * n ≡ (p + 1) * n = ap (λ x. x * n) f in
-              sym (old (p * n + j) (omega arith)) ∙ same j (omega arith) ∙ now ((p + 1) * n + j) (omega arith)),
-        )
+            let was : IsChanged true n L m j = subst (λ x. IsChanged x n L m j) e h in
+            λ p f same. was p f (let g : m * n ≡ (p + 1) * n = ap (λ x. x * n) f in Same-old p j (omega arith) (omega arith) (λ i l. same i (omega arith))))
+        | inr d ↦ λ p f same. d p f (
+            let g : m * n ≡ (p + 1) * n = ap (λ x. x * n) f in
+            sym (old (p * n + j) (omega arith)) ∙ same j (omega arith) ∙ now ((p + 1) * n + j) (omega arith))
       ]

@@ -1,6 +1,10 @@
 -- What the numbers told in a scan of n segments decide. Look t is at segment t mod n:
 -- the look at segment i of collect m is look m * n + i.
-use Rattle.std.specs.Prelude.{◌≡◌, ℕ, ◌+◌, ◌-◌, ◌*◌, ◌<◌, ◌≤◌, List, length, slice_index}
+use Rattle.std.specs.Prelude.{◌≡◌, ℕ, ◌+◌, ◌-◌, ◌*◌, ◌<◌, ◌≤◌, ◌⊎◌, List, length, slice_index}
+
+-- the most looks that a scan makes: one collect, n more whose comparison fails, and one whose doesn't
+abbrev pub most_looks : ℕ → ℕ
+most_looks n = n * (n + 2)
 
 -- the next look, at the end of the list, is at segment j
 abbrev pub IsTurn : ℕ → List ℕ → ℕ → Type 0
@@ -10,10 +14,10 @@ IsTurn n L j = (j < n) × ((m : ℕ) × (length L ≡ m * n + j))
 abbrev pub IsNoFall : ℕ → List ℕ → ℕ → ℕ → Type 0
 IsNoFall n L j number = (m : ℕ) → length L ≡ (m + 1) * n + j → slice_index L (m * n + j) ≤ number
 
--- the list is not empty, its length is a multiple of 2n, and of its last 2n numbers the first n
--- equal the last n
+-- the length is a multiple of n and at least 2n, and of the last 2n numbers the first n equal the
+-- last n
 pub record IsClean (n : ℕ) (L : List ℕ) : Type 0 where
-  pub rounds : (c : ℕ) × (length L ≡ (c + 1) * (2 * n))
+  pub rounds : (c : ℕ) × (length L ≡ (c + 2) * n)
   pub same : (i : ℕ) → i < n
       → slice_index L (length L - 2 * n + i) ≡ slice_index L (length L - n + i)
 
@@ -23,3 +27,7 @@ pub record IsBorrow (n : ℕ) (L : List ℕ) (j : ℕ) : Type 0 where
   pub last : (m : ℕ) × (length L ≡ m * n + j + 1)
   pub segment : j < n
   pub moved : slice_index L j + 2 ≤ slice_index L (length L - 1)
+
+-- the numbers decide an answer
+abbrev pub IsDecided : ℕ → List ℕ → Type 0
+IsDecided n L = IsClean n L ⊎ ((j : ℕ) × IsBorrow n L j)

@@ -5,7 +5,7 @@
 pub enum Next {
     /// Look at this segment, and tell the scan its number.
     Look(usize),
-    /// Answer the values of the last collect: the two collects of a pair showed the same numbers.
+    /// Answer the values of the last collect: it showed the same numbers as the one before.
     Clean,
     /// Answer the view in this segment's register: it was seen to move twice.
     Borrow(usize),

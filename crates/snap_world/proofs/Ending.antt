@@ -1,30 +1,11 @@
 -- What a scan does next, by the numbers told.
-use Rattle.std.proofs.Common.{◌≡◌, ℕ, List, inl, inr, refl, subst}
-use Rattle.std.specs.Prelude.{◌↔◌}
+use Rattle.std.proofs.Common.{◌≡◌, ℕ, List, inl, inr, refl}
 use Rattle.std.proofs.Math.Logic.{∥∥₁_elim}
 use Rattle.std.proofs.Props.{props}
-use Rattle.snap_scan.specs.Looks.{IsClean, IsBorrow, IsTurn}
-use Rattle.snap_scan.specs.Stands.{StandsFor, IsLooking, segments_of, next_of}
-use Rattle.snap_scan.specs.declared.scan.Scan.{Scan}
+use Rattle.snap_scan.specs.Looks.{IsDecided}
+use Rattle.snap_scan.specs.Course.{IsNext}
 use Rattle.snap_scan.specs.declared.next.Next.{Next}
 use Rattle.snap_scan.specs.declared.next.Next.TheVariants.{Look, Clean, Borrow}
-use Rattle.snap_scan.proofs.Verdict.{IsClean-next, next-clean, IsBorrow-next, next-borrow, look-next}
-use Rattle.snap_collect.specs.Collects.{IsDecided}
-
-pub record IsNext (n : ℕ) (L : List ℕ) (v : Next) : Type 0 where
-  pub clean : (v ≡ Clean) ↔ IsClean n L
-  pub borrow : (j : ℕ) → (v ≡ Borrow j) ↔ IsBorrow n L j
-  pub look : (j : ℕ) → v ≡ Look j → IsTurn n L j
-
-next_says : (s : Scan) (L : List ℕ) → StandsFor s L → IsNext (segments_of s) L (next_of s)
-next_says s L stands = record {
-  clean = (IsClean-next s L (next_of s) stands.says, next-clean s L (next_of s) stands.least stands.says);
-  borrow = λ j. (IsBorrow-next s L (next_of s) j stands.says, next-borrow s L (next_of s) j stands.says);
-  look = λ j e. (let at : IsLooking s L j = look-next s L (next_of s) j stands.says e in (at.within, (at.m, at.place)));
-}
-
-pub next_is : (n : ℕ) (s : Scan) (L : List ℕ) → segments_of s ≡ n → StandsFor s L → IsNext n L (next_of s)
-next_is n s L e stands = subst (λ m. IsNext m L (next_of s)) e (next_says s L stands)
 
 -- a scan that has a look to make has no answer, and each other one has
 pub undecided : (n : ℕ) (L : List ℕ) (v : Next) (j : ℕ) → IsNext n L v → v ≡ Look j → IsDecided n L → ⊥

@@ -6,8 +6,7 @@ use Rattle.snap_history.specs.History.{Update, from_nothing, number_after, value
 use Rattle.snap_history.proofs.Moments.{number-le, value_same, take-now}
 use Rattle.snap_history.proofs.Pairing.{partner}
 use Rattle.snap_scan.specs.Looks.{IsClean, IsBorrow, IsTurn, IsNoFall}
-use Rattle.snap_scan.specs.Stands.{StandsFor, segments_of, next_of}
-use Rattle.snap_scan.specs.declared.scan.Scan.{Scan}
+use Rattle.snap_scan.specs.Course.{Course, IsNext}
 use Rattle.snap_scan.specs.declared.next.Next.{Next}
 use Rattle.snap_scan.specs.declared.next.Next.TheVariants.{Look, Clean, Borrow}
 use Rattle.snap_collect.specs.Collects.{IsRising, IsKept, Collects}
@@ -17,7 +16,7 @@ use Rattle.snap_world.specs.Gathers.{Gathers, Gathered, RegisterStands, ViewStan
 use Rattle.snap_world.specs.Machine.{State, WriterState, ShownWith, Decides, looked, IsLook}
 use Rattle.snap_world.specs.declared.register.Register.{Register}
 use Rattle.snap_world.specs.declared.collector.Collector.{Collector}
-use Rattle.snap_world.proofs.Ending.{IsNext, next_is, undecided}
+use Rattle.snap_world.proofs.Ending.{undecided}
 
 pub number_now : (h : List Update) (i : ℕ) → number_at h (length h) i ≡ number_after from_nothing h i
 number_now h i = ap (λ g. number_after from_nothing g i) (take-now h)
@@ -34,7 +33,7 @@ kept h i s t l e = value_same from_nothing h i s t l e
 pub register_at : (n : ℕ) (x : State) (g : ℕ) (rs : List Register) (j : ℕ) (r : Register) → RegistersStand n x g rs → j < n → r ≡ get_or rs j r → RegisterStands n x.history j r
 register_at n x g rs j r stand l e = stand.each j r (slice_get_read rs n j r (sym stand.size) l e)
 
-module _ (n : ℕ) (x : State) (g : ℕ) (s : ScanState) (col : Collector) (gat : Gathers n x.history s col) (j : ℕ) (turn : next_of col.scan ≡ Look j) where
+module _ (n : ℕ) (x : State) (g : ℕ) (s : ScanState) (col : Collector) (gat : Gathers n x.history s col) (j : ℕ) (turn : col.scan.next ≡ Look j) where
   abbrev h : List Update
   h = x.history
 
@@ -46,7 +45,7 @@ module _ (n : ℕ) (x : State) (g : ℕ) (s : ScanState) (col : Collector) (gat 
   k = number_at x.history (length x.history) j
 
   pub here : IsTurn n s.told j
-  here = (next_is n col.scan s.told gat.segments gat.stands).look j turn
+  here = gat.next.look j turn
 
   pub turn_within : j < n
   turn_within = here.0
@@ -57,10 +56,10 @@ module _ (n : ℕ) (x : State) (g : ℕ) (s : ScanState) (col : Collector) (gat 
   end2 : s.start ≤ now
   end2 = let a : s.start ≤ s.last = gat.start in let b : s.last ≤ now = gat.end in omega arith
 
-  pub told_fits : (number : ℕ) → number ≡ number_after from_nothing h j → IsNoFall (segments_of col.scan) s.told j number
+  pub told_fits : (number : ℕ) → number ≡ number_after from_nothing h j → IsNoFall col.scan.segments col.scan.told j number
   told_fits number e =
       let fits : IsNoFall n s.told j k = no_fall (List ℕ) n (number_at h) (value_at h) s.start s.last s.told col.memory.items collects (rising h) now j gat.end turn_within in
-      subst (λ m. IsNoFall m s.told j number) (sym gat.segments) (subst (IsNoFall n s.told j) (number_now h j ∙ sym e) fits)
+      subst (λ m. IsNoFall m col.scan.told j number) (sym gat.segments) (subst (λ L. IsNoFall n L j number) (sym gat.told) (subst (IsNoFall n s.told j) (number_now h j ∙ sym e) fits))
 
   -- the moment and the values after a look, by what the scan does next
   abbrev Goes : List (List ℕ) → Next → Type 0
@@ -92,30 +91,31 @@ module _ (n : ℕ) (x : State) (g : ℕ) (s : ScanState) (col : Collector) (gat 
       )
 
   module _ (rs : List Register) (born : g ≤ s.start) (regs : RegistersStand n x g rs) (r : Register) (read : r ≡ get_or rs j r)
-      (t : Scan) (same_n : segments_of t ≡ segments_of col.scan) (told : StandsFor t (s.told ++ r.number ∷ [])) (v : Next) (same : v ≡ next_of t) where
+      (t : Course) (same_n : t.segments ≡ col.scan.segments) (told : t.told ≡ col.scan.told ++ r.number ∷ []) (v : Next) (same : v ≡ t.next) (decides : IsNext t.segments t.told v) where
     stand : RegisterStands n h j r
     stand = register_at n x g rs j r regs turn_within read
 
     number_is : r.number ≡ k
     number_is = stand.number ∙ sym (number_now h j)
 
-    told_k : StandsFor t (s.told ++ k ∷ [])
-    told_k = subst (λ z. StandsFor t (s.told ++ z ∷ [])) number_is told
+    told_k : t.told ≡ s.told ++ k ∷ []
+    told_k = told ∙ ap (λ L. L ++ r.number ∷ []) gat.told ∙ ap (λ z. s.told ++ z ∷ []) number_is
 
     is : IsNext n (s.told ++ k ∷ []) v
-    is = subst (IsNext n (s.told ++ k ∷ [])) (sym same) (next_is n t (s.told ++ k ∷ []) (same_n ∙ gat.segments) told_k)
+    is = subst (λ L. IsNext n L v) told_k (subst (λ m. IsNext m t.told v) (same_n ∙ gat.segments) decides)
 
     goes : (col2 : Collector) → col2.scan ≡ t → length col2.memory.items ≡ n → Goes col2.memory.items v → (u : ScanState) × IsLook n x s r.number u × Gathers n x.history u col2
     goes col2 scan-is size f = (
       looked x s k f.0,
       record { segment = j; turn = here; number = stand.number; after = ap (λ z. looked x s z f.0) (sym number_is); decides = f.1 },
       record {
-        stands = subst (λ z. StandsFor z (s.told ++ k ∷ [])) (sym scan-is) told_k;
-        segments = ap segments_of scan-is ∙ same_n ∙ gat.segments;
+        segments = ap (λ (z : Course). z.segments) scan-is ∙ same_n ∙ gat.segments;
+        told = ap (λ (z : Course). z.told) scan-is ∙ told_k;
+        next = subst (IsNext n (s.told ++ k ∷ [])) (same ∙ ap (λ (z : Course). z.next) (sym scan-is)) is;
         size = size;
         start = end2;
         end = omega arith;
-        gathered = subst (Gathered n h (looked x s k f.0) col2.memory.items) (same ∙ ap next_of (sym scan-is)) f.2;
+        gathered = subst (Gathered n h (looked x s k f.0) col2.memory.items) (same ∙ ap (λ (z : Course). z.next) (sym scan-is)) f.2;
       },
     )
 

@@ -2,8 +2,7 @@
 use Rattle.std.proofs.Common.{⊎_elim, ◌≡◌, ℕ, ◌<◌, ◌≤◌, inl, inr, List, [], ◌∷◌, ◌++◌, length, get_or, Some, slice_get, refl, ap, sym, ◌∙◌, subst}
 use Rattle.std.specs.Vec.{with_item}
 use Rattle.std.proofs.lemmas.Option.{same_Some}
-use Rattle.snap_scan.specs.Stands.{StandsFor, segments_of, next_of}
-use Rattle.snap_collect.specs.Collects.{IsDecided}
+use Rattle.snap_scan.specs.Looks.{IsDecided}
 use Rattle.snap_world.specs.Answers.{ScanState, number_at}
 use Rattle.snap_world.specs.Gathers.{Gathers, IsLookOf, IsUnderWay, RegistersStand}
 use Rattle.snap_world.specs.Machine.{State, WriterState, ScannerState, Begun, Opened, Step, IsLook, with_writer, with_scanner}
@@ -20,7 +19,7 @@ use Rattle.snap_world.specs.declared.writer.Writer.{Writer}
 use Rattle.snap_world.specs.declared.writer.WriterPhase.TheVariants as writer
 use Rattle.snap_world.specs.declared.scanner.Scanner.{Scanner}
 use Rattle.snap_world.specs.declared.scanner.ScannerPhase.TheVariants as scanner
-use Rattle.snap_world.proofs.Ending.{next_is, undecided}
+use Rattle.snap_world.proofs.Ending.{undecided}
 use Rattle.snap_world.proofs.Moves.{the_writer, the_scanner, writer_moves, scanner_moves, has_answer}
 use Rattle.snap_world.proofs.Phasing.{writer_moved, writer_kept, scanner_moved, scanner_kept}
 
@@ -39,14 +38,14 @@ start_is : (n : ℕ) (x : State) (s : ScanState) (k : ℕ) (t : ScanState) → I
 start_is n x s k t look = ap (λ (z : ScanState). z.start) look.after
 
 open_still : (n : ℕ) (x : State) (t : ScanState) (c : Collector) → Gathers n x.history t c → IsUnderWay c → IsDecided n t.told → ⊥
-open_still n x t c g under_way = undecided n t.told (next_of c.scan) under_way.0 (next_is n c.scan t.told g.segments g.stands) under_way.1
+open_still n x t c g under_way = undecided n t.told c.scan.next under_way.0 g.next under_way.1
 
 -- the collector says that the scan has its answer
 abbrev pub Tells : Collector → Type 0
-Tells c = (told : List ℕ) → StandsFor c.scan told → IsDecided (segments_of c.scan) told
+Tells c = IsDecided c.scan.segments c.scan.told
 
 over : (n : ℕ) (x : State) (t : ScanState) (c : Collector) → Gathers n x.history t c → Tells c → IsDecided n t.told
-over n x t c g tells = subst (λ m. IsDecided m t.told) g.segments (tells t.told g.stands)
+over n x t c g tells = subst (IsDecided n) g.told (subst (λ m. IsDecided m c.scan.told) g.segments tells)
 
 -- as phases of a node that is up
 pub looks_up : {n : ℕ} {told : List ℕ} {p r q : Phases} → LooksOn n told p r q → LooksOn n told (up p) (actors_to (up p) r) (up q)

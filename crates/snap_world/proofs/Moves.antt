@@ -6,10 +6,10 @@ use Rattle.std.proofs.lemmas.Option.{slice_get_read, same_Some}
 use Rattle.std.proofs.lemmas.Bool.{cases_eq}
 use Rattle.snap_history.specs.History.{Update, from_nothing, number_after, value_after, IsMemory}
 use Rattle.snap_history.proofs.Moments.{number-push, number-push_other, value-push, value-push_other, take-push, number-le}
-use Rattle.snap_scan.specs.Stands.{StandsFor, segments_of, next_of}
+use Rattle.snap_scan.specs.Course.{IsNext}
 use Rattle.snap_scan.specs.declared.next.Next.{Next}
 use Rattle.snap_scan.specs.declared.next.Next.TheVariants.{Look, Clean, Borrow}
-use Rattle.snap_collect.specs.Collects.{IsDecided}
+use Rattle.snap_scan.specs.Looks.{IsDecided}
 use Rattle.snap_collect.proofs.Collecting.{Collects-none, Collects-same, IsMoment-same}
 use Rattle.snap_world.specs.Answers.{ScanState, scan_from, IsAnswer, number_at, value_at}
 use Rattle.snap_world.specs.Gathers.{Gathers, Gathered, IsUnderWay, RegisterStands, IsView, ViewStands, RegistersStand}
@@ -29,14 +29,15 @@ use Rattle.snap_history.proofs.Pairing.{partner, Pairs-set, Pairs-left, Pairs-ri
 use Rattle.snap_world.proofs.Looking.{register_at, number_now}
 
 -- a scan that was told nothing
-pub Gathers-none : (n : ℕ) (h : List Update) (c : Collector) → StandsFor c.scan [] → segments_of c.scan ≡ n → (next_of c.scan) ≡ Look 0 → length c.memory.items ≡ n → Gathers n h (scan_from (length h)) c
-Gathers-none n h c stands segments next size = record {
-  stands = stands;
+pub Gathers-none : (n : ℕ) (h : List Update) (c : Collector) → c.scan.segments ≡ n → c.scan.told ≡ [] → c.scan.next ≡ Look 0 → IsNext c.scan.segments c.scan.told c.scan.next → length c.memory.items ≡ n → Gathers n h (scan_from (length h)) c
+Gathers-none n h c segments told first next size = record {
   segments = segments;
+  told = told;
+  next = subst (λ L. IsNext n L c.scan.next) told (subst (λ m. IsNext m c.scan.told c.scan.next) segments next);
   size = size;
   start = omega arith;
   end = omega arith;
-  gathered = subst (Gathered n h (scan_from (length h)) c.memory.items) (sym next) (Collects-none (List ℕ) n (number_at h) (value_at h) (length h) (length h) c.memory.items, refl);
+  gathered = subst (Gathered n h (scan_from (length h)) c.memory.items) (sym first) (Collects-none (List ℕ) n (number_at h) (value_at h) (length h) (length h) c.memory.items, refl);
 }
 
 module _ (w : Parts) (x : State) (stands : PartsStand w x) where
@@ -142,12 +143,13 @@ later h u e l = let y : length (h ++ u ∷ []) ≡ length h + 1 = length_push h 
 
 pub Gathers-grow : (n : ℕ) (h : List Update) (s : ScanState) (c : Collector) (u : Update) → Gathers n h s c → Gathers n (h ++ u ∷ []) s c
 Gathers-grow n h s c u g = record {
-  stands = g.stands;
   segments = g.segments;
+  told = g.told;
+  next = g.next;
   size = g.size;
   start = g.start;
   end = later h u s.last g.end;
-  gathered = Gathered-grow n h s c.memory.items u (next_of c.scan) g.end g.gathered;
+  gathered = Gathered-grow n h s c.memory.items u c.scan.next g.end g.gathered;
 }
 
 pub HasBegun-grow : (n : ℕ) (h : List Update) (since i : ℕ) (w : Writer) (s : WriterState) (u : Update) → u.segment ≢ i → HasBegun n h since i w s → HasBegun n (h ++ u ∷ []) since i w s
@@ -271,7 +273,7 @@ answered n h s memory Clean done g = g
 answered n h s memory (Borrow j) done g = g
 
 pub has_answer : (n : ℕ) (h : List Update) (s : ScanState) (c : Collector) → Gathers n h s c → IsDecided n s.told → (IsUnderWay c → ⊥) → HasAnswer n h s c
-has_answer n h s c g decided done = record { decided = decided; answer = answered n h s c.memory.items (next_of c.scan) (λ j e. done (j, e)) g.gathered }
+has_answer n h s c g decided done = record { decided = decided; answer = answered n h s c.memory.items c.scan.next (λ j e. done (j, e)) g.gathered }
 
 -- the moment of the answer comes after the writer's update before, and no update of its own came since
 pub own_moment : (n : ℕ) (h : List Update) (since i : ℕ) (a : Writer) (s : WriterState) (begun : HasBegun n h since i a s) (p : ℕ) → s.scan.start ≤ p → p ≤ s.scan.last → number_at h p i ≡ number_after from_nothing h i

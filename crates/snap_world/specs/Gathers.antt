@@ -2,7 +2,7 @@
 use Rattle.std.specs.Prelude.{◌≡◌, ℕ, ◌+◌, ◌<◌, ◌≤◌, List, length, take, slice_get, Option, Some, None}
 use Rattle.snap_history.specs.History.{Update, from_nothing, number_after, value_after, IsMemory}
 use Rattle.snap_history.specs.Pairs.{Pairs}
-use Rattle.snap_scan.specs.Stands.{StandsFor, next_of, segments_of}
+use Rattle.snap_scan.specs.Course.{IsNext}
 use Rattle.snap_scan.specs.declared.next.Next.{Next}
 use Rattle.snap_scan.specs.declared.next.Next.TheVariants.{Look, Clean, Borrow}
 use Rattle.snap_collect.specs.Collects.{Collects}
@@ -19,16 +19,17 @@ Gathered n h s memory (Borrow j) = IsAnswer n h s memory
 
 -- the collector stands for the scan s of the abstract machine
 pub record Gathers (n : ℕ) (h : List Update) (s : ScanState) (c : Collector) : Type 0 where
-  pub stands : StandsFor c.scan s.told
-  pub segments : segments_of c.scan ≡ n
+  pub segments : c.scan.segments ≡ n
+  pub told : c.scan.told ≡ s.told
+  pub next : IsNext n s.told c.scan.next
   pub size : length c.memory.items ≡ n
   pub start : s.start ≤ s.last
   pub end : s.last ≤ length h
-  pub gathered : Gathered n h s c.memory.items (next_of c.scan)
+  pub gathered : Gathered n h s c.memory.items c.scan.next
 
 -- the scan has a look to make
 abbrev pub IsUnderWay : Collector → Type 0
-IsUnderWay c = (j : ℕ) × (next_of c.scan ≡ Look j)
+IsUnderWay c = (j : ℕ) × (c.scan.next ≡ Look j)
 
 -- the register has the number and value of its segment after the history
 pub record RegisterStands (n : ℕ) (h : List Update) (i : ℕ) (r : Register) : Type 0 where

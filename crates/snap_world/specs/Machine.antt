@@ -3,8 +3,8 @@
 use Rattle.std.proofs.Common.{suc}
 use Rattle.std.specs.Prelude.{◌≡◌, ℕ, Bool, true, false, List, [], ◌∷◌, ◌++◌, length, map, Option, Some, None, slice_get, slice_set}
 use Rattle.snap_history.specs.History.{Update, from_nothing, number_after, IsMemory}
-use Rattle.snap_scan.specs.Looks.{IsTurn, IsBorrow}
-use Rattle.snap_collect.specs.Collects.{IsDecided, IsMoment}
+use Rattle.snap_scan.specs.Looks.{IsTurn, IsBorrow, IsDecided}
+use Rattle.snap_collect.specs.Collects.{IsMoment}
 use Rattle.snap_world.specs.Answers.{ScanState, scan_from, IsAnswer, number_at}
 use Rattle.snap_world.specs.declared.event.Actor.TheVariants.{Writer, Scanner}
 use Rattle.snap_world.specs.declared.event.Event.{Event}

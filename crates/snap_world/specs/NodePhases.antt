@@ -1,6 +1,6 @@
 -- The phases of a world: of its node, of its writers and scanners, and of the stores on its devices.
 use Rattle.std.specs.Prelude.{◌≡◌, ◌⊎◌, ℕ, ◌+◌, ◌-◌, ◌^◌, ◌<◌, ◌≤◌, nat_lt, true, if◌then◌else◌, List, [], ◌∷◌, ◌++◌, length, replicate, Some, slice_get, slice_set}
-use Rattle.snap_collect.specs.Collects.{IsDecided}
+use Rattle.snap_scan.specs.Looks.{IsDecided}
 use Rattle.snap_history.specs.History.{from_nothing, number_after}
 use Rattle.snap_world.specs.Machine.{State, WriterState, Opened}
 use Rattle.snap_world.specs.Answers.{ScanState}

@@ -2,7 +2,7 @@
 use Rattle.std.specs.Prelude.{◌≡◌, ℕ, ◌+◌, ◌^◌, ◌<◌, ◌≤◌, Bool, true, false, List, length}
 use Rattle.snap_history.specs.History.{Update, from_nothing, number_after}
 use Rattle.snap_history.specs.Pairs.{Pairs}
-use Rattle.snap_collect.specs.Collects.{IsDecided}
+use Rattle.snap_scan.specs.Looks.{IsDecided}
 use Rattle.snap_world.specs.Answers.{ScanState, IsAnswer, number_at}
 use Rattle.snap_world.specs.Gathers.{Gathers, IsUnderWay, RegistersStand}
 use Rattle.snap_world.specs.Machine.{State, WriterState, ScannerState, Free, Begun, Shown, Closed, Opened}

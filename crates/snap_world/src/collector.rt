@@ -1,7 +1,6 @@
 //! One scan in progress: its double collects, and the values that it saw last.
-ghost use Rattle.std.specs.Prelude.{◌≡◌, ◌↔◌, ℕ, List, length, map, IfOk, IsTrue, MatchBool};
-ghost use Rattle.snap_scan.specs.Stands.{StandsFor, segments_of};
-ghost use Rattle.snap_collect.specs.Collects.{IsDecided};
+ghost use Rattle.std.specs.Prelude.{◌≡◌, ◌↔◌, length, map, IfOk, IsTrue, MatchBool};
+ghost use Rattle.snap_scan.specs.Looks.{IsDecided};
 ghost use Rattle.snap_world.specs.Gathers.{IsLookOf, IsUnderWay, MayLook};
 
 use crate::register::Register;
@@ -46,8 +45,7 @@ impl Collector {
     /// Whether the scan has its answer.
     pub fn is_done(&self) -> bool
         ensures under_way { MatchBool result (IsUnderWay self.now → ⊥) (IsUnderWay self.now) }
-        ensures decided { (told : List ℕ) → StandsFor self.now.scan told
-            → IsTrue result ↔ IsDecided (segments_of self.now.scan) told }
+        ensures decided { IsTrue result ↔ IsDecided self.now.scan.segments self.now.scan.told }
     {
         match self.scan.next() {
             Next::Look(_) => false,

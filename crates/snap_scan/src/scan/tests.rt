@@ -1,32 +1,144 @@
 //! Whole scans, as the numbers told in them.
-ghost use Rattle.std.specs.Prelude.{◌<◌, ◌≤◌};
+ghost use Rattle.std.specs.Prelude.{◌≡◌, ◌+◌, ◌-◌, ◌<◌, ◌≤◌, length, slice_index, IsTrue};
 
-use super::*;
+use crate::{MAX_SEGMENTS, Next, Scan, most_looks};
 use std::process::Abort;
+
+/// Whether the number of this look is not below that of the look one collect before.
+fn is_no_fall(segments: usize, numbers: &[u64], look: usize) -> bool
+    requires { look < length numbers.now }
+    ensures { IsTrue result → segments ≤ look
+        → slice_index numbers.now (look - segments) ≤ slice_index numbers.now look }
+{
+    look < segments || numbers[look - segments] <= numbers[look]
+}
 
 /// What a scan of this many segments answers after these numbers, each told at the segment whose
 /// turn it is. Before the last of them it has no answer.
 fn answer_to(rt: &impl Abort, segments: usize, numbers: &[u64]) -> Next
     requires least { 0 < segments }
-    requires most { segments ≤ 16 }
+    requires most { segments ≤ MAX_SEGMENTS }
 {
     let mut scan = Scan::new(segments);
-    for number in numbers {
+    for look in 0..numbers.len() {
+        assert!(rt;
+            is_no_fall(segments, numbers, look),
+            "a number falls in {numbers:?}"
+        );
         let Next::Look(segment) = scan.next() else {
             panic!(rt; "an answer before all of {numbers:?} were told");
         };
-        if scan.looks >= scan.segments && *number < scan.latest[segment] {
-            panic!(rt; "a number falls in {numbers:?}");
-        }
-        scan.told(segment, *number);
+        scan.told(segment, numbers[look]);
     }
     assert_eq!(rt; scan.looks(), numbers.len());
     scan.next()
 }
 
+/// Whether the last two collects showed the same numbers, where a collect has just ended.
+fn is_clean(segments: usize, numbers: &[u64]) -> bool
+    requires least { 0 < segments }
+    requires most { segments ≤ MAX_SEGMENTS }
+{
+    let looks = numbers.len();
+    if looks % segments != 0 || looks < 2 * segments {
+        return false;
+    }
+    let mut same = true;
+    for i in 0..segments {
+        if numbers[looks - 2 * segments + i] != numbers[looks - segments + i] {
+            same = false;
+        }
+    }
+    same
+}
+
+/// What comes next after these numbers, by the rule on the whole list.
+fn expected_after(segments: usize, numbers: &[u64]) -> Next
+    requires least { 0 < segments }
+    requires most { segments ≤ MAX_SEGMENTS }
+    requires some { 0 < length numbers.now }
+{
+    let last = numbers.len() - 1;
+    let segment = last % segments;
+    if numbers[last].saturating_sub(numbers[segment]) >= 2 {
+        return Next::Borrow(segment);
+    }
+    if is_clean(segments, numbers) {
+        return Next::Clean;
+    }
+    Next::Look(numbers.len() % segments)
+}
+
+const GREATEST: u64 = 3;
+
+const LONGEST: usize = 15;
+
+/// How long the list is that comes after this one in their order: its last number that may still
+/// rise has risen. It is empty after the last list.
+fn rise(numbers: &mut [u64; LONGEST], looks: usize) -> usize
+    requires { looks ≤ 15 }
+    ensures { result ≤ looks }
+{
+    for gone in 0..looks {
+        let last = looks - gone - 1;
+        if numbers[last] < GREATEST {
+            numbers[last] += 1;
+            return last + 1;
+        }
+    }
+    0
+}
+
+/// How many lists there were, and the looks of the longest that decides an answer.
+#[derive(Debug, Drop, PartialEq)]
+struct Walk {
+    lists: usize,
+    most: usize,
+}
+
+/// Asks a scan of this many segments and the rule after every list of numbers up to the greatest,
+/// in which none falls and that decides nothing before its end.
+fn ask_all(rt: &impl Abort, segments: usize) -> Walk
+    requires least { 0 < segments }
+    requires most { segments ≤ 3 }
+{
+    let mut numbers = [0; LONGEST];
+    let mut looks = 1;
+    let mut most = 0;
+    for lists in 0..1_000_000 {
+        if looks == 0 {
+            return Walk { lists, most };
+        }
+        assert!(rt; looks <= LONGEST);
+        let next = expected_after(segments, &numbers[..looks]);
+        assert_eq!(rt; answer_to(rt, segments, &numbers[..looks]), next);
+        match next {
+            Next::Look(segment) => {
+                assert!(rt; looks < LONGEST && segment <= looks);
+                numbers[looks] = if looks < segments {
+                    0
+                } else {
+                    numbers[looks - segments]
+                };
+                looks += 1;
+            }
+            _ => {
+                most = most.max(looks);
+                looks = rise(&mut numbers, looks);
+            }
+        }
+    }
+    panic!(rt; "there are more lists")
+}
+
 #[test]
-fn clean_after_a_failed_collect(rt: HostRuntime) {
-    assert_eq!(rt; answer_to(&rt, 2, &[0, 0, 1, 0, 1, 0, 1, 0]), Next::Clean);
+fn clean_after_six(rt: HostRuntime) {
+    assert_eq!(rt; answer_to(&rt, 2, &[0, 0, 1, 0, 1, 0]), Next::Clean);
+}
+
+#[test]
+fn late_show_clean_after_six(rt: HostRuntime) {
+    assert_eq!(rt; answer_to(&rt, 2, &[0, 1, 1, 1, 1, 1]), Next::Clean);
 }
 
 #[test]
@@ -35,25 +147,47 @@ fn borrowed_view(rt: HostRuntime) {
 }
 
 #[test]
-fn late_show_inside_a_scan(rt: HostRuntime) {
-    assert_eq!(rt; answer_to(&rt, 2, &[0, 1, 1, 1, 1, 1, 1, 1]), Next::Clean);
-}
-
-#[test]
 fn quiet_scan(rt: HostRuntime) {
     assert_eq!(rt; answer_to(&rt, 1, &[0, 0]), Next::Clean);
 }
 
-/// Each failed double collect sees one number rise by one, until all have: 2n(n + 1) looks.
+/// Each collect but the last shows one more number risen by one, until all have: n(n + 2) looks.
 #[test]
 fn longest_scans(rt: HostRuntime) {
-    assert_eq!(rt; answer_to(&rt, 1, &[0, 1, 1, 1]), Next::Clean);
-    assert_eq!(rt;
-        answer_to(&rt, 2, &[0, 0, 1, 0, 1, 0, 1, 1, 1, 1, 1, 1]),
-        Next::Clean
-    );
-    let three = [
-        0, 0, 0, 1, 0, 0, 1, 0, 0, 1, 1, 0, 1, 1, 0, 1, 1, 1, 1, 1, 1, 1, 1, 1,
-    ];
+    assert_eq!(rt; answer_to(&rt, 1, &[0, 1]), Next::Look(0));
+    assert_eq!(rt; answer_to(&rt, 1, &[0, 1, 1]), Next::Clean);
+    assert_eq!(rt; answer_to(&rt, 2, &[0, 0, 1, 0, 1, 1, 1]), Next::Look(1));
+    assert_eq!(rt; answer_to(&rt, 2, &[0, 0, 1, 0, 1, 1, 1, 1]), Next::Clean);
+    let three = [0, 0, 0, 1, 0, 0, 1, 1, 0, 1, 1, 1, 1, 1, 1];
+    assert_eq!(rt; answer_to(&rt, 3, &three[..14]), Next::Look(2));
     assert_eq!(rt; answer_to(&rt, 3, &three), Next::Clean);
+}
+
+#[test]
+fn bound_of_each_size(rt: HostRuntime) {
+    assert_eq!(rt; most_looks(1), 3);
+    assert_eq!(rt; most_looks(2), 8);
+    assert_eq!(rt; most_looks(3), 15);
+    assert_eq!(rt; most_looks(MAX_SEGMENTS), 288);
+}
+
+/// Numbers that start anywhere up to 3 and reach 3 at most, none of them falling. A program of
+/// another language counted the lists.
+#[test]
+fn all_short_lists(rt: HostRuntime) {
+    assert_eq!(rt; ask_all(&rt, 1), Walk { lists: 20, most: 3 });
+    assert_eq!(rt;
+        ask_all(&rt, 2),
+        Walk {
+            lists: 364,
+            most: 8
+        }
+    );
+    assert_eq!(rt;
+        ask_all(&rt, 3),
+        Walk {
+            lists: 7260,
+            most: 15
+        }
+    );
 }

@@ -1,11 +1,11 @@
-use Rattle.snap_scan.proofs.Verdict.{IsClean-next, next-clean, IsBorrow-next, next-borrow, look-next, looks-lt}
+use Rattle.std.proofs.Common.{sym, subst}
+use Rattle.snap_scan.specs.Course.{IsNext}
+use Rattle.snap_scan.proofs.Verdict.{says_next}
 use Rattle.snap_scan.proofs.scan.Scan.next.Goals as goal
 
-pub returns-clause-clean : goal.returns-clause-clean
-returns-clause-clean c = λ L h. (IsClean-next _ L _ h.says, next-clean _ L _ h.least h.says)
-
-pub returns-clause-borrow : goal.returns-clause-borrow
-returns-clause-borrow c = λ L h j. (IsBorrow-next _ L _ j h.says, next-borrow _ L _ j h.says)
-
-pub returns-clause-bound : goal.returns-clause-bound
-returns-clause-bound c = λ L h j e. looks-lt _ L j (look-next c.args.self.now L _ j h.says e)
+pub returns-clause-decides : goal.returns-clause-decides
+returns-clause-decides c =
+    let s = c.self.inside in
+    let decides : IsNext s.machine.segments s.told.numbers c.next.result =
+    subst (IsNext s.machine.segments s.told.numbers) (sym c.next.ensures) (says_next s.machine s.told.numbers c.self.invariant) in
+    subst (λ v. IsNext v.segments v.told c.next.result) c.self.view_is decides

@@ -1,37 +1,21 @@
-use Rattle.std.proofs.Common.{[], ◌∷◌, ◌++◌, arith}
+use Rattle.std.proofs.Common.{sym, subst}
+use Rattle.snap_scan.specs.Looks.{IsNoFall}
 use Rattle.snap_scan.specs.Stands.{StandsFor}
-use Rattle.snap_scan.proofs.Told.{close, borrow, StandsFor-next_segment, StandsFor-end_collect, of_picked, turn_fits, firsts_fit}
+use Rattle.snap_scan.proofs.Verdict.{says_next}
 use Rattle.snap_scan.proofs.scan.Scan.told.Goals as goal
 
-pub has_moved_twice-requires : goal.has_moved_twice-requires
-has_moved_twice-requires c = firsts_fit c.args.self.now c.args.segment c.args.number c.requires.turn c.requires.stands
+pub told-requires-clause-stands : goal.told-requires-clause-stands
+told-requires-clause-stands c =
+    ∣ (
+      c.self.inside.told.numbers,
+      c.self.invariant,
+      subst (λ v. IsNoFall v.segments v.told c.args.segment c.args.number) (sym c.self.view_is) c.requires.rising,
+    ) ∣₁
 
-pub overflow_add-self : goal.overflow_add-self
-overflow_add-self c = omega (arith, (turn_fits c.args.self.now c.args.segment c.args.number c.requires.turn c.requires.stands).1)
+pub invariant_of-self : goal.invariant_of-self
+invariant_of-self c =
+    subst (StandsFor c.told.new.self) (sym c.then-self-inside.ensures) (c.told.ensures.told c.self.inside.told.numbers c.self.invariant)
 
-pub returns-then-has_moved_twice-clause-told : goal.returns-then-has_moved_twice-clause-told
-returns-then-has_moved_twice-clause-told c = λ told st.
-    let moved = c.has_moved_twice.ensures.0 c.if-has_moved_twice.true in
-    borrow c.args.self.now told c.args.segment c.args.number st c.requires.turn moved.0 moved.1
-
-pub keep-requires-clause-place : goal.keep-requires-clause-place
-keep-requires-clause-place c = (turn_fits c.args.self.now c.args.segment c.args.number c.requires.turn c.requires.stands).0
-
-pub keep-requires-clause-room : goal.keep-requires-clause-room
-keep-requires-clause-room c = omega (arith, (turn_fits c.args.self.now c.args.segment c.args.number c.requires.turn c.requires.stands).1)
-
-pub overflow_add-segment : goal.overflow_add-segment
-overflow_add-segment c = omega (arith, (turn_fits c.args.self.now c.args.segment c.args.number c.requires.turn c.requires.stands).0)
-
-pub returns-then-segment-self-clause-told : goal.returns-then-segment-self-clause-told
-returns-then-segment-self-clause-told c = λ told st.
-    let s = c.args.self.now in
-    let near = close s c.args.segment c.args.number c.has_moved_twice.result c.if-has_moved_twice.false c.has_moved_twice.ensures in
-    rw c.keep.ensures (StandsFor-next_segment s told c.args.segment c.args.number st c.requires.turn c.requires.stands near (rw c.keep.ensures at c.if-segment-self.true))
-
-pub returns-else-segment-self-clause-told : goal.returns-else-segment-self-clause-told
-returns-else-segment-self-clause-told c = λ told st.
-    let s = c.args.self.now in
-    let near = close s c.args.segment c.args.number c.has_moved_twice.result c.if-has_moved_twice.false c.has_moved_twice.ensures in
-    let stands = StandsFor-end_collect s told c.args.segment c.args.number st c.requires.turn c.requires.stands near (rw c.keep.ensures at c.if-segment-self.false) in
-    of_picked _ (λ s. StandsFor s (told ++ c.args.number ∷ [])) c.end_collect.new.self _ _ stands (rw c.keep.ensures at c.end_collect.ensures)
+pub returns-clause-next : goal.returns-clause-next
+returns-clause-next c = says_next c.told.new.self c.then-self-inside.result.numbers
+    (subst (StandsFor c.told.new.self) (sym c.then-self-inside.ensures) (c.told.ensures.told c.self.inside.told.numbers c.self.invariant))

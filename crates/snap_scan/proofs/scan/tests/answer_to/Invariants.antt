@@ -1,6 +1,5 @@
-use Rattle.std.proofs.Common.{ℕ, List}
-use Rattle.snap_scan.specs.Stands.{StandsFor}
+use Rattle.std.proofs.Common.{◌≡◌, take}
 use Rattle.snap_scan.proofs.scan.tests.answer_to.Given as goal
 
-abbrev pub invariant-loop-number : goal.invariant-loop-number
-invariant-loop-number g l = ∥ ((L : List ℕ) × StandsFor l.scan L) ∥₁
+abbrev pub invariant-loop-look : goal.invariant-loop-look
+invariant-loop-look g l = record { segments : l.scan.segments ≡ l.segments; told : l.scan.told ≡ take l.look l.numbers }

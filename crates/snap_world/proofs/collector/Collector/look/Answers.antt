@@ -1,27 +1,26 @@
-use Rattle.std.proofs.Math.Logic.{∥∥₁_elim, ∥∥₁_map}
+use Rattle.std.proofs.Math.Logic.{∥∥₁_elim}
 use Rattle.std.proofs.Props.{props}
 use Rattle.std.proofs.Common.{◌≡◌, ◌<◌, length, slice_set, arith, refl, ap, sym, ◌∙◌}
-use Rattle.snap_scan.specs.Stands.{next_of}
 use Rattle.snap_scan.specs.declared.next.Next.TheVariants.{Look}
 use Rattle.snap_world.proofs.Looking.{register_at, told_fits, turn_within, look_other, look_borrow}
 use Rattle.snap_world.proofs.collector.Collector.look.Goals as goal
 
-pub told-requires-clause-stands : goal.told-requires-clause-stands
-told-requires-clause-stands c = ∥∥₁_map c.requires.stands (λ q. (
+pub told-requires-clause-rising : goal.told-requires-clause-rising
+told-requires-clause-rising c = ∥∥₁_elim c.requires.stands (hlevel props) (λ q. (
     let col = c.args.self.now in
     let j = c.in-Look.segment in
     let r = c.index-register.result.now in
-    let turn : next_of col.scan ≡ Look j = sym c.next.ensures.same ∙ c.in-Look.is in
+    let turn : col.scan.next ≡ Look j = sym c.next.ensures.same ∙ c.in-Look.is in
     let within = turn_within q.0 q.1 q.2 q.3 col q.6 j turn in
     let stand = register_at q.0 q.1 q.2 c.args.registers.now.items j r q.5 within c.index-register.ensures in
-    (q.3.told, q.6.stands, told_fits q.0 q.1 q.2 q.3 col q.6 j turn r.number stand.number)))
+    told_fits q.0 q.1 q.2 q.3 col q.6 j turn r.number stand.number))
 
 pub copy_all-requires : goal.copy_all-requires
 copy_all-requires c = ∥∥₁_elim c.requires.stands (hlevel props) (λ q. (
     let col = c.args.self.now in
     let j = c.in-Look.segment in
     let r = c.index-register.result.now in
-    let turn : next_of col.scan ≡ Look j = sym c.next.ensures.same ∙ c.in-Look.is in
+    let turn : col.scan.next ≡ Look j = sym c.next.ensures.same ∙ c.in-Look.is in
     let within = turn_within q.0 q.1 q.2 q.3 col q.6 j turn in
     let stand = register_at q.0 q.1 q.2 c.args.registers.now.items j r q.5 within c.index-register.ensures in
     q.6.size ∙ sym stand.size))
@@ -32,9 +31,9 @@ returns-in-Borrow c = record {
       let col = c.args.self.now in
       let j = c.in-Look.segment in
       let r = c.index-register.result.now in
-      let turn : next_of col.scan ≡ Look j = sym c.next.ensures.same ∙ c.in-Look.is in
+      let turn : col.scan.next ≡ Look j = sym c.next.ensures.same ∙ c.in-Look.is in
       look_borrow n x g s col gat j turn c.args.registers.now.items born regs r c.index-register.ensures
-      c.told.new.self c.told.ensures.size (c.told.ensures.told s.told gat.stands) c.next-2.result c.next-2.ensures.same c.in-Borrow.field-0 c.in-Borrow.is _ refl c.copy_all.ensures);
+      c.told.new.self c.told.ensures.segments c.told.ensures.told c.next-2.result c.next-2.ensures.same c.next-2.ensures.decides c.in-Borrow.field-0 c.in-Borrow.is _ refl c.copy_all.ensures);
 }
 
 pub returns-in_default-next : goal.returns-in_default-next
@@ -43,21 +42,21 @@ returns-in_default-next c = record {
       let col = c.args.self.now in
       let j = c.in-Look.segment in
       let r = c.index-register.result.now in
-      let turn : next_of col.scan ≡ Look j = sym c.next.ensures.same ∙ c.in-Look.is in
+      let turn : col.scan.next ≡ Look j = sym c.next.ensures.same ∙ c.in-Look.is in
       look_other n x g s col gat j turn c.args.registers.now.items born regs r c.index-register.ensures
-      c.told.new.self c.told.ensures.size (c.told.ensures.told s.told gat.stands) c.next-2.result c.next-2.ensures.same c.in_default-next.not-Borrow _ refl (ap (λ v. slice_set col.memory.items j v) c.copy_from.ensures));
+      c.told.new.self c.told.ensures.segments c.told.ensures.told c.next-2.result c.next-2.ensures.same c.next-2.ensures.decides c.in_default-next.not-Borrow _ refl (ap (λ v. slice_set col.memory.items j v) c.copy_from.ensures));
 }
 
 pub index-register-requires : goal.index-register-requires
 index-register-requires c = ∥∥₁_elim c.requires.stands (hlevel props) (λ q. (
-    let turn : next_of c.args.self.now.scan ≡ Look c.in-Look.segment = sym c.next.ensures.same ∙ c.in-Look.is in
+    let turn : c.args.self.now.scan.next ≡ Look c.in-Look.segment = sym c.next.ensures.same ∙ c.in-Look.is in
     let w : c.in-Look.segment < q.0 = turn_within q.0 q.1 q.2 q.3 c.args.self.now q.6 c.in-Look.segment turn in
     let s : length c.args.registers.now.items ≡ q.0 = q.5.size in
     omega (arith, c.args.registers.now.ok.0)))
 
 pub index_mut-requires : goal.index_mut-requires
 index_mut-requires c = ∥∥₁_elim c.requires.stands (hlevel props) (λ q. (
-    let turn : next_of c.args.self.now.scan ≡ Look c.in-Look.segment = sym c.next.ensures.same ∙ c.in-Look.is in
+    let turn : c.args.self.now.scan.next ≡ Look c.in-Look.segment = sym c.next.ensures.same ∙ c.in-Look.is in
     let w : c.in-Look.segment < q.0 = turn_within q.0 q.1 q.2 q.3 c.args.self.now q.6 c.in-Look.segment turn in
     let s : length c.args.self.now.memory.items ≡ q.0 = q.6.size in
     omega (arith, c.args.self.now.memory.ok.0)))

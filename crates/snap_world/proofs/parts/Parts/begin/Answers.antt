@@ -70,7 +70,7 @@ returns-in-Idle c =
                 fits = subst (λ (v : List ℕ). length v ≤ 4080) value short;
                 room = (omega arith);
                 own = number_now x.history i;
-                gathers = Gathers-none w.segments x.history _ c.new-writer.ensures.stands c.new-writer.ensures.size c.new-writer.ensures.first a.2.size;
+                gathers = Gathers-none w.segments x.history _ c.new-writer.ensures.segments c.new-writer.ensures.told c.new-writer.ensures.first c.new-writer.ensures.next a.2.size;
               },
               (0, c.new-writer.ensures.first),
             );

@@ -1,7 +1,6 @@
 use Rattle.std.proofs.Math.Logic.{∥∥₁_map}
 use Rattle.std.proofs.lemmas.Bool.{MatchBool-at_true, MatchBool-at_false}
 use Rattle.std.proofs.Common.{◌≡◌, ◌<◌, refl, ap, subst, ◌∙◌, sym}
-use Rattle.snap_scan.specs.Stands.{next_of}
 use Rattle.snap_world.specs.Gathers.{IsUnderWay}
 use Rattle.snap_world.specs.Phases.{WriterIs}
 use Rattle.snap_world.specs.Stands.{PartsStand}
@@ -32,7 +31,7 @@ look-number-requires-clause-under_way c =
     let there = writer_there w i c.requires.stands c.if-segment-self.false in
     let old = c.index_mut-writer.result.now in
     let same = same_read w.writers.items i old c.index.result.now there c.index_mut-writer.ensures.value c.index.ensures in
-    look_from (next_of old.collector.scan) (∥∥₁_map c.requires.stands (λ q. writer_under_way w q.0 q.1 i c.if-segment-self.false old c.index_mut-writer.ensures.value (ap (λ z. z.phase) same ∙ c.in-Scanning.is)))
+    look_from old.collector.scan.next (∥∥₁_map c.requires.stands (λ q. writer_under_way w q.0 q.1 i c.if-segment-self.false old c.index_mut-writer.ensures.value (ap (λ z. z.phase) same ∙ c.in-Scanning.is)))
 
 pub look-number-requires-clause-stands : goal.look-number-requires-clause-stands
 look-number-requires-clause-stands c = ∥∥₁_map c.requires.stands (λ q. (
@@ -67,7 +66,7 @@ returns-after-is_done c =
     elim c.if-is_done.branch [
       | then-is_done b ↦ (
           let done = MatchBool-at_true (IsUnderWay col → ⊥) (IsUnderWay col) b.if-is_done.true c.is_done.ensures.under_way in
-          let tells : Tells col = λ told stands. (c.is_done.ensures.decided told stands).0 b.if-is_done.true in
+          let tells : Tells col = c.is_done.ensures.decided.0 b.if-is_done.true in
           record {
             step = subst (IsPartsStep w (Look (actor.Writer i)) (Number k)) (sym b.self-is)
                 (came w _ _ _ (λ e. cc) refl (λ x stands. writer_ends w x stands i l old read phase k col look done tells) (λ x stands. (refl, may x stands)) (λ x stands s e. looks_up (writer_goes w x stands i l old read phase k col look tells s e)));

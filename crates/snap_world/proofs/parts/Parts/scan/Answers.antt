@@ -44,7 +44,7 @@ returns-in-Idle c =
               scan_from (length x.history),
               refl,
               stands.within,
-              Gathers-none w.segments x.history new.collector c.new-scanner.ensures.stands c.new-scanner.ensures.size c.new-scanner.ensures.first a.2.size,
+              Gathers-none w.segments x.history new.collector c.new-scanner.ensures.segments c.new-scanner.ensures.told c.new-scanner.ensures.first c.new-scanner.ensures.next a.2.size,
               (0, c.new-scanner.ensures.first),
             );
           } in

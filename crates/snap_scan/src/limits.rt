@@ -1,0 +1,14 @@
+//! The limits of a scan.
+ghost use Rattle.std.specs.Prelude.{◌≡◌, ◌≤◌};
+ghost use Rattle.snap_scan.specs.Looks.{most_looks};
+
+/// The most segments that a scan looks at.
+pub const MAX_SEGMENTS: usize = 16;
+
+/// The most looks that a scan of this many segments makes: n(n + 2).
+pub const fn most_looks(segments: usize) -> usize
+    requires { segments ≤ MAX_SEGMENTS }
+    ensures { result ≡ most_looks segments }
+{
+    segments * (segments + 2)
+}
