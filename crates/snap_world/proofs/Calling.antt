@@ -5,7 +5,7 @@ use Rattle.snap_disk.specs.declared.fill.Fill.{Fill}
 use Rattle.snap_slot.specs.Layout.{body_block}
 use Rattle.snap_slot.specs.States.{IsEither}
 use Rattle.snap_slot.proofs.Blocks.{length-body_block}
-use Rattle.snap_persist.specs.Device.{IsAtStage, write_at, write_bytes}
+use Rattle.snap_persist.specs.Device.{IsAtStage, write_at, write_bytes, write_len}
 use Rattle.snap_persist.specs.Stage.{Order, calls_left, first_call, first_stage, after_call}
 use Rattle.snap_persist.specs.declared.persist.Write.{Write}
 use Rattle.snap_persist.specs.declared.persist.Write.TheVariants as write
@@ -14,7 +14,6 @@ use Rattle.snap_persist.specs.declared.persist.Next.TheVariants as next
 use Rattle.snap_persist.specs.declared.persist.Stage.{Stage}
 use Rattle.snap_persist.specs.declared.persist.Stage.TheVariants as stage
 use Rattle.snap_persist.proofs.Stages.{stage_leaves, write_leaves, write_goes, sync_goes, sync_leaves}
-use Rattle.snap_world.specs.Calls.{write_len}
 use Rattle.snap_world.specs.Devices.{IsMade, IsMissed, IsWriteFailed, IsRefilled}
 use Rattle.snap_world.specs.Drives.{IsReady, IsStoreUnderWay}
 

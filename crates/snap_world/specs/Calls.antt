@@ -1,7 +1,4 @@
 -- The device calls of a store and of a restart, as a reply names them.
-use Rattle.std.specs.Prelude.{ℕ}
-use Rattle.snap_persist.specs.declared.persist.Write.{Write as Write_kind}
-use Rattle.snap_persist.specs.declared.persist.Write.TheVariants as write
 use Rattle.snap_persist.specs.declared.persist.Next.{Next}
 use Rattle.snap_persist.specs.declared.persist.Next.TheVariants.{Write, Sync, Done}
 use Rattle.snap_world.specs.declared.event.Kind.{Kind}
@@ -19,9 +16,3 @@ store_call kind.Read = Done
 abbrev pub opening_kind : OpeningCall → Kind
 opening_kind opening.Sync = kind.Sync
 opening_kind opening.Read = kind.Read
-
--- how many bytes a write has
-abbrev pub write_len : Write_kind → ℕ
-write_len write.Close = 1
-write_len write.Body = 4096
-write_len write.Open = 1

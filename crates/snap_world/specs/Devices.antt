@@ -1,16 +1,16 @@
 -- What each event does to the devices.
-use Rattle.std.specs.Prelude.{◌≡◌, ℕ, Bool, ◌+◌, ◌%◌, List, ◌∷◌, Some, slice_get, slice_set}
+use Rattle.std.specs.Prelude.{◌≡◌, ℕ, Bool, ◌+◌, List, ◌∷◌, Some, slice_get, slice_set}
 use Rattle.snap_disk.specs.Device.{Device, in_range, IsTouched, IsSynced, IsUnsynced}
 use Rattle.snap_disk.specs.Fill.{IsFilled}
 use Rattle.snap_disk.specs.declared.fill.Fill.{Fill}
-use Rattle.snap_slot.specs.Layout.{body_block, Head, Holds, IsSpare}
-use Rattle.snap_persist.specs.Device.{IsJustWritten, write_at, write_bytes}
+use Rattle.snap_slot.specs.Layout.{slot_of, body_block, Head, Holds, IsSpare}
+use Rattle.snap_persist.specs.Device.{IsJustWritten, write_at, write_bytes, write_len}
 use Rattle.snap_history.specs.Pairs.{Pairs}
 use Rattle.snap_history.specs.History.{from_nothing, number_after, value_after}
 use Rattle.snap_persist.specs.declared.persist.Next.{Next}
 use Rattle.snap_persist.specs.declared.persist.Next.TheVariants as next
 use Rattle.snap_persist.specs.Stage.{store_calls}
-use Rattle.snap_world.specs.Calls.{store_call, write_len}
+use Rattle.snap_world.specs.Calls.{store_call}
 use Rattle.snap_world.specs.Machine.{State, WriterState, Begun}
 use Rattle.snap_world.specs.NodePhases.{WorldPhases}
 use Rattle.snap_world.specs.declared.node.NodePhase.TheVariants.{Restarting}
@@ -88,7 +88,7 @@ abbrev pub next_number : State → ℕ → ℕ
 next_number x w = number_after from_nothing x.history w + 1
 
 abbrev pub next_slot : State → ℕ → ℕ
-next_slot x w = next_number x w % 2
+next_slot x w = slot_of (next_number x w)
 
 -- in state x with phases p, the event with this reply, which leads to state y, leaves these devices
 abbrev pub DevicesMove :

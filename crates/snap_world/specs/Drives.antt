@@ -1,10 +1,10 @@
 -- What the device of a segment is while its writer is in each phase, and after a crash.
-use Rattle.std.specs.Prelude.{◌≡◌, ◌≢◌, ◌⊎◌, ℕ, ◌+◌, ◌%◌, Bool, false, List, [], Some, slice_get}
+use Rattle.std.specs.Prelude.{◌≡◌, ◌≢◌, ◌⊎◌, ℕ, ◌+◌, Bool, false, List, [], Some, slice_get}
 use Rattle.snap_disk.specs.Device.{Device, MayLeave, IsUnsynced}
 use Rattle.snap_disk.specs.Fill.{IsFilled}
 use Rattle.snap_disk.specs.declared.fill.Fill.{Fill}
 use Rattle.snap_disk.specs.Image.{image_device}
-use Rattle.snap_slot.specs.Layout.{IsFileOf}
+use Rattle.snap_slot.specs.Layout.{IsFileOf, slot_of}
 use Rattle.snap_slot.specs.States.{IsAtRest, IsEither}
 use Rattle.snap_persist.specs.Device.{IsAtStage}
 use Rattle.snap_persist.specs.Stage.{Order, calls_left, first_stage}
@@ -23,12 +23,12 @@ device_of d = image_device d.image
 pub record IsReady (i n k : ℕ) (u : List ℕ) (device : Device) (order : Order) : Type 0 where
   pub spare_open : Bool
   pub rest : IsAtRest i n k u spare_open device
-  pub slot : order.slot ≡ (k + 1) % 2
+  pub slot : order.slot ≡ slot_of (k + 1)
   pub stage : order.stage ≡ first_stage spare_open
 
 -- a store of value v is under way at number k and value u
 pub record IsStoreUnderWay (i n k : ℕ) (u v : List ℕ) (device : Device) (order : Order) : Type 0 where
-  pub slot : order.slot ≡ (k + 1) % 2
+  pub slot : order.slot ≡ slot_of (k + 1)
   pub going : calls_left order.stage ≢ []
   pub at_stage : IsAtStage i n k u v order.stage device
 

@@ -1,10 +1,12 @@
 -- The phases of a world: of its node, of its writers and scanners, and of the stores on its devices.
-use Rattle.std.specs.Prelude.{◌≡◌, ◌⊎◌, ℕ, ◌+◌, ◌-◌, ◌^◌, ◌<◌, ◌≤◌, nat_lt, true, if◌then◌else◌, List, [], ◌∷◌, ◌++◌, length, replicate, Some, slice_get, slice_set}
+use Rattle.std.specs.Prelude.{◌≡◌, ◌⊎◌, ℕ, ◌+◌, ◌<◌, nat_lt, true, if◌then◌else◌, List, [], ◌∷◌, ◌++◌, length, replicate, Some, slice_get, slice_set}
 use Rattle.snap_scan.specs.Looks.{IsDecided}
 use Rattle.snap_history.specs.History.{from_nothing, number_after}
 use Rattle.snap_world.specs.Machine.{State, WriterState, Opened}
 use Rattle.snap_world.specs.Answers.{ScanState}
 use Rattle.snap_world.specs.Phases.{Phases, WriterIs, ScannerIs, writer_to, scanner_to}
+use Rattle.snap_slot.specs.declared.layout.TheConstants.{LAST_NUMBER}
+use Rattle.snap_slot.specs.Layout.{IsShort}
 use Rattle.snap_persist.specs.declared.persist.Next.{Next}
 use Rattle.snap_persist.specs.Stage.{store_calls}
 use Rattle.snap_world.specs.Calls.{store_call, opening_kind}
@@ -38,8 +40,8 @@ segments_in p = length p.calls
 -- in state x with phases p the event may come; writers and scanners act only while the node is up
 abbrev pub MayCome : State → WorldPhases → Event → Type 0
 MayCome x p (Begin w v) =
-    (p.node ≡ Up) × WriterIs p.actors w writer.Idle × (length v.items ≤ 4080)
-    × (number_after from_nothing x.history w < 2 ^ 63 - 1)
+    (p.node ≡ Up) × WriterIs p.actors w writer.Idle × IsShort v.items
+    × (number_after from_nothing x.history w < LAST_NUMBER)
 MayCome x p (Look (actor.Writer w)) = (p.node ≡ Up) × WriterIs p.actors w writer.Scanning
 MayCome x p (Look (actor.Scanner i)) = (p.node ≡ Up) × ScannerIs p.actors i scanner.Scanning
 MayCome x p (Call w) = (p.node ≡ Up) × WriterIs p.actors w writer.Storing

@@ -1,12 +1,14 @@
 //! The device of a segment, and the store that is made on it.
-ghost use Rattle.std.specs.Prelude.{◌≡◌, ◌≢◌, ◌∷◌, ◌+◌, ◌%◌, ◌^◌, ◌<◌, ◌≤◌, ℕ, List, [], length, map, IfOk};
+ghost use Rattle.std.specs.Prelude.{◌≡◌, ◌≢◌, ◌∷◌, ◌+◌, ◌<◌, ◌≤◌, ℕ, List, [], length, map, IfOk};
 ghost use Rattle.snap_disk.specs.Device.{Device, IsTouched};
 ghost use Rattle.snap_disk.specs.declared.fill.Fill.{Fill};
-ghost use Rattle.snap_slot.specs.Layout.{body_block, IsFileOf};
+ghost use Rattle.snap_disk.specs.declared.file.TheConstants.{FILE_LEN};
+ghost use Rattle.snap_slot.specs.declared.layout.TheConstants.{SLOT_COUNT, MAX_COUNT, MAX_VALUE_LEN};
+ghost use Rattle.snap_slot.specs.Layout.{IsNumber, IsShort, body_block, IsFileOf};
 ghost use Rattle.snap_slot.specs.Findings.{IsFound};
-ghost use Rattle.snap_persist.specs.Device.{IsJustWritten, write_at, write_bytes};
+ghost use Rattle.snap_persist.specs.Device.{IsJustWritten, write_at, write_bytes, write_len};
 ghost use Rattle.snap_persist.specs.Stage.{calls_left, after_call, first_call};
-ghost use Rattle.snap_world.specs.Calls.{store_call, write_len};
+ghost use Rattle.snap_world.specs.Calls.{store_call};
 ghost use Rattle.snap_world.specs.Devices.{IsMade, IsMissed, IsWriteFailed};
 ghost use Rattle.snap_world.specs.Drives.{device_of, IsFormatted, AllReady, IsCrashed, AreCrashed};
 ghost use Rattle.snap_history.specs.Pairs.{Pairs};
@@ -17,7 +19,7 @@ use crate::event::Kind;
 use snap_disk::{Fill, Image};
 use snap_persist::{Answer, Next, Persist, Stage, Write};
 use snap_slot::{
-    BLOCK_LEN, FILE_LEN, Found, HEADER_GATE_AT, OPEN_GATE, SHUT_GATE, body_at, encode_body,
+    BLOCK_LEN, FILE_LEN, Found, HEADER_GATE_AT, HEADER_LEN, OPEN_GATE, encode_body,
     encode_fresh_slots, encode_header, gate_at, recover, slot_of,
 };
 use std::alloc::{AllocError, Global};
@@ -36,11 +38,11 @@ impl Drive {
     /// The device of segment `index` of `count`, formatted: number 0 and the empty value.
     pub fn format(alloc: Global, index: u8, count: u8) -> Result<Drive, AllocError>
         requires below { index < count }
-        requires few { count ≤ 16 }
+        requires few { count ≤ MAX_COUNT }
         ensures { IfOk result (IsFormatted index count) }
     {
         let mut image = Image::new(alloc, FILE_LEN as usize)?;
-        let mut front = [0u8; 4095];
+        let mut front = [0u8; HEADER_LEN];
         encode_header(index, count, &mut front);
         image.put(0, &front);
         let mut slots = [0u8; 16384];
@@ -62,10 +64,10 @@ impl Drive {
 
     /// The next call of the store of this number and value, which succeeds: its kind.
     pub fn call(&mut self, number: u64, value: &[u8]) -> Kind
-        requires size { length (device_of self.old).bytes ≡ 20480 }
-        requires slot { self.old.order.slot < 2 }
-        requires number { number < 2 ^ 63 }
-        requires fits { length value.now ≤ 4080 }
+        requires size { length (device_of self.old).bytes ≡ FILE_LEN }
+        requires slot { self.old.order.slot < SLOT_COUNT }
+        requires number { IsNumber number }
+        requires fits { IsShort value.now }
         requires going { calls_left self.old.order.stage ≢ [] }
         ensures slot { self.new.order.slot ≡ self.old.order.slot }
         ensures stage { self.new.order.stage ≡ after_call self.old.order.stage }
@@ -91,31 +93,25 @@ impl Drive {
 
     /// A write of the store of this number and value.
     fn put(&mut self, write: Write, number: u64, value: &[u8])
-        requires size { length (device_of self.old).bytes ≡ 20480 }
-        requires slot { self.old.order.slot < 2 }
-        requires number { number < 2 ^ 63 }
-        requires fits { length value.now ≤ 4080 }
+        requires size { length (device_of self.old).bytes ≡ FILE_LEN }
+        requires slot { self.old.order.slot < SLOT_COUNT }
+        requires number { IsNumber number }
+        requires fits { IsShort value.now }
         ensures order { self.new.order ≡ self.old.order }
         ensures written { IsJustWritten (write_at self.old.order.slot write)
             (write_bytes (body_block number value.now) write) (device_of self.old) (device_of self.new) }
     {
-        let slot = self.order.slot();
-        match write {
-            Write::Close => self.image.put(gate_at(slot) as usize, &[SHUT_GATE]),
-            Write::Body => {
-                let mut block = [0u8; 4096];
-                encode_body(number, value, &mut block);
-                self.image.put(body_at(slot) as usize, &block);
-            }
-            Write::Open => self.image.put(gate_at(slot) as usize, &[OPEN_GATE]),
-        }
+        let mut block = [0u8; BLOCK_LEN];
+        encode_body(number, value, &mut block);
+        let place = write.place(self.order.slot());
+        self.image.put(place as usize, write.bytes(&block));
     }
 
     /// The next call of the store, which fails: the touched places get the fill, and the store is
     /// over.
     pub fn fail(&mut self, fill: &Fill)
-        requires size { length (device_of self.old).bytes ≡ 20480 }
-        requires slot { self.old.order.slot < 2 }
+        requires size { length (device_of self.old).bytes ≡ FILE_LEN }
+        requires slot { self.old.order.slot < SLOT_COUNT }
         requires going { calls_left self.old.order.stage ≢ [] }
         ensures stage { self.new.order.stage ≡ Stage.Fenced }
         ensures missed { (call : Next) × (rest : List Next)
@@ -132,19 +128,14 @@ impl Drive {
 
     /// A write of the store that fails.
     fn put_failed(&mut self, write: Write, fill: &Fill)
-        requires size { length (device_of self.old).bytes ≡ 20480 }
-        requires slot { self.old.order.slot < 2 }
+        requires size { length (device_of self.old).bytes ≡ FILE_LEN }
+        requires slot { self.old.order.slot < SLOT_COUNT }
         ensures order { self.new.order ≡ self.old.order }
         ensures failed { IsWriteFailed (write_at self.old.order.slot write) (write_len write) fill.now
             (device_of self.old) (device_of self.new) }
     {
-        let slot = self.order.slot();
-        match write {
-            Write::Close | Write::Open => self.image.put_failed(gate_at(slot) as usize, 1, fill),
-            Write::Body => self
-                .image
-                .put_failed(body_at(slot) as usize, BLOCK_LEN, fill),
-        }
+        let place = write.place(self.order.slot());
+        self.image.put_failed(place as usize, write.len(), fill);
     }
 }
 
@@ -174,18 +165,18 @@ impl Drive {
 impl Drive {
     /// The value that the last restart found.
     pub fn found_value(&self) -> &[u8]
-        requires size { length (device_of self.now).bytes ≡ 20480 }
-        requires limit { self.now.found.length ≤ 4080 }
+        requires size { length (device_of self.now).bytes ≡ FILE_LEN }
+        requires limit { self.now.found.length ≤ MAX_VALUE_LEN }
         ensures value { result.now ≡ found_value self.now }
-        ensures length { length result.now ≤ 4080 }
+        ensures length { IsShort result.now }
     {
         self.found.value(self.image.bytes())
     }
 
     /// The same in a vector of its own.
     fn found_bytes(&self, alloc: Global) -> Result<Vec<u8>, AllocError>
-        requires size { length (device_of self.now).bytes ≡ 20480 }
-        requires limit { self.now.found.length ≤ 4080 }
+        requires size { length (device_of self.now).bytes ≡ FILE_LEN }
+        requires limit { self.now.found.length ≤ MAX_VALUE_LEN }
         ensures { IfOk result (λ v. v.items ≡ found_value self.now) }
     {
         self.found_value().to_vec(alloc)
@@ -193,7 +184,7 @@ impl Drive {
 
     /// The store that comes next is that of the number after the one that the last restart found.
     pub fn resume(&mut self)
-        requires limit { self.old.found.number < 2 ^ 63 }
+        requires limit { IsNumber self.old.found.number }
         ensures { IsResumed self.old self.new }
     {
         self.order = Persist::begin(self.found.spare_open, slot_of(self.found.number + 1));
@@ -234,7 +225,7 @@ pub fn crash_all(drives: &mut Vec<Drive>, fills: &Vec<Fill>)
 
 /// The formatted devices of a new world.
 pub fn new_drives(alloc: Global, segments: usize) -> Result<Vec<Drive>, AllocError>
-    requires most { segments ≤ 16 }
+    requires most { segments ≤ MAX_COUNT }
     ensures { IfOk result (λ v. (length v.items ≡ segments) × AllReady segments v.items) }
 {
     let mut drives = Vec::new(alloc);
