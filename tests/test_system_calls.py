@@ -11,7 +11,7 @@ CALL = re.compile(r"^(\d+ +)?(\w+)\((.*)\) += (-?\d+)")
 
 
 def calls_of(snapd, *words, stdin=b""):
-    """The calls on the file `F` in order, as (name, offset and length) and those on the standard streams."""
+    """The calls on the file `F` and its folder in order, as (name, offset and length) and those on the standard streams."""
     if shutil.which("strace") is None:
         raise Skipped("strace isn't installed")
     log = snapd.file("strace.log")
@@ -20,26 +20,30 @@ def calls_of(snapd, *words, stdin=b""):
     )
     if not log.exists() or "exited with" not in log.read_text():
         raise Skipped(f"strace can't trace here: {traced.stderr.decode().strip()}")
-    file, on_file, on_streams = None, [], []
+    opened, on_file, on_streams = {}, [], []
     for line in log.read_text().splitlines():
         call = CALL.match(line)
         if call is None:
             continue
         name, words_of_call, result = call[2], call[3], int(call[4])
-        if name in ("open", "openat") and '"F"' in words_of_call:
-            file = str(result)
-            on_file.append(("open",))
+        path = re.search(r'"(F|\.)"', words_of_call) if name in ("open", "openat") else None
+        if path is not None:
+            opened[str(result)] = "" if path[1] == "F" else " of the folder"
+            on_file.append(("open" + opened[str(result)],))
             continue
         number = words_of_call.split(",")[0]
-        if file is not None and number == file:
+        if number in opened:
             numbers = [int(word) for word in re.findall(r", (\d+)(?=,|$)", words_of_call)] if name.startswith("p") else []
-            on_file.append((name, *numbers[-2:][::-1]))
+            on_file.append((name + opened[number], *numbers[-2:][::-1]))
+            if name == "close":
+                del opened[number]
         elif number in ("0", "1", "2") and name in ("read", "write", "lseek", "ioctl", "readv", "writev"):
             on_streams.append((name, int(number), result))
     return on_file, on_streams
 
 
-OPENED = [("open",), ("statx",)]
+OPENED = [("open",), ("flock",), ("statx",)]
+NAMED = [("open of the folder",), ("fsync of the folder",), ("close of the folder",)]
 RECOVERED = [("fdatasync",), ("pread64", 0, 20_480)]
 
 
@@ -51,7 +55,8 @@ def store_calls(slot, spare_open):
 
 def test_calls_of_each_command(snapd, _):
     on_file, on_streams = calls_of(snapd, "format", "F")
-    assert on_file == [("open",), ("statx",), ("ftruncate",), ("fdatasync",), ("pread64", 0, 4_096)] + [
+    # The name lasts before the file has bytes, and the lock comes before the length.
+    assert on_file == OPENED + NAMED + [("ftruncate",), ("fdatasync",), ("pread64", 0, 4_096)] + [
         ("pwrite64", 0, 4_095),
         ("pwrite64", 4_096, 16_384),
         ("fdatasync",),

@@ -182,7 +182,6 @@ show 0
 look s0
 ack 0
 look s0
-look s0
 answer 0
 ";
 
@@ -199,7 +198,6 @@ number 0
 shown
 number 1
 stored 1
-number 1
 number 1
 memory 6869
 ";
@@ -225,7 +223,7 @@ fn borrowed_view_script(rt: HostRuntime) {
     assert_eq!(rt; written.as_slice(), BORROWED_VIEW_OUTPUT.as_bytes());
 }
 
-/// The script that the program's help shows: its scan's first two looks differ, so it looks twice
+/// The script that the program's help shows: its scan's first two looks differ, so it looks once
 /// more.
 #[test]
 fn script_of_the_help(rt: HostRuntime) {

@@ -139,14 +139,14 @@ pub(crate) fn answer(
 }
 
 #[test]
-fn clean_after_a_failed_collect(rt: HostRuntime) -> Result<(), Fail> {
+fn clean_after_six(rt: HostRuntime) -> Result<(), Fail> {
     let alloc = rt.alloc();
     let mut world = World::new(alloc, 2, 1)?;
     expect(&rt, &mut world, Event::Scan(0), Reply::ScanBegun)?;
     looks(&rt, &mut world, Actor::Scanner(0), &[0, 0])?;
     store(&rt, alloc, &mut world, 0, "a", &[0, 0, 0, 0], &FIRST_STORE)?;
     show(&rt, &mut world, 0, 1)?;
-    looks(&rt, &mut world, Actor::Scanner(0), &[1, 0, 1, 0, 1, 0])?;
+    looks(&rt, &mut world, Actor::Scanner(0), &[1, 0, 1, 0])?;
     answer(&rt, alloc, &mut world, &["a", ""])?;
     Ok(())
 }
@@ -188,7 +188,7 @@ fn borrowed_view_is_of_the_embedded_scan(rt: HostRuntime) -> Result<(), Fail> {
 }
 
 #[test]
-fn late_show_inside_a_scan(rt: HostRuntime) -> Result<(), Fail> {
+fn late_show_clean_after_six(rt: HostRuntime) -> Result<(), Fail> {
     let alloc = rt.alloc();
     let mut world = World::new(alloc, 2, 1)?;
     store(&rt, alloc, &mut world, 0, "a", &[0, 0, 0, 0], &FIRST_STORE)?;
@@ -197,7 +197,7 @@ fn late_show_inside_a_scan(rt: HostRuntime) -> Result<(), Fail> {
     expect(&rt, &mut world, Event::Scan(0), Reply::ScanBegun)?;
     looks(&rt, &mut world, Actor::Scanner(0), &[0])?;
     show(&rt, &mut world, 0, 1)?;
-    looks(&rt, &mut world, Actor::Scanner(0), &[1, 1, 1, 1, 1, 1, 1])?;
+    looks(&rt, &mut world, Actor::Scanner(0), &[1, 1, 1, 1, 1])?;
     answer(&rt, alloc, &mut world, &["a", "b"])?;
     Ok(())
 }
