@@ -3,7 +3,8 @@ use Rattle.std.specs.Prelude.{ℕ, List, [], ◌∷◌, ◌++◌, map, codes}
 use Rattle.std.specs.Fmt.{decimal}
 use Rattle.hex.specs.Hex.{encode_lower}
 use Rattle.snap_world.specs.declared.event.Kind.{Kind}
-use Rattle.snap_world.specs.declared.event.Kind.TheVariants.{Close, Body, Open, Sync, Read}
+use Rattle.snap_world.specs.declared.event.Kind.TheVariants.{Write, Sync, Read}
+use Rattle.snap_persist.specs.declared.persist.Write.TheVariants as write
 use Rattle.snap_world.specs.declared.event.Reply.{Reply}
 use Rattle.snap_world.specs.declared.event.Reply.TheVariants.{Begun, Number, Called, DeviceFailed, Shown, Stored, ScanBegun, Memory, Crashed, Restarting, NotNow}
 
@@ -14,9 +15,9 @@ hex_text (b ∷ bytes) = encode_lower (b ∷ bytes)
 
 -- the name of a device call
 abbrev pub kind_text : Kind → List ℕ
-kind_text Close = codes "close"
-kind_text Body = codes "body"
-kind_text Open = codes "open"
+kind_text (Write write.Close) = codes "close"
+kind_text (Write write.Body) = codes "body"
+kind_text (Write write.Open) = codes "open"
 kind_text Sync = codes "sync"
 kind_text Read = codes "read"
 

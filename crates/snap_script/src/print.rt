@@ -5,7 +5,7 @@ ghost use Rattle.hex.specs.Hex.{encode_lower};
 ghost use Rattle.snap_script.specs.Text.{hex_text, kind_text, values_text, reply_text, world_text, line_text};
 
 use itoa::Buffer;
-use snap_world::{Kind, Reply};
+use snap_world::{Kind, Reply, Write};
 use std::alloc::AllocError;
 
 /// Appends the line that a reply is printed as.
@@ -68,9 +68,9 @@ fn put_kind(out: &mut Vec<u8>, kind: Kind) -> Result<(), AllocError>
         ≡ out.old.items ++ line_text (codes "called " ++ kind_text kind)) }
 {
     match kind {
-        Kind::Close => put(out, b"called close\n"),
-        Kind::Body => put(out, b"called body\n"),
-        Kind::Open => put(out, b"called open\n"),
+        Kind::Write(Write::Close) => put(out, b"called close\n"),
+        Kind::Write(Write::Body) => put(out, b"called body\n"),
+        Kind::Write(Write::Open) => put(out, b"called open\n"),
         Kind::Sync => put(out, b"called sync\n"),
         Kind::Read => put(out, b"called read\n"),
     }

@@ -15,21 +15,21 @@ use Rattle.snap_persist.specs.Stage.{Order, calls_left}
 use Rattle.snap_history.specs.History.{Update, from_nothing, number_after, value_after}
 use Rattle.snap_history.specs.Pairs.{Pairs}
 use Rattle.snap_history.proofs.Pairing.{element, partner}
-use Rattle.snap_world.specs.Calls.{kinds_of}
 use Rattle.snap_world.specs.Devices.{AreRefilled, IsRefilled}
-use Rattle.snap_world.specs.Disks.{IsDiskAt, DisksDown, HoldsEither, IsCrashed, AreCrashed, device_of}
+use Rattle.snap_world.specs.Drives.{IsDriveAt, DrivesDown, HoldsEither, IsCrashed, AreCrashed, device_of}
 use Rattle.snap_world.specs.Halting.{IsHalted, IsScannerHalted}
 use Rattle.snap_world.specs.Machine.{State, WriterState, ScannerState, Pending, Begun, Closed, crashed, crashed_pending, crashed_writer}
 use Rattle.snap_world.specs.NodePhases.{all_idle}
 use Rattle.snap_world.specs.NodeStands.{NodeStand, PartsRest, WriterRests, ScannerRests, IsUp, IsDown, IsNodeAt}
-use Rattle.snap_world.specs.NodeSteps.{kinds_left}
+use Rattle.snap_world.specs.NodeSteps.{store_left}
 use Rattle.snap_world.specs.Phases.{Phases}
 use Rattle.snap_world.specs.Stands.{PartsStand, WriterStands, ScannerStands, IsAtPhase}
 use Rattle.snap_world.specs.Steps.{phases_of_parts}
-use Rattle.snap_world.specs.declared.disk.SegmentDisk.{SegmentDisk}
+use Rattle.snap_world.specs.declared.drive.Drive.{Drive}
 use Rattle.snap_world.specs.declared.node.Node.{Node}
 use Rattle.snap_world.specs.declared.node.NodePhase.{NodePhase}
-use Rattle.snap_world.specs.declared.node.NodePhase.TheVariants.{Up, Down, Restarting}
+use Rattle.snap_world.specs.declared.node.NodePhase.TheVariants.{Up, Down, Restarting, Ready}
+use Rattle.snap_world.specs.declared.node.OpeningCall.TheVariants as opening
 use Rattle.snap_world.specs.declared.parts.Parts.{Parts}
 use Rattle.snap_world.specs.declared.register.Register.{Register}
 use Rattle.snap_world.specs.declared.writer.Writer.{Writer}
@@ -52,23 +52,23 @@ module _ (n : ℕ) (h : List Update) (g i : ℕ) (a : Writer) (s : WriterState) 
   begun_either : (v : List ℕ) → s.pending ≡ Begun v → (b : List ℕ) → IsEither i n k u v b → HoldsEither i n k u (crashed_pending s.pending) b
   begun_either v begun b either = ⊎_elim (λ old. inl old) (λ new. inr (v, ap crashed_pending begun, new)) either
 
-  phase_leaves : (phase : WriterPhase) → IsAtPhase n h g i a s phase → IsDiskAt i n k u phase s.pending d order → (b : List ℕ) → MayLeave d b → HoldsEither i n k u (crashed_pending s.pending) b
-  phase_leaves writer.Idle at disk b left = inl (at_rest_leaves i n k u disk.spare_open d disk.rest b left)
-  phase_leaves writer.Scanning at disk b left = inl (at_rest_leaves i n k u disk.spare_open d disk.rest b left)
-  phase_leaves writer.Storing at disk b left =
-      begun_either a.value at.0.pending b (stage_leaves i n k u a.value at.0.room at.0.fits order.stage d (disk a.value at.0.pending).at_stage b left)
-  phase_leaves writer.Stored at disk b left =
-      let ready = disk a.value at.0.pending in inr (a.value, ap crashed_pending at.0.pending, at_rest_leaves i n (k + 1) a.value ready.spare_open d ready.rest b left)
-  phase_leaves writer.Shown at disk b left = inl (at_rest_leaves i n k u disk.spare_open d disk.rest b left)
-  phase_leaves writer.Fenced at disk b left = begun_either at.0 at.1 b (disk at.0 at.1 b left)
+  phase_leaves : (phase : WriterPhase) → IsAtPhase n h g i a s phase → IsDriveAt i n k u phase s.pending d order → (b : List ℕ) → MayLeave d b → HoldsEither i n k u (crashed_pending s.pending) b
+  phase_leaves writer.Idle at drive b left = inl (at_rest_leaves i n k u drive.spare_open d drive.rest b left)
+  phase_leaves writer.Scanning at drive b left = inl (at_rest_leaves i n k u drive.spare_open d drive.rest b left)
+  phase_leaves writer.Storing at drive b left =
+      begun_either a.value at.0.pending b (stage_leaves i n k u a.value at.0.room at.0.fits order.stage d (drive a.value at.0.pending).at_stage b left)
+  phase_leaves writer.Stored at drive b left =
+      let ready = drive a.value at.0.pending in inr (a.value, ap crashed_pending at.0.pending, at_rest_leaves i n (k + 1) a.value ready.spare_open d ready.rest b left)
+  phase_leaves writer.Shown at drive b left = inl (at_rest_leaves i n k u drive.spare_open d drive.rest b left)
+  phase_leaves writer.Fenced at drive b left = begun_either at.0 at.1 b (drive at.0 at.1 b left)
 
 -- what a crash leaves of each device: the same again after the crash
-abbrev Leaves : ℕ → List Update → List WriterState → List SegmentDisk → Type 0
+abbrev Leaves : ℕ → List Update → List WriterState → List Drive → Type 0
 Leaves n h ss ds =
-    (i : ℕ) (d : SegmentDisk) (s : WriterState) → slice_get ds i ≡ Some d → slice_get ss i ≡ Some s
+    (i : ℕ) (d : Drive) (s : WriterState) → slice_get ds i ≡ Some d → slice_get ss i ≡ Some s
     → (b : List ℕ) → MayLeave (device_of d) b → HoldsEither i n (number_after from_nothing h i) (value_after from_nothing h i) (crashed_pending s.pending) b
 
-up_leaves : (parts : Parts) (ds : List SegmentDisk) (x : State) → IsUp parts ds x → Leaves parts.segments x.history x.writers ds
+up_leaves : (parts : Parts) (ds : List Drive) (x : State) → IsUp parts ds x → Leaves parts.segments x.history x.writers ds
 up_leaves parts ds x up i d s ed es =
     let stand = up.parts_stand in
     let size : length parts.writers.items ≡ length x.writers = stand.writers.size in
@@ -76,22 +76,24 @@ up_leaves parts ds x up i d s ed es =
     let a = element parts.writers.items i (omega arith) in
     let here : WriterStands parts.segments x.history stand.since i a.0 s = stand.writers.each i a.0 s a.1 es in
     let phase : slice_get (phases_of_parts parts).writers i ≡ Some a.0.phase = slice_get-map (λ (v : Writer). v.phase) parts.writers.items i ∙ ap (option_map (λ (v : Writer). v.phase)) a.1 in
-    phase_leaves parts.segments x.history stand.since i a.0 s (device_of d) d.order a.0.phase here.phase (up.disks_stand i d s a.0.phase ed es phase)
+    phase_leaves parts.segments x.history stand.since i a.0 s (device_of d) d.order a.0.phase here.phase (up.drives_stand i d s a.0.phase ed es phase)
 
 either_stays : (i n k : ℕ) (u : List ℕ) (p : Pending) (b : List ℕ) → HoldsEither i n k u p b → HoldsEither i n k u (crashed_pending p) b
 either_stays i n k u p b (inl old) = inl old
 either_stays i n k u p b (inr new) = inr (new.0, ap crashed_pending new.1, new.2)
 
-down_leaves : (n : ℕ) (h : List Update) (ss : List WriterState) (ds : List SegmentDisk) → DisksDown n h ss ds → Leaves n h ss ds
+down_leaves : (n : ℕ) (h : List Update) (ss : List WriterState) (ds : List Drive) → DrivesDown n h ss ds → Leaves n h ss ds
 down_leaves n h ss ds down i d s ed es b left = either_stays i n (number_after from_nothing h i) (value_after from_nothing h i) s.pending b (down i d s ed es b left)
 
-leaves : (parts : Parts) (ds : List SegmentDisk) (x : State) (phase : NodePhase) → IsNodeAt parts ds x phase → Leaves parts.segments x.history x.writers ds
+leaves : (parts : Parts) (ds : List Drive) (x : State) (phase : NodePhase) → IsNodeAt parts ds x phase → Leaves parts.segments x.history x.writers ds
 leaves parts ds x Up at = up_leaves parts ds x at
-leaves parts ds x Down at = down_leaves parts.segments x.history x.writers ds at.disks_down
-leaves parts ds x (Restarting calls) at = down_leaves parts.segments x.history x.writers ds at.down.disks_down
+leaves parts ds x Down at = down_leaves parts.segments x.history x.writers ds at.drives_down
+leaves parts ds x (Restarting i opening.Sync) at = down_leaves parts.segments x.history x.writers ds at.1.down.drives_down
+leaves parts ds x (Restarting i opening.Read) at = down_leaves parts.segments x.history x.writers ds at.1.down.drives_down
+leaves parts ds x Ready at = down_leaves parts.segments x.history x.writers ds at.down.drives_down
 
-crashed_disks : (n : ℕ) (h : List Update) (ss : List WriterState) (ds es : List SegmentDisk) (fills : List Fill) → length fills ≡ length ds → Leaves n h ss ds → AreCrashed fills ds es → DisksDown n h (map crashed_writer ss) es
-crashed_disks n h ss ds es fills size left crash i e t ee et b may =
+crashed_drives : (n : ℕ) (h : List Update) (ss : List WriterState) (ds es : List Drive) (fills : List Fill) → length fills ≡ length ds → Leaves n h ss ds → AreCrashed fills ds es → DrivesDown n h (map crashed_writer ss) es
+crashed_drives n h ss ds es fills size left crash i e t ee et b may =
     let s = map_element crashed_writer ss i t et in
     let low : i < length es = slice_get_within es i e ee in
     let long : length es ≡ length ds = sym crash.size in
@@ -139,10 +141,12 @@ sized_rest w x rest = record {
   scanners_memory = λ i a e. (partner (λ i. ScannerRests w.segments) w.scanners.items x.scanners i a rest.scanners e).2.size;
 }
 
-pub sized : (parts : Parts) (ds : List SegmentDisk) (x : State) (phase : NodePhase) → IsNodeAt parts ds x phase → IsSized parts x
+pub sized : (parts : Parts) (ds : List Drive) (x : State) (phase : NodePhase) → IsNodeAt parts ds x phase → IsSized parts x
 sized parts ds x Up at = sized_up parts x at.parts_stand
 sized parts ds x Down at = sized_rest parts x at.parts_rest
-sized parts ds x (Restarting calls) at = sized_rest parts x at.down.parts_rest
+sized parts ds x (Restarting i opening.Sync) at = sized_rest parts x at.1.down.parts_rest
+sized parts ds x (Restarting i opening.Read) at = sized_rest parts x at.1.down.parts_rest
+sized parts ds x Ready at = sized_rest parts x at.down.parts_rest
 
 module _ (w new : Parts) (segments : new.segments ≡ w.segments) (registers : new.registers ≡ w.registers)
     (writers : Pairs (λ i. IsHalted) w.writers.items new.writers.items) (scanners : Pairs (λ i. IsScannerHalted) w.scanners.items new.scanners.items) where
@@ -195,13 +199,13 @@ module _ (w new : Parts) (segments : new.segments ≡ w.segments) (registers : n
       let Made : List WriterPhase → List ScannerPhase → Phases = λ p q. record { writers = p; scanners = q } in
       ap (λ p. Made p (map scanner_phase new.scanners.items)) a ∙ ap (λ q. Made (replicate (length (map phase w.writers.items)) writer.Idle) q) b
 
-  pub goes_down : (ds es : List SegmentDisk) (fills : List Fill) (x : State) (phase : NodePhase) → length fills ≡ length ds → IsNodeAt w ds x phase → AreCrashed fills ds es → IsDown new es (crashed x)
+  pub goes_down : (ds es : List Drive) (fills : List Fill) (x : State) (phase : NodePhase) → length fills ≡ length ds → IsNodeAt w ds x phase → AreCrashed fills ds es → IsDown new es (crashed x)
   goes_down ds es fills x phase size at crash = record {
     parts_rest = rests x (sized w ds x phase at);
-    disks_down = subst (λ n. DisksDown n x.history (map crashed_writer x.writers) es) (sym segments) (crashed_disks w.segments x.history x.writers ds es fills size (leaves w ds x phase at) crash);
+    drives_down = subst (λ n. DrivesDown n x.history (map crashed_writer x.writers) es) (sym segments) (crashed_drives w.segments x.history x.writers ds es fills size (leaves w ds x phase at) crash);
   }
 
-pub crashed_devices : (ds es : List SegmentDisk) (fills : List Fill) → AreCrashed fills ds es → AreRefilled fills (map device_of ds) (map device_of es)
+pub crashed_devices : (ds es : List Drive) (fills : List Fill) → AreCrashed fills ds es → AreRefilled fills (map device_of ds) (map device_of es)
 crashed_devices ds es fills crash = record {
   size = length-map ds device_of ∙ crash.size ∙ sym (length-map es device_of);
   each = λ i before after eb ea fill ef. (
@@ -211,15 +215,15 @@ crashed_devices ds es fills crash = record {
       subst (λ z. IsRefilled fill z after) d.2 (subst (λ z. IsRefilled fill (device_of d.0) z) e.2 (record { left = here.left; filled = here.filled })));
 }
 
-pub crashed_calls : (ds es : List SegmentDisk) (fills : List Fill) → length fills ≡ length ds → AreCrashed fills ds es → map kinds_left es ≡ map kinds_left ds
-crashed_calls ds es fills size crash = map_same kinds_left es ds (sym crash.size) (λ i e d ee ed. (
+pub crashed_calls : (ds es : List Drive) (fills : List Fill) → length fills ≡ length ds → AreCrashed fills ds es → map store_left es ≡ map store_left ds
+crashed_calls ds es fills size crash = map_same store_left es ds (sym crash.size) (λ i e d ee ed. (
     let low : i < length ds = slice_get_within ds i d ed in
     let f = element fills i (omega arith) in
-    ap (λ (o : Order). kinds_of (calls_left o.stage)) (crash.each i d e ed ee f.0 f.1).order))
+    ap (λ (o : Order). calls_left o.stage) (crash.each i d e ed ee f.0 f.1).order))
 
 -- how many devices there are
-pub few_disks : (w : Node) → NodeStand w → (length w.disks.items ≤ 16) × (length w.disks.items ≡ w.parts.segments)
-few_disks w t = ∥∥₁_elim t (hlevel props) (λ q. (
-    let size : length w.disks.items ≡ w.parts.segments = q.1.disks_n in
-    let most : w.parts.segments ≤ 16 = (sized w.parts w.disks.items q.0 w.phase q.1.at).most in
+pub few_drives : (w : Node) → NodeStand w → (length w.drives.items ≤ 16) × (length w.drives.items ≡ w.parts.segments)
+few_drives w t = ∥∥₁_elim t (hlevel props) (λ q. (
+    let size : length w.drives.items ≡ w.parts.segments = q.1.drives_n in
+    let most : w.parts.segments ≤ 16 = (sized w.parts w.drives.items q.0 w.phase q.1.at).most in
     (omega arith, size)))

@@ -6,6 +6,7 @@ pub mod Phasing
 pub mod Ending
 pub mod LookingOn
 pub mod Sizes
+pub mod Fills
 pub mod Following
 pub mod Acting
 pub mod Calling

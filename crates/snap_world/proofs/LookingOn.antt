@@ -1,12 +1,13 @@
 -- One look of a writer's embedded scan, or of a scanner, as a step of the parts.
-use Rattle.std.proofs.Common.{◌≡◌, ℕ, ◌<◌, ◌≤◌, inl, inr, List, [], ◌∷◌, ◌++◌, length, get_or, Some, slice_get, refl, ap, sym, ◌∙◌, subst}
+use Rattle.std.proofs.Common.{⊎_elim, ◌≡◌, ℕ, ◌<◌, ◌≤◌, inl, inr, List, [], ◌∷◌, ◌++◌, length, get_or, Some, slice_get, refl, ap, sym, ◌∙◌, subst}
 use Rattle.std.specs.Vec.{with_item}
 use Rattle.std.proofs.lemmas.Option.{same_Some}
 use Rattle.snap_scan.specs.Looks.{IsDecided}
 use Rattle.snap_world.specs.Answers.{ScanState, number_at}
 use Rattle.snap_world.specs.Gathers.{Gathers, IsLookOf, IsUnderWay, RegistersStand}
 use Rattle.snap_world.specs.Machine.{State, WriterState, ScannerState, Begun, Opened, Step, IsLook, with_writer, with_scanner}
-use Rattle.snap_world.specs.Phases.{Moves}
+use Rattle.snap_world.specs.NodePhases.{LooksOn, up, actors_to}
+use Rattle.snap_world.specs.Phases.{Phases, writer_to, scanner_to}
 use Rattle.snap_world.specs.Stands.{PartsStand, WriterStands, ScannerStands, HasBegun, IsAtPhase, IsScannerAt, is_fenced}
 use Rattle.snap_world.specs.Steps.{phases_of_parts}
 use Rattle.snap_world.specs.declared.event.Actor.TheVariants as actor
@@ -45,6 +46,14 @@ Tells c = IsDecided c.scan.segments c.scan.told
 
 over : (n : ℕ) (x : State) (t : ScanState) (c : Collector) → Gathers n x.history t c → Tells c → IsDecided n t.told
 over n x t c g tells = subst (IsDecided n) g.told (subst (λ m. IsDecided m c.scan.told) g.segments tells)
+
+-- as phases of a node that is up
+pub looks_up : {n : ℕ} {told : List ℕ} {p r q : Phases} → LooksOn n told p r q → LooksOn n told (up p) (actors_to (up p) r) (up q)
+looks_up looks = record {
+  ends = λ has. ap up (looks.ends has);
+  goes_on = λ none. ap up (looks.goes_on none);
+  either = ⊎_elim (λ e. inl (ap up e)) (λ e. inr (ap up e)) looks.either;
+}
 
 module _ (w : Parts) (x : State) (stands : PartsStand w x) (i : ℕ) (l : i < w.segments) (old : Writer) (read : old ≡ get_or w.writers.items i old) (scanning : old.phase ≡ writer.Scanning) where
   state : (s : WriterState) × (slice_get x.writers i ≡ Some s) × WriterStands w.segments x.history stands.since i old s
@@ -95,7 +104,7 @@ module _ (w : Parts) (x : State) (stands : PartsStand w x) (i : ℕ) (l : i < w.
       }),
     )
 
-    pub writer_stays : IsUnderWay col → Moves w.segments x (phases_of_parts w) (Look (actor.Writer i)) (Number k) (phases_of_parts (with_parts_writer w i (record { phase = old.phase; value = old.value; collector = col })))
+    pub writer_stays : IsUnderWay col → (s : WriterState) → slice_get x.writers i ≡ Some s → LooksOn w.segments (s.scan.told ++ k ∷ []) (phases_of_parts w) (writer_to (phases_of_parts w) i writer.Storing) (phases_of_parts (with_parts_writer w i (record { phase = old.phase; value = old.value; collector = col })))
     writer_stays under_way s e = record {
       ends = λ has. absurd (open_still w.segments x result.0 col result.2 under_way (subst (IsDecided w.segments) (sym (same_told s e)) has));
       goes_on = λ none. writer_kept w i (record { phase = old.phase; value = old.value; collector = col }) old read refl;
@@ -118,7 +127,7 @@ module _ (w : Parts) (x : State) (stands : PartsStand w x) (i : ℕ) (l : i < w.
       }),
     )
 
-    pub writer_goes : Tells col → Moves w.segments x (phases_of_parts w) (Look (actor.Writer i)) (Number k) (phases_of_parts (with_parts_writer w i (record { phase = writer.Storing; value = old.value; collector = col })))
+    pub writer_goes : Tells col → (s : WriterState) → slice_get x.writers i ≡ Some s → LooksOn w.segments (s.scan.told ++ k ∷ []) (phases_of_parts w) (writer_to (phases_of_parts w) i writer.Storing) (phases_of_parts (with_parts_writer w i (record { phase = writer.Storing; value = old.value; collector = col })))
     writer_goes tells s e = record {
       ends = λ has. writer_moved w i (record { phase = writer.Storing; value = old.value; collector = col });
       either = inl (writer_moved w i (record { phase = writer.Storing; value = old.value; collector = col }));
@@ -162,7 +171,7 @@ module _ (w : Parts) (x : State) (stands : PartsStand w x) (i : ℕ) (l : i < le
       }),
     )
 
-    pub scanner_stays : IsUnderWay col → Moves w.segments x (phases_of_parts w) (Look (actor.Scanner i)) (Number k) (phases_of_parts (with_parts_scanner w i (record { phase = old.phase; collector = col })))
+    pub scanner_stays : IsUnderWay col → (s : ScanState) → slice_get x.scanners i ≡ Some (Opened s) → LooksOn w.segments (s.told ++ k ∷ []) (phases_of_parts w) (scanner_to (phases_of_parts w) i scanner.Ready) (phases_of_parts (with_parts_scanner w i (record { phase = old.phase; collector = col })))
     scanner_stays under_way s f = record {
       ends = λ has. absurd (open_still w.segments x scanner_result.0 col scanner_result.2 under_way (subst (IsDecided w.segments) (sym (scanner_told s f)) has));
       goes_on = λ none. scanner_kept w i (record { phase = old.phase; collector = col }) old read refl;
@@ -179,7 +188,7 @@ module _ (w : Parts) (x : State) (stands : PartsStand w x) (i : ℕ) (l : i < le
       }),
     )
 
-    pub scanner_goes : Tells col → Moves w.segments x (phases_of_parts w) (Look (actor.Scanner i)) (Number k) (phases_of_parts (with_parts_scanner w i (record { phase = scanner.Ready; collector = col })))
+    pub scanner_goes : Tells col → (s : ScanState) → slice_get x.scanners i ≡ Some (Opened s) → LooksOn w.segments (s.told ++ k ∷ []) (phases_of_parts w) (scanner_to (phases_of_parts w) i scanner.Ready) (phases_of_parts (with_parts_scanner w i (record { phase = scanner.Ready; collector = col })))
     scanner_goes tells s f = record {
       ends = λ has. scanner_moved w i (record { phase = scanner.Ready; collector = col });
       either = inl (scanner_moved w i (record { phase = scanner.Ready; collector = col }));

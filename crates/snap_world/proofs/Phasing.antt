@@ -5,7 +5,8 @@ use Rattle.std.proofs.Math.Seq.{map-set_same}
 use Rattle.std.proofs.lemmas.List.{map-set, length-map}
 use Rattle.std.proofs.lemmas.Option.{slice_get-map, slice_get_read, slice_get_within, same_Some}
 use Rattle.snap_world.specs.Machine.{State, Step}
-use Rattle.snap_world.specs.Phases.{Phases, WriterIs, ScannerIs, writer_to, scanner_to, IsEnabled, Moves}
+use Rattle.snap_world.specs.NodePhases.{MayCome, PhasesMove, up}
+use Rattle.snap_world.specs.Phases.{Phases, WriterIs, ScannerIs, writer_to, scanner_to}
 use Rattle.snap_world.specs.Stands.{PartsStand}
 use Rattle.snap_world.specs.Steps.{phases_of_parts, IsPartsStep}
 use Rattle.snap_world.specs.declared.event.Event.{Event}
@@ -60,11 +61,11 @@ pub scanner_kept : (w : Parts) (i : ℕ) (a old : Scanner) → old ≡ get_or w.
 scanner_kept w i a old read e = ap (λ (v : List ScannerPhase). let p : Phases = record { writers = map (λ v. v.phase) w.writers.items; scanners = v } in p) (map-set_same (λ v. v.phase) w.scanners.items i a old (e ∙ ap (λ v. v.phase) read))
 
 -- an event that may not come
-pub refused : (w : Parts) (event : Event) → ((x : State) → PartsStand w x → IsEnabled x (phases_of_parts w) event → ⊥) → IsPartsStep w event NotNow w
+pub refused : (w : Parts) (event : Event) → ((x : State) → PartsStand w x → MayCome x (up (phases_of_parts w)) event → ⊥) → IsPartsStep w event NotNow w
 refused w event not = record {
   segments = refl;
   step = λ x stands. (x, refl, stands);
-  enabled = λ x stands. record { refused = λ e. not x stands; came = λ ne. absurd (ne refl) };
+  comes = λ x stands. record { refused = λ e. not x stands; came = λ ne. absurd (ne refl) };
   phases = λ x stands. refl;
   unchanged = λ e. refl;
 }
@@ -72,13 +73,13 @@ refused w event not = record {
 -- an event that came
 pub came : (w v : Parts) (event : Event) (reply : Reply) → (reply ≡ NotNow → ⊥) → v.segments ≡ w.segments
     → ((x : State) → PartsStand w x → (y : State) × Step w.segments x event reply y × PartsStand v y)
-    → ((x : State) → PartsStand w x → IsEnabled x (phases_of_parts w) event)
-    → ((x : State) → PartsStand w x → Moves w.segments x (phases_of_parts w) event reply (phases_of_parts v))
+    → ((x : State) → PartsStand w x → MayCome x (up (phases_of_parts w)) event)
+    → ((x : State) → PartsStand w x → PhasesMove w.segments x (up (phases_of_parts w)) event reply (up (phases_of_parts v)))
     → IsPartsStep w event reply v
-came w v event reply ne segments step enabled phases = record {
+came w v event reply ne segments step may phases = record {
   segments = segments;
   step = step;
-  enabled = λ x stands. record { refused = λ e. absurd (ne e); came = λ _. enabled x stands };
+  comes = λ x stands. record { refused = λ e. absurd (ne e); came = λ _. may x stands };
   phases = phases;
   unchanged = λ e. absurd (ne e);
 }

@@ -1,5 +1,5 @@
 -- The end of a restart, as a step of the node.
-use Rattle.std.proofs.Common.{◌≡◌, ℕ, ◌+◌, ◌*◌, ◌%◌, ◌<◌, ◌≤◌, ◌⊎◌, inl, inr, Bool, List, length, map, replicate, Some, None, slice_get, refl, ap, sym, ◌∙◌, subst, arith}
+use Rattle.std.proofs.Common.{◌≡◌, ℕ, ◌+◌, ◌%◌, ◌<◌, ◌≤◌, ◌⊎◌, inl, inr, Bool, List, length, map, replicate, Some, None, slice_get, refl, ap, sym, ◌∙◌, subst, arith}
 use Rattle.std.specs.Prelude.{option_map}
 use Rattle.std.proofs.lemmas.List.{length-map}
 use Rattle.std.proofs.lemmas.Option.{slice_get-map, slice_get_within, same_Some}
@@ -14,22 +14,22 @@ use Rattle.snap_history.specs.History.{Update, from_nothing, number_after, value
 use Rattle.snap_history.specs.Pairs.{Pairs}
 use Rattle.snap_history.proofs.Pairing.{element, partner}
 use Rattle.snap_world.specs.Answers.{number_at}
-use Rattle.snap_world.specs.Calls.{kinds_of, store_kinds}
+use Rattle.snap_persist.specs.Stage.{store_calls}
 use Rattle.snap_world.specs.Devices.{IsServed, AreServed}
-use Rattle.snap_world.specs.Disks.{IsReady, DiskStands, DisksStand, HoldsEither, device_of}
+use Rattle.snap_world.specs.Drives.{IsReady, DriveStands, DrivesStand, HoldsEither, device_of}
 use Rattle.snap_world.specs.Gathers.{RegisterStands, ViewStands}
 use Rattle.snap_world.specs.Machine.{State, WriterState, ScannerState, Begun, Closed, resting, history_with, served}
 use Rattle.snap_world.specs.NodePhases.{all_idle}
-use Rattle.snap_world.specs.NodeStands.{NodeStands, WriterRests, ScannerRests, IsRestarting, IsNodeAt}
-use Rattle.snap_world.specs.NodeSteps.{kinds_left}
+use Rattle.snap_world.specs.NodeStands.{NodeStands, WriterRests, ScannerRests, IsRecovering, IsNodeAt}
+use Rattle.snap_world.specs.NodeSteps.{store_left}
 use Rattle.snap_world.specs.Phases.{Phases}
 use Rattle.snap_world.specs.Serving.{found_value, IsReadable, IsResumed, IsRecovered, AreRecovered}
 use Rattle.snap_world.specs.Stands.{PartsStand, WriterStands, ScannerStands, IsAtPhase, IsScannerAt, is_fenced}
 use Rattle.snap_world.specs.Steps.{phases_of_parts}
-use Rattle.snap_world.specs.declared.disk.SegmentDisk.{SegmentDisk}
-use Rattle.snap_world.specs.declared.event.Kind.{Kind}
+use Rattle.snap_world.specs.declared.drive.Drive.{Drive}
+use Rattle.snap_persist.specs.declared.persist.Next.{Next}
 use Rattle.snap_world.specs.declared.node.Node.{Node}
-use Rattle.snap_world.specs.declared.node.NodePhase.TheVariants.{Restarting}
+use Rattle.snap_world.specs.declared.node.NodePhase.TheVariants.{Ready}
 use Rattle.snap_world.specs.declared.parts.Parts.{Parts}
 use Rattle.snap_world.specs.declared.register.Register.{Register}
 use Rattle.snap_world.specs.declared.writer.Writer.{Writer}
@@ -43,20 +43,20 @@ use Rattle.snap_world.proofs.Served.{Given, marks-exist, served-none, served-som
 use Rattle.snap_world.proofs.Starting.{all_same}
 use Rattle.snap_world.proofs.Sweeping.{map_element, map_same}
 
-module _ (w : Node) (x : State) (stands : NodeStands w x) (calls : ℕ) (restarting : w.phase ≡ Restarting calls) (done : calls ≡ 2 * length w.disks.items) where
+module _ (w : Node) (x : State) (stands : NodeStands w x) (is_ready : w.phase ≡ Ready) where
   abbrev pub n : ℕ
   n = w.parts.segments
 
-  abbrev pub ds : List SegmentDisk
-  ds = w.disks.items
+  abbrev pub ds : List Drive
+  ds = w.drives.items
 
-  pub at : IsRestarting w.parts ds x calls
-  at = subst (IsNodeAt w.parts ds x) restarting stands.at
+  pub at : IsRecovering w.parts ds x n n
+  at = subst (IsNodeAt w.parts ds x) is_ready stands.at
 
   size : length ds ≡ n
-  size = stands.disks_n
+  size = stands.drives_n
 
-  module _ (i : ℕ) (d : SegmentDisk) (there : slice_get ds i ≡ Some d) where
+  module _ (i : ℕ) (d : Drive) (there : slice_get ds i ≡ Some d) where
     low : i < length ds
     low = slice_get_within ds i d there
 
@@ -64,10 +64,10 @@ module _ (w : Node) (x : State) (stands : NodeStands w x) (calls : ℕ) (restart
     low_n = let l : i < length ds = low in let s : length ds ≡ n = size in omega arith
 
     pub settled : IsSettled (device_of d)
-    settled = let l : i < length ds = low in at.synced i d there (omega arith)
+    settled = let l : i < length ds = low in at.settled i d there low_n
 
     pub found : IsFound i n (device_of d).bytes d.found
-    found = let l : i < length ds = low in at.read i d there (omega arith)
+    found = let l : i < length ds = low in at.found i d there low_n
 
     pub state : (s : WriterState) × (slice_get x.writers i ≡ Some s)
     state =
@@ -78,7 +78,7 @@ module _ (w : Node) (x : State) (stands : NodeStands w x) (calls : ℕ) (restart
         element x.writers i (omega arith)
 
     pub either : (s : WriterState) → slice_get x.writers i ≡ Some s → HoldsEither i n (number_after from_nothing x.history i) (value_after from_nothing x.history i) s.pending (device_of d).bytes
-    either s es = at.down.disks_down i d s there es (device_of d).bytes (record { size = refl; elsewhere = λ p shut. refl })
+    either s es = at.down.drives_down i d s there es (device_of d).bytes (record { size = refl; elsewhere = λ p shut. refl })
 
     pub long : length (device_of d).bytes ≡ 20480
     long = elim (either state.0 state.1) [ inl file ↦ file.size | inr new ↦ new.2.size ]
@@ -95,10 +95,10 @@ module _ (w : Node) (x : State) (stands : NodeStands w x) (calls : ℕ) (restart
 
   -- what a device holds is the number and value of the history, or those of the begun update
   abbrev Kept : ℕ → Type 0
-  Kept i = (d : SegmentDisk) → slice_get ds i ≡ Some d → (d.found.number ≡ number_after from_nothing x.history i) × (found_value d ≡ value_after from_nothing x.history i)
+  Kept i = (d : Drive) → slice_get ds i ≡ Some d → (d.found.number ≡ number_after from_nothing x.history i) × (found_value d ≡ value_after from_nothing x.history i)
 
   abbrev Taken : ℕ → List ℕ → Type 0
-  Taken i v = (d : SegmentDisk) → slice_get ds i ≡ Some d → (d.found.number ≡ number_after from_nothing x.history i + 1) × (found_value d ≡ v)
+  Taken i v = (d : Drive) → slice_get ds i ≡ Some d → (d.found.number ≡ number_after from_nothing x.history i + 1) × (found_value d ≡ v)
 
   given : (i : ℕ) (s : WriterState) → slice_get x.writers i ≡ Some s → Kept i ⊎ ((v : List ℕ) × (s.pending ≡ Begun v) × Taken i v)
   given i s es =
@@ -110,14 +110,14 @@ module _ (w : Node) (x : State) (stands : NodeStands w x) (calls : ℕ) (restart
       elim (either i d.0 d.1 s es) [
         | inl file ↦ inl (λ e there. (
             let same : d.0 ≡ e = same_Some _ _ (sym d.1 ∙ there) in
-            subst (λ (z : SegmentDisk). (z.found.number ≡ number_after from_nothing x.history i) × (found_value z ≡ value_after from_nothing x.history i)) same
+            subst (λ (z : Drive). (z.found.number ≡ number_after from_nothing x.history i) × (found_value z ≡ value_after from_nothing x.history i)) same
             (found_is i n (number_after from_nothing x.history i) (value_after from_nothing x.history i) (device_of d.0).bytes d.0.found (found i d.0 d.1) file.holds)))
         | inr new ↦ inr (
           new.0,
           new.1,
           λ e there. (
               let same : d.0 ≡ e = same_Some _ _ (sym d.1 ∙ there) in
-              subst (λ (z : SegmentDisk). (z.found.number ≡ number_after from_nothing x.history i + 1) × (found_value z ≡ new.0)) same
+              subst (λ (z : Drive). (z.found.number ≡ number_after from_nothing x.history i + 1) × (found_value z ≡ new.0)) same
               (found_is i n (number_after from_nothing x.history i + 1) new.0 (device_of d.0).bytes d.0.found (found i d.0 d.1) new.2.holds)),
         )
       ]
@@ -132,7 +132,7 @@ module _ (w : Node) (x : State) (stands : NodeStands w x) (calls : ℕ) (restart
   h = history_with x marks
 
   -- what was found is what the history with these updates leaves
-  pub is_after : (i : ℕ) (d : SegmentDisk) → slice_get ds i ≡ Some d → (d.found.number ≡ number_after from_nothing h i) × (found_value d ≡ value_after from_nothing h i)
+  pub is_after : (i : ℕ) (d : Drive) → slice_get ds i ≡ Some d → (d.found.number ≡ number_after from_nothing h i) × (found_value d ≡ value_after from_nothing h i)
   unfolding marks
   is_after i d there =
       let s = state i d there in
@@ -156,12 +156,12 @@ module _ (w : Node) (x : State) (stands : NodeStands w x) (calls : ℕ) (restart
         slice_get-map found_value ds i ∙ ap (option_map found_value) d.1 ∙ ap (λ v. Some v) (is_after i d.0 d.1).1);
   }
 
-  module _ (parts : Parts) (es : List SegmentDisk) (segments : parts.segments ≡ w.parts.segments) (writers : parts.writers ≡ w.parts.writers) (scanners : parts.scanners ≡ w.parts.scanners)
+  module _ (parts : Parts) (es : List Drive) (segments : parts.segments ≡ w.parts.segments) (writers : parts.writers ≡ w.parts.writers) (scanners : parts.scanners ≡ w.parts.scanners)
       (recovered : AreRecovered ds w.parts.registers.items parts.registers.items) (resumed : Pairs (λ i. IsResumed) ds es) where
     abbrev pub y : State
     y = served x marks
 
-    was : (i : ℕ) (e : SegmentDisk) → slice_get es i ≡ Some e → (d : SegmentDisk) × (slice_get ds i ≡ Some d) × IsResumed d e
+    was : (i : ℕ) (e : Drive) → slice_get es i ≡ Some e → (d : Drive) × (slice_get ds i ≡ Some d) × IsResumed d e
     was i e ee =
         let l : i < length es = slice_get_within es i e ee in
         let s : length es ≡ length ds = sym resumed.size in
@@ -246,7 +246,7 @@ module _ (w : Node) (x : State) (stands : NodeStands w x) (calls : ℕ) (restart
       };
     }
 
-    ready : (i : ℕ) (e : SegmentDisk) → slice_get es i ≡ Some e → IsReady i n (number_after from_nothing h i) (value_after from_nothing h i) (device_of e) e.order
+    ready : (i : ℕ) (e : Drive) → slice_get es i ≡ Some e → IsReady i n (number_after from_nothing h i) (value_after from_nothing h i) (device_of e) e.order
     ready i e ee =
         let d = was i e ee in
         let after = is_after i d.0 d.1 in
@@ -261,12 +261,12 @@ module _ (w : Node) (x : State) (stands : NodeStands w x) (calls : ℕ) (restart
           stage = d.2.stage;
         }
 
-    pub disks_stand : DisksStand parts.segments y.history y.writers (phases_of_parts parts).writers es
-    disks_stand i e s phase ee es_ ep =
+    pub drives_stand : DrivesStand parts.segments y.history y.writers (phases_of_parts parts).writers es
+    drives_stand i e s phase ee es_ ep =
         let a = map_element (λ (z : Writer). z.phase) parts.writers.items i phase ep in
         let old = map_element (λ (z : WriterState). free) x.writers i s es_ in
         let rest : WriterRests n a.0 old.0 = at.down.parts_rest.writers.each i a.0 old.0 (ap (λ v. slice_get v.items i) (sym writers) ∙ a.1) old.1 in
-        subst (λ m. DiskStands m h i phase s.pending e) (sym segments) (subst (λ z. DiskStands n h i z s.pending e) (sym rest.idle ∙ a.2) (ready i e ee))
+        subst (λ m. DriveStands m h i phase s.pending e) (sym segments) (subst (λ z. DriveStands n h i z s.pending e) (sym rest.idle ∙ a.2) (ready i e ee))
 
     pub same_devices : map device_of es ≡ map device_of ds
     same_devices = map_same device_of es ds (sym resumed.size) (λ i e d ee ed. ap image_device (resumed.each i d e ed ee).image)
@@ -284,11 +284,11 @@ module _ (w : Node) (x : State) (stands : NodeStands w x) (calls : ℕ) (restart
         } in
         subst (IsServed i n y) same here
 
-    pub gates : (i : ℕ) (device : Device) (kinds : List Kind) → slice_get (map device_of es) i ≡ Some device → slice_get (map kinds_left es) i ≡ Some kinds
-        → (spare_open : Bool) × (kinds ≡ store_kinds spare_open) × ((k : ℕ) (v : List ℕ) → Holds device.bytes k v → IsSpare spare_open device.bytes k)
-    gates i device kinds there called =
+    pub gates : (i : ℕ) (device : Device) (calls : List Next) → slice_get (map device_of es) i ≡ Some device → slice_get (map store_left es) i ≡ Some calls
+        → (spare_open : Bool) × (calls ≡ store_calls spare_open) × ((k : ℕ) (v : List ℕ) → Holds device.bytes k v → IsSpare spare_open device.bytes k)
+    gates i device calls there called =
         let e = map_element device_of es i device there in
-        let f = map_element kinds_left es i kinds called in
+        let f = map_element store_left es i calls called in
         let d = was i e.0 e.1 in
         let same : device_of d.0 ≡ device = ap image_device (sym d.2.image) ∙ e.2 in
         let one : f.0 ≡ e.0 = same_Some _ _ (sym f.1 ∙ e.1) in
@@ -296,7 +296,7 @@ module _ (w : Node) (x : State) (stands : NodeStands w x) (calls : ℕ) (restart
         let Spare : Device → Type 0 = λ z. (k : ℕ) (v : List ℕ) → Holds z.bytes k v → IsSpare d.0.found.spare_open z.bytes k in
         let spare : Spare (device_of d.0) = λ k v holds. subst (IsSpare d.0.found.spare_open (device_of d.0).bytes)
         (holds_same (device_of d.0).bytes d.0.found.number k (found_value d.0) v (found_holds i n (device_of d.0).bytes d.0.found is) holds).0 is.held.spare in
-        (d.0.found.spare_open, sym f.2 ∙ ap kinds_left one ∙ ap kinds_of d.2.calls, subst Spare same spare)
+        (d.0.found.spare_open, sym f.2 ∙ ap store_left one ∙ d.2.calls, subst Spare same spare)
 
     pub idle_phases : phases_of_parts parts ≡ all_idle (phases_of_parts w.parts)
     idle_phases =

@@ -11,8 +11,9 @@ pub mod Fresh
 pub mod Calls
 pub mod Halting
 pub mod Serving
+pub mod Crashes
 pub mod Devices
-pub mod Disks
+pub mod Drives
 pub mod NodePhases
 pub mod NodeStands
 pub mod NodeSteps

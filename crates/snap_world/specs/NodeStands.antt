@@ -1,16 +1,18 @@
 -- Which abstract states a node stands for.
-use Rattle.std.specs.Prelude.{◌≡◌, ℕ, ◌+◌, ◌*◌, ◌<◌, ◌≤◌, List, length, Some, slice_get}
+use Rattle.std.specs.Prelude.{◌≡◌, ℕ, ◌+◌, ◌<◌, ◌≤◌, List, length, Some, slice_get}
 use Rattle.snap_disk.specs.Device.{IsSettled}
 use Rattle.snap_slot.specs.Findings.{IsFound}
 use Rattle.snap_history.specs.Pairs.{Pairs}
-use Rattle.snap_world.specs.Disks.{DisksStand, DisksDown, device_of}
+use Rattle.snap_world.specs.Drives.{DrivesStand, DrivesDown, device_of}
 use Rattle.snap_world.specs.Machine.{State, WriterState, ScannerState, Closed}
 use Rattle.snap_world.specs.Stands.{PartsStand}
 use Rattle.snap_world.specs.Steps.{phases_of_parts}
-use Rattle.snap_world.specs.declared.disk.SegmentDisk.{SegmentDisk}
+use Rattle.snap_world.specs.declared.drive.Drive.{Drive}
 use Rattle.snap_world.specs.declared.node.Node.{Node}
 use Rattle.snap_world.specs.declared.node.NodePhase.{NodePhase}
-use Rattle.snap_world.specs.declared.node.NodePhase.TheVariants.{Up, Down, Restarting}
+use Rattle.snap_world.specs.declared.node.NodePhase.TheVariants.{Up, Down, Restarting, Ready}
+use Rattle.snap_world.specs.declared.node.OpeningCall.{OpeningCall}
+use Rattle.snap_world.specs.declared.node.OpeningCall.TheVariants as opening
 use Rattle.snap_world.specs.declared.parts.Parts.{Parts}
 use Rattle.snap_world.specs.declared.register.Register.{Register}
 use Rattle.snap_world.specs.declared.writer.Writer.{Writer}
@@ -29,9 +31,9 @@ pub record ScannerRests (n : ℕ) (a : Scanner) (s : ScannerState) : Type 0 wher
   pub closed : s ≡ Closed
 
 -- while it is up, its parts and each device stand for the state
-pub record IsUp (parts : Parts) (disks : List SegmentDisk) (x : State) : Type 0 where
+pub record IsUp (parts : Parts) (drives : List Drive) (x : State) : Type 0 where
   pub parts_stand : PartsStand parts x
-  pub disks_stand : DisksStand parts.segments x.history x.writers (phases_of_parts parts).writers disks
+  pub drives_stand : DrivesStand parts.segments x.history x.writers (phases_of_parts parts).writers drives
 
 -- nobody is at work, and the places for values and scans have their sizes
 pub record PartsRest (w : Parts) (x : State) : Type 0 where
@@ -45,28 +47,32 @@ pub record PartsRest (w : Parts) (x : State) : Type 0 where
   pub scanners : Pairs (λ i. ScannerRests w.segments) w.scanners.items x.scanners
 
 -- while it is down
-pub record IsDown (parts : Parts) (disks : List SegmentDisk) (x : State) : Type 0 where
+pub record IsDown (parts : Parts) (drives : List Drive) (x : State) : Type 0 where
   pub parts_rest : PartsRest parts x
-  pub disks_down : DisksDown parts.segments x.history x.writers disks
+  pub drives_down : DrivesDown parts.segments x.history x.writers drives
 
--- while it restarts, with this many calls done: the devices that were synced have no open place, and
--- what was found in those that were read is what they hold
-pub record IsRestarting (parts : Parts) (disks : List SegmentDisk) (x : State) (calls : ℕ) : Type 0 where
-  pub down : IsDown parts disks x
-  pub few : calls ≤ 2 * parts.segments
-  pub synced : (i : ℕ) (d : SegmentDisk) → slice_get disks i ≡ Some d → 2 * i < calls
+-- while it restarts: the first `synced` devices have no open place, and what was found in the first
+-- `read` of them is what they hold
+pub record IsRecovering (parts : Parts) (drives : List Drive) (x : State) (synced read : ℕ) : Type 0 where
+  pub down : IsDown parts drives x
+  pub settled : (i : ℕ) (d : Drive) → slice_get drives i ≡ Some d → i < synced
       → IsSettled (device_of d)
-  pub read : (i : ℕ) (d : SegmentDisk) → slice_get disks i ≡ Some d → 2 * i + 1 < calls
+  pub found : (i : ℕ) (d : Drive) → slice_get drives i ≡ Some d → i < read
       → IsFound i parts.segments (device_of d).bytes d.found
 
-abbrev pub IsNodeAt : Parts → List SegmentDisk → State → NodePhase → Type 0
-IsNodeAt parts disks x Up = IsUp parts disks x
-IsNodeAt parts disks x Down = IsDown parts disks x
-IsNodeAt parts disks x (Restarting calls) = IsRestarting parts disks x calls
+abbrev pub IsRestarting : Parts → List Drive → State → ℕ → OpeningCall → Type 0
+IsRestarting parts drives x i opening.Sync = IsRecovering parts drives x i i
+IsRestarting parts drives x i opening.Read = IsRecovering parts drives x (i + 1) i
+
+abbrev pub IsNodeAt : Parts → List Drive → State → NodePhase → Type 0
+IsNodeAt parts drives x Up = IsUp parts drives x
+IsNodeAt parts drives x Down = IsDown parts drives x
+IsNodeAt parts drives x (Restarting i call) = (i < parts.segments) × IsRestarting parts drives x i call
+IsNodeAt parts drives x Ready = IsRecovering parts drives x parts.segments parts.segments
 
 pub record NodeStands (w : Node) (x : State) : Type 0 where
-  pub disks_n : length w.disks.items ≡ w.parts.segments
-  pub at : IsNodeAt w.parts w.disks.items x w.phase
+  pub drives_n : length w.drives.items ≡ w.parts.segments
+  pub at : IsNodeAt w.parts w.drives.items x w.phase
 
 -- the node stands for some state
 abbrev pub NodeStand : Node → Type 0

@@ -2,48 +2,36 @@
 use Rattle.std.specs.Prelude.{◌≡◌, ℕ, List, map}
 use Rattle.snap_disk.specs.Device.{Device}
 use Rattle.snap_persist.specs.Stage.{calls_left}
-use Rattle.snap_world.specs.Calls.{kinds_of}
 use Rattle.snap_world.specs.Devices.{DevicesMove, GatesTold}
-use Rattle.snap_world.specs.Disks.{device_of}
+use Rattle.snap_world.specs.Drives.{device_of}
 use Rattle.snap_world.specs.Machine.{State, Step}
 use Rattle.snap_world.specs.NodePhases.{WorldPhases, TellsWhether, PhasesMove}
 use Rattle.snap_world.specs.NodeStands.{NodeStands}
 use Rattle.snap_world.specs.Phases.{WriterIs}
 use Rattle.snap_world.specs.Steps.{phases_of_parts}
 use Rattle.snap_world.specs.declared.event.Event.{Event}
-use Rattle.snap_world.specs.declared.event.Event.TheVariants.{Call, Fail, Crash, Restart, RestartCall, RestartFail, Serve}
-use Rattle.snap_world.specs.declared.event.Kind.{Kind}
+use Rattle.snap_persist.specs.declared.persist.Next.{Next}
 use Rattle.snap_world.specs.declared.event.Reply.{Reply}
 use Rattle.snap_world.specs.declared.event.Reply.TheVariants.{NotNow}
-use Rattle.snap_world.specs.declared.disk.SegmentDisk.{SegmentDisk}
+use Rattle.snap_world.specs.declared.drive.Drive.{Drive}
 use Rattle.snap_world.specs.declared.node.Node.{Node}
 use Rattle.snap_world.specs.declared.node.NodePhase.TheVariants.{Up}
 use Rattle.snap_world.specs.declared.writer.WriterPhase.TheVariants as writer
 
 -- the devices of the segments, in order
 abbrev pub devices_of_node : Node → List Device
-devices_of_node w = map device_of w.disks.items
+devices_of_node w = map device_of w.drives.items
 
-abbrev pub kinds_left : SegmentDisk → List Kind
-kinds_left d = kinds_of (calls_left d.order.stage)
+-- the device calls that are left of the store under way on it, or of the next one
+abbrev pub store_left : Drive → List Next
+store_left d = calls_left d.order.stage
 
 abbrev pub phases_of_node : Node → WorldPhases
 phases_of_node w = record {
   node = w.phase;
   actors = phases_of_parts w.parts;
-  calls = map kinds_left w.disks.items;
+  calls = map store_left w.drives.items;
 }
-
--- an event of a writer or a scanner
-abbrev pub IsActors : Event → Type 0
-IsActors (Call w) = ⊥
-IsActors (Fail w fill) = ⊥
-IsActors (Crash fills) = ⊥
-IsActors Restart = ⊥
-IsActors RestartCall = ⊥
-IsActors (RestartFail fill) = ⊥
-IsActors Serve = ⊥
-IsActors event = Unit {0}
 
 -- the store of this segment has a call to make
 abbrev pub MayStore : Node → ℕ → Type 0

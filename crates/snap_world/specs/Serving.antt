@@ -1,38 +1,41 @@
 -- What a restart found on the devices, and what it makes of it.
-use Rattle.std.specs.Prelude.{◌≡◌, ℕ, ◌+◌, ◌%◌, ◌^◌, ◌<◌, ◌≤◌, List, length, Some, slice_get}
+use Rattle.std.specs.Prelude.{◌≡◌, ℕ, ◌+◌, ◌≤◌, List, length, Some, slice_get}
+use Rattle.snap_disk.specs.declared.file.TheConstants.{FILE_LEN}
+use Rattle.snap_slot.specs.declared.layout.TheConstants.{MAX_VALUE_LEN}
+use Rattle.snap_slot.specs.Layout.{IsNumber, slot_of}
 use Rattle.snap_slot.specs.Findings.{value_in}
 use Rattle.snap_persist.specs.Stage.{calls_left, first_stage, store_calls}
-use Rattle.snap_world.specs.Disks.{device_of}
+use Rattle.snap_world.specs.Drives.{device_of}
 use Rattle.snap_history.specs.Pairs.{Pairs}
-use Rattle.snap_world.specs.declared.disk.SegmentDisk.{SegmentDisk}
+use Rattle.snap_world.specs.declared.drive.Drive.{Drive}
 use Rattle.snap_world.specs.declared.register.Register.{Register}
 
 -- the value that was found
-abbrev pub found_value : SegmentDisk → List ℕ
-found_value d = value_in (device_of d).bytes (d.found.number % 2) d.found.length
+abbrev pub found_value : Drive → List ℕ
+found_value d = value_in (device_of d).bytes (slot_of d.found.number) d.found.length
 
 -- what was found has the limits of a number and a value
-pub record IsReadable (d : SegmentDisk) : Type 0 where
-  pub size : length (device_of d).bytes ≡ 20480
-  pub number : d.found.number < 2 ^ 63
-  pub fits : d.found.length ≤ 4080
+pub record IsReadable (d : Drive) : Type 0 where
+  pub size : length (device_of d).bytes ≡ FILE_LEN
+  pub number : IsNumber d.found.number
+  pub fits : d.found.length ≤ MAX_VALUE_LEN
 
-abbrev pub AllReadable : List SegmentDisk → Type 0
-AllReadable disks = (i : ℕ) (d : SegmentDisk) → slice_get disks i ≡ Some d → IsReadable d
+abbrev pub AllReadable : List Drive → Type 0
+AllReadable drives = (i : ℕ) (d : Drive) → slice_get drives i ≡ Some d → IsReadable d
 
 -- the device is as it was, and the order is that of the store after what was found
-pub record IsResumed (d e : SegmentDisk) : Type 0 where
+pub record IsResumed (d e : Drive) : Type 0 where
   pub image : e.image ≡ d.image
-  pub slot : e.order.slot ≡ (d.found.number + 1) % 2
+  pub slot : e.order.slot ≡ slot_of (d.found.number + 1)
   pub stage : e.order.stage ≡ first_stage d.found.spare_open
   pub calls : calls_left e.order.stage ≡ store_calls d.found.spare_open
 
 -- the register has what was found
-pub record IsRecovered (d : SegmentDisk) (r s : Register) : Type 0 where
+pub record IsRecovered (d : Drive) (r s : Register) : Type 0 where
   pub number : s.number ≡ d.found.number
   pub value : s.value ≡ found_value d
   pub view : s.view ≡ r.view
 
-abbrev pub AreRecovered : List SegmentDisk → List Register → List Register → Type 0
-AreRecovered disks old new =
-    Pairs (λ i r s. (d : SegmentDisk) → slice_get disks i ≡ Some d → IsRecovered d r s) old new
+abbrev pub AreRecovered : List Drive → List Register → List Register → Type 0
+AreRecovered drives old new =
+    Pairs (λ i r s. (d : Drive) → slice_get drives i ≡ Some d → IsRecovered d r s) old new

@@ -2,7 +2,7 @@
 use Rattle.std.specs.Prelude.{◌≡◌, ℕ, false, List, [], length, replicate, Some, slice_get}
 use Rattle.snap_disk.specs.Device.{Device}
 use Rattle.snap_slot.specs.States.{IsAtRest}
-use Rattle.snap_world.specs.Calls.{store_kinds}
+use Rattle.snap_persist.specs.Stage.{store_calls}
 use Rattle.snap_world.specs.Machine.{State, Closed, resting}
 use Rattle.snap_world.specs.NodePhases.{WorldPhases}
 use Rattle.snap_world.specs.Phases.{Phases}
@@ -28,7 +28,7 @@ abbrev pub start_world_phases : ℕ → ℕ → WorldPhases
 start_world_phases n scanners = record {
   node = Up;
   actors = start_phases n scanners;
-  calls = replicate n (store_kinds false);
+  calls = replicate n (store_calls false);
 }
 
 -- there are n devices, each of them formatted: number 0, the empty value, and a closed spare gate

@@ -1,5 +1,6 @@
 //! What may happen in a world, and what it answers.
 use snap_disk::Fill;
+use snap_persist::Write;
 
 /// Who looks.
 #[derive(Clone, Copy, Debug, Drop, PartialEq, Eq)]
@@ -13,12 +14,8 @@ pub enum Actor {
 /// A device call.
 #[derive(Clone, Copy, Debug, Drop, PartialEq, Eq)]
 pub enum Kind {
-    /// The write that closes the gate of the spare slot.
-    Close,
-    /// The write of the spare slot's body.
-    Body,
-    /// The write that opens the gate of the spare slot.
-    Open,
+    /// This write of a store.
+    Write(Write),
     /// A sync.
     Sync,
     /// The read of the whole file, when it is opened.

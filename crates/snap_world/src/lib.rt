@@ -19,7 +19,7 @@
 #![tactic(auto)]
 
 mod collector;
-mod disk;
+mod drive;
 mod event;
 #[cfg(test)]
 mod generated_tests;
@@ -39,7 +39,8 @@ mod world;
 mod writer;
 
 pub use event::{Actor, Event, Kind, Reply};
-pub use node::NodePhase;
+pub use node::{NodePhase, OpeningCall};
 pub use scanner::ScannerPhase;
+pub use snap_persist::Write;
 pub use world::{Stopped, World};
 pub use writer::WriterPhase;

@@ -3,12 +3,20 @@ ghost use Rattle.std.specs.Prelude.{◌≡◌, ℕ, ◌<◌, ◌≤◌, IfOk, On
 ghost use Rattle.snap_world.specs.Start.{start_state, start_world_phases, AreFormatted};
 ghost use Rattle.snap_world.specs.NodePhases.{NeedsMemory};
 ghost use Rattle.snap_world.specs.NodeStands.{NodeStands, NodeStand};
-ghost use Rattle.snap_world.specs.NodeSteps.{IsNodeStep, IsActors, phases_of_node, devices_of_node};
+ghost use Rattle.snap_world.specs.NodeSteps.{IsNodeStep, phases_of_node, devices_of_node};
+ghost use Rattle.snap_world.specs.Steps.{IsActors};
 
-use super::disk::{SegmentDisk, new_disks};
-use super::event::{Event, Reply};
-use super::parts::Parts;
+use crate::drive::{Drive, new_drives};
+use crate::event::{Event, Reply};
+use crate::parts::Parts;
 use std::alloc::{AllocError, Global};
+
+/// A device call by which a restart opens a segment: first the sync, then the read of its file.
+#[derive(Clone, Copy, Debug, Drop, PartialEq, Eq)]
+pub enum OpeningCall {
+    Sync,
+    Read,
+}
 
 /// How far a node is with its restart.
 #[derive(Clone, Copy, Debug, Drop, PartialEq, Eq)]
@@ -17,9 +25,10 @@ pub enum NodePhase {
     Up,
     /// It has crashed.
     Down,
-    /// It restarts, and has done this many of the device calls of its restart: for each segment a
-    /// sync and a read.
-    Restarting(usize),
+    /// It restarts: the segments before this one are opened, and this call of it comes next.
+    Restarting { segment: usize, call: OpeningCall },
+    /// It restarts, all segments are opened, and what was found may be served.
+    Ready,
 }
 
 /// What is in memory, and the device of each segment.
@@ -27,7 +36,7 @@ pub enum NodePhase {
 pub struct Node {
     pub phase: NodePhase,
     pub parts: Parts,
-    pub disks: Vec<SegmentDisk>,
+    pub drives: Vec<Drive>,
 }
 
 impl Node {
@@ -41,11 +50,11 @@ impl Node {
         ensures stands { IfOk result (λ w. NodeStands w (start_state segments scanners)) }
     {
         let parts = Parts::new(alloc, segments, scanners)?;
-        let disks = new_disks(alloc, segments)?;
+        let drives = new_drives(alloc, segments)?;
         Ok(Node {
             phase: NodePhase::Up,
             parts,
-            disks,
+            drives,
         })
     }
 

@@ -1,11 +1,11 @@
 //! What a node has in memory, and what an event of a writer or a scanner does to it.
 ghost use Rattle.std.specs.Prelude.{◌≡◌, ℕ, ◌<◌, ◌≤◌, IfOk, OnErr};
 ghost use Rattle.snap_world.specs.Start.{start_state, start_phases};
-ghost use Rattle.snap_world.specs.Phases.{TakesMemory};
+ghost use Rattle.snap_world.specs.NodePhases.{NeedsMemory, up};
 ghost use Rattle.snap_world.specs.Stands.{PartsStand, Stand};
 ghost use Rattle.snap_world.specs.Halting.{IsHalted, IsScannerHalted};
 ghost use Rattle.snap_history.specs.Pairs.{Pairs};
-ghost use Rattle.snap_world.specs.Steps.{IsPartsStep, phases_of_parts};
+ghost use Rattle.snap_world.specs.Steps.{IsActors, IsPartsStep, phases_of_parts};
 
 use crate::event::{Actor, Event, Reply};
 use crate::register::Register;
@@ -43,11 +43,12 @@ impl Parts {
         })
     }
 
-    /// One event of a writer or a scanner. The other ones aren't its own: `NotNow`.
+    /// One event of a writer or a scanner.
     pub fn step(&mut self, alloc: Global, event: &Event) -> Result<Reply, AllocError>
         requires stands { Stand self.old }
+        requires actors { IsActors event.now }
         ensures step { IfOk result (λ reply. IsPartsStep self.old event.now reply self.new) }
-        ensures memory { OnErr result (TakesMemory (phases_of_parts self.old) event.now) }
+        ensures memory { OnErr result (NeedsMemory (up (phases_of_parts self.old)) event.now) }
         ensures err { OnErr result (self.new ≡ self.old) }
     {
         match event {
@@ -63,7 +64,7 @@ impl Parts {
             | Event::Restart
             | Event::RestartCall
             | Event::RestartFail(_)
-            | Event::Serve => Ok(Reply::NotNow),
+            | Event::Serve => unreachable!(),
         }
     }
 

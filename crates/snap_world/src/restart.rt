@@ -1,13 +1,16 @@
 //! Crashes and restarts.
-ghost use Rattle.std.specs.Prelude.{◌≡◌, ◌*◌, ◌<◌, length, IfOk, OnErr};
+ghost use Rattle.std.specs.Prelude.{◌≡◌, ◌<◌, length, IfOk, OnErr};
 ghost use Rattle.snap_disk.specs.declared.fill.Fill.{Fill};
+ghost use Rattle.snap_world.specs.NodePhases.{after_opening_call};
 ghost use Rattle.snap_world.specs.NodeStands.{NodeStand};
 ghost use Rattle.snap_world.specs.NodeSteps.{IsNodeStep};
+ghost use Rattle.snap_world.specs.Serving.{AllReadable, AreRecovered};
 ghost use Rattle.snap_world.specs.declared.event.Event.{Event};
 
-use super::disk::{crash_all, found_values, recover_all, resume_all};
-use super::event::{Kind, Reply};
-use super::node::{Node, NodePhase};
+use crate::drive::{Drive, crash_all, found_values, resume_all};
+use crate::event::{Kind, Reply};
+use crate::node::{Node, NodePhase, OpeningCall};
+use crate::register::Register;
 use snap_disk::Fill;
 use std::alloc::{AllocError, Global};
 
@@ -18,10 +21,10 @@ impl Node {
         requires stands { NodeStand self.old }
         ensures step { IsNodeStep self.old (Event.Crash fills.now) result self.new }
     {
-        if fills.len() != self.disks.len() {
+        if fills.len() != self.drives.len() {
             return Reply::NotNow;
         }
-        crash_all(&mut self.disks, fills);
+        crash_all(&mut self.drives, fills);
         self.parts.halt();
         self.phase = NodePhase::Down;
         Reply::Crashed
@@ -34,7 +37,10 @@ impl Node {
     {
         match self.phase {
             NodePhase::Down => {
-                self.phase = NodePhase::Restarting(0);
+                self.phase = NodePhase::Restarting {
+                    segment: 0,
+                    call: OpeningCall::Sync,
+                };
                 Reply::Restarting
             }
             _ => Reply::NotNow,
@@ -47,20 +53,22 @@ impl Node {
         ensures step { IsNodeStep self.old Event.RestartCall result self.new }
     {
         match self.phase {
-            NodePhase::Restarting(calls) => {
-                if calls >= 2 * self.disks.len() {
-                    return Reply::NotNow;
+            NodePhase::Restarting { segment, call } => match call {
+                OpeningCall::Sync => {
+                    self.drives[segment].image.settle();
+                    self.phase = NodePhase::Restarting {
+                        segment,
+                        call: OpeningCall::Read,
+                    };
+                    Reply::Called(Kind::Sync)
                 }
-                let segment = calls / 2;
-                self.phase = NodePhase::Restarting(calls + 1);
-                if calls % 2 == 0 {
-                    self.disks[segment].image.settle();
-                    return Reply::Called(Kind::Sync);
+                OpeningCall::Read => {
+                    let count = self.drives.len();
+                    self.drives[segment].read(segment as u8, count as u8);
+                    self.phase = after_read(count, segment);
+                    Reply::Called(Kind::Read)
                 }
-                let count = self.disks.len() as u8;
-                self.disks[segment].read(segment as u8, count);
-                Reply::Called(Kind::Read)
-            }
+            },
             _ => Reply::NotNow,
         }
     }
@@ -71,16 +79,15 @@ impl Node {
         ensures step { IsNodeStep self.old (Event.RestartFail fill.now) result self.new }
     {
         match self.phase {
-            NodePhase::Restarting(calls) => {
-                if calls >= 2 * self.disks.len() {
-                    return Reply::NotNow;
-                }
+            NodePhase::Restarting { segment, call } => {
                 self.phase = NodePhase::Down;
-                if calls % 2 == 0 {
-                    self.disks[calls / 2].image.settle_failed(fill);
-                    return Reply::DeviceFailed;
+                match call {
+                    OpeningCall::Sync => {
+                        self.drives[segment].image.settle_failed(fill);
+                        Reply::DeviceFailed
+                    }
+                    OpeningCall::Read => Reply::DeviceFailed,
                 }
-                Reply::DeviceFailed
             }
             _ => Reply::NotNow,
         }
@@ -90,22 +97,46 @@ impl Node {
     pub fn serve(&mut self, alloc: Global) -> Result<Reply, AllocError>
         requires stands { NodeStand self.old }
         ensures step { IfOk result (λ reply. IsNodeStep self.old Event.Serve reply self.new) }
-        ensures memory { OnErr result
-            (self.old.phase ≡ NodePhase.Restarting (2 * length self.old.disks.items)) }
+        ensures memory { OnErr result (self.old.phase ≡ NodePhase.Ready) }
         ensures err { OnErr result (self.new ≡ self.old) }
     {
         match self.phase {
-            NodePhase::Restarting(calls) => {
-                if calls != 2 * self.disks.len() {
-                    return Ok(Reply::NotNow);
-                }
-                let values = found_values(alloc, &self.disks)?;
-                recover_all(&mut self.parts.registers, &self.disks);
-                resume_all(&mut self.disks);
+            NodePhase::Ready => {
+                let values = found_values(alloc, &self.drives)?;
+                recover_all(&mut self.parts.registers, &self.drives);
+                resume_all(&mut self.drives);
                 self.phase = NodePhase::Up;
                 Ok(Reply::Memory(values))
             }
             _ => Ok(Reply::NotNow),
         }
+    }
+}
+
+/// The phase after the file of this segment was read.
+fn after_read(segments: usize, segment: usize) -> NodePhase
+    requires { segment < segments }
+    ensures { result ≡ after_opening_call segments segment OpeningCall.Read }
+{
+    if segment + 1 < segments {
+        NodePhase::Restarting {
+            segment: segment + 1,
+            call: OpeningCall::Sync,
+        }
+    } else {
+        NodePhase::Ready
+    }
+}
+
+/// Each register gets what the last restart found for its segment.
+fn recover_all(registers: &mut Vec<Register>, drives: &Vec<Drive>)
+    requires size { length registers.old.items ≡ length drives.now.items }
+    requires readable { ∥ AllReadable drives.now.items ∥₁ }
+    ensures { AreRecovered drives.now.items registers.old.items registers.new.items }
+{
+    for i in 0..registers.len() {
+        let register = &mut registers[i];
+        register.number = drives[i].found.number;
+        register.value.set(drives[i].found_value());
     }
 }

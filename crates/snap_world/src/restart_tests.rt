@@ -1,8 +1,9 @@
 //! Worked runs of device faults, crashes and restarts.
-use super::event::{Actor, Event, Kind, Reply};
-use super::tests::{FIRST_STORE, LATER_STORE, answer, begin, calls, expect, looks, show, store};
-use super::world::World;
+use crate::event::{Actor, Event, Kind, Reply};
+use crate::tests::{FIRST_STORE, LATER_STORE, answer, begin, calls, expect, looks, show, store};
+use crate::world::World;
 use snap_disk::Fill;
+use snap_persist::Write;
 use std::alloc::{AllocError, Global};
 use std::process::Abort;
 use std::test::Fail;
@@ -58,7 +59,16 @@ fn worked_script(rt: HostRuntime) -> Result<(), Fail> {
     let alloc = rt.alloc();
     let mut world = World::new(alloc, 1, 1)?;
     begin(&rt, alloc, &mut world, 0, "hi", &[0, 0])?;
-    calls(&rt, &mut world, 0, &[Kind::Body, Kind::Sync, Kind::Open])?;
+    calls(
+        &rt,
+        &mut world,
+        0,
+        &[
+            Kind::Write(Write::Body),
+            Kind::Sync,
+            Kind::Write(Write::Open),
+        ],
+    )?;
     expect(&rt, &mut world, Event::Scan(0), Reply::ScanBegun)?;
     looks(&rt, &mut world, Actor::Scanner(0), &[0, 0])?;
     answer(&rt, alloc, &mut world, &[""])?;
@@ -66,7 +76,7 @@ fn worked_script(rt: HostRuntime) -> Result<(), Fail> {
     restart(&rt, alloc, &mut world, &["hi"])?;
     expect(&rt, &mut world, Event::Acknowledge(0), Reply::NotNow)?;
     begin(&rt, alloc, &mut world, 0, "yo", &[1, 1])?;
-    calls(&rt, &mut world, 0, &[Kind::Close])?;
+    calls(&rt, &mut world, 0, &[Kind::Write(Write::Close)])?;
     let fault = Event::Fail(0, Fill::All(0));
     expect(&rt, &mut world, fault, Reply::DeviceFailed)?;
     let again = Event::Begin(0, b"yo".to_vec(alloc)?);
@@ -87,8 +97,26 @@ fn crash_with_writers_at_the_gate(rt: HostRuntime) -> Result<(), Fail> {
         let mut world = World::new(alloc, 2, 1)?;
         begin(&rt, alloc, &mut world, 0, "a", &[0, 0, 0, 0])?;
         begin(&rt, alloc, &mut world, 1, "b", &[0, 0, 0, 0])?;
-        calls(&rt, &mut world, 0, &[Kind::Body, Kind::Sync, Kind::Open])?;
-        calls(&rt, &mut world, 1, &[Kind::Body, Kind::Sync, Kind::Open])?;
+        calls(
+            &rt,
+            &mut world,
+            0,
+            &[
+                Kind::Write(Write::Body),
+                Kind::Sync,
+                Kind::Write(Write::Open),
+            ],
+        )?;
+        calls(
+            &rt,
+            &mut world,
+            1,
+            &[
+                Kind::Write(Write::Body),
+                Kind::Sync,
+                Kind::Write(Write::Open),
+            ],
+        )?;
         crash(&rt, alloc, &mut world, &[Some(0xA5), Some(0)])?;
         if is_crashed_again {
             expect(&rt, &mut world, Event::Restart, Reply::Restarting)?;
@@ -126,7 +154,7 @@ fn four_calls_after_a_torn_body(rt: HostRuntime) -> Result<(), Fail> {
     let mut world = World::new(alloc, 1, 1)?;
     for _ in 0..2 {
         begin(&rt, alloc, &mut world, 0, "hi", &[0, 0])?;
-        calls(&rt, &mut world, 0, &[Kind::Body])?;
+        calls(&rt, &mut world, 0, &[Kind::Write(Write::Body)])?;
         crash(&rt, alloc, &mut world, &[Some(0xA5)])?;
         restart(&rt, alloc, &mut world, &[""])?;
     }
@@ -143,7 +171,7 @@ fn crash_after_the_closing_write(rt: HostRuntime) -> Result<(), Fail> {
         store(&rt, alloc, &mut world, 0, "hi", &[0, 0], &FIRST_STORE)?;
         show(&rt, &mut world, 0, 1)?;
         begin(&rt, alloc, &mut world, 0, "yo", &[1, 1])?;
-        calls(&rt, &mut world, 0, &[Kind::Close])?;
+        calls(&rt, &mut world, 0, &[Kind::Write(Write::Close)])?;
         crash(&rt, alloc, &mut world, &[Some(byte)])?;
         restart(&rt, alloc, &mut world, &["hi"])?;
 
@@ -165,7 +193,16 @@ fn the_client_sends_again(rt: HostRuntime) -> Result<(), Fail> {
     for byte in [0, 0xA5] {
         let mut world = World::new(alloc, 1, 1)?;
         begin(&rt, alloc, &mut world, 0, "hi", &[0, 0])?;
-        calls(&rt, &mut world, 0, &[Kind::Body, Kind::Sync, Kind::Open])?;
+        calls(
+            &rt,
+            &mut world,
+            0,
+            &[
+                Kind::Write(Write::Body),
+                Kind::Sync,
+                Kind::Write(Write::Open),
+            ],
+        )?;
         let fault = Event::Fail(0, Fill::Keep);
         expect(&rt, &mut world, fault, Reply::DeviceFailed)?;
         expect(&rt, &mut world, Event::Show(0), Reply::NotNow)?;

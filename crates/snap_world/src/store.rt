@@ -5,9 +5,9 @@ ghost use Rattle.snap_world.specs.NodeStands.{NodeStand};
 ghost use Rattle.snap_world.specs.NodeSteps.{IsNodeStep, MayStore};
 ghost use Rattle.snap_world.specs.declared.event.Event.{Event};
 
-use super::event::Reply;
-use super::node::{Node, NodePhase};
-use super::writer::WriterPhase;
+use crate::event::Reply;
+use crate::node::{Node, NodePhase};
+use crate::writer::WriterPhase;
 use snap_disk::Fill;
 use snap_persist::{Next, Persist};
 use snap_slot::slot_of;
@@ -23,11 +23,11 @@ impl Node {
             return Reply::NotNow;
         }
         let number = self.parts.registers[segment].number + 1;
-        let disk = &mut self.disks[segment];
-        let kind = disk.call(number, self.parts.writers[segment].value.as_slice());
-        match disk.order.next() {
+        let drive = &mut self.drives[segment];
+        let kind = drive.call(number, self.parts.writers[segment].value.as_slice());
+        match drive.order.next() {
             Next::Done => {
-                disk.order = Persist::begin(true, slot_of(number + 1));
+                drive.order = Persist::begin(true, slot_of(number + 1));
                 self.parts.end_store(segment);
                 Reply::Called(kind)
             }
@@ -43,7 +43,7 @@ impl Node {
         if !self.may_store(segment) {
             return Reply::NotNow;
         }
-        self.disks[segment].fail(fill);
+        self.drives[segment].fail(fill);
         self.parts.fence(segment);
         Reply::DeviceFailed
     }

@@ -2,6 +2,7 @@
 
 use crate::event::{Actor, Event, Kind, Reply};
 use crate::world::World;
+use snap_persist::Write;
 use std::alloc::{AllocError, Global};
 use std::process::Abort;
 use std::test::Fail;
@@ -36,15 +37,20 @@ pub(crate) fn looks(
 }
 
 /// The device calls of a segment's first store.
-pub(crate) const FIRST_STORE: [Kind; 4] = [Kind::Body, Kind::Sync, Kind::Open, Kind::Sync];
+pub(crate) const FIRST_STORE: [Kind; 4] = [
+    Kind::Write(Write::Body),
+    Kind::Sync,
+    Kind::Write(Write::Open),
+    Kind::Sync,
+];
 
 /// Those of each later one, which closes the spare gate before.
 pub(crate) const LATER_STORE: [Kind; 6] = [
-    Kind::Close,
+    Kind::Write(Write::Close),
     Kind::Sync,
-    Kind::Body,
+    Kind::Write(Write::Body),
     Kind::Sync,
-    Kind::Open,
+    Kind::Write(Write::Open),
     Kind::Sync,
 ];
 

@@ -31,6 +31,7 @@ pub struct World {
 }
 
 impl World {
+    ghost use Rattle.snap_world.specs.Crashes.{AnyCrash, CrashInsideAnyWrite, AnyFault};
     ghost use Rattle.snap_world.specs.Surface.{StandsFor, IsRun, segments_of, phases_of, devices_of};
 
     /// A world of this many segments and scanners, 1 to 16 each: every segment has number 0 and the
@@ -81,9 +82,17 @@ impl World {
     /// each writer; each scan answers the memory as it stood at one moment between its beginning
     /// and its last look; and `NotNow` comes exactly where an event may not come.
     ///
+    /// At any step means with any bytes: whatever the disk model lets a crash leave of the devices
+    /// that the world has after the events, the event `Crash` with some fills leaves (`any_crash`),
+    /// and whatever it lets a failed write or a failed sync leave, some fill leaves (`any_fault`).
+    /// Inside any write is covered by the moment right after it: what a crash inside a write may
+    /// leave of the devices, the event `Crash` with some fills leaves behind that write
+    /// (`crash_inside_any_write`).
+    ///
     /// The memory of the list of replies is taken before the first event. Where memory runs out,
     /// there or at an `Answer` or a `Serve`, the result is [`Stopped`], and all this holds of the
     /// events already done.
+    #[tactic(auto, using(crate::proofs::Fills::no_bytes_left_out))]
     pub fn run(&mut self, events: &[Event]) -> Result<Vec<Reply>, Stopped>
         ensures run { IfOk result (λ replies. IsRun self.old events.now replies.items self.new) }
         ensures stopped { IfErr result (λ stopped. (stopped.done ≤ length events.now)
@@ -94,6 +103,11 @@ impl World {
         // later history.
         ensures grows { (x : State) → StandsFor self.old x
             → (y : State) × StandsFor self.new y × IsBeginning x.history y.history }
+
+        // The events leave out no bytes that the disk model allows.
+        ensures any_crash { AnyCrash (devices_of self.new) }
+        ensures crash_inside_any_write { CrashInsideAnyWrite (devices_of self.new) }
+        ensures any_fault { AnyFault (devices_of self.new) }
     {
         let mut replies = Vec::new(self.alloc);
         if replies.reserve(events.len()).is_err() {

@@ -4,11 +4,11 @@ use Rattle.std.specs.declared.alloc.AllocError.{AllocError}
 use Rattle.snap_world.specs.NodeSteps.{IsNodeStep, phases_of_node}
 use Rattle.snap_world.specs.Steps.{IsPartsStep}
 use Rattle.snap_world.specs.declared.event.Reply.{Reply}
-use Rattle.snap_world.proofs.Acting.{acts, is_up, with_parts, refuses, may_from}
+use Rattle.snap_world.proofs.Acting.{acts, is_up, with_parts, refuses, needs_up}
 use Rattle.snap_world.proofs.node.Node.act.Goals as goal
 
 pub step-requires : goal.step-requires
-step-requires c = record { stands = ∥∥₁_map c.requires.stands (λ q. (q.0, (is_up c.args.self.now q.0 c.in-Up.is q.1).parts_stand)) }
+step-requires c = record { stands = ∥∥₁_map c.requires.stands (λ q. (q.0, (is_up c.args.self.now q.0 c.in-Up.is q.1).parts_stand)); actors = c.requires.actors }
 
 pub returns-in-Up-clause-step : goal.returns-in-Up-clause-step
 returns-in-Up-clause-step c =
@@ -21,4 +21,4 @@ returns-in-Up-clause-step c =
     all c.step.result c.step.ensures.step
 
 pub returns-in_default-clause-step : goal.returns-in_default-clause-step
-returns-in_default-clause-step c = refuses c.args.self.now c.args.event.now (λ x stands m. c.in_default.not-Up (may_from x (phases_of_node c.args.self.now) c.args.event.now c.requires.actors m).0)
+returns-in_default-clause-step c = refuses c.args.self.now c.args.event.now (λ x stands m. c.in_default.not-Up (needs_up x (phases_of_node c.args.self.now) c.args.event.now c.requires.actors m))

@@ -5,14 +5,14 @@ use Rattle.snap_history.specs.History.{from_nothing, number_after}
 use Rattle.snap_slot.specs.Layout.{body_block}
 use Rattle.snap_persist.specs.Stage.{calls_left, first_call, after_call}
 use Rattle.snap_persist.specs.declared.persist.Next.TheVariants.{Done}
-use Rattle.snap_world.specs.Calls.{kinds_of}
+use Rattle.snap_world.specs.Calls.{store_call}
 use Rattle.snap_world.specs.Devices.{IsMade}
-use Rattle.snap_world.specs.Disks.{device_of}
-use Rattle.snap_world.specs.declared.disk.SegmentDisk.{SegmentDisk}
+use Rattle.snap_world.specs.Drives.{device_of}
+use Rattle.snap_world.specs.declared.drive.Drive.{Drive}
 use Rattle.snap_world.proofs.Acting.{is_up, refuses}
 use Rattle.snap_world.proofs.Calling.{going_done, not_done}
 use Rattle.snap_world.proofs.Sizes.{register_fits, writer_fits}
-use Rattle.snap_world.proofs.Stored.{found, call_goes, call_ends, call_moves, call_stores, there, storing, size, slot_low, number_is, same_value, fits, room, parts_of, store_within, disk_fits}
+use Rattle.snap_world.proofs.Stored.{found, call_goes, call_ends, call_moves, call_stores, there, storing, size, slot_low, number_is, same_value, fits, room, parts_of, store_within, drive_fits}
 use Rattle.snap_world.proofs.node.Node.call.Goals as goal
 
 pub returns-then-not-may_store : goal.returns-then-not-may_store
@@ -30,10 +30,10 @@ index-requires-2 c =
     let may = c.if-not-may_store.ensures.0 refl in
     writer_fits w.parts c.args.segment (parts_of w may.0 c.requires.stands) (store_within w c.args.segment may c.requires.stands)
 
-pub index_mut-disk-requires : goal.index_mut-disk-requires
-index_mut-disk-requires c =
+pub index_mut-drive-requires : goal.index_mut-drive-requires
+index_mut-drive-requires c =
     let may = c.if-not-may_store.ensures.0 refl in
-    disk_fits c.args.self.now c.args.segment c.requires.stands (store_within c.args.self.now c.args.segment may c.requires.stands)
+    drive_fits c.args.self.now c.args.segment c.requires.stands (store_within c.args.self.now c.args.segment may c.requires.stands)
 
 pub overflow_add-number : goal.overflow_add-number
 overflow_add-number c =
@@ -54,12 +54,12 @@ overflow_add-number-in-Done c =
 pub call-kind-requires-clause-size : goal.call-kind-requires-clause-size
 call-kind-requires-clause-size c =
     let may = c.if-not-may_store.ensures.0 refl in
-    ∥∥₁_elim c.requires.stands (hlevel props) (λ q. size c.args.self.now q.0 q.1 c.args.segment may c.index_mut-disk.result.now c.index_mut-disk.ensures.value)
+    ∥∥₁_elim c.requires.stands (hlevel props) (λ q. size c.args.self.now q.0 q.1 c.args.segment may c.index_mut-drive.result.now c.index_mut-drive.ensures.value)
 
 pub call-kind-requires-clause-slot : goal.call-kind-requires-clause-slot
 call-kind-requires-clause-slot c =
     let may = c.if-not-may_store.ensures.0 refl in
-    ∥∥₁_elim c.requires.stands (hlevel props) (λ q. slot_low c.args.self.now q.0 q.1 c.args.segment may c.index_mut-disk.result.now c.index_mut-disk.ensures.value)
+    ∥∥₁_elim c.requires.stands (hlevel props) (λ q. slot_low c.args.self.now q.0 q.1 c.args.segment may c.index_mut-drive.result.now c.index_mut-drive.ensures.value)
 
 pub call-kind-requires-clause-number : goal.call-kind-requires-clause-number
 call-kind-requires-clause-number c =
@@ -78,7 +78,7 @@ call-kind-requires-clause-fits c =
 pub call-kind-requires-clause-going : goal.call-kind-requires-clause-going
 call-kind-requires-clause-going c none =
     let may = c.if-not-may_store.ensures.0 refl in
-    ∥∥₁_elim c.requires.stands (hlevel props) (λ q. (storing c.args.self.now q.0 q.1 c.args.segment may c.index_mut-disk.result.now c.index_mut-disk.ensures.value).going none)
+    ∥∥₁_elim c.requires.stands (hlevel props) (λ q. (storing c.args.self.now q.0 q.1 c.args.segment may c.index_mut-drive.result.now c.index_mut-drive.ensures.value).going none)
 
 pub end_store-requires-clause-stands : goal.end_store-requires-clause-stands
 end_store-requires-clause-stands c = parts_of c.args.self.now (c.if-not-may_store.ensures.0 refl).0 c.requires.stands
@@ -91,10 +91,10 @@ returns-in-Done c =
     let w = c.args.self.now in
     let i = c.args.segment in
     let may = c.if-not-may_store.ensures.0 refl in
-    let d = c.index_mut-disk.result.now in
-    let read = c.index_mut-disk.ensures.value in
+    let d = c.index_mut-drive.result.now in
+    let read = c.index_mut-drive.ensures.value in
     let mid = c.call-kind.new.self in
-    let e : SegmentDisk = record { image = mid.image; order = c.begin-disk.result; found = mid.found } in
+    let e : Drive = record { image = mid.image; order = c.begin-drive.result; found = mid.found } in
     let kind = c.call-kind.result in
     let parts = c.end_store.new.self in
     let at = c.call-kind.ensures.stage in
@@ -106,16 +106,16 @@ returns-in-Done c =
             let number = number_is w x stands i may c.index.result.now c.index.ensures in
             let value = c.as_slice.ensures ∙ same_value w x stands i may c.index-2.result.now c.index-2.ensures in
             let done = at ∙ going_done d.order.stage (storing w x stands i may d read).going last in
-            let made = subst (λ k. IsMade d.order.slot (body_block (k + 1) (found w x stands i may).0.value) kind (device_of d) (device_of e)) number
-            (subst (λ v. IsMade d.order.slot (body_block (c.index.result.now.number + 1) v) kind (device_of d) (device_of e)) value c.call-kind.ensures.made) in
-            call_ends w x stands i may d read e kind made mid.order parts c.call-kind.ensures.kind at done c.begin-disk.ensures.stage
-            (c.begin-disk.ensures.slot ∙ c.slot_of.ensures ∙ ap (λ k. (k + 1 + 1) % 2) number) c.end_store.ensures.segments
+            let made = subst (λ k. IsMade d.order.slot (body_block (k + 1) (found w x stands i may).0.value) (store_call kind) (device_of d) (device_of e)) number
+            (subst (λ v. IsMade d.order.slot (body_block (c.index.result.now.number + 1) v) (store_call kind) (device_of d) (device_of e)) value c.call-kind.ensures.made) in
+            call_ends w x stands i may d read e kind made mid.order parts c.call-kind.ensures.kind at done c.begin-drive.ensures.stage
+            (c.begin-drive.ensures.slot ∙ c.slot_of.ensures ∙ ap (λ k. (k + 1 + 1) % 2) number) c.end_store.ensures.segments
             (c.end_store.ensures.stands x (is_up w x may.0 stands).parts_stand may.1) c.end_store.ensures.phases);
         comes = λ x stands. record { refused = λ f. cc; came = λ _. may };
         phases = λ x stands. (
             let done = at ∙ going_done d.order.stage (storing w x stands i may d read).going last in
             call_stores w i d (there w x stands i may d read) kind w.parts.segments x e parts
-            (c.call-kind.ensures.kind ∙ ap (λ s. kind ∷ kinds_of (calls_left s)) done) (ap kinds_of c.begin-disk.ensures.calls) c.end_store.ensures.phases);
+            (c.call-kind.ensures.kind ∙ ap (λ s. store_call kind ∷ calls_left s) done) c.begin-drive.ensures.calls c.end_store.ensures.phases);
         gates = λ x stands. tt;
         unchanged = λ f. cc;
       };
@@ -126,8 +126,8 @@ returns-in_default c =
     let w = c.args.self.now in
     let i = c.args.segment in
     let may = c.if-not-may_store.ensures.0 refl in
-    let d = c.index_mut-disk.result.now in
-    let read = c.index_mut-disk.ensures.value in
+    let d = c.index_mut-drive.result.now in
+    let read = c.index_mut-drive.ensures.value in
     let e = c.call-kind.new.self in
     let kind = c.call-kind.result in
     let going = not_done e.order.stage (λ f. c.in_default.not-Done (c.next.ensures ∙ f)) in
@@ -137,8 +137,8 @@ returns-in_default c =
         step = λ x stands. (
             let number = number_is w x stands i may c.index.result.now c.index.ensures in
             let value = c.as_slice.ensures ∙ same_value w x stands i may c.index-2.result.now c.index-2.ensures in
-            let made = subst (λ k. IsMade d.order.slot (body_block (k + 1) (found w x stands i may).0.value) kind (device_of d) (device_of e)) number
-            (subst (λ v. IsMade d.order.slot (body_block (c.index.result.now.number + 1) v) kind (device_of d) (device_of e)) value c.call-kind.ensures.made) in
+            let made = subst (λ k. IsMade d.order.slot (body_block (k + 1) (found w x stands i may).0.value) (store_call kind) (device_of d) (device_of e)) number
+            (subst (λ v. IsMade d.order.slot (body_block (c.index.result.now.number + 1) v) (store_call kind) (device_of d) (device_of e)) value c.call-kind.ensures.made) in
             call_goes w x stands i may d read e kind made c.call-kind.ensures.kind c.call-kind.ensures.slot c.call-kind.ensures.stage going);
         comes = λ x stands. record { refused = λ f. cc; came = λ _. may };
         phases = λ x stands. call_moves w i d (there w x stands i may d read) kind w.parts.segments x e c.call-kind.ensures.kind going;

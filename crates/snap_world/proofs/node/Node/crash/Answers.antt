@@ -1,7 +1,7 @@
 use Rattle.std.proofs.Common.{◌≡◌, length, map, refl, sym, ◌∙◌, arith}
 use Rattle.std.proofs.lemmas.List.{length-map}
 use Rattle.snap_world.specs.Machine.{crashed}
-use Rattle.snap_world.specs.NodeSteps.{kinds_left, phases_of_node}
+use Rattle.snap_world.specs.NodeSteps.{store_left, phases_of_node}
 use Rattle.snap_world.specs.NodePhases.{WorldPhases, all_idle}
 use Rattle.snap_world.specs.Steps.{phases_of_parts}
 use Rattle.snap_world.specs.declared.node.Node.{Node}
@@ -13,14 +13,14 @@ use Rattle.snap_world.proofs.node.Node.crash.Goals as goal
 pub returns : goal.returns
 returns c =
     let w = c.args.self.now in
-    let ds = w.disks.items in
-    let es = c.crash_all.new.disks.items in
+    let ds = w.drives.items in
+    let es = c.crash_all.new.drives.items in
     let fills = c.args.fills.now.items in
     let parts = c.halt.new.self in
     let h = c.halt.ensures in
-    let new : Node = record { phase = Down; parts = parts; disks = c.crash_all.new.disks } in
-    let long : length fills ≡ length ds = omega (arith, c.args.fills.now.ok.0, w.disks.ok.0) in
-    let p : WorldPhases = record { node = Down; actors = all_idle (phases_of_parts w.parts); calls = map kinds_left ds } in
+    let new : Node = record { phase = Down; parts = parts; drives = c.crash_all.new.drives } in
+    let long : length fills ≡ length ds = omega (arith, c.args.fills.now.ok.0, w.drives.ok.0) in
+    let p : WorldPhases = record { node = Down; actors = all_idle (phases_of_parts w.parts); calls = map store_left ds } in
     record {
       step = record {
         segments = h.segments;
@@ -29,11 +29,11 @@ returns c =
           refl,
           crashed_devices ds es fills c.crash_all.ensures,
           record {
-            disks_n = sym c.crash_all.ensures.size ∙ stands.disks_n ∙ sym h.segments;
+            drives_n = sym c.crash_all.ensures.size ∙ stands.drives_n ∙ sym h.segments;
             at = goes_down w.parts parts h.segments h.registers h.writers h.scanners ds es fills x w.phase long stands.at c.crash_all.ensures;
           },
         );
-        comes = λ x stands. record { refused = λ e. cc; came = λ _. long ∙ sym (length-map ds kinds_left) };
+        comes = λ x stands. record { refused = λ e. cc; came = λ _. long ∙ sym (length-map ds store_left) };
         phases = λ x stands. same_phases p (phases_of_node new) refl (halted_phases w.parts parts h.segments h.registers h.writers h.scanners) (crashed_calls ds es fills long c.crash_all.ensures);
         gates = λ x stands. tt;
         unchanged = λ e. cc;

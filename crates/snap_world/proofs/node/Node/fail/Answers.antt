@@ -1,10 +1,9 @@
 use Rattle.std.proofs.Common.{refl, ap}
 use Rattle.std.proofs.Math.Logic.{∥∥₁_elim}
 use Rattle.std.proofs.Props.{props}
-use Rattle.snap_world.specs.Calls.{kinds_of}
 use Rattle.snap_persist.specs.Stage.{calls_left}
 use Rattle.snap_world.proofs.Acting.{is_up, refuses}
-use Rattle.snap_world.proofs.Stored.{call_fails, fail_moves, there, storing, size, slot_low, parts_of, store_within, disk_fits}
+use Rattle.snap_world.proofs.Stored.{call_fails, fail_moves, there, storing, size, slot_low, parts_of, store_within, drive_fits}
 use Rattle.snap_world.proofs.node.Node.fail.Goals as goal
 
 pub returns-then-not-may_store : goal.returns-then-not-may_store
@@ -13,7 +12,7 @@ returns-then-not-may_store c = record { step = refuses c.args.self.now _ (λ x s
 pub index_mut-requires : goal.index_mut-requires
 index_mut-requires c =
     let may = c.if-not-may_store.ensures.0 refl in
-    disk_fits c.args.self.now c.args.segment c.requires.stands (store_within c.args.self.now c.args.segment may c.requires.stands)
+    drive_fits c.args.self.now c.args.segment c.requires.stands (store_within c.args.self.now c.args.segment may c.requires.stands)
 
 pub fail-requires-clause-size : goal.fail-requires-clause-size
 fail-requires-clause-size c =
@@ -52,7 +51,7 @@ returns c =
         step = λ x stands. call_fails w x stands i may d read e c.args.fill.now missed.0 missed.1 parts missed.2 missed.3 c.fence.ensures.segments
             (λ s z es begun. c.fence.ensures.stands x (is_up w x may.0 stands).parts_stand s z es begun) c.fence.ensures.phases;
         comes = λ x stands. record { refused = λ f. cc; came = λ _. may };
-        phases = λ x stands. fail_moves w i d (there w x stands i may d read) missed.0 w.parts.segments x e parts c.args.fill.now (ap (λ s. kinds_of (calls_left s)) c.fail.ensures.stage) c.fence.ensures.phases;
+        phases = λ x stands. fail_moves w i d (there w x stands i may d read) w.parts.segments x e parts c.args.fill.now (ap (λ s. calls_left s) c.fail.ensures.stage) c.fence.ensures.phases;
         gates = λ x stands. tt;
         unchanged = λ f. cc;
       };

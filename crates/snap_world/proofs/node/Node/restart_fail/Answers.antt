@@ -1,15 +1,23 @@
-use Rattle.std.proofs.Common.{◌*◌, ◌<◌, length, refl, arith}
-use Rattle.snap_world.specs.declared.disk.SegmentDisk.{SegmentDisk}
-use Rattle.snap_world.proofs.Restarts.{sync_fail_step}
+use Rattle.std.proofs.Common.{◌<◌, length, refl, ap, ◌∙◌, arith}
+use Rattle.snap_world.specs.declared.drive.Drive.{Drive}
+use Rattle.snap_world.specs.declared.node.NodePhase.TheVariants.{Restarting}
+use Rattle.snap_world.proofs.Restarts.{opening_within, sync_fail_step}
 use Rattle.snap_world.proofs.node.Node.restart_fail.Goals as goal
 
-pub returns-then-calls-eq0 : goal.returns-then-calls-eq0
-returns-then-calls-eq0 c =
+pub index_mut-requires : goal.index_mut-requires
+index_mut-requires c =
     let w = c.args.self.now in
+    let low : c.in-Restarting.segment < length w.drives.items = opening_within w c.in-Restarting.segment c.in-Restarting.call c.in-Restarting.is c.requires.stands in
+    omega (arith, c.args.self.now.drives.ok.0)
+
+pub returns-in-Sync : goal.returns-in-Sync
+returns-in-Sync c =
+    let w = c.args.self.now in
+    let i = c.in-Restarting.segment in
     let d = c.index_mut.result.now in
-    let e : SegmentDisk = record { image = c.settle_failed.new.self; order = d.order; found = d.found } in
-    let left : c.in-Restarting.calls < 2 * length w.disks.items = omega (arith, c.args.self.now.disks.ok.0) in
+    let e : Drive = record { image = c.settle_failed.new.self; order = d.order; found = d.found } in
+    let low : i < length w.drives.items = opening_within w i c.in-Restarting.call c.in-Restarting.is c.requires.stands in
     record {
-      step = sync_fail_step w c.in-Restarting.calls c.in-Restarting.is left d c.index_mut.ensures.value e refl c.args.fill.now c.if-calls-eq0.true
+      step = sync_fail_step w i d low c.index_mut.ensures.value e refl c.args.fill.now (c.in-Restarting.is ∙ ap (Restarting i) c.in-Sync.is)
           (record { left = c.settle_failed.ensures.unsynced; filled = c.settle_failed.ensures.filled });
     }

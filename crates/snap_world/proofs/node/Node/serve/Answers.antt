@@ -1,70 +1,64 @@
-use Rattle.std.proofs.Common.{◌≡◌, ◌*◌, length, map, refl, ap, sym, ◌∙◌, subst, arith}
+use Rattle.std.proofs.Common.{◌≡◌, length, map, refl, sym, ◌∙◌, subst}
 use Rattle.std.proofs.Math.Logic.{∥∥₁_elim, ∥∥₁_map}
 use Rattle.std.proofs.Props.{props}
 use Rattle.std.proofs.lemmas.List.{length-map}
 use Rattle.snap_history.specs.History.{from_nothing, IsMemory}
-use Rattle.snap_world.specs.NodeSteps.{kinds_left}
-use Rattle.snap_world.specs.declared.node.NodePhase.TheVariants.{Restarting}
+use Rattle.snap_world.specs.NodeSteps.{store_left}
 use Rattle.snap_world.specs.declared.parts.Parts.{Parts}
 use Rattle.snap_world.proofs.Crashing.{sized}
-use Rattle.snap_world.proofs.Serves.{readable, marks, h, memory, y, parts_stand, disks_stand, same_devices, device_served, gates, idle_phases}
+use Rattle.snap_world.proofs.Serves.{readable, marks, h, memory, y, parts_stand, drives_stand, same_devices, device_served, gates, idle_phases}
 use Rattle.snap_world.proofs.node.Node.serve.Goals as goal
 
 pub found_values-requires : goal.found_values-requires
 found_values-requires c =
     let w = c.args.self.now in
-    let done : c.in-Restarting.calls ≡ 2 * length w.disks.items = omega (arith, c.args.self.now.disks.ok.0) in
-    ∥∥₁_map c.requires.stands (λ q. readable w q.0 q.1 c.in-Restarting.calls c.in-Restarting.is done)
+    ∥∥₁_map c.requires.stands (λ q. readable w q.0 q.1 c.in-Ready.is)
 
 pub recover_all-requires-clause-size : goal.recover_all-requires-clause-size
 recover_all-requires-clause-size c =
     let w = c.args.self.now in
-    ∥∥₁_elim c.requires.stands (hlevel props) (λ q. (sized w.parts w.disks.items q.0 w.phase q.1.at).registers_n ∙ sym q.1.disks_n)
+    ∥∥₁_elim c.requires.stands (hlevel props) (λ q. (sized w.parts w.drives.items q.0 w.phase q.1.at).registers_n ∙ sym q.1.drives_n)
 
 pub recover_all-requires-clause-readable : goal.recover_all-requires-clause-readable
 recover_all-requires-clause-readable c =
     let w = c.args.self.now in
-    let done : c.in-Restarting.calls ≡ 2 * length w.disks.items = omega (arith, c.args.self.now.disks.ok.0) in
-    ∥∥₁_map c.requires.stands (λ q. readable w q.0 q.1 c.in-Restarting.calls c.in-Restarting.is done)
+    ∥∥₁_map c.requires.stands (λ q. readable w q.0 q.1 c.in-Ready.is)
 
 pub resume_all-requires : goal.resume_all-requires
 resume_all-requires c =
     let w = c.args.self.now in
-    let done : c.in-Restarting.calls ≡ 2 * length w.disks.items = omega (arith, c.args.self.now.disks.ok.0) in
-    ∥∥₁_map c.requires.stands (λ q. readable w q.0 q.1 c.in-Restarting.calls c.in-Restarting.is done)
+    ∥∥₁_map c.requires.stands (λ q. readable w q.0 q.1 c.in-Ready.is)
 
-pub returns-in_ok-values-in-Restarting-clause-step : goal.returns-in_ok-values-in-Restarting-clause-step
-returns-in_ok-values-in-Restarting-clause-step c =
+pub returns-in_ok-values-in-Ready-clause-step : goal.returns-in_ok-values-in-Ready-clause-step
+returns-in_ok-values-in-Ready-clause-step c =
     let w = c.args.self.now in
-    let calls = c.in-Restarting.calls in
-    let is = c.in-Restarting.is in
-    let done : calls ≡ 2 * length w.disks.items = omega (arith, c.args.self.now.disks.ok.0) in
+    let is = c.in-Ready.is in
     let parts : Parts = record { segments = w.parts.segments; registers = c.recover_all.new.registers; writers = w.parts.writers; scanners = w.parts.scanners } in
-    let es = c.resume_all.new.disks.items in
+    let es = c.resume_all.new.drives.items in
     let got = c.recover_all.ensures in
     let set = c.resume_all.ensures in
-    let kinds : length (map kinds_left w.disks.items) ≡ length w.disks.items = length-map w.disks.items kinds_left in
+    let calls : length (map store_left w.drives.items) ≡ length w.drives.items = length-map w.drives.items store_left in
     record {
       segments = refl;
       step = λ x stands. (
-        y w x stands calls is done parts es refl refl refl got set,
+        y w x stands is parts es refl refl refl got set,
         (
-          marks w x stands calls is done,
-          subst (IsMemory w.parts.segments from_nothing (h w x stands calls is done)) (sym c.in_ok-values-in-Restarting.ensures) (memory w x stands calls is done),
+          marks w x stands is,
+          subst (IsMemory w.parts.segments from_nothing (h w x stands is)) (sym c.in_ok-values-in-Ready.ensures) (memory w x stands is),
           refl,
         ),
-        (same_devices w x stands calls is done parts es refl refl refl got set, device_served w x stands calls is done parts es refl refl refl got set),
+        (same_devices w x stands is parts es refl refl refl got set, device_served w x stands is parts es refl refl refl got set),
         record {
-          disks_n = sym set.size ∙ stands.disks_n;
-          at = record { parts_stand = parts_stand w x stands calls is done parts es refl refl refl got set; disks_stand = disks_stand w x stands calls is done parts es refl refl refl got set };
+          drives_n = sym set.size ∙ stands.drives_n;
+          at = record { parts_stand = parts_stand w x stands is parts es refl refl refl got set; drives_stand = drives_stand w x stands is parts es refl refl refl got set };
         },
       );
-      comes = λ x stands. record { refused = λ e. cc; came = λ _. is ∙ ap Restarting (done ∙ ap (λ n. 2 * n) (sym kinds)) };
+      comes = λ x stands. record { refused = λ e. cc; came = λ _. is };
       phases = λ x stands. (
         refl,
-        idle_phases w x stands calls is done parts es refl refl refl got set,
-        length-map es kinds_left ∙ sym set.size ∙ sym kinds,
+        idle_phases w x stands is parts es refl refl refl got set,
+        length-map es store_left ∙ sym set.size ∙ sym calls,
       );
-      gates = λ x stands. gates w x stands calls is done parts es refl refl refl got set;
+      gates = λ x stands. gates w x stands is parts es refl refl refl got set;
       unchanged = λ e. cc;
     }

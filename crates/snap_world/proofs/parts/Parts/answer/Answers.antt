@@ -7,6 +7,7 @@ use Rattle.snap_world.specs.Steps.{phases_of_parts}
 use Rattle.snap_world.specs.declared.scanner.Scanner.{Scanner}
 use Rattle.snap_world.specs.declared.scanner.ScannerPhase.TheVariants as scanner
 use Rattle.snap_world.proofs.Moves.{the_scanner, scanner_moves, same_read}
+use Rattle.snap_world.specs.NodePhases.{up}
 use Rattle.snap_world.proofs.Phasing.{scanner_is, other_scanner, scanner_moved, refused, came}
 use Rattle.snap_world.proofs.parts.Parts.answer.Goals as goal
 
@@ -30,11 +31,11 @@ returns-in_ok-values-in-Ready-clause-step c =
     let answer = subst (IsAnswer w.segments x.history at.0) values at.3.answer in
     let here : ScannerStands w.segments x.history stands.since i new Closed = record { size = a.2.size; phase = refl } in
     (with_scanner x i Closed, (at.0, a.1 ∙ ap (λ z. Some z) at.1, answer, refl), scanner_moves w x stands i new Closed l here)))
-    (λ x stands. subst (ScannerIs (phases_of_parts w) i) phase (scanner_is w i old l read))
-    (λ x stands. scanner_moved w i new)
+    (λ x stands. (refl, subst (ScannerIs (phases_of_parts w) i) phase (scanner_is w i old l read)))
+    (λ x stands. ap up (scanner_moved w i new))
 
 pub returns-in_default-clause-step : goal.returns-in_default-clause-step
 returns-in_default-clause-step c =
     let w = c.args.self.now in
     let l : c.args.at < length w.scanners.items = omega (arith, w.scanners.ok.0) in
-    refused w _ (λ x stands e. other_scanner w c.args.at c.index.result.now scanner.Ready l c.index.ensures c.in_default.not-Ready e)
+    refused w _ (λ x stands e. other_scanner w c.args.at c.index.result.now scanner.Ready l c.index.ensures c.in_default.not-Ready e.1)

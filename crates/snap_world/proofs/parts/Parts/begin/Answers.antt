@@ -9,6 +9,7 @@ use Rattle.snap_world.specs.declared.writer.Writer.{Writer}
 use Rattle.snap_world.specs.declared.writer.WriterPhase.TheVariants as writer
 use Rattle.snap_world.proofs.Looking.{number_now}
 use Rattle.snap_world.proofs.Moves.{the_writer, the_register, writer_moves, Gathers-none, same_read}
+use Rattle.snap_world.specs.NodePhases.{up}
 use Rattle.snap_world.proofs.Phasing.{writer_is, other_writer, writer_moved, refused, came}
 use Rattle.snap_world.proofs.Sizes.{segments_most, writer_fits, writer_there, register_fits}
 use Rattle.snap_world.proofs.parts.Parts.begin.Goals as goal
@@ -25,7 +26,7 @@ returns-then-index-ge-LAST_NUMBER c =
       step = refused w _ (λ x stands e. (
           let r = the_register w x stands i c.index.result.now c.if-segment-self.false c.index.ensures in
           let number : c.index.result.now.number ≡ number_after from_nothing x.history i = r.number in
-          let small : number_after from_nothing x.history i < 2 ^ 63 - 1 = e.2 in
+          let small : number_after from_nothing x.history i < 2 ^ 63 - 1 = e.3 in
           omega arith));
     }
 
@@ -78,12 +79,12 @@ returns-in-Idle c =
           (λ x stands. (
           let r = the_register w x stands i c.index.result.now l c.index.ensures in
           let number : c.index.result.now.number ≡ number_after from_nothing x.history i = r.number in
-          (subst (WriterIs (phases_of_parts w) i) phase (writer_is w i old there c.index_mut-writer.ensures.value), short, omega arith)))
-          (λ x stands. writer_moved w i new);
+          (refl, subst (WriterIs (phases_of_parts w) i) phase (writer_is w i old there c.index_mut-writer.ensures.value), short, omega arith)))
+          (λ x stands. ap up (writer_moved w i new));
     }
 
 pub returns-in_default : goal.returns-in_default
 returns-in_default c =
     let w = c.args.self.now in
     let there = writer_there w c.args.segment c.requires.stands c.if-segment-self.false in
-    record { step = refused w _ (λ x stands e. other_writer w c.args.segment c.index-2.result.now writer.Idle there c.index-2.ensures c.in_default.not-Idle e.0) }
+    record { step = refused w _ (λ x stands e. other_writer w c.args.segment c.index-2.result.now writer.Idle there c.index-2.ensures c.in_default.not-Idle e.1) }

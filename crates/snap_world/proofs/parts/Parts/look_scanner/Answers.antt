@@ -11,7 +11,7 @@ use Rattle.snap_world.specs.declared.event.Event.TheVariants.{Look}
 use Rattle.snap_world.specs.declared.event.Reply.TheVariants.{Number}
 use Rattle.snap_world.specs.declared.scanner.ScannerPhase.TheVariants as scanner
 use Rattle.snap_world.proofs.Ending.{look_from}
-use Rattle.snap_world.proofs.LookingOn.{Tells, scanner_under_way, scanner_may_look, scanner_looks, scanner_stays, scanner_ends, scanner_goes}
+use Rattle.snap_world.proofs.LookingOn.{looks_up, Tells, scanner_under_way, scanner_may_look, scanner_looks, scanner_stays, scanner_ends, scanner_goes}
 use Rattle.snap_world.proofs.Moves.{same_read}
 use Rattle.snap_world.proofs.Phasing.{scanner_is, other_scanner, refused, came}
 use Rattle.snap_world.proofs.parts.Parts.look_scanner.Goals as goal
@@ -40,7 +40,7 @@ returns-in_default c =
     let w = c.args.self.now in
     let i = c.args.at in
     let there : i < length w.scanners.items = omega (arith, w.scanners.ok.0) in
-    record { step = refused w _ (λ x stands e. other_scanner w i c.index.result.now scanner.Scanning there c.index.ensures c.in_default.not-Scanning e) }
+    record { step = refused w _ (λ x stands e. other_scanner w i c.index.result.now scanner.Scanning there c.index.ensures c.in_default.not-Scanning e.1) }
 
 pub returns-after-is_done : goal.returns-after-is_done
 returns-after-is_done c =
@@ -62,12 +62,12 @@ returns-after-is_done c =
           let tells : Tells col = c.is_done.ensures.decided.0 b.if-is_done.true in
           record {
             step = subst (IsPartsStep w (Look (actor.Scanner i)) (Number k)) (sym b.self-is)
-                (came w _ _ _ (λ e. cc) refl (λ x stands. scanner_ends w x stands i l old read phase k col look done tells) may (λ x stands. scanner_goes w x stands i l old read phase k col look tells));
+                (came w _ _ _ (λ e. cc) refl (λ x stands. scanner_ends w x stands i l old read phase k col look done tells) (λ x stands. (refl, may x stands)) (λ x stands s e. looks_up (scanner_goes w x stands i l old read phase k col look tells s e)));
           })
       | else-is_done b ↦ (
           let under_way = MatchBool-at_false (IsUnderWay col → ⊥) (IsUnderWay col) b.if-is_done.false c.is_done.ensures.under_way in
           record {
             step = subst (IsPartsStep w (Look (actor.Scanner i)) (Number k)) (sym b.self-is)
-                (came w _ _ _ (λ e. cc) refl (λ x stands. scanner_looks w x stands i l old read phase k col look under_way) may (λ x stands. scanner_stays w x stands i l old read phase k col look under_way));
+                (came w _ _ _ (λ e. cc) refl (λ x stands. scanner_looks w x stands i l old read phase k col look under_way) (λ x stands. (refl, may x stands)) (λ x stands s e. looks_up (scanner_stays w x stands i l old read phase k col look under_way s e)));
           })
     ]

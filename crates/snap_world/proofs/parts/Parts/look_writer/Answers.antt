@@ -11,7 +11,7 @@ use Rattle.snap_world.specs.declared.event.Event.TheVariants.{Look}
 use Rattle.snap_world.specs.declared.event.Reply.TheVariants.{Number}
 use Rattle.snap_world.specs.declared.writer.WriterPhase.TheVariants as writer
 use Rattle.snap_world.proofs.Ending.{look_from}
-use Rattle.snap_world.proofs.LookingOn.{Tells, writer_under_way, writer_may_look, writer_looks, writer_stays, writer_ends, writer_goes}
+use Rattle.snap_world.proofs.LookingOn.{looks_up, Tells, writer_under_way, writer_may_look, writer_looks, writer_stays, writer_ends, writer_goes}
 use Rattle.snap_world.proofs.Moves.{same_read}
 use Rattle.snap_world.proofs.Phasing.{writer_is, other_writer, refused, came}
 use Rattle.snap_world.proofs.Sizes.{writer_fits, writer_there}
@@ -47,7 +47,7 @@ returns-in_default c =
     let w = c.args.self.now in
     let i = c.args.segment in
     let there = writer_there w i c.requires.stands c.if-segment-self.false in
-    record { step = refused w _ (λ x stands e. other_writer w i c.index.result.now writer.Scanning there c.index.ensures c.in_default.not-Scanning e) }
+    record { step = refused w _ (λ x stands e. other_writer w i c.index.result.now writer.Scanning there c.index.ensures c.in_default.not-Scanning e.1) }
 
 pub returns-after-is_done : goal.returns-after-is_done
 returns-after-is_done c =
@@ -69,12 +69,12 @@ returns-after-is_done c =
           let tells : Tells col = c.is_done.ensures.decided.0 b.if-is_done.true in
           record {
             step = subst (IsPartsStep w (Look (actor.Writer i)) (Number k)) (sym b.self-is)
-                (came w _ _ _ (λ e. cc) refl (λ x stands. writer_ends w x stands i l old read phase k col look done tells) may (λ x stands. writer_goes w x stands i l old read phase k col look tells));
+                (came w _ _ _ (λ e. cc) refl (λ x stands. writer_ends w x stands i l old read phase k col look done tells) (λ x stands. (refl, may x stands)) (λ x stands s e. looks_up (writer_goes w x stands i l old read phase k col look tells s e)));
           })
       | else-is_done b ↦ (
           let under_way = MatchBool-at_false (IsUnderWay col → ⊥) (IsUnderWay col) b.if-is_done.false c.is_done.ensures.under_way in
           record {
             step = subst (IsPartsStep w (Look (actor.Writer i)) (Number k)) (sym b.self-is)
-                (came w _ _ _ (λ e. cc) refl (λ x stands. writer_looks w x stands i l old read phase k col look under_way) may (λ x stands. writer_stays w x stands i l old read phase k col look under_way));
+                (came w _ _ _ (λ e. cc) refl (λ x stands. writer_looks w x stands i l old read phase k col look under_way) (λ x stands. (refl, may x stands)) (λ x stands s e. looks_up (writer_stays w x stands i l old read phase k col look under_way s e)));
           })
     ]

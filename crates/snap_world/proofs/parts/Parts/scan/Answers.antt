@@ -7,6 +7,7 @@ use Rattle.snap_world.specs.Steps.{phases_of_parts}
 use Rattle.snap_world.specs.declared.scanner.Scanner.{Scanner}
 use Rattle.snap_world.specs.declared.scanner.ScannerPhase.TheVariants as scanner
 use Rattle.snap_world.proofs.Moves.{the_scanner, scanner_moves, Gathers-none, same_read}
+use Rattle.snap_world.specs.NodePhases.{up}
 use Rattle.snap_world.proofs.Phasing.{scanner_is, other_scanner, no_scanner, scanner_moved, refused, came}
 use Rattle.snap_world.proofs.Sizes.{segments_least, segments_most}
 use Rattle.snap_world.proofs.parts.Parts.scan.Goals as goal
@@ -14,7 +15,7 @@ use Rattle.snap_world.proofs.parts.Parts.scan.Goals as goal
 pub returns-then-at-len : goal.returns-then-at-len
 returns-then-at-len c =
     let w = c.args.self.now in
-    record { step = refused w _ (λ x stands e. no_scanner w c.args.at scanner.Idle (omega (arith, w.scanners.ok.0)) e) }
+    record { step = refused w _ (λ x stands e. no_scanner w c.args.at scanner.Idle (omega (arith, w.scanners.ok.0)) e.1) }
 
 pub new-scanner-requires-clause-least : goal.new-scanner-requires-clause-least
 new-scanner-requires-clause-least c = segments_least c.args.self.now c.requires.stands
@@ -48,12 +49,12 @@ returns-in-Idle c =
             );
           } in
           (with_scanner x i state, (a.1 ∙ ap (λ z. Some z) closed, refl), scanner_moves w x stands i new state l here)))
-          (λ x stands. subst (ScannerIs (phases_of_parts w) i) phase (scanner_is w i old l c.index_mut-scanner.ensures.value))
-          (λ x stands. scanner_moved w i new);
+          (λ x stands. (refl, subst (ScannerIs (phases_of_parts w) i) phase (scanner_is w i old l c.index_mut-scanner.ensures.value)))
+          (λ x stands. ap up (scanner_moved w i new));
     }
 
 pub returns-in_default : goal.returns-in_default
 returns-in_default c =
     let w = c.args.self.now in
     let l : c.args.at < length w.scanners.items = omega (arith, w.scanners.ok.0) in
-    record { step = refused w _ (λ x stands e. other_scanner w c.args.at c.index.result.now scanner.Idle l c.index.ensures c.in_default.not-Idle e) }
+    record { step = refused w _ (λ x stands e. other_scanner w c.args.at c.index.result.now scanner.Idle l c.index.ensures c.in_default.not-Idle e.1) }

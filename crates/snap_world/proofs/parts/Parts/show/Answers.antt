@@ -11,6 +11,7 @@ use Rattle.snap_world.specs.declared.register.Register.{Register}
 use Rattle.snap_world.specs.declared.writer.Writer.{Writer}
 use Rattle.snap_world.specs.declared.writer.WriterPhase.TheVariants as writer
 use Rattle.snap_world.proofs.Moves.{the_writer, the_register, own_moment, world_shows, shown_register, shown_view, same_read}
+use Rattle.snap_world.specs.NodePhases.{up}
 use Rattle.snap_world.proofs.Phasing.{writer_is, other_writer, writer_moved, refused, came}
 use Rattle.snap_world.proofs.Sizes.{writer_fits, writer_there, register_fits}
 use Rattle.snap_world.proofs.parts.Parts.show.Goals as goal
@@ -84,12 +85,12 @@ returns-in-Stored c =
             (a.0, v, a.1, begun.pending, refl),
             world_shows w x stands i v register new state l here_r here_v here_a,
           )))
-          (λ x stands. subst (WriterIs (phases_of_parts w) i) phase (writer_is w i old there c.index_mut-writer.ensures.value))
-          (λ x stands. writer_moved w i new);
+          (λ x stands. (refl, subst (WriterIs (phases_of_parts w) i) phase (writer_is w i old there c.index_mut-writer.ensures.value)))
+          (λ x stands. ap up (writer_moved w i new));
     }
 
 pub returns-in_default : goal.returns-in_default
 returns-in_default c =
     let w = c.args.self.now in
     let there = writer_there w c.args.segment c.requires.stands c.if-segment-self.false in
-    record { step = refused w _ (λ x stands e. other_writer w c.args.segment c.index.result.now writer.Stored there c.index.ensures c.in_default.not-Stored e) }
+    record { step = refused w _ (λ x stands e. other_writer w c.args.segment c.index.result.now writer.Stored there c.index.ensures c.in_default.not-Stored e.1) }

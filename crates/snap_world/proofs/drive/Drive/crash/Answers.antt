@@ -1,5 +1,5 @@
 use Rattle.std.proofs.Common.{ℕ, Bool, refl, ap}
-use Rattle.snap_world.proofs.disk.SegmentDisk.crash.Goals as goal
+use Rattle.snap_world.proofs.drive.Drive.crash.Goals as goal
 
 pub returns : goal.returns
 returns c = record {

@@ -1,21 +1,21 @@
 -- What the device of a segment is while its writer is in each phase, and after a crash.
-use Rattle.std.specs.Prelude.{◌≡◌, ◌≢◌, ◌⊎◌, ℕ, ◌+◌, ◌%◌, Bool, false, List, [], Some, slice_get}
+use Rattle.std.specs.Prelude.{◌≡◌, ◌≢◌, ◌⊎◌, ℕ, ◌+◌, Bool, false, List, [], Some, slice_get}
 use Rattle.snap_disk.specs.Device.{Device, MayLeave, IsUnsynced}
 use Rattle.snap_disk.specs.Fill.{IsFilled}
 use Rattle.snap_disk.specs.declared.fill.Fill.{Fill}
 use Rattle.snap_disk.specs.Image.{image_device}
-use Rattle.snap_slot.specs.Layout.{IsFileOf}
+use Rattle.snap_slot.specs.Layout.{IsFileOf, slot_of}
 use Rattle.snap_slot.specs.States.{IsAtRest, IsEither}
 use Rattle.snap_persist.specs.Device.{IsAtStage}
 use Rattle.snap_persist.specs.Stage.{Order, calls_left, first_stage}
 use Rattle.snap_history.specs.History.{Update, from_nothing, number_after, value_after}
 use Rattle.snap_history.specs.Pairs.{Pairs}
 use Rattle.snap_world.specs.Machine.{WriterState, Pending, Begun}
-use Rattle.snap_world.specs.declared.disk.SegmentDisk.{SegmentDisk}
+use Rattle.snap_world.specs.declared.drive.Drive.{Drive}
 use Rattle.snap_world.specs.declared.writer.WriterPhase.{WriterPhase}
 use Rattle.snap_world.specs.declared.writer.WriterPhase.TheVariants as writer
 
-abbrev pub device_of : SegmentDisk → Device
+abbrev pub device_of : Drive → Device
 device_of d = image_device d.image
 
 -- the device of segment i of n is at rest with number k and value u, and the order is that of its next
@@ -23,39 +23,39 @@ device_of d = image_device d.image
 pub record IsReady (i n k : ℕ) (u : List ℕ) (device : Device) (order : Order) : Type 0 where
   pub spare_open : Bool
   pub rest : IsAtRest i n k u spare_open device
-  pub slot : order.slot ≡ (k + 1) % 2
+  pub slot : order.slot ≡ slot_of (k + 1)
   pub stage : order.stage ≡ first_stage spare_open
 
 -- a store of value v is under way at number k and value u
-pub record IsStoring (i n k : ℕ) (u v : List ℕ) (device : Device) (order : Order) : Type 0 where
-  pub slot : order.slot ≡ (k + 1) % 2
+pub record IsStoreUnderWay (i n k : ℕ) (u v : List ℕ) (device : Device) (order : Order) : Type 0 where
+  pub slot : order.slot ≡ slot_of (k + 1)
   pub going : calls_left order.stage ≢ []
   pub at_stage : IsAtStage i n k u v order.stage device
 
 -- the device of segment i, whose history has number k and value u, while its writer is in this phase
 -- with this update
-abbrev pub IsDiskAt : (i n k : ℕ) (u : List ℕ) → WriterPhase → Pending → Device → Order → Type 0
-IsDiskAt i n k u writer.Idle pending device order = IsReady i n k u device order
-IsDiskAt i n k u writer.Scanning pending device order = IsReady i n k u device order
-IsDiskAt i n k u writer.Storing pending device order =
-    (v : List ℕ) → pending ≡ Begun v → IsStoring i n k u v device order
-IsDiskAt i n k u writer.Stored pending device order =
+abbrev pub IsDriveAt : (i n k : ℕ) (u : List ℕ) → WriterPhase → Pending → Device → Order → Type 0
+IsDriveAt i n k u writer.Idle pending device order = IsReady i n k u device order
+IsDriveAt i n k u writer.Scanning pending device order = IsReady i n k u device order
+IsDriveAt i n k u writer.Storing pending device order =
+    (v : List ℕ) → pending ≡ Begun v → IsStoreUnderWay i n k u v device order
+IsDriveAt i n k u writer.Stored pending device order =
     (v : List ℕ) → pending ≡ Begun v → IsReady i n (k + 1) v device order
-IsDiskAt i n k u writer.Shown pending device order = IsReady i n k u device order
-IsDiskAt i n k u writer.Fenced pending device order =
+IsDriveAt i n k u writer.Shown pending device order = IsReady i n k u device order
+IsDriveAt i n k u writer.Fenced pending device order =
     (v : List ℕ) → pending ≡ Begun v
     → (b : List ℕ) → MayLeave device b → IsEither i n k u v b
 
-abbrev pub DiskStands : ℕ → List Update → ℕ → WriterPhase → Pending → SegmentDisk → Type 0
-DiskStands n h i phase pending d =
-    IsDiskAt i n (number_after from_nothing h i) (value_after from_nothing h i) phase pending (device_of d) d.order
+abbrev pub DriveStands : ℕ → List Update → ℕ → WriterPhase → Pending → Drive → Type 0
+DriveStands n h i phase pending d =
+    IsDriveAt i n (number_after from_nothing h i) (value_after from_nothing h i) phase pending (device_of d) d.order
 
 -- so it is for each segment
-abbrev pub DisksStand : ℕ → List Update → List WriterState → List WriterPhase → List SegmentDisk → Type 0
-DisksStand n h writers phases disks =
-    (i : ℕ) (d : SegmentDisk) (s : WriterState) (phase : WriterPhase)
-    → slice_get disks i ≡ Some d → slice_get writers i ≡ Some s → slice_get phases i ≡ Some phase
-    → DiskStands n h i phase s.pending d
+abbrev pub DrivesStand : ℕ → List Update → List WriterState → List WriterPhase → List Drive → Type 0
+DrivesStand n h writers phases drives =
+    (i : ℕ) (d : Drive) (s : WriterState) (phase : WriterPhase)
+    → slice_get drives i ≡ Some d → slice_get writers i ≡ Some s → slice_get phases i ≡ Some phase
+    → DriveStands n h i phase s.pending d
 
 -- after a crash: whatever one more leaves is the file of number k and value u, or of the next number
 -- with the begun value
@@ -63,29 +63,29 @@ abbrev pub HoldsEither : (i n k : ℕ) (u : List ℕ) → Pending → List ℕ �
 HoldsEither i n k u pending b =
     IsFileOf i n k u b ⊎ ((v : List ℕ) × (pending ≡ Begun v) × IsFileOf i n (k + 1) v b)
 
-abbrev pub DisksDown : ℕ → List Update → List WriterState → List SegmentDisk → Type 0
-DisksDown n h writers disks =
-    (i : ℕ) (d : SegmentDisk) (s : WriterState) → slice_get disks i ≡ Some d → slice_get writers i ≡ Some s
+abbrev pub DrivesDown : ℕ → List Update → List WriterState → List Drive → Type 0
+DrivesDown n h writers drives =
+    (i : ℕ) (d : Drive) (s : WriterState) → slice_get drives i ≡ Some d → slice_get writers i ≡ Some s
     → (b : List ℕ) → MayLeave (device_of d) b
     → HoldsEither i n (number_after from_nothing h i) (value_after from_nothing h i) s.pending b
 
 -- a new device, with number 0, the empty value and a closed spare gate
-pub record IsFormatted (i n : ℕ) (d : SegmentDisk) : Type 0 where
+pub record IsFormatted (i n : ℕ) (d : Drive) : Type 0 where
   pub rest : IsAtRest i n 0 [] false (device_of d)
   pub slot : d.order.slot ≡ 1
   pub stage : d.order.stage ≡ first_stage false
 
 -- the devices of a new world
-abbrev pub AllReady : ℕ → List SegmentDisk → Type 0
-AllReady n disks = (i : ℕ) (d : SegmentDisk) → slice_get disks i ≡ Some d → IsFormatted i n d
+abbrev pub AllReady : ℕ → List Drive → Type 0
+AllReady n drives = (i : ℕ) (d : Drive) → slice_get drives i ≡ Some d → IsFormatted i n d
 
 -- a device crashed: its open places have the fill
-pub record IsCrashed (fill : Fill) (d e : SegmentDisk) : Type 0 where
+pub record IsCrashed (fill : Fill) (d e : Drive) : Type 0 where
   pub left : IsUnsynced (device_of d) (device_of e)
   pub filled : IsFilled fill (device_of d).is_open (device_of d).bytes (device_of e).bytes
   pub order : e.order ≡ d.order
 
 -- each device crashed with its fill
-abbrev pub AreCrashed : List Fill → List SegmentDisk → List SegmentDisk → Type 0
+abbrev pub AreCrashed : List Fill → List Drive → List Drive → Type 0
 AreCrashed fills old new =
     Pairs (λ i d e. (fill : Fill) → slice_get fills i ≡ Some fill → IsCrashed fill d e) old new

@@ -5,7 +5,7 @@ use Rattle.snap_disk.specs.Laws.{written_synced}
 use Rattle.snap_disk.specs.Image.{image_device}
 use Rattle.snap_slot.specs.States.{IsPrepared}
 use Rattle.snap_slot.proofs.Formatting.{formatted, prepared}
-use Rattle.snap_world.proofs.disk.SegmentDisk.format.Goals as goal
+use Rattle.snap_world.proofs.drive.Drive.format.Goals as goal
 
 pub returns : goal.returns
 returns c =

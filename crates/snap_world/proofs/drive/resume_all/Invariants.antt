@@ -1,6 +1,6 @@
 use Rattle.snap_world.specs.Serving.{IsResumed}
 use Rattle.snap_world.proofs.Sweeping.{Swept}
-use Rattle.snap_world.proofs.disk.resume_all.Given as goal
+use Rattle.snap_world.proofs.drive.resume_all.Given as goal
 
 abbrev pub invariant-loop-i : goal.invariant-loop-i
-invariant-loop-i l = Swept (λ i. IsResumed) l.i l.initial.disks.items l.disks.items
+invariant-loop-i l = Swept (λ i. IsResumed) l.i l.initial.drives.items l.drives.items

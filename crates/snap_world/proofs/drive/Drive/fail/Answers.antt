@@ -1,19 +1,18 @@
 use Rattle.std.proofs.Common.{◌≡◌, ◌∷◌, List, sym, ◌∙◌, subst}
 use Rattle.snap_disk.specs.Image.{image_device}
 use Rattle.snap_persist.specs.Stage.{calls_left}
-use Rattle.snap_world.specs.Calls.{kinds_of}
 use Rattle.snap_world.specs.Devices.{IsMissed}
-use Rattle.snap_world.specs.Disks.{device_of}
-use Rattle.snap_world.specs.declared.disk.SegmentDisk.{SegmentDisk}
-use Rattle.snap_world.specs.declared.event.Kind.{Kind}
+use Rattle.snap_world.specs.Drives.{device_of}
+use Rattle.snap_world.specs.declared.drive.Drive.{Drive}
+use Rattle.snap_persist.specs.declared.persist.Next.{Next}
 use Rattle.snap_world.proofs.Calling.{write_missed, sync_missed}
-use Rattle.snap_world.proofs.disk.SegmentDisk.fail.Goals as goal
-use Rattle.snap_world.proofs.disk.SegmentDisk.fail.Goals.{in-Write, in-Sync}
+use Rattle.snap_world.proofs.drive.Drive.fail.Goals as goal
+use Rattle.snap_world.proofs.drive.Drive.fail.Goals.{in-Write, in-Sync}
 
 pub returns-clause-missed : goal.returns-clause-missed
 returns-clause-missed c =
     let old = c.args.self.now in
-    let Missed : SegmentDisk → Type 0 = λ d. (kind : Kind) × (rest : List Kind) × (kinds_of (calls_left old.order.stage) ≡ kind ∷ rest) × IsMissed old.order.slot c.args.fill.now kind (device_of old) (device_of d) in
+    let Missed : Drive → Type 0 = λ d. (call : Next) × (rest : List Next) × (calls_left old.order.stage ≡ call ∷ rest) × IsMissed old.order.slot c.args.fill.now call (device_of old) (device_of d) in
     elim c.match-next.branch [
       | in-Write w ↦ subst Missed (sym w.self-is) (write_missed old.order.stage w.in-Write.write old.order.slot c.args.fill.now (device_of old) (device_of w.put_failed.new.self) (sym c.next.ensures ∙ w.in-Write.is) w.put_failed.ensures.failed)
       | in-Sync w ↦ subst Missed (sym w.self-is) (sync_missed old.order.stage old.order.slot c.args.fill.now (device_of old) (image_device w.settle_failed.new.self) (sym c.next.ensures ∙ w.in-Sync.is)

@@ -1,24 +1,25 @@
 //! The device of a segment, and the store that is made on it.
-ghost use Rattle.std.specs.Prelude.{◌≡◌, ◌≢◌, ◌∷◌, ◌+◌, ◌%◌, ◌^◌, ◌<◌, ◌≤◌, ℕ, List, [], length, map, IfOk};
+ghost use Rattle.std.specs.Prelude.{◌≡◌, ◌≢◌, ◌∷◌, ◌+◌, ◌<◌, ◌≤◌, ℕ, List, [], length, map, IfOk};
 ghost use Rattle.snap_disk.specs.Device.{Device, IsTouched};
 ghost use Rattle.snap_disk.specs.declared.fill.Fill.{Fill};
-ghost use Rattle.snap_slot.specs.Layout.{body_block, IsFileOf};
+ghost use Rattle.snap_disk.specs.declared.file.TheConstants.{FILE_LEN};
+ghost use Rattle.snap_slot.specs.declared.layout.TheConstants.{SLOT_COUNT, MAX_COUNT, MAX_VALUE_LEN};
+ghost use Rattle.snap_slot.specs.Layout.{IsNumber, IsShort, body_block, IsFileOf};
 ghost use Rattle.snap_slot.specs.Findings.{IsFound};
-ghost use Rattle.snap_persist.specs.Device.{IsJustWritten, write_at, write_bytes};
+ghost use Rattle.snap_persist.specs.Device.{IsJustWritten, write_at, write_bytes, write_len};
 ghost use Rattle.snap_persist.specs.Stage.{calls_left, after_call, first_call};
-ghost use Rattle.snap_world.specs.Calls.{kinds_of, write_len};
+ghost use Rattle.snap_world.specs.Calls.{store_call};
 ghost use Rattle.snap_world.specs.Devices.{IsMade, IsMissed, IsWriteFailed};
-ghost use Rattle.snap_world.specs.Disks.{device_of, IsFormatted, AllReady, IsCrashed, AreCrashed};
+ghost use Rattle.snap_world.specs.Drives.{device_of, IsFormatted, AllReady, IsCrashed, AreCrashed};
 ghost use Rattle.snap_history.specs.Pairs.{Pairs};
-ghost use Rattle.snap_world.specs.Serving.{found_value, AllReadable, IsResumed, AreRecovered};
-ghost use Rattle.snap_world.specs.declared.event.Kind.{Kind};
+ghost use Rattle.snap_world.specs.Serving.{found_value, AllReadable, IsResumed};
+ghost use Rattle.snap_persist.specs.declared.persist.Next.{Next};
 
-use super::event::Kind;
-use super::register::Register;
+use crate::event::Kind;
 use snap_disk::{Fill, Image};
 use snap_persist::{Answer, Next, Persist, Stage, Write};
 use snap_slot::{
-    BLOCK_LEN, FILE_LEN, Found, HEADER_GATE_AT, OPEN_GATE, SHUT_GATE, body_at, encode_body,
+    BLOCK_LEN, FILE_LEN, Found, HEADER_GATE_AT, HEADER_LEN, OPEN_GATE, encode_body,
     encode_fresh_slots, encode_header, gate_at, recover, slot_of,
 };
 use std::alloc::{AllocError, Global};
@@ -26,22 +27,22 @@ use std::alloc::{AllocError, Global};
 /// The device of one segment, with the order of the store that is under way on it, or of the next
 /// one.
 #[derive(Drop)]
-pub struct SegmentDisk {
+pub struct Drive {
     pub image: Image,
     pub order: Persist,
     /// What the last restart found on it.
     pub found: Found,
 }
 
-impl SegmentDisk {
+impl Drive {
     /// The device of segment `index` of `count`, formatted: number 0 and the empty value.
-    pub fn format(alloc: Global, index: u8, count: u8) -> Result<SegmentDisk, AllocError>
+    pub fn format(alloc: Global, index: u8, count: u8) -> Result<Drive, AllocError>
         requires below { index < count }
-        requires few { count ≤ 16 }
+        requires few { count ≤ MAX_COUNT }
         ensures { IfOk result (IsFormatted index count) }
     {
         let mut image = Image::new(alloc, FILE_LEN as usize)?;
-        let mut front = [0u8; 4095];
+        let mut front = [0u8; HEADER_LEN];
         encode_header(index, count, &mut front);
         image.put(0, &front);
         let mut slots = [0u8; 16384];
@@ -50,7 +51,7 @@ impl SegmentDisk {
         image.settle();
         image.put(HEADER_GATE_AT as usize, &[OPEN_GATE]);
         image.settle();
-        Ok(SegmentDisk {
+        Ok(Drive {
             image,
             order: Persist::begin(false, slot_of(1)),
             found: Found {
@@ -63,22 +64,22 @@ impl SegmentDisk {
 
     /// The next call of the store of this number and value, which succeeds: its kind.
     pub fn call(&mut self, number: u64, value: &[u8]) -> Kind
-        requires size { length (device_of self.old).bytes ≡ 20480 }
-        requires slot { self.old.order.slot < 2 }
-        requires number { number < 2 ^ 63 }
-        requires fits { length value.now ≤ 4080 }
+        requires size { length (device_of self.old).bytes ≡ FILE_LEN }
+        requires slot { self.old.order.slot < SLOT_COUNT }
+        requires number { IsNumber number }
+        requires fits { IsShort value.now }
         requires going { calls_left self.old.order.stage ≢ [] }
         ensures slot { self.new.order.slot ≡ self.old.order.slot }
         ensures stage { self.new.order.stage ≡ after_call self.old.order.stage }
-        ensures kind { kinds_of (calls_left self.old.order.stage)
-            ≡ result ∷ kinds_of (calls_left self.new.order.stage) }
-        ensures made { IsMade self.old.order.slot (body_block number value.now) result
+        ensures kind { calls_left self.old.order.stage
+            ≡ store_call result ∷ calls_left self.new.order.stage }
+        ensures made { IsMade self.old.order.slot (body_block number value.now) (store_call result)
             (device_of self.old) (device_of self.new) }
     {
         let kind = match self.order.next() {
             Next::Write(write) => {
                 self.put(write, number, value);
-                kind_of(write)
+                Kind::Write(write)
             }
             Next::Sync => {
                 self.image.settle();
@@ -92,36 +93,30 @@ impl SegmentDisk {
 
     /// A write of the store of this number and value.
     fn put(&mut self, write: Write, number: u64, value: &[u8])
-        requires size { length (device_of self.old).bytes ≡ 20480 }
-        requires slot { self.old.order.slot < 2 }
-        requires number { number < 2 ^ 63 }
-        requires fits { length value.now ≤ 4080 }
+        requires size { length (device_of self.old).bytes ≡ FILE_LEN }
+        requires slot { self.old.order.slot < SLOT_COUNT }
+        requires number { IsNumber number }
+        requires fits { IsShort value.now }
         ensures order { self.new.order ≡ self.old.order }
         ensures written { IsJustWritten (write_at self.old.order.slot write)
             (write_bytes (body_block number value.now) write) (device_of self.old) (device_of self.new) }
     {
-        let slot = self.order.slot();
-        match write {
-            Write::Close => self.image.put(gate_at(slot) as usize, &[SHUT_GATE]),
-            Write::Body => {
-                let mut block = [0u8; 4096];
-                encode_body(number, value, &mut block);
-                self.image.put(body_at(slot) as usize, &block);
-            }
-            Write::Open => self.image.put(gate_at(slot) as usize, &[OPEN_GATE]),
-        }
+        let mut block = [0u8; BLOCK_LEN];
+        encode_body(number, value, &mut block);
+        let place = write.place(self.order.slot());
+        self.image.put(place as usize, write.bytes(&block));
     }
 
     /// The next call of the store, which fails: the touched places get the fill, and the store is
     /// over.
     pub fn fail(&mut self, fill: &Fill)
-        requires size { length (device_of self.old).bytes ≡ 20480 }
-        requires slot { self.old.order.slot < 2 }
+        requires size { length (device_of self.old).bytes ≡ FILE_LEN }
+        requires slot { self.old.order.slot < SLOT_COUNT }
         requires going { calls_left self.old.order.stage ≢ [] }
         ensures stage { self.new.order.stage ≡ Stage.Fenced }
-        ensures missed { (kind : Kind) × (rest : List Kind)
-            × (kinds_of (calls_left self.old.order.stage) ≡ kind ∷ rest)
-            × IsMissed self.old.order.slot fill.now kind (device_of self.old) (device_of self.new) }
+        ensures missed { (call : Next) × (rest : List Next)
+            × (calls_left self.old.order.stage ≡ call ∷ rest)
+            × IsMissed self.old.order.slot fill.now call (device_of self.old) (device_of self.new) }
     {
         match self.order.next() {
             Next::Write(write) => self.put_failed(write, fill),
@@ -133,23 +128,18 @@ impl SegmentDisk {
 
     /// A write of the store that fails.
     fn put_failed(&mut self, write: Write, fill: &Fill)
-        requires size { length (device_of self.old).bytes ≡ 20480 }
-        requires slot { self.old.order.slot < 2 }
+        requires size { length (device_of self.old).bytes ≡ FILE_LEN }
+        requires slot { self.old.order.slot < SLOT_COUNT }
         ensures order { self.new.order ≡ self.old.order }
         ensures failed { IsWriteFailed (write_at self.old.order.slot write) (write_len write) fill.now
             (device_of self.old) (device_of self.new) }
     {
-        let slot = self.order.slot();
-        match write {
-            Write::Close | Write::Open => self.image.put_failed(gate_at(slot) as usize, 1, fill),
-            Write::Body => self
-                .image
-                .put_failed(body_at(slot) as usize, BLOCK_LEN, fill),
-        }
+        let place = write.place(self.order.slot());
+        self.image.put_failed(place as usize, write.len(), fill);
     }
 }
 
-impl SegmentDisk {
+impl Drive {
     /// A crash: the open places get the fill.
     pub fn crash(&mut self, fill: &Fill)
         ensures { IsCrashed fill.now self.old self.new }
@@ -172,21 +162,21 @@ impl SegmentDisk {
     }
 }
 
-impl SegmentDisk {
+impl Drive {
     /// The value that the last restart found.
     pub fn found_value(&self) -> &[u8]
-        requires size { length (device_of self.now).bytes ≡ 20480 }
-        requires limit { self.now.found.length ≤ 4080 }
+        requires size { length (device_of self.now).bytes ≡ FILE_LEN }
+        requires limit { self.now.found.length ≤ MAX_VALUE_LEN }
         ensures value { result.now ≡ found_value self.now }
-        ensures length { length result.now ≤ 4080 }
+        ensures length { IsShort result.now }
     {
         self.found.value(self.image.bytes())
     }
 
     /// The same in a vector of its own.
     fn found_bytes(&self, alloc: Global) -> Result<Vec<u8>, AllocError>
-        requires size { length (device_of self.now).bytes ≡ 20480 }
-        requires limit { self.now.found.length ≤ 4080 }
+        requires size { length (device_of self.now).bytes ≡ FILE_LEN }
+        requires limit { self.now.found.length ≤ MAX_VALUE_LEN }
         ensures { IfOk result (λ v. v.items ≡ found_value self.now) }
     {
         self.found_value().to_vec(alloc)
@@ -194,7 +184,7 @@ impl SegmentDisk {
 
     /// The store that comes next is that of the number after the one that the last restart found.
     pub fn resume(&mut self)
-        requires limit { self.old.found.number < 2 ^ 63 }
+        requires limit { IsNumber self.old.found.number }
         ensures { IsResumed self.old self.new }
     {
         self.order = Persist::begin(self.found.spare_open, slot_of(self.found.number + 1));
@@ -202,69 +192,45 @@ impl SegmentDisk {
 }
 
 /// The values that the last restart found.
-pub fn found_values(alloc: Global, disks: &Vec<SegmentDisk>) -> Result<Vec<Vec<u8>>, AllocError>
-    requires { ∥ AllReadable disks.now.items ∥₁ }
-    ensures { IfOk result (λ m. map (λ v. v.items) m.items ≡ map found_value disks.now.items) }
+pub fn found_values(alloc: Global, drives: &Vec<Drive>) -> Result<Vec<Vec<u8>>, AllocError>
+    requires { ∥ AllReadable drives.now.items ∥₁ }
+    ensures { IfOk result (λ m. map (λ v. v.items) m.items ≡ map found_value drives.now.items) }
 {
     let mut all = Vec::new(alloc);
-    for i in 0..disks.len() {
-        all.push(disks[i].found_bytes(alloc)?)?;
+    for i in 0..drives.len() {
+        all.push(drives[i].found_bytes(alloc)?)?;
     }
     Ok(all)
 }
 
-/// Each register gets what the last restart found for its segment.
-pub fn recover_all(registers: &mut Vec<Register>, disks: &Vec<SegmentDisk>)
-    requires size { length registers.old.items ≡ length disks.now.items }
-    requires readable { ∥ AllReadable disks.now.items ∥₁ }
-    ensures { AreRecovered disks.now.items registers.old.items registers.new.items }
-{
-    for i in 0..registers.len() {
-        let register = &mut registers[i];
-        register.number = disks[i].found.number;
-        register.value.set(disks[i].found_value());
-    }
-}
-
 /// Each device is ready for its next store.
-pub fn resume_all(disks: &mut Vec<SegmentDisk>)
-    requires { ∥ AllReadable disks.old.items ∥₁ }
-    ensures { Pairs (λ i. IsResumed) disks.old.items disks.new.items }
+pub fn resume_all(drives: &mut Vec<Drive>)
+    requires { ∥ AllReadable drives.old.items ∥₁ }
+    ensures { Pairs (λ i. IsResumed) drives.old.items drives.new.items }
 {
-    for i in 0..disks.len() {
-        disks[i].resume();
+    for i in 0..drives.len() {
+        drives[i].resume();
     }
 }
 
 /// Each device crashes with its fill.
-pub fn crash_all(disks: &mut Vec<SegmentDisk>, fills: &Vec<Fill>)
-    requires { length fills.now.items ≡ length disks.old.items }
-    ensures { AreCrashed fills.now.items disks.old.items disks.new.items }
+pub fn crash_all(drives: &mut Vec<Drive>, fills: &Vec<Fill>)
+    requires { length fills.now.items ≡ length drives.old.items }
+    ensures { AreCrashed fills.now.items drives.old.items drives.new.items }
 {
-    for i in 0..disks.len() {
-        disks[i].crash(&fills[i]);
-    }
-}
-
-/// The kind of a write.
-fn kind_of(write: Write) -> Kind
-    ensures { kinds_of (Next.Write write ∷ []) ≡ result ∷ [] }
-{
-    match write {
-        Write::Close => Kind::Close,
-        Write::Body => Kind::Body,
-        Write::Open => Kind::Open,
+    for i in 0..drives.len() {
+        drives[i].crash(&fills[i]);
     }
 }
 
 /// The formatted devices of a new world.
-pub fn new_disks(alloc: Global, segments: usize) -> Result<Vec<SegmentDisk>, AllocError>
-    requires most { segments ≤ 16 }
+pub fn new_drives(alloc: Global, segments: usize) -> Result<Vec<Drive>, AllocError>
+    requires most { segments ≤ MAX_COUNT }
     ensures { IfOk result (λ v. (length v.items ≡ segments) × AllReady segments v.items) }
 {
-    let mut disks = Vec::new(alloc);
+    let mut drives = Vec::new(alloc);
     for i in 0..segments {
-        disks.push(SegmentDisk::format(alloc, i as u8, segments as u8)?)?;
+        drives.push(Drive::format(alloc, i as u8, segments as u8)?)?;
     }
-    Ok(disks)
+    Ok(drives)
 }

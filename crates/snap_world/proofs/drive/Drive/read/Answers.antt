@@ -3,7 +3,7 @@ use Rattle.std.proofs.Math.Logic.{∥∥₁_elim}
 use Rattle.std.proofs.Props.{props}
 use Rattle.snap_slot.specs.Layout.{IsFileOf}
 use Rattle.snap_slot.proofs.Whole.{not_refused}
-use Rattle.snap_world.proofs.disk.SegmentDisk.read.Goals as goal
+use Rattle.snap_world.proofs.drive.Drive.read.Goals as goal
 
 pub recover-requires : goal.recover-requires
 recover-requires c = ap length c.bytes.ensures ∙ ∥∥₁_elim c.requires (hlevel props) (λ q. q.2.size)
