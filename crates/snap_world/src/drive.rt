@@ -3,7 +3,8 @@ ghost use Rattle.std.specs.Prelude.{◌≡◌, ◌≢◌, ◌∷◌, ◌+◌, �
 ghost use Rattle.snap_disk.specs.Device.{Device, IsTouched};
 ghost use Rattle.snap_disk.specs.declared.fill.Fill.{Fill};
 ghost use Rattle.snap_disk.specs.declared.file.TheConstants.{FILE_LEN};
-ghost use Rattle.snap_slot.specs.declared.layout.TheConstants.{SLOT_COUNT, MAX_COUNT, MAX_VALUE_LEN};
+ghost use Rattle.snap_slot.specs.declared.layout.TheConstants.{SLOT_COUNT, MAX_COUNT};
+ghost use Rattle.snap_slot.specs.declared.layout.TheConstants.{MAX_VALUE_LEN};
 ghost use Rattle.snap_slot.specs.Layout.{IsNumber, IsShort, body_block, IsFileOf};
 ghost use Rattle.snap_slot.specs.Findings.{IsFound};
 ghost use Rattle.snap_persist.specs.Device.{IsJustWritten, write_at, write_bytes, write_len};
@@ -18,10 +19,7 @@ ghost use Rattle.snap_persist.specs.declared.persist.Next.{Next};
 use crate::event::Kind;
 use snap_disk::{Fill, Image};
 use snap_persist::{Answer, Next, Persist, Stage, Write};
-use snap_slot::{
-    BLOCK_LEN, FILE_LEN, Found, HEADER_GATE_AT, HEADER_LEN, OPEN_GATE, encode_body,
-    encode_fresh_slots, encode_header, gate_at, recover, slot_of,
-};
+use snap_slot::{BLOCK_LEN, FILE_LEN, Found, encode_body, encode_fresh_file, recover, slot_of};
 use std::alloc::{AllocError, Global};
 
 /// The device of one segment, with the order of the store that is under way on it, or of the next
@@ -42,14 +40,9 @@ impl Drive {
         ensures { IfOk result (IsFormatted index count) }
     {
         let mut image = Image::new(alloc, FILE_LEN as usize)?;
-        let mut front = [0u8; HEADER_LEN];
-        encode_header(index, count, &mut front);
-        image.put(0, &front);
-        let mut slots = [0u8; 16384];
-        encode_fresh_slots(&mut slots);
-        image.put(gate_at(0) as usize, &slots);
-        image.settle();
-        image.put(HEADER_GATE_AT as usize, &[OPEN_GATE]);
+        let mut file = [0u8; FILE_LEN as usize];
+        encode_fresh_file(index, count, &mut file);
+        image.put(0, &file);
         image.settle();
         Ok(Drive {
             image,
@@ -99,7 +92,8 @@ impl Drive {
         requires fits { IsShort value.now }
         ensures order { self.new.order ≡ self.old.order }
         ensures written { IsJustWritten (write_at self.old.order.slot write)
-            (write_bytes (body_block number value.now) write) (device_of self.old) (device_of self.new) }
+            (write_bytes (body_block number value.now) write)
+            (device_of self.old) (device_of self.new) }
     {
         let mut block = [0u8; BLOCK_LEN];
         encode_body(number, value, &mut block);
@@ -131,8 +125,8 @@ impl Drive {
         requires size { length (device_of self.old).bytes ≡ FILE_LEN }
         requires slot { self.old.order.slot < SLOT_COUNT }
         ensures order { self.new.order ≡ self.old.order }
-        ensures failed { IsWriteFailed (write_at self.old.order.slot write) (write_len write) fill.now
-            (device_of self.old) (device_of self.new) }
+        ensures failed { IsWriteFailed (write_at self.old.order.slot write) (write_len write)
+            fill.now (device_of self.old) (device_of self.new) }
     {
         let place = write.place(self.order.slot());
         self.image.put_failed(place as usize, write.len(), fill);
@@ -149,7 +143,8 @@ impl Drive {
 
     /// Reads the file of segment `index` of `count`, and keeps what it holds.
     pub fn read(&mut self, index: u8, count: u8)
-        requires { ∥ ((k : ℕ) × (v : List ℕ) × IsFileOf index count k v (device_of self.old).bytes) ∥₁ }
+        requires { ∥ ((k : ℕ) × (v : List ℕ)
+            × IsFileOf index count k v (device_of self.old).bytes) ∥₁ }
         ensures image { self.new.image ≡ self.old.image }
         ensures order { self.new.order ≡ self.old.order }
         ensures found { IsFound index count (device_of self.old).bytes self.new.found }

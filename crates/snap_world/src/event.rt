@@ -31,8 +31,8 @@ pub enum Event {
     Begin(usize, Vec<u8>),
     /// The actor's scan looks at the register whose turn it is: `Number`, that register's number.
     Look(Actor),
-    /// The next device call of this segment's store succeeds: `Called`, with its kind. After the last
-    /// one the update is stored.
+    /// The next device call of this segment's store succeeds: `Called`, with its kind. After the
+    /// last one the update is stored.
     Call(usize),
     /// The next device call of this segment's store fails, and the touched places get this fill:
     /// `DeviceFailed`. The segment takes no update until the next restart has served.
@@ -45,8 +45,9 @@ pub enum Event {
     Scan(usize),
     /// This scanner, whose scan has its answer, gives it and is idle again: `Memory`.
     Answer(usize),
-    /// Each device crashes, and its open places get its fill, of which there is one for each segment:
-    /// `Crashed`. It may come at any time. Nobody is at work any more, and the node is down.
+    /// Each device crashes, and its open places get its fill, of which there is one for each
+    /// segment: `Crashed`. It may come at any time. Nobody is at work any more, and the node is
+    /// down.
     Crash(Vec<Fill>),
     /// A restart of the node, which is down, begins: `Restarting`.
     Restart,

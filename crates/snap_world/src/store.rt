@@ -13,8 +13,8 @@ use snap_persist::{Next, Persist};
 use snap_slot::slot_of;
 
 impl Node {
-    /// A device call of a store succeeds. After the last one the update is stored, and the next store
-    /// finds its spare gate open.
+    /// A device call of a store succeeds. After the last one the update is stored, and the next
+    /// store finds its spare gate open.
     pub fn call(&mut self, segment: usize) -> Reply
         requires stands { NodeStand self.old }
         ensures step { IsNodeStep self.old (Event.Call segment) result self.new }

@@ -1,5 +1,6 @@
 //! A world, which always stands for some state of the abstract machine.
-ghost use Rattle.std.specs.Prelude.{◌≡◌, ℕ, ◌<◌, ◌≤◌, List, [], ◌∷◌, length, take, IfOk, IfErr, OnErr};
+ghost use Rattle.std.specs.Prelude.{◌≡◌, ℕ, ◌<◌, ◌≤◌, List, [], ◌∷◌, length, take};
+ghost use Rattle.std.specs.Prelude.{IfOk, IfErr, OnErr};
 ghost use Rattle.snap_history.specs.History.{IsBeginning};
 ghost use Rattle.snap_world.specs.Machine.{State};
 ghost use Rattle.snap_world.specs.NodePhases.{TellsWhether, PhasesMove, NeedsMemory, StopsAt};
@@ -32,7 +33,8 @@ pub struct World {
 
 impl World {
     ghost use Rattle.snap_world.specs.Crashes.{AnyCrash, CrashInsideAnyWrite, AnyFault};
-    ghost use Rattle.snap_world.specs.Surface.{StandsFor, IsRun, segments_of, phases_of, devices_of};
+    ghost use Rattle.snap_world.specs.Surface.{StandsFor, IsRun};
+    ghost use Rattle.snap_world.specs.Surface.{segments_of, phases_of, devices_of};
 
     /// A world of this many segments and scanners, 1 to 16 each: every segment has number 0 and the
     /// empty value, its device is formatted, and nobody is at work. The world keeps the allocator,
@@ -64,7 +66,8 @@ impl World {
         ensures enabled { IfOk result (λ reply. (x : State) → StandsFor self.old x
             → TellsWhether x (phases_of self.old) event.now reply) }
         ensures phases { IfOk result (λ reply. (x : State) → StandsFor self.old x
-            → PhasesMove (segments_of self.old) x (phases_of self.old) event.now reply (phases_of self.new)) }
+            → PhasesMove (segments_of self.old) x (phases_of self.old) event.now reply
+            (phases_of self.new)) }
         ensures unchanged { IfOk result (λ reply. reply ≡ Reply.NotNow → self.new ≡ self.old) }
         ensures memory { OnErr result (NeedsMemory (phases_of self.old) event.now) }
         ensures err { OnErr result (self.new ≡ self.old) }
@@ -96,8 +99,10 @@ impl World {
     pub fn run(&mut self, events: &[Event]) -> Result<Vec<Reply>, Stopped>
         ensures run { IfOk result (λ replies. IsRun self.old events.now replies.items self.new) }
         ensures stopped { IfErr result (λ stopped. (stopped.done ≤ length events.now)
-            × ((replies : List Reply) × IsRun self.old (take stopped.done events.now) replies self.new)) }
-        ensures memory { IfErr result (λ stopped. StopsAt (phases_of self.new) events.now stopped.done) }
+            × ((replies : List Reply)
+            × IsRun self.old (take stopped.done events.now) replies self.new)) }
+        ensures memory { IfErr result (λ stopped.
+            StopsAt (phases_of self.new) events.now stopped.done) }
 
         // However it ends, the history only grew, at its end: what was visible once stands in every
         // later history.
