@@ -1,9 +1,10 @@
 //! One connection's conversation as a value, over memory.
 //!
-//! A session holds the bytes that came and aren't answered, and the bytes that are owed to the peer. It
-//! reads and writes nothing itself: somebody gives it what came, has it answer, and takes off what
-//! was written, in any pieces and any order of these calls (`specs/Talk.antt`).
-ghost use Rattle.std.specs.Prelude.{◌≡◌, ◌≤◌, ◌<◌, ◌+◌, ◌++◌, ◌↔◌, ◌⊎◌, IsTrue, List, [], length, drop, max, Some, None, true, false};
+//! A session holds the bytes that came and aren't answered, and the bytes that are owed to the
+//! peer. It reads and writes nothing itself: somebody gives it what came, has it answer, and
+//! takes off what was written, in any pieces and any order of these calls (`specs/Talk.antt`).
+ghost use Rattle.std.specs.Prelude.{◌≡◌, ◌≤◌, ◌<◌, ◌+◌, ◌↔◌, IsTrue, [], length, drop};
+ghost use Rattle.std.specs.Prelude.{Some, None, true, false};
 ghost use Rattle.snap_frame.specs.Stream.{IsPartial};
 ghost use Rattle.snap_frame.specs.Messages.{says, IsInLimits};
 ghost use Rattle.snap_session.specs.Talk.{Talk, Goes, Stays, HasTaken, Owes, start};
@@ -17,8 +18,8 @@ use snap_frame::{Failure, Feed, MAX_PAYLOAD, Reply, Request, write_reply};
 use std::alloc::Global;
 use std::marker::Model;
 
-/// No request is answered while this many bytes or more are owed, so a peer that doesn't read costs
-/// at most these and one more reply.
+/// No request is answered while this many bytes or more are owed, so a peer that doesn't read
+/// costs at most these and one more reply.
 pub const MAX_OWED: usize = 65_536;
 
 /// How many requests one call answers at most, so that one peer doesn't hold up the others.
@@ -45,8 +46,8 @@ pub enum Wants {
     Outcome,
 }
 
-/// What one connection has read and owes: the bytes that came and aren't answered, and the bytes that
-/// are owed to the peer.
+/// What one connection has read and owes: the bytes that came and aren't answered, and the bytes
+/// that are owed to the peer.
 ///
 /// It is over once a length above the limit came or a growth of memory was refused. From then on
 /// nothing is taken in or answered, and what is owed may still be sent.
@@ -65,7 +66,12 @@ impl Model for Session {
 
     ghost Value = { Talk };
 
-    ghost view = { λ s. record { asked = s.asked; held = s.feed.bytes; owed = s.owed.items; over = s.over } };
+    ghost view = { λ s. record {
+      asked = s.asked;
+      held = s.feed.bytes;
+      owed = s.owed.items;
+      over = s.over;
+    } };
 
     ghost invariant = { λ s. s.over ≡ None → s.feed.failure ≡ None };
 }
@@ -112,8 +118,8 @@ impl Session {
         self.owed.advance(n);
     }
 
-    /// Takes a piece of the stream in. Where memory is refused the session is over. Not called on a
-    /// session that is over.
+    /// Takes a piece of the stream in. Where memory is refused the session is over. Not called on
+    /// a session that is over.
     pub fn take_in(&mut self, piece: &[u8])
         requires { self.old.over ≡ None }
         ensures { HasTaken self.old piece.now self.new }
@@ -123,8 +129,8 @@ impl Session {
         }
     }
 
-    /// Puts the frame of a reply behind what is owed; `false` where memory was refused, and then it is
-    /// over.
+    /// Puts the frame of a reply behind what is owed; `false` where memory was refused, and then
+    /// it is over.
     fn owe(&mut self, reply: &Reply) -> bool
         requires { IsInLimits reply.now }
         ensures owes { Owes self.old (says reply.now) self.new result }
@@ -223,10 +229,10 @@ impl Session {
         Wants::Turn
     }
 
-    /// Answers whole frames that are held, in order, until none is held, one was handed over, too much
-    /// is owed, or [`MAX_ANSWERS`] are answered. A frame that is no request is refused as malformed. A
-    /// length above the limit is refused, and the session is over. `key` says to the service whose
-    /// requests these are. Not called on a session that is over.
+    /// Answers whole frames that are held, in order, until none is held, one was handed over, too
+    /// much is owed, or [`MAX_ANSWERS`] are answered. A frame that is no request is refused as
+    /// malformed. A length above the limit is refused, and the session is over. `key` says to the
+    /// service whose requests these are. Not called on a session that is over.
     pub fn answer<S: Service>(&mut self, service: &mut S, key: usize) -> Wants
         requires { self.old.over ≡ None }
         ensures goes { Goes Stays S.gives service.old service.new self.old [] [] self.new }
@@ -248,8 +254,8 @@ impl Session {
         Wants::Turn
     }
 
-    /// Answers the request that was handed over. An outcome that nobody waits for is dropped. Not called
-    /// on a session that is over.
+    /// Answers the request that was handed over. An outcome that nobody waits for is dropped. Not
+    /// called on a session that is over.
     pub fn finish<S: Service>(&mut self, service: &mut S, outcome: S::Outcome)
     where
         S::Outcome: Drop,

@@ -68,13 +68,13 @@ fn send_owed<W: Write>(session: &mut Session, writer: &mut W) -> Sent
     Sent::All
 }
 
-/// One turn: writes what is owed, answers what is held and reads on, in this order, until one of them
-/// would wait or 16 pieces were read.
+/// One turn: writes what is owed, answers what is held and reads on, in this order, until one of
+/// them would wait or 16 pieces were read.
 ///
-/// A reader or writer says by `WouldBlock` that it would wait. Every other error ends the connection
-/// with no retry, and so does a write that takes no byte. Nothing is read while bytes are owed, and
-/// nothing is answered while [`MAX_OWED`](crate::MAX_OWED) bytes or more are. `piece` is where a read
-/// puts its bytes: it has at least one place.
+/// A reader or writer says by `WouldBlock` that it would wait. Every other error ends the
+/// connection with no retry, and so does a write that takes no byte. Nothing is read while bytes
+/// are owed, and nothing is answered while [`MAX_OWED`](crate::MAX_OWED) bytes or more are.
+/// `piece` is where a read puts its bytes: it has at least one place.
 pub fn proceed<R: Read, W: Write, S: Service>(
     session: &mut Session,
     reader: &mut R,
@@ -84,11 +84,14 @@ pub fn proceed<R: Read, W: Write, S: Service>(
     piece: &mut [u8],
 ) -> Turn
     requires { 0 < length piece.old }
-    ensures goes { Turns Stays S.gives service.old service.new session.old (R.remaining reader.old) (R.remaining reader.new) (W.contents writer.old) (W.contents writer.new) session.new }
+    ensures goes { Turns Stays S.gives service.old service.new session.old
+        (R.remaining reader.old) (R.remaining reader.new)
+        (W.contents writer.old) (W.contents writer.new) session.new }
     ensures stands { StandsAt result session.new (R.remaining reader.new) }
     ensures bounded { length session.old.owed ≤ 131540 → length session.new.owed ≤ 131540 }
     ensures free { (S.hands_over → ⊥) → session.old.asked ≡ None → session.new.asked ≡ None }
-    ensures outcome { (S.hands_over → ⊥) → session.old.asked ≡ None → result ≡ Turn.NeedsOutcome → ⊥ }
+    ensures outcome { (S.hands_over → ⊥) → session.old.asked ≡ None
+        → result ≡ Turn.NeedsOutcome → ⊥ }
 {
     for _ in 0..MAX_ROUNDS {
         match send_owed(session, writer) {
@@ -123,8 +126,8 @@ pub fn proceed<R: Read, W: Write, S: Service>(
 
 /// Answers all that is read, in order, until the input ends or something fails.
 ///
-/// It reads pieces of at most 4,096 bytes. What was written then are the frames of the replies of a
-/// run of the service over the requests that were read:
+/// It reads pieces of at most 4,096 bytes. What was written then are the frames of the replies of
+/// a run of the service over the requests that were read:
 ///
 /// - [`End::Closed`], [`End::Truncated`], [`End::ReadFailed`]: all of them;
 /// - [`End::TooLarge`]: all of them, and the refusal of that length behind them;
@@ -140,7 +143,9 @@ pub fn serve<X: Wait, R: Read, W: Write, S: Service>(
     service: &mut S,
 ) -> End
     requires { S.hands_over → ⊥ }
-    ensures { Serves S.gives service.old service.new (R.remaining reader.old) (R.remaining reader.new) (W.contents writer.old) (W.contents writer.new) result }
+    ensures { Serves S.gives service.old service.new
+        (R.remaining reader.old) (R.remaining reader.new)
+        (W.contents writer.old) (W.contents writer.new) result }
 {
     let mut session = Session::new(alloc);
     let mut piece = [0u8; 4096];
