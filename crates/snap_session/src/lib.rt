@@ -17,3 +17,6 @@ pub use pair::take_turns;
 pub use service::Service;
 pub use session::{MAX_OWED, Session, Wants};
 pub use turns::{End, Turn, proceed, serve};
+
+#[cfg(test)]
+mod tests;
