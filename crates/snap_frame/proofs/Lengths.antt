@@ -1,0 +1,28 @@
+-- How long the payloads of replies are.
+use Rattle.std.proofs.Common.{◌≡◌, ℕ, ◌+◌, ◌*◌, ◌<◌, ◌≤◌, List, [], ◌∷◌, ◌++◌, length, flat_map, All, refl, arith, length-append}
+use Rattle.std.specs.Int.{w32, w64, to_be_bytes}
+use Rattle.std.proofs.lemmas.List.Elements.{All-tail}
+use Rattle.snap_disk.specs.Refusal.{code_of}
+use Rattle.snap_frame.specs.declared.entries.SegmentValue.{SegmentValue}
+use Rattle.snap_frame.specs.declared.entries.SegmentStatus.{SegmentStatus}
+use Rattle.snap_frame.specs.declared.reply.Reply.{Reply}
+use Rattle.snap_frame.specs.declared.reply.Reply.TheVariants.{Stored, Snapshot, Status, Refused}
+use Rattle.snap_frame.specs.Messages.{max_payload, value_bytes, status_bytes, IsValue, says, IsInLimits}
+
+-- each status has nine bytes
+pub length-statuses : (es : List SegmentStatus) → length (flat_map status_bytes es) ≡ 9 * length es
+length-statuses [] = refl
+length-statuses (e ∷ es) = omega (arith, length-append (status_bytes e) (flat_map status_bytes es), length-statuses es)
+
+-- each value has at most 4,092 bytes with its head
+values_fit : (vs : List SegmentValue) → All IsValue vs → length (flat_map value_bytes vs) ≤ 4092 * length vs
+values_fit [] each = omega arith
+values_fit (v ∷ vs) each =
+    omega (arith, length-append (value_bytes v) (flat_map value_bytes vs), (each 0 v (omega arith)).1, values_fit vs (All-tail IsValue v vs each))
+
+-- the payload of a reply fits a frame
+pub says_fits : (r : Reply) → IsInLimits r → length (says r) ≤ max_payload
+says_fits (Stored number) limits = omega arith
+says_fits (Snapshot values) limits = omega (arith, limits.few, values_fit values.items limits.each)
+says_fits (Status statuses) limits = omega (arith, limits.few, length-statuses statuses.items)
+says_fits (Refused why detail) limits = omega arith

@@ -1,0 +1,81 @@
+-- Frames, and the payloads of requests and replies (docs/FORMATS.md, "Frames and messages").
+use Rattle.std.specs.Prelude.{◌≡◌, ℕ, ◌+◌, ◌*◌, ◌≤◌, ◌<◌, ◌^◌, Bool, true, false, List, [], ◌∷◌, ◌++◌, length, flat_map, All}
+use Rattle.std.specs.Int.{w32, w64, to_be_bytes}
+use Rattle.snap_disk.specs.declared.refusal.Refusal.{Refusal}
+use Rattle.snap_disk.specs.Refusal.{code_of}
+use Rattle.snap_frame.specs.declared.request.Request.{Request}
+use Rattle.snap_frame.specs.declared.request.Request.TheVariants.{Update, Scan, Status}
+use Rattle.snap_frame.specs.declared.reply.Reply.{Reply}
+use Rattle.snap_frame.specs.declared.reply.Reply.TheVariants as replies
+use Rattle.snap_frame.specs.declared.entries.SegmentValue.{SegmentValue}
+use Rattle.snap_frame.specs.declared.entries.SegmentStatus.{SegmentStatus}
+
+-- the most bytes of a frame's payload
+abbrev pub max_payload : ℕ
+max_payload = 66000
+
+-- a payload behind its length in four bytes
+abbrev pub frame : List ℕ → List ℕ
+frame x = to_be_bytes w32 (length x) ++ x
+
+-- the payload of a request
+abbrev pub payload : Request → List ℕ
+payload (Update segment number value) = 1 ∷ segment ∷ (to_be_bytes w64 number ++ value)
+payload Scan = 2 ∷ []
+payload Status = 3 ∷ []
+
+-- x is the payload of the request
+abbrev pub Asks : List ℕ → Request → Type 0
+Asks x r = x ≡ payload r
+
+-- no request has this payload
+abbrev pub Malformed : List ℕ → Type 0
+Malformed x = (r : Request) → Asks x r → ⊥
+
+-- a segment's number and value, as a snapshot has them
+abbrev pub value_bytes : SegmentValue → List ℕ
+value_bytes v = to_be_bytes w64 v.number ++ (to_be_bytes w32 (length v.value) ++ v.value)
+
+-- 1 where the segment is fenced, and else 0
+abbrev pub fence_byte : Bool → ℕ
+fence_byte true = 1
+fence_byte false = 0
+
+-- a segment's number and fence, as a status has them
+abbrev pub status_bytes : SegmentStatus → List ℕ
+status_bytes s = to_be_bytes w64 s.number ++ (fence_byte s.is_fenced ∷ [])
+
+-- the payload of a reply
+abbrev pub says : Reply → List ℕ
+says (replies.Stored number) = 0x81 ∷ to_be_bytes w64 number
+says (replies.Snapshot values) = 0x82 ∷ length values.items ∷ flat_map value_bytes values.items
+says (replies.Status statuses) = 0x83 ∷ length statuses.items ∷ flat_map status_bytes statuses.items
+says (replies.Refused why detail) = 0xE0 ∷ code_of why ∷ to_be_bytes w64 detail
+
+-- a number and a value that a reply may hold
+abbrev pub IsValue : SegmentValue → Type 0
+IsValue v = (v.number < 2 ^ 63) × (length v.value ≤ 4080)
+
+abbrev pub IsStatus : SegmentStatus → Type 0
+IsStatus s = s.number < 2 ^ 63
+
+-- 1 to 16 entries, each of which may stand in a reply
+pub record AreEntries {E : Type 0} (MayStand : E → Type 0) (es : List E) : Type 0 where
+  pub one : 1 ≤ length es
+  pub few : length es ≤ 16
+  pub each : All MayStand es
+
+-- its numbers, lengths and counts are within the limits of replies
+abbrev pub IsInLimits : Reply → Type 0
+IsInLimits (replies.Stored number) = number < 2 ^ 63
+IsInLimits (replies.Snapshot values) = AreEntries IsValue values.items
+IsInLimits (replies.Status statuses) = AreEntries IsStatus statuses.items
+IsInLimits (replies.Refused why detail) = Unit {0}
+
+-- x is the payload of the reply
+abbrev pub Says : List ℕ → Reply → Type 0
+Says x r = IsInLimits r × (x ≡ says r)
+
+-- no reply has this payload
+abbrev pub SaysNothing : List ℕ → Type 0
+SaysNothing x = (r : Reply) → Says x r → ⊥

@@ -1,0 +1,115 @@
+-- What a feed holds, and what it answers.
+use Rattle.bytes.specs.Filled.{Filled}
+use Rattle.tokio_util.specs.Codec.LengthDelimited.{codec_layout}
+use Rattle.std.specs.Prelude.{◌≡◌, ℕ, get_or, ◌≤◌, ◌<◌, ◌^◌, ◌⊎◌, List, [], ◌∷◌, ◌++◌, length, Option, Some, None, Result, Ok, Err}
+use Rattle.std.specs.Int.{w32, to_be_bytes}
+use Rattle.tokio_util.specs.declared.codec.length_delimited.LengthDelimitedCodec.{LengthDelimitedCodec}
+use Rattle.tokio_util.specs.declared.codec.length_delimited.DecodeState.{DecodeState}
+use Rattle.tokio_util.specs.declared.codec.length_delimited.DecodeState.TheVariants.{Head, Data}
+use Rattle.tokio_util.specs.Codec.LengthField.{Layout, default_layout}
+use Rattle.snap_disk.specs.declared.refusal.Refusal.{Refusal}
+use Rattle.snap_disk.specs.declared.refusal.Refusal.TheVariants as refusals
+use Rattle.snap_frame.specs.declared.frame_buffer.Failure.{Failure}
+use Rattle.snap_frame.specs.declared.frame_buffer.Failure.TheVariants.{NoMemory, TooLarge}
+use Rattle.snap_frame.specs.declared.reply_feed.ReplyFault.{ReplyFault}
+use Rattle.snap_frame.specs.declared.reply_feed.ReplyFault.TheVariants.{BadReply, Failed}
+use Rattle.snap_frame.specs.declared.request.Request.{Request}
+use Rattle.snap_frame.specs.declared.reply.Reply.{Reply}
+use Rattle.snap_frame.specs.Messages.{max_payload, frame, Asks, Malformed, Says, SaysNothing}
+
+-- the bytes that came and weren't taken off, and why the feed has failed
+pub record Held : Type 0 where
+  pub bytes : List ℕ
+  pub failure : Option Failure
+
+-- nothing is held, and it hasn't failed
+abbrev pub empty : Held
+empty = record { bytes = []; failure = None }
+
+-- the refusal that tells a failure
+abbrev pub refusal_of : Failure → Refusal
+refusal_of NoMemory = refusals.NoMemory
+refusal_of TooLarge = refusals.TooLarge
+
+-- the frame of x stands first in the bytes, and the rest behind it
+pub record HasFrame (bytes x rest : List ℕ) : Type 0 where
+  pub fits : length x ≤ max_payload
+  pub split : bytes ≡ frame x ++ rest
+
+-- a length above the limit stands first in the bytes
+abbrev pub HasLongLength : List ℕ → Type 0
+HasLongLength bytes =
+    (n : ℕ) × (rest : List ℕ) × (max_payload < n) × (n < 2 ^ 32) × (bytes ≡ to_be_bytes w32 n ++ rest)
+
+-- neither stands first: more bytes are needed
+pub record IsPartial (bytes : List ℕ) : Type 0 where
+  pub no_frame : (x rest : List ℕ) → HasFrame bytes x rest → ⊥
+  pub no_long : HasLongLength bytes → ⊥
+
+-- the codec's bytes with the head that it has taken
+abbrev pub pending_in : DecodeState → List ℕ → List ℕ
+pending_in Head xs = xs
+pending_in (Data n) xs = to_be_bytes w32 n ++ xs
+
+abbrev pub pending : LengthDelimitedCodec → List ℕ → List ℕ
+pending c xs = pending_in c.state xs
+
+abbrev pub StateFits : DecodeState → Type 0
+StateFits Head = Unit {0}
+StateFits (Data n) = n ≤ max_payload
+
+-- four bytes of length, the highest first, and at most this many of payload
+abbrev pub feed_layout : Layout
+feed_layout = record default_layout { max_frame_len = max_payload }
+
+-- the codec can go on
+pub record Ready (c : LengthDelimitedCodec) : Type 0 where
+  pub layout : codec_layout c ≡ feed_layout
+  pub fits : StateFits c.state
+
+abbrev pub IsBytes : List ℕ → Type 0
+IsBytes xs = (i : ℕ) → get_or xs i 0 < 256
+
+-- what taking the first frame's payload gives, and leaves
+abbrev pub Found : List ℕ → Result (Option Filled) Failure → List ℕ → Type 0
+Found held (Ok (Some payload)) new = HasFrame held payload.items new
+Found held (Ok None) new = IsPartial held × (new ≡ held)
+Found held (Err NoMemory) new = (x : List ℕ) × (rest : List ℕ) × HasFrame held x rest
+Found held (Err TooLarge) new = HasLongLength held × (new ≡ held)
+
+-- it fails for want of memory with a whole frame first, or for a length above the limit
+abbrev pub Fails : List ℕ → Failure → Held → Type 0
+Fails held NoMemory new =
+    (x : List ℕ) × (rest : List ℕ) × HasFrame held x rest × (new.failure ≡ Some NoMemory)
+Fails held TooLarge new =
+    HasLongLength held × (new ≡ record { bytes = held; failure = Some TooLarge })
+
+-- what taking the first frame off gives, and leaves
+abbrev pub TakesOff : List ℕ → Result (Option Filled) Failure → Held → Type 0
+TakesOff held (Ok (Some payload)) new =
+    HasFrame held payload.items new.bytes × (new.failure ≡ None)
+TakesOff held (Ok None) new = IsPartial held × (new ≡ record { bytes = held; failure = None })
+TakesOff held (Err failure) new = Fails held failure new
+
+-- What `next` of a feed answers over the bytes held, and what it leaves.
+abbrev pub Next : List ℕ → Result (Option Request) Refusal → Held → Type 0
+Next held (Ok (Some r)) new =
+    (x : List ℕ) × HasFrame held x new.bytes × Asks x r × (new.failure ≡ None)
+Next held (Ok None) new = IsPartial held × (new ≡ record { bytes = held; failure = None })
+Next held (Err why) new =
+    ((why ≡ refusals.Malformed) × (x : List ℕ) × HasFrame held x new.bytes × Malformed x × (new.failure ≡ None))
+    ⊎ ((failure : Failure) × (why ≡ refusal_of failure) × Fails held failure new)
+
+-- What `next` of a reply feed answers over the bytes held, and what it leaves.
+abbrev pub NextReply : List ℕ → Result (Option Reply) ReplyFault → Held → Type 0
+NextReply held (Ok (Some r)) new =
+    (x : List ℕ) × HasFrame held x new.bytes × Says x r × (new.failure ≡ None)
+NextReply held (Ok None) new = IsPartial held × (new ≡ record { bytes = held; failure = None })
+NextReply held (Err BadReply) new =
+    (x : List ℕ) × HasFrame held x new.bytes × SaysNothing x × (new.failure ≡ None)
+NextReply held (Err (Failed failure)) new = Fails held failure new
+
+-- no frame is a beginning of another frame
+abbrev pub NoFrameBeginsAnother : Type 0
+NoFrameBeginsAnother =
+    (x y rest : List ℕ) → length x ≤ max_payload → length y ≤ max_payload → frame x ++ rest ≡ frame y → x ≡ y

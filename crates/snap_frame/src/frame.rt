@@ -1,0 +1,26 @@
+//! The head of a frame.
+ghost use Rattle.std.specs.Prelude.{◌≡◌, ◌≤◌, ◌+◌, ◌<◌, ◌++◌, length, OnOk, OnErr};
+ghost use Rattle.std.specs.Int.{w32, to_be_bytes};
+ghost use Rattle.snap_frame.specs.Messages.{max_payload};
+
+use bytes::BytesMut;
+use std::alloc::AllocError;
+
+/// The most bytes of a frame's payload.
+pub const MAX_PAYLOAD: usize = 66_000;
+
+/// How many bytes of length stand before a payload.
+const HEAD_LEN: usize = 4;
+
+/// Writes the length of a payload behind what the buffer holds, and makes room for the payload, so
+/// that nothing behind it can fail. Where memory is refused the buffer's bytes are as they were.
+pub(crate) fn start_frame(payload_len: usize, out: &mut BytesMut) -> Result<(), AllocError>
+    requires { payload_len ≤ max_payload }
+    ensures head { OnOk result (out.new.items ≡ out.old.items ++ to_be_bytes w32 payload_len) }
+    ensures room { OnOk result (payload_len ≤ out.new.spare) }
+    ensures err { OnErr result (out.new.items ≡ out.old.items) }
+{
+    out.reserve(HEAD_LEN + payload_len)?;
+    out.extend_reserved(&(payload_len as u32).to_be_bytes());
+    Ok(())
+}

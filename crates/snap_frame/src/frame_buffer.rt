@@ -1,0 +1,145 @@
+//! Frames cut out of a stream that comes in pieces.
+ghost use Rattle.std.specs.Prelude.{◌≡◌, ◌≤◌, ◌<◌, ℕ, ◌++◌, ◌↔◌, IsTrue, List, [], get_or, length, Some, None, Ok, Err, OnOk, OnErr, IfOk, IfSome, IfErr, IfNone};
+ghost use Rattle.snap_frame.specs.Stream.{Held, empty, TakesOff, Found, IsBytes, Ready, pending};
+
+use crate::frame::MAX_PAYLOAD;
+use bytes::BytesMut;
+use std::alloc::Global;
+use std::io;
+use std::marker::Model;
+use tokio_util::codec::{Decoder, LengthDelimitedCodec};
+
+/// Why a feed takes no more bytes.
+#[derive(Clone, Copy, Debug, PartialEq, Eq, Drop)]
+pub enum Failure {
+    /// A growth of memory was refused while a frame was taken off.
+    NoMemory,
+    /// A length above [`MAX_PAYLOAD`] stood first.
+    TooLarge,
+}
+
+/// The bytes of a stream that came and weren't taken off.
+#[derive(Drop)]
+pub(crate) struct FrameBuffer {
+    codec: LengthDelimitedCodec,
+    bytes: BytesMut,
+    failure: Option<Failure>,
+}
+
+impl Model for FrameBuffer {
+    ghost use Rattle.std.specs.Prelude.{◌≡◌, None};
+    ghost use Rattle.snap_frame.specs.Stream.{Held, pending, Ready};
+
+    ghost Value = { Held };
+
+    ghost view = { λ f. record { bytes = pending f.codec f.bytes.items; failure = f.failure } };
+
+    ghost invariant = { λ f. f.failure ≡ None → Ready f.codec };
+}
+
+impl FrameBuffer {
+    /// Holds nothing. Takes no memory.
+    pub fn new(alloc: Global) -> FrameBuffer
+        ensures { result ≡ empty }
+    {
+        FrameBuffer {
+            codec: LengthDelimitedCodec::builder()
+                .max_frame_length(MAX_PAYLOAD)
+                .new_codec(),
+            bytes: BytesMut::new(alloc),
+            failure: None,
+        }
+    }
+
+    /// Puts a piece behind what is held. For want of memory it changes nothing.
+    pub fn push(&mut self, piece: &[u8]) -> Result<(), Failure>
+        ensures ok { OnOk result ((self.old.failure ≡ None)
+            × (self.new ≡ record { bytes = self.old.bytes ++ piece.now; failure = None })) }
+        ensures err { OnErr result (self.new ≡ self.old) }
+        ensures memory { self.old.failure ≡ None → IfErr result (λ f. f ≡ Failure.NoMemory) }
+        ensures failed { IfSome self.old.failure (λ f. result ≡ Err f) }
+    {
+        if let Some(failure) = self.failure {
+            return Err(failure);
+        }
+        match self.bytes.extend_from_slice(piece) {
+            Ok(()) => Ok(()),
+            Err(_) => Err(Failure::NoMemory),
+        }
+    }
+
+    /// Takes the first whole frame off, and gives its payload.
+    pub fn next(&mut self) -> Result<Option<BytesMut>, Failure>
+        ensures failed { IfSome self.old.failure (λ f. (result ≡ Err f) × (self.new ≡ self.old)) }
+        ensures next { self.old.failure ≡ None → TakesOff self.old.bytes result self.new }
+    {
+        if let Some(failure) = self.failure {
+            return Err(failure);
+        }
+        match next_payload(&mut self.codec, &mut self.bytes) {
+            Ok(payload) => Ok(payload),
+            Err(failure) => {
+                self.failure = Some(failure);
+                Err(failure)
+            }
+        }
+    }
+
+    /// From here on it answers that memory was refused.
+    pub fn fail(&mut self)
+        ensures { self.new.failure ≡ Some Failure.NoMemory }
+    {
+        self.failure = Some(Failure::NoMemory);
+    }
+
+    /// Whether it hasn't failed and no byte is held.
+    pub fn is_between(&self) -> bool
+        ensures { IsTrue result ↔ (self.now ≡ empty) }
+    {
+        self.failure.is_none()
+            && self.bytes.is_empty()
+            && is_at_head(self.codec, *self.bytes.allocator())
+    }
+}
+
+/// No byte is above 255.
+fn all_bytes(bytes: &BytesMut) -> usize
+    ensures { IsBytes bytes.now.items }
+{
+    let all = bytes.as_slice();
+    all.len()
+}
+
+/// The payload of the first frame.
+fn next_payload(
+    codec: &mut LengthDelimitedCodec,
+    bytes: &mut BytesMut,
+) -> Result<Option<BytesMut>, Failure>
+    requires { Ready codec.old }
+    ensures found { Found (pending codec.old bytes.old.items) result (pending codec.new bytes.new.items) }
+    ensures ready { OnOk result (Ready codec.new) }
+{
+    let _ = all_bytes(bytes);
+    let decoded = codec.decode(bytes);
+    let _ = all_bytes(bytes);
+    match decoded {
+        Ok(payload) => Ok(payload),
+        Err(error) => match error.kind() {
+            io::ErrorKind::OutOfMemory => Err(Failure::NoMemory),
+            _ => Err(Failure::TooLarge),
+        },
+    }
+}
+
+/// Whether the codec waits for a head: only there an input may end.
+fn is_at_head(mut codec: LengthDelimitedCodec, alloc: Global) -> bool
+    requires { Ready codec }
+    ensures { IsTrue result ↔ (pending codec [] ≡ []) }
+{
+    let mut nothing = BytesMut::new(alloc);
+    match codec.decode_eof(&mut nothing) {
+        Ok(None) => true,
+        Ok(Some(_)) => false,
+        Err(_) => false,
+    }
+}

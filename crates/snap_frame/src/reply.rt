@@ -1,0 +1,203 @@
+//! Replies: what the server answers, and its payload.
+ghost use Rattle.std.specs.Prelude.{◌≡◌, ◌≤◌, ◌<◌, ◌^◌, ℕ, List, ◌++◌, ◌∷◌, length, drop, slice_index, OnOk, OnErr, IfOk, IfErr, IfSome, IfNone};
+ghost use Rattle.std.specs.Int.{w64, to_be_bytes};
+ghost use Rattle.snap_frame.specs.Messages.{max_payload, frame, says, Says, SaysNothing, IsInLimits};
+
+use crate::code::refusal_of;
+use crate::entries::{
+    MAX_NUMBER, SegmentStatus, SegmentValue, put_statuses, put_values, read_statuses, read_values,
+    statuses_len, values_len,
+};
+use crate::frame::start_frame;
+use crate::numbers::first_u64;
+use bytes::BytesMut;
+use snap_disk::Refusal;
+use std::alloc::AllocError;
+
+/// What the server answers to a request (docs/FORMATS.md, "Frames and messages").
+#[derive(Debug, PartialEq, Eq, Drop)]
+pub enum Reply {
+    /// The segment holds this number, with the value of the update. Below 2^63.
+    Stored(u64),
+    /// All segments at one moment, in order, 1 to 16 of them.
+    Snapshot(Vec<SegmentValue>),
+    /// All segments, each as it was when the server looked, in order, 1 to 16 of them.
+    Status(Vec<SegmentStatus>),
+    /// Refused, with the number that the refusal has to tell.
+    Refused { why: Refusal, detail: u64 },
+}
+
+const STORED: u8 = 0x81;
+
+const SNAPSHOT: u8 = 0x82;
+
+const STATUS: u8 = 0x83;
+
+const REFUSED: u8 = 0xE0;
+
+/// The bytes of a payload that says a number was stored.
+const STORED_LEN: usize = 9;
+
+/// The bytes of a payload that says a refusal.
+const REFUSED_LEN: usize = 10;
+
+/// The bytes of a payload before its entries: the kind and the count.
+const LIST_HEAD_LEN: usize = 2;
+
+/// The most entries of a reply.
+const MAX_SEGMENTS: u8 = 16;
+
+/// The number of a payload whose kind is that of a stored number.
+fn read_stored(payload: &[u8]) -> Option<Reply>
+    requires long { 0 < length payload.now }
+    requires stored { slice_index payload.now 0 ≡ 0x81 }
+    ensures reply { IfSome result (Says payload.now) }
+    ensures nothing { IfNone result (SaysNothing payload.now) }
+{
+    if payload.len() != STORED_LEN {
+        return None;
+    }
+    let number = first_u64(&payload[1..]);
+    if number > MAX_NUMBER {
+        return None;
+    }
+    Some(Reply::Stored(number))
+}
+
+/// The code and the detail of a payload whose kind is that of a refusal.
+fn read_refused(payload: &[u8]) -> Option<Reply>
+    requires long { 0 < length payload.now }
+    requires refused { slice_index payload.now 0 ≡ 0xE0 }
+    ensures reply { IfSome result (Says payload.now) }
+    ensures nothing { IfNone result (SaysNothing payload.now) }
+{
+    if payload.len() != REFUSED_LEN {
+        return None;
+    }
+    let detail = first_u64(&payload[2..]);
+    match refusal_of(payload[1]) {
+        Some(why) => Some(Reply::Refused { why, detail }),
+        None => None,
+    }
+}
+
+/// How many entries a payload says that it has, or `None` where it may not.
+fn entry_count(payload: &[u8]) -> Option<u8>
+    ensures some { IfSome result (λ n. (1 ≤ n) × (n ≤ 16)
+        × (payload.now ≡ slice_index payload.now 0 ∷ n ∷ drop 2 payload.now)) }
+    ensures none { IfNone result ((kind n : ℕ) → (tail : List ℕ) → 1 ≤ n → n ≤ 16
+        → payload.now ≡ kind ∷ n ∷ tail → ⊥) }
+{
+    if payload.len() < LIST_HEAD_LEN {
+        return None;
+    }
+    let count = payload[1];
+    if count == 0 || count > MAX_SEGMENTS {
+        return None;
+    }
+    Some(count)
+}
+
+fn read_snapshot(mut payload: BytesMut) -> Result<Option<Reply>, AllocError>
+    requires { slice_index payload.items 0 ≡ 0x82 }
+    ensures reply { IfOk result (λ r. IfSome r (Says payload.items)) }
+    ensures nothing { IfOk result (λ r. IfNone r (SaysNothing payload.items)) }
+{
+    let Some(count) = entry_count(payload.as_slice()) else {
+        return Ok(None);
+    };
+    let alloc = *payload.allocator();
+    payload.advance(LIST_HEAD_LEN);
+    let Ok(rest) = payload.freeze() else {
+        return Err(AllocError);
+    };
+    match read_values(alloc, count, rest)? {
+        Some(values) => Ok(Some(Reply::Snapshot(values))),
+        None => Ok(None),
+    }
+}
+
+fn read_status(mut payload: BytesMut) -> Result<Option<Reply>, AllocError>
+    requires { slice_index payload.items 0 ≡ 0x83 }
+    ensures reply { IfOk result (λ r. IfSome r (Says payload.items)) }
+    ensures nothing { IfOk result (λ r. IfNone r (SaysNothing payload.items)) }
+{
+    let Some(count) = entry_count(payload.as_slice()) else {
+        return Ok(None);
+    };
+    let alloc = *payload.allocator();
+    payload.advance(LIST_HEAD_LEN);
+    let Ok(rest) = payload.freeze() else {
+        return Err(AllocError);
+    };
+    match read_statuses(alloc, count, rest)? {
+        Some(statuses) => Ok(Some(Reply::Status(statuses))),
+        None => Ok(None),
+    }
+}
+
+/// The reply of a payload, or `None` where no reply has it.
+pub(crate) fn read_reply(payload: BytesMut) -> Result<Option<Reply>, AllocError>
+    ensures reply { IfOk result (λ r. IfSome r (Says payload.items)) }
+    ensures nothing { IfOk result (λ r. IfNone r (SaysNothing payload.items)) }
+{
+    let bytes = payload.as_slice();
+    if bytes.is_empty() {
+        return Ok(None);
+    }
+    match bytes[0] {
+        STORED => Ok(read_stored(bytes)),
+        REFUSED => Ok(read_refused(bytes)),
+        SNAPSHOT => read_snapshot(payload),
+        STATUS => read_status(payload),
+        _ => Ok(None),
+    }
+}
+
+/// Writes the frame of a reply behind what the buffer holds.
+///
+/// Its numbers, lengths and counts are within the limits of replies, so its payload fits a frame.
+/// The only refusal is [`Refusal::NoMemory`], and the buffer's bytes are then as they were.
+#[tactic(auto, using(crate::proofs::Lengths::says_fits))]
+pub fn write_reply(reply: &Reply, out: &mut BytesMut) -> Result<(), Refusal>
+    requires { IsInLimits reply.now }
+    ensures fits { length (says reply.now) ≤ max_payload }
+    ensures ok { OnOk result (out.new.items ≡ out.old.items ++ frame (says reply.now)) }
+    ensures err { OnErr result (out.new.items ≡ out.old.items) }
+    ensures memory { IfErr result (λ why. why ≡ Refusal.NoMemory) }
+{
+    match append_reply(reply, out) {
+        Ok(()) => Ok(()),
+        Err(AllocError) => Err(Refusal::NoMemory),
+    }
+}
+
+fn append_reply(reply: &Reply, out: &mut BytesMut) -> Result<(), AllocError>
+    requires { IsInLimits reply.now }
+    ensures ok { OnOk result (out.new.items ≡ out.old.items ++ frame (says reply.now)) }
+    ensures err { OnErr result (out.new.items ≡ out.old.items) }
+{
+    match reply {
+        Reply::Stored(number) => {
+            start_frame(STORED_LEN, out)?;
+            out.extend_reserved(&[STORED]);
+            out.extend_reserved(&number.to_be_bytes());
+        }
+        Reply::Snapshot(values) => {
+            start_frame(LIST_HEAD_LEN + values_len(values), out)?;
+            out.extend_reserved(&[SNAPSHOT, values.len() as u8]);
+            put_values(values, out);
+        }
+        Reply::Status(statuses) => {
+            start_frame(LIST_HEAD_LEN + statuses_len(statuses), out)?;
+            out.extend_reserved(&[STATUS, statuses.len() as u8]);
+            put_statuses(statuses, out);
+        }
+        Reply::Refused { why, detail } => {
+            start_frame(REFUSED_LEN, out)?;
+            out.extend_reserved(&[REFUSED, why.code()]);
+            out.extend_reserved(&detail.to_be_bytes());
+        }
+    }
+    Ok(())
+}

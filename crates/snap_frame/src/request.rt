@@ -1,0 +1,119 @@
+//! Requests: what a client asks, and its payload.
+ghost use Rattle.std.specs.Prelude.{◌≡◌, ◌<◌, ◌≤◌, ℕ, ◌++◌, ◌∷◌, List, length, drop, slice_index, OnOk, OnErr, IfOk, IfErr, IfSome, IfNone};
+ghost use Rattle.std.specs.Int.{w64, to_be_bytes};
+ghost use Rattle.snap_frame.specs.Messages.{max_payload, Asks, Malformed, payload, frame};
+
+use crate::frame::{MAX_PAYLOAD, start_frame};
+use crate::numbers::first_u64;
+use bytes::{Bytes, BytesMut};
+use snap_disk::Refusal;
+use std::alloc::AllocError;
+
+/// What a client asks of the server (docs/FORMATS.md, "Frames and messages").
+#[derive(Debug, PartialEq, Eq, Drop)]
+pub enum Request {
+    /// Store a value as this number of a segment. A value that is too long for a segment is a
+    /// request too: the service refuses it.
+    Update {
+        segment: u8,
+        number: u64,
+        /// A slice of the bytes that were received: they aren't copied.
+        value: Bytes,
+    },
+    /// The numbers and values of all segments at one moment.
+    Scan,
+    /// The numbers and fences of all segments, one after the other.
+    Status,
+}
+
+const UPDATE: u8 = 1;
+
+const SCAN: u8 = 2;
+
+const STATUS: u8 = 3;
+
+/// The bytes of an update's payload before its value: its kind, the segment and the number.
+const UPDATE_HEAD_LEN: usize = 10;
+
+/// The most bytes of a value that fits into an update's frame.
+pub const MAX_UPDATE_VALUE: usize = MAX_PAYLOAD - UPDATE_HEAD_LEN;
+
+/// The segment and the number that an update's payload begins with.
+fn update_head(payload: &[u8]) -> (u8, u64)
+    requires long { 10 ≤ length payload.now }
+    requires update { slice_index payload.now 0 ≡ 1 }
+    ensures { payload.now ≡ 1 ∷ result.0 ∷ (to_be_bytes w64 result.1 ++ drop 10 payload.now) }
+{
+    (payload[1], first_u64(&payload[2..]))
+}
+
+/// The request of a payload, or `None` where no request has it.
+pub(crate) fn read_request(mut payload: BytesMut) -> Result<Option<Request>, AllocError>
+    ensures request { IfOk result (λ r. IfSome r (Asks payload.items)) }
+    ensures malformed { IfOk result (λ r. IfNone r (Malformed payload.items)) }
+{
+    let bytes = payload.as_slice();
+    match bytes.len() {
+        0 => Ok(None),
+        1 if bytes[0] == SCAN => Ok(Some(Request::Scan)),
+        1 if bytes[0] == STATUS => Ok(Some(Request::Status)),
+        len if len >= UPDATE_HEAD_LEN && bytes[0] == UPDATE => {
+            let (segment, number) = update_head(bytes);
+            payload.advance(UPDATE_HEAD_LEN);
+            let Ok(value) = payload.freeze() else {
+                return Err(AllocError);
+            };
+            Ok(Some(Request::Update {
+                segment,
+                number,
+                value,
+            }))
+        }
+        _ => Ok(None),
+    }
+}
+
+/// Writes the frame of a request behind what the buffer holds.
+///
+/// The payload has at most [`MAX_PAYLOAD`] bytes, so an update's value at most
+/// [`MAX_UPDATE_VALUE`]. The only refusal is [`Refusal::NoMemory`], and the buffer's bytes are then
+/// as they were.
+pub fn write_request(request: &Request, out: &mut BytesMut) -> Result<(), Refusal>
+    requires { length (payload request.now) ≤ max_payload }
+    ensures ok { OnOk result (out.new.items ≡ out.old.items ++ frame (payload request.now)) }
+    ensures err { OnErr result (out.new.items ≡ out.old.items) }
+    ensures memory { IfErr result (λ why. why ≡ Refusal.NoMemory) }
+{
+    match append_request(request, out) {
+        Ok(()) => Ok(()),
+        Err(AllocError) => Err(Refusal::NoMemory),
+    }
+}
+
+fn append_request(request: &Request, out: &mut BytesMut) -> Result<(), AllocError>
+    requires { length (payload request.now) ≤ max_payload }
+    ensures ok { OnOk result (out.new.items ≡ out.old.items ++ frame (payload request.now)) }
+    ensures err { OnErr result (out.new.items ≡ out.old.items) }
+{
+    match request {
+        Request::Update {
+            segment,
+            number,
+            value,
+        } => {
+            start_frame(UPDATE_HEAD_LEN + value.len(), out)?;
+            out.extend_reserved(&[UPDATE, *segment]);
+            out.extend_reserved(&number.to_be_bytes());
+            out.extend_reserved(value.as_slice());
+        }
+        Request::Scan => {
+            start_frame(1, out)?;
+            out.extend_reserved(&[SCAN]);
+        }
+        Request::Status => {
+            start_frame(1, out)?;
+            out.extend_reserved(&[STATUS]);
+        }
+    }
+    Ok(())
+}

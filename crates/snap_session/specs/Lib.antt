@@ -1,0 +1,4 @@
+pub mod Talk
+pub mod Hears
+pub mod Wants
+pub mod Turns

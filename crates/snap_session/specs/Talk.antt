@@ -1,0 +1,99 @@
+-- What a session reads, answers and owes.
+use Rattle.std.specs.Prelude.{◌≡◌, ℕ, ◌≤◌, ◌⊎◌, List, [], ◌∷◌, ◌++◌, length, Option, Some, None, Bool, true, false}
+use Rattle.snap_frame.specs.declared.request.Request.{Request}
+use Rattle.snap_frame.specs.Messages.{max_payload, payload, frame, Asks, Malformed, says}
+use Rattle.snap_frame.specs.Stream.{HasLongLength}
+use Rattle.snap_frame.specs.declared.reply.Reply.{Reply}
+use Rattle.snap_frame.specs.declared.reply.Reply.TheVariants.{Refused}
+use Rattle.snap_frame.specs.declared.frame_buffer.Failure.{Failure}
+use Rattle.snap_frame.specs.declared.frame_buffer.Failure.TheVariants.{TooLarge, NoMemory}
+use Rattle.snap_disk.specs.declared.refusal.Refusal.TheVariants as refusals
+
+-- a request that was handed over, the bytes that came behind it, the bytes that are owed, and why no
+-- more are taken
+pub record Talk : Type 0 where
+  pub asked : Option Request
+  pub held : List ℕ
+  pub owed : List ℕ
+  pub over : Option Failure
+
+abbrev pub start : Talk
+start = record { asked = None; held = []; owed = []; over = None }
+
+-- the frame of a request that was handed over
+abbrev pub asked_bytes : Option Request → List ℕ
+asked_bytes None = []
+asked_bytes (Some q) = frame (payload q)
+
+-- the bytes that came and aren't answered
+abbrev pub came : Talk → List ℕ
+came t = asked_bytes t.asked ++ t.held
+
+-- the payload that refuses a malformed frame, and the one that refuses a length above the limit
+abbrev pub refused_malformed : List ℕ
+refused_malformed = says (Refused refusals.Malformed 0)
+
+abbrev pub refused_too_large : List ℕ
+refused_too_large = says (Refused refusals.TooLarge max_payload)
+
+-- the frames of these payloads, one after another
+abbrev pub frames : List (List ℕ) → List ℕ
+frames [] = []
+frames (x ∷ xs) = frame x ++ frames xs
+
+-- a service in this state answers the payload so: a request by a reply of its own, any other one is refused
+-- as malformed
+abbrev pub Answer : {S : Type 0} → (S → Request → Reply → S → Type 0) → S → List ℕ → List ℕ → S → Type 0
+Answer {S} gives old x y new =
+    ((q : Request) × (r : Reply) × Asks x q × gives old q r new × (y ≡ says r)) ⊎ (Malformed x × (new ≡ old) × (y ≡ refused_malformed))
+
+-- The payloads are answered so, one after another. Between two of them, and before and behind all,
+-- the service may move by `between`.
+abbrev pub Run : {S : Type 0} → (S → S → Type 0) → (S → Request → Reply → S → Type 0) → S → List (List ℕ) → List (List ℕ) → S → Type 0
+Run between gives old [] [] new = between old new
+Run {S} between gives old (x ∷ xs) (y ∷ ys) new =
+    (a : S) × (b : S) × between old a × Answer gives a x y b × Run between gives b xs ys new
+Run between gives old [] (y ∷ ys) new = ⊥
+Run between gives old (x ∷ xs) [] new = ⊥
+
+-- nobody else uses the service
+abbrev pub Stays : {S : Type 0} → S → S → Type 0
+Stays old new = new ≡ old
+
+-- others may have been answered in between
+abbrev pub Moves : {S : Type 0} → (S → Request → Reply → S → Type 0) → S → S → Type 0
+Moves gives old new = (xs : List (List ℕ)) × (ys : List (List ℕ)) × Run Stays gives old xs ys new
+
+-- How it may go on: the bytes that are left of those that came, and the bytes that are owed behind all
+-- replies. Once it is over nothing more is taken or answered.
+abbrev pub Phase : Option Failure → Option Failure → List ℕ → List (List ℕ) → List (List ℕ) → List (List ℕ) → List ℕ → List ℕ → List ℕ → Type 0
+Phase None None taken payloads replies unsaid rest held tail = (unsaid ≡ []) × (tail ≡ []) × (held ≡ rest)
+Phase None (Some TooLarge) taken payloads replies unsaid rest held tail =
+    (unsaid ≡ []) × (tail ≡ frame refused_too_large) × HasLongLength rest
+Phase None (Some NoMemory) taken payloads replies unsaid rest held tail = (length unsaid ≤ 1) × (tail ≡ [])
+Phase (Some a) new taken payloads replies unsaid rest held tail =
+    (new ≡ Some a) × (taken ≡ []) × (payloads ≡ []) × (replies ≡ []) × (unsaid ≡ []) × (tail ≡ [])
+
+-- From one talk to another, with these bytes taken in and these given out: what came is cut into
+-- frames, which the service answers in order, and the replies' frames are owed.
+pub record Goes {S : Type 0} (between : S → S → Type 0) (gives : S → Request → Reply → S → Type 0) (s t : S) (old : Talk) (taken given : List ℕ) (new : Talk) : Type 0 where
+  pub payloads : List (List ℕ)
+  pub replies : List (List ℕ)
+  -- replies that no memory was left for
+  pub unsaid : List (List ℕ)
+  pub rest : List ℕ
+  pub tail : List ℕ
+  pub run : Run between gives s payloads (replies ++ unsaid) t
+  pub cut : came old ++ taken ≡ frames payloads ++ rest
+  pub said : given ++ new.owed ≡ old.owed ++ (frames replies ++ tail)
+  pub phase : Phase old.over new.over taken payloads replies unsaid rest (came new) tail
+
+-- a piece was taken in, or no memory was left
+abbrev pub HasTaken : Talk → List ℕ → Talk → Type 0
+HasTaken old piece new =
+    (new.owed ≡ old.owed) × (new.asked ≡ old.asked) × (((new.over ≡ None) × (new.held ≡ old.held ++ piece)) ⊎ (new.over ≡ Some NoMemory))
+
+-- the frame of a payload is owed behind the rest, or no memory was left
+abbrev pub Owes : Talk → List ℕ → Talk → Bool → Type 0
+Owes old y new true = new ≡ record old { owed = old.owed ++ frame y }
+Owes old y new false = (new.owed ≡ old.owed) × (new.over ≡ Some NoMemory) × (new.asked ≡ old.asked)

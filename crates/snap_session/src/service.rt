@@ -1,0 +1,35 @@
+//! What answers requests: one at a time, or later.
+ghost use Rattle.std.specs.Prelude.{◌≡◌, IfSome, IfNone};
+ghost use Rattle.snap_frame.specs.declared.request.Request.{Request};
+ghost use Rattle.snap_frame.specs.declared.reply.Reply.{Reply};
+ghost use Rattle.snap_frame.specs.Messages.{IsInLimits};
+
+use snap_frame::{Reply, Request};
+
+/// Answers requests, one at a time. It may hand a request over to somebody who works on it
+/// meanwhile, and answer it once that has told its outcome.
+pub trait Service {
+    /// What is told of a request that was handed over.
+    type Outcome;
+
+    /// What it may answer: from the old state the request may get this reply and leave the new
+    /// state.
+    ghost gives: { Self → Request → Reply → Self → Type 0 };
+
+    /// Whether it may hand a request over.
+    ghost hands_over: { Type 0 };
+
+    /// The reply, or `None` where the request was handed over: the service is then as it was, and
+    /// [`finish`](Service::finish) answers the request once its outcome has come. `key` says
+    /// whose request it is.
+    fn answer(&mut self, request: &Request, key: usize) -> Option<Reply>
+        ensures gives { IfSome result (λ r. Self.gives self.old request.now r self.new) }
+        ensures limits { IfSome result (λ r. IsInLimits r) }
+        ensures later { IfNone result (self.new ≡ self.old) }
+        ensures may { IfNone result Self.hands_over };
+
+    /// The reply to a request that was handed over.
+    fn finish(&mut self, request: &Request, outcome: Self::Outcome) -> Reply
+        ensures gives { Self.gives self.old request.now result self.new }
+        ensures limits { IsInLimits result };
+}

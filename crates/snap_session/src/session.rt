@@ -1,0 +1,274 @@
+//! One connection's conversation as a value, over memory.
+//!
+//! A session holds the bytes that came and aren't answered, and the bytes that are owed to the
+//! peer. It reads and writes nothing itself: somebody gives it what came, has it answer, and
+//! takes off what was written, in any pieces and any order of these calls (`specs/Talk.antt`).
+ghost use Rattle.std.specs.Prelude.{◌≡◌, ◌≤◌, ◌<◌, ◌+◌, ◌↔◌, IsTrue, [], length, drop};
+ghost use Rattle.std.specs.Prelude.{Some, None, true, false};
+ghost use Rattle.snap_frame.specs.Stream.{IsPartial};
+ghost use Rattle.snap_frame.specs.Messages.{says, IsInLimits};
+ghost use Rattle.snap_session.specs.Talk.{Talk, Goes, Stays, HasTaken, Owes, start};
+ghost use Rattle.snap_session.specs.Wants.{WantsAt};
+ghost use Rattle.snap_session.specs.Hears.{Hears};
+
+use crate::service::Service;
+use bytes::BytesMut;
+use snap_disk::Refusal;
+use snap_frame::{Failure, Feed, MAX_PAYLOAD, Reply, Request, write_reply};
+use std::alloc::Global;
+use std::marker::Model;
+
+/// No request is answered while this many bytes or more are owed, so a peer that doesn't read
+/// costs at most these and one more reply.
+pub const MAX_OWED: usize = 65_536;
+
+/// How many requests one call answers at most, so that one peer doesn't hold up the others.
+const MAX_ANSWERS: u32 = 64;
+
+/// What stands first among the bytes held.
+#[derive(Drop)]
+enum Heard {
+    Nothing,
+    Asked(Request),
+    Malformed,
+    TooLarge,
+    NoMemory,
+}
+
+/// What a session waits for.
+#[derive(Clone, Copy, Debug, PartialEq, Eq, Drop)]
+pub enum Wants {
+    /// No whole frame is held.
+    Bytes,
+    /// There may be more to answer.
+    Turn,
+    /// A request was handed over, and its outcome hasn't come.
+    Outcome,
+}
+
+/// What one connection has read and owes: the bytes that came and aren't answered, and the bytes
+/// that are owed to the peer.
+///
+/// It is over once a length above the limit came or a growth of memory was refused. From then on
+/// nothing is taken in or answered, and what is owed may still be sent.
+#[derive(Drop)]
+pub struct Session {
+    feed: Feed,
+    /// A request that was handed over and isn't answered.
+    asked: Option<Request>,
+    owed: BytesMut,
+    over: Option<Failure>,
+}
+
+impl Model for Session {
+    ghost use Rattle.std.specs.Prelude.{◌≡◌, None};
+    ghost use Rattle.snap_session.specs.Talk.{Talk};
+
+    ghost Value = { Talk };
+
+    ghost view = { λ s. record {
+      asked = s.asked;
+      held = s.feed.bytes;
+      owed = s.owed.items;
+      over = s.over;
+    } };
+
+    ghost invariant = { λ s. s.over ≡ None → s.feed.failure ≡ None };
+}
+
+impl Session {
+    /// Nothing came and nothing is owed. It takes no memory before the first piece comes.
+    pub fn new(alloc: Global) -> Session
+        ensures { result ≡ start }
+    {
+        Session {
+            feed: Feed::new(alloc),
+            asked: None,
+            owed: BytesMut::new(alloc),
+            over: None,
+        }
+    }
+
+    /// The bytes that are to be written next, in order.
+    pub fn owed(&self) -> &[u8]
+        ensures { result.now ≡ self.now.owed }
+    {
+        self.owed.as_slice()
+    }
+
+    /// Why it takes no more bytes, or `None` while it goes on.
+    pub fn over(&self) -> Option<Failure>
+        ensures { result ≡ self.now.over }
+    {
+        self.over
+    }
+
+    /// Whether no byte of an unfinished frame is held. Asked only while it goes on.
+    pub fn is_between(&self) -> bool
+        ensures { self.now.over ≡ None → (IsTrue result ↔ (self.now.held ≡ [])) }
+    {
+        self.feed.is_between()
+    }
+
+    /// The first n bytes owed were written. At most all of them.
+    pub fn sent(&mut self, n: usize)
+        requires { n ≤ length self.old.owed }
+        ensures { self.new ≡ record self.old { owed = drop n self.old.owed } }
+    {
+        self.owed.advance(n);
+    }
+
+    /// Takes a piece of the stream in. Where memory is refused the session is over. Not called on
+    /// a session that is over.
+    pub fn take_in(&mut self, piece: &[u8])
+        requires { self.old.over ≡ None }
+        ensures { HasTaken self.old piece.now self.new }
+    {
+        if self.feed.push(piece).is_err() {
+            self.over = Some(Failure::NoMemory);
+        }
+    }
+
+    /// Puts the frame of a reply behind what is owed; `false` where memory was refused, and then
+    /// it is over.
+    fn owe(&mut self, reply: &Reply) -> bool
+        requires { IsInLimits reply.now }
+        ensures owes { Owes self.old (says reply.now) self.new result }
+        ensures bounded { length self.new.owed ≤ length self.old.owed + 66004 }
+    {
+        if write_reply(reply, &mut self.owed).is_err() {
+            self.over = Some(Failure::NoMemory);
+            return false;
+        }
+        true
+    }
+
+    /// Takes the first whole frame off.
+    fn hear(&mut self) -> Heard
+        requires { self.old.over ≡ None }
+        ensures { Hears self.old result self.new }
+    {
+        match self.feed.next() {
+            Ok(None) => Heard::Nothing,
+            Ok(Some(request)) => Heard::Asked(request),
+            Err(Refusal::Malformed) => Heard::Malformed,
+            Err(Refusal::TooLarge) => {
+                self.over = Some(Failure::TooLarge);
+                Heard::TooLarge
+            }
+            Err(_) => {
+                self.over = Some(Failure::NoMemory);
+                Heard::NoMemory
+            }
+        }
+    }
+
+    /// Whether no request is handed over.
+    pub fn is_free(&self) -> bool
+        ensures free { result ≡ true → self.now.asked ≡ None }
+        ensures asked { result ≡ false → self.now.asked ≡ None → ⊥ }
+    {
+        self.asked.is_none()
+    }
+
+    /// Whether a reply more may be owed.
+    fn has_room(&self) -> bool
+        ensures { result ≡ true → length self.now.owed < 65536 }
+    {
+        self.owed.len() < MAX_OWED
+    }
+
+    /// Takes back a request that was handed over.
+    fn take_asked(&mut self) -> Option<Request>
+        ensures asked { result ≡ self.old.asked }
+        ensures rest { self.new ≡ record self.old { asked = None } }
+    {
+        self.asked.take()
+    }
+
+    /// Keeps a request that was handed over.
+    fn keep(&mut self, request: Request)
+        ensures { self.new ≡ record self.old { asked = Some request } }
+    {
+        self.asked = Some(request);
+    }
+
+    /// Answers the first whole frame.
+    fn answer_one<S: Service>(&mut self, service: &mut S, key: usize) -> Wants
+        requires going { self.old.over ≡ None }
+        requires free { self.old.asked ≡ None }
+        ensures goes { Goes Stays S.gives service.old service.new self.old [] [] self.new }
+        ensures wants { WantsAt S.hands_over result self.new }
+        ensures bounded { length self.new.owed ≤ length self.old.owed + 66004 }
+    {
+        match self.hear() {
+            Heard::Nothing => return Wants::Bytes,
+            Heard::Asked(request) => match service.answer(&request, key) {
+                Some(reply) => {
+                    self.owe(&reply);
+                }
+                None => {
+                    self.keep(request);
+                    return Wants::Outcome;
+                }
+            },
+            Heard::Malformed => {
+                self.owe(&Reply::Refused {
+                    why: Refusal::Malformed,
+                    detail: 0,
+                });
+            }
+            Heard::TooLarge => {
+                self.owe(&Reply::Refused {
+                    why: Refusal::TooLarge,
+                    detail: MAX_PAYLOAD as u64,
+                });
+            }
+            Heard::NoMemory => {}
+        }
+        Wants::Turn
+    }
+
+    /// Answers whole frames that are held, in order, until none is held, one was handed over, too
+    /// much is owed, or [`MAX_ANSWERS`] are answered. A frame that is no request is refused as
+    /// malformed. A length above the limit is refused, and the session is over. `key` says to the
+    /// service whose requests these are. Not called on a session that is over.
+    pub fn answer<S: Service>(&mut self, service: &mut S, key: usize) -> Wants
+        requires { self.old.over ≡ None }
+        ensures goes { Goes Stays S.gives service.old service.new self.old [] [] self.new }
+        ensures wants { WantsAt (self.old.asked ≡ None → S.hands_over) result self.new }
+        ensures bounded { length self.old.owed ≤ 131540 → length self.new.owed ≤ 131540 }
+    {
+        if !self.is_free() {
+            return Wants::Outcome;
+        }
+        for _ in 0..MAX_ANSWERS {
+            if self.over().is_some() || !self.has_room() {
+                return Wants::Turn;
+            }
+            match self.answer_one(service, key) {
+                Wants::Turn => {}
+                other => return other,
+            }
+        }
+        Wants::Turn
+    }
+
+    /// Answers the request that was handed over. An outcome that nobody waits for is dropped. Not
+    /// called on a session that is over.
+    pub fn finish<S: Service>(&mut self, service: &mut S, outcome: S::Outcome)
+    where
+        S::Outcome: Drop,
+        requires { self.old.over ≡ None }
+        ensures goes { Goes Stays S.gives service.old service.new self.old [] [] self.new }
+        ensures free { self.new.asked ≡ None }
+    {
+        match self.take_asked() {
+            None => {}
+            Some(request) => {
+                let reply = service.finish(&request, outcome);
+                self.owe(&reply);
+            }
+        }
+    }
+}

@@ -1,0 +1,162 @@
+//! A session over any reader and writer, by turns.
+ghost use Rattle.std.specs.Prelude.{◌≡◌, ◌<◌, ◌≤◌, length, None};
+ghost use Rattle.snap_session.specs.Talk.{Stays};
+ghost use Rattle.snap_session.specs.Turns.{Turns, Sends, StandsAt, Serves};
+
+use crate::service::Service;
+use crate::session::{Session, Wants};
+use snap_frame::Failure;
+use std::alloc::Global;
+use std::io;
+use std::io::{Read, Write};
+use std::sync::Wait;
+
+/// How many pieces one turn reads at most, so that one peer doesn't hold up the others.
+const MAX_ROUNDS: u32 = 16;
+
+/// How a connection ended.
+#[derive(Clone, Copy, Debug, PartialEq, Eq, Drop)]
+pub enum End {
+    /// The input ended between frames.
+    Closed,
+    /// The input ended inside a frame.
+    Truncated,
+    /// A length above the limit came: it was refused, as the last reply.
+    TooLarge,
+    /// A read failed.
+    ReadFailed,
+    /// A write failed, or took no byte.
+    WriteFailed,
+    /// A growth of memory was refused.
+    NoMemory,
+}
+
+/// How far a turn came.
+#[derive(Clone, Copy, Debug, PartialEq, Eq, Drop)]
+pub enum Turn {
+    /// There may be more to do at once.
+    Again,
+    /// All that came is answered and written.
+    NeedsInput,
+    /// The writer takes no more bytes for now.
+    NeedsRoom,
+    /// A request was handed over, and its outcome hasn't come.
+    NeedsOutcome,
+    /// The connection has ended.
+    Over(End),
+}
+
+/// How far a write of what is owed came.
+enum Sent {
+    All,
+    Blocked,
+    Failed,
+}
+
+/// Writes what is owed, as far as the writer takes it.
+fn send_owed<W: Write>(session: &mut Session, writer: &mut W) -> Sent
+    ensures { Sends session.old session.new (W.contents writer.old) (W.contents writer.new) result }
+{
+    while !session.owed().is_empty() {
+        match writer.write(session.owed()) {
+            Ok(0) => return Sent::Failed,
+            Ok(n) => session.sent(n),
+            Err(error) if error.kind() == io::ErrorKind::WouldBlock => return Sent::Blocked,
+            Err(_) => return Sent::Failed,
+        }
+    }
+    Sent::All
+}
+
+/// One turn: writes what is owed, answers what is held and reads on, in this order, until one of
+/// them would wait or 16 pieces were read.
+///
+/// A reader or writer says by `WouldBlock` that it would wait. Every other error ends the
+/// connection with no retry, and so does a write that takes no byte. Nothing is read while bytes
+/// are owed, and nothing is answered while [`MAX_OWED`](crate::MAX_OWED) bytes or more are.
+/// `piece` is where a read puts its bytes: it has at least one place.
+pub fn proceed<R: Read, W: Write, S: Service>(
+    session: &mut Session,
+    reader: &mut R,
+    writer: &mut W,
+    service: &mut S,
+    key: usize,
+    piece: &mut [u8],
+) -> Turn
+    requires { 0 < length piece.old }
+    ensures goes { Turns Stays S.gives service.old service.new session.old
+        (R.remaining reader.old) (R.remaining reader.new)
+        (W.contents writer.old) (W.contents writer.new) session.new }
+    ensures stands { StandsAt result session.new (R.remaining reader.new) }
+    ensures bounded { length session.old.owed ≤ 131540 → length session.new.owed ≤ 131540 }
+    ensures free { (S.hands_over → ⊥) → session.old.asked ≡ None → session.new.asked ≡ None }
+    ensures outcome { (S.hands_over → ⊥) → session.old.asked ≡ None
+        → result ≡ Turn.NeedsOutcome → ⊥ }
+{
+    for _ in 0..MAX_ROUNDS {
+        match send_owed(session, writer) {
+            Sent::All => {}
+            Sent::Blocked => return Turn::NeedsRoom,
+            Sent::Failed => return Turn::Over(End::WriteFailed),
+        }
+        match session.over() {
+            None => {}
+            Some(Failure::TooLarge) => return Turn::Over(End::TooLarge),
+            Some(Failure::NoMemory) => return Turn::Over(End::NoMemory),
+        }
+        match session.answer(service, key) {
+            Wants::Bytes => {}
+            Wants::Turn => continue,
+            Wants::Outcome if session.owed().is_empty() => return Turn::NeedsOutcome,
+            Wants::Outcome => continue,
+        }
+        if !session.owed().is_empty() {
+            continue;
+        }
+        match reader.read(piece) {
+            Ok(0) if session.is_between() => return Turn::Over(End::Closed),
+            Ok(0) => return Turn::Over(End::Truncated),
+            Ok(n) => session.take_in(&piece[..n]),
+            Err(error) if error.kind() == io::ErrorKind::WouldBlock => return Turn::NeedsInput,
+            Err(_) => return Turn::Over(End::ReadFailed),
+        }
+    }
+    Turn::Again
+}
+
+/// Answers all that is read, in order, until the input ends or something fails.
+///
+/// It reads pieces of at most 4,096 bytes. What was written then are the frames of the replies of
+/// a run of the service over the requests that were read:
+///
+/// - [`End::Closed`], [`End::Truncated`], [`End::ReadFailed`]: all of them;
+/// - [`End::TooLarge`]: all of them, and the refusal of that length behind them;
+/// - [`End::NoMemory`]: those of all requests that were answered but at most the last one;
+/// - [`End::WriteFailed`]: a beginning of these bytes.
+///
+/// The service hands nothing over. An error of `WouldBlock` is an error here.
+pub fn serve<X: Wait, R: Read, W: Write, S: Service>(
+    rt: &X,
+    alloc: Global,
+    reader: &mut R,
+    writer: &mut W,
+    service: &mut S,
+) -> End
+    requires { S.hands_over → ⊥ }
+    ensures { Serves S.gives service.old service.new
+        (R.remaining reader.old) (R.remaining reader.new)
+        (W.contents writer.old) (W.contents writer.new) result }
+{
+    let mut session = Session::new(alloc);
+    let mut piece = [0u8; 4096];
+    for _ in rt.forever() {
+        match proceed(&mut session, reader, writer, service, 0, &mut piece) {
+            Turn::Again => {}
+            Turn::NeedsInput => return End::ReadFailed,
+            Turn::NeedsRoom => return End::WriteFailed,
+            Turn::NeedsOutcome => unreachable!(),
+            Turn::Over(end) => return end,
+        }
+    }
+    unreachable!()
+}
