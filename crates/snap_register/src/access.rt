@@ -1,7 +1,7 @@
 //! A seat with its table: every step that a seat takes on the registers' words.
 ghost use Rattle.std.specs.Prelude.{◌-◌, ◌≡◌, ℕ, ◌+◌, ◌*◌, ◌<◌, ◌≤◌, ◌^◌, ◌++◌, ◌∷◌, length};
 ghost use Rattle.std.specs.Prelude.{slice_index, slice_get, slice_set, take, Some, [], IsTrue};
-ghost use Rattle.std.specs.Prelude.{IsFalse};
+ghost use Rattle.std.specs.Prelude.{◌↔◌, IsFalse};
 ghost use mathlib.Core.List.{IsPrefix};
 ghost use Rattle.snap_register.specs.History.{entry, only, start_at, number, count};
 ghost use Rattle.snap_register.specs.Rule.{segments, seats, buffers, width, size, given, cell};
@@ -91,7 +91,7 @@ impl Access {
     /// Whether a buffer of j is pinned.
     pub(crate) fn has_looked(&self, j: usize) -> bool
         requires { j < segments self.now.seat.me.0.plan }
-        ensures { IsTrue result → 0 < slice_index self.now.seat.me.0.pins j }
+        ensures { IsTrue result ↔ (0 < slice_index self.now.seat.me.0.pins j) }
     {
         self.pins[j] > 0
     }

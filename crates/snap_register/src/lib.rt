@@ -10,6 +10,8 @@ mod registers;
 mod seats;
 mod setup;
 mod snapshot;
+#[cfg(test)]
+mod tests;
 mod view;
 
 pub use opening::Parts;

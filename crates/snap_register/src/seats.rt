@@ -1,5 +1,5 @@
 //! The two kinds of seat.
-ghost use Rattle.std.specs.Prelude.{◌≡◌, ℕ, ◌+◌, ◌*◌, ◌^◌, ◌<◌, ◌≤◌, length, take, [], IsTrue};
+ghost use Rattle.std.specs.Prelude.{◌≡◌, ℕ, ◌+◌, ◌*◌, ◌^◌, ◌<◌, ◌≤◌, length, take, [], IsTrue, ◌↔◌};
 ghost use Rattle.snap_register.specs.History.{start_at};
 ghost use Rattle.snap_register.specs.Rule.{segments, IsWriter};
 ghost use Rattle.snap_register.specs.Setup.{IsPool, first_pool};
@@ -30,7 +30,7 @@ pub trait Looker {
     /// Whether there was a look at the segment `j`.
     fn has_looked(&self, j: usize) -> bool
         requires segment { j < segments (known self.now).plan }
-        ensures looked { IsTrue result → HasLooked (known self.now) j };
+        ensures looked { IsTrue result ↔ HasLooked (known self.now) j };
 
     /// Looks at the segment `j`: the seat sees all updates that stand in the history at this
     /// moment,
