@@ -289,7 +289,14 @@ impl Access {
         found == counted
     }
 
-    /// A free buffer of the own register i.
+    /// A free buffer of the own register i: one that isn't current and that nobody pins.
+    ///
+    /// The writer knows, for each buffer, all pins that were ever taken on it: those that the current
+    /// word counted while the buffer was current. The buffer's given-back count has those that were
+    /// given back. Where both are equal nobody pins the buffer, and nobody will before it is current
+    /// again, since pins are taken on the current buffer alone. Each of the n + S seats pins at most
+    /// one buffer of a register, and there are n + S + 1 buffers that aren't current, so one of them
+    /// is free: the loop always ends in its `return`.
     pub(crate) fn find_free(&mut self, i: usize, at: usize, counted: &[u64; 34]) -> usize
         requires own { IsWriter self.old.seat.me.0 i × (i < segments self.old.seat.me.0.plan) }
         requires current { (at ≡ self.old.seat.me.0.pool.at)

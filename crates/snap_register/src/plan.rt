@@ -1,3 +1,5 @@
+//! What the rule of the pins speaks of: the table's plan, updates, and what each seat knows.
+
 /// A segment at the start: its number, and the words of its number, length and value.
 #[derive(Drop)]
 pub struct Opening {

@@ -1,4 +1,4 @@
-// The table's rule, and what each step tells.
+//! The table of the registers' words, its rule (specs/Rule.antt), and what each step on it tells.
 ghost use Rattle.snap_register.specs.Rule.{Kept, pinning, giving, glanced, read, checked, drafted};
 ghost use Rattle.snap_register.specs.Rule.{published, onlooker, reader, less, first_role};
 ghost use Rattle.snap_register.specs.Rule.{other_roles, joint, adopted, spent};
