@@ -1,0 +1,14 @@
+pub mod Lines
+pub mod Places
+pub mod Sums
+pub mod Blocks
+pub mod Keeps
+pub mod Pools
+pub mod Joining
+pub mod Later
+pub mod Views
+pub mod Opens
+pub mod Updates
+pub mod Drafts
+pub mod Pushing
+pub mod Packed

@@ -1,0 +1,36 @@
+use Rattle.std.proofs.Common.{rules, ◌≡◌, ℕ, ◌<◌, sym, ap, subst, ◌∙◌, arith}
+use Rattle.atomic_table.specs.Seated.{TableId}
+use Rattle.snap_register.specs.declared.plan.Plan.{Plan}
+use Rattle.snap_register.specs.declared.plan.SeatView.{SeatView}
+use Rattle.snap_register.specs.Setup.{IsSized}
+use Rattle.snap_register.proofs.Keeps.{pins}
+use Rattle.snap_register.proofs.Places.{word_inside}
+use Rattle.snap_register.proofs.Later.{seated_pinned}
+use Rattle.snap_register.proofs.access.Access.pin.Goals as goal
+
+pub fetch_add-found-requires : goal.fetch_add-found-requires
+fetch_add-found-requires c =
+    let me = c.args.self.now in
+    let own : me.seat.table_id ≡ c.deref.result.now.shared.table_id = search rules in
+    let seated = me.seated in
+    let l = seated.left_is in
+    let sh = seated.share_is in
+    let wp = seated.wide_pins in
+    let wm = seated.wide_records in
+    let lj = c.requires.0 in
+    let some = c.requires.2 in (
+      own,
+      subst (λ (z : ℕ). c.args.j < z) (sym seated.words_are ∙ ap (λ (t : TableId). t.words) own) (word_inside me.seat.me.0.plan c.args.j lj),
+      pins (Unit {0}) _ _ _ me.seat.me c.args.j seated.here lj c.requires.1 (omega arith) (omega arith) (omega arith) (omega arith),
+    )
+
+pub invariant_of-self : goal.invariant_of-self
+invariant_of-self c =
+    let me = c.args.self.now in
+    let told = c.fetch_add-found.ensures in
+    let after = c.fetch_add-found.new.seat in
+    record {
+      own = told.0 ∙ me.own;
+      sized = subst (λ (p : Plan). IsSized me.segments me.scanners me.head me.words p) (sym (ap (λ (v : SeatView). v.plan) told.2.3)) me.sized;
+      seated = seated_pinned (Unit {0}) _ _ _ _ _ _ me.pins me.left _ me.seat.me after.me c.args.j c.fetch_add-found.result c.requires.0 (search rules) (ap (λ (t : TableId). t.words) told.0) told.2.1 told.2.2 (let some = c.requires.2 in omega arith) told.2.0.later told.2.0.legal me.sized told.2.3 me.seated;
+    }

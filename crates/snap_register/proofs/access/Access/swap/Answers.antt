@@ -1,0 +1,31 @@
+use Rattle.std.proofs.Common.{rules, ◌*◌, ◌^◌, ◌≡◌, ℕ, ◌<◌, sym, ap, subst, ◌∙◌}
+use Rattle.atomic_table.specs.Seated.{TableId}
+use Rattle.snap_register.specs.declared.plan.Plan.{Plan}
+use Rattle.snap_register.specs.declared.plan.SeatView.{SeatView}
+use Rattle.snap_register.specs.Rule.{buffers}
+use Rattle.snap_register.specs.Setup.{IsSized}
+use Rattle.snap_register.proofs.Pools.{publishes}
+use Rattle.snap_register.proofs.Places.{word_inside}
+use Rattle.snap_register.proofs.Later.{seated_shown, publishes_later}
+use Rattle.snap_register.proofs.access.Access.swap.Goals as goal
+
+pub swap-found-requires : goal.swap-found-requires
+swap-found-requires c =
+    let me = c.args.self.now in
+    let own : me.seat.table_id ≡ c.deref.result.now.shared.table_id = search rules in (
+      own,
+      subst (λ (z : ℕ). c.args.i < z) (sym me.seated.words_are ∙ ap (λ (t : TableId). t.words) own) (word_inside me.seat.me.0.plan c.args.i c.requires.own.1),
+      publishes (Unit {0}) _ _ _ me.seat.me c.args.i _ me.seated.here c.requires.own.0 c.requires.own.1 (subst (λ (z : ℕ). z < buffers me.seat.me.0.plan) c.requires.buffer.0 c.requires.buffer.1) c.requires.next c.requires.view (ap (λ (z : ℕ). z * 2 ^ 56) c.requires.buffer.0),
+    )
+
+pub invariant_of-self : goal.invariant_of-self
+invariant_of-self c =
+    let me = c.args.self.now in
+    let told = c.swap-found.ensures in
+    let after = c.swap-found.new.seat in
+    let shown = told.2.0 in
+    record {
+      own = told.0 ∙ me.own;
+      sized = subst (λ (p : Plan). IsSized me.segments me.scanners me.head me.words p) (sym (ap (λ (v : SeatView). v.plan) shown.same)) me.sized;
+      seated = seated_shown (Unit {0}) _ _ _ _ _ _ me.pins me.left me.seat.me after.me _ _ (ap (λ (t : TableId). t.words) told.0) shown.same told.2.2 (publishes_later me.seat.me.0 after.me.0 c.args.i _ shown) shown.legal me.sized me.seated;
+    }

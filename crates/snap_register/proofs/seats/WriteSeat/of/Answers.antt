@@ -1,0 +1,25 @@
+use Rattle.std.proofs.Common.{◌≤◌, ap, sym, ◌∙◌, arith, length, get_or, List}
+use Rattle.std.proofs.lemmas.List.{length-replicate, get_or-replicate}
+use Rattle.snap_register.specs.declared.plan.Pool.{Pool}
+use Rattle.snap_register.specs.declared.plan.Entry.{Entry}
+use Rattle.snap_register.specs.History.{count}
+use Rattle.snap_register.specs.Rule.{buffers}
+use Rattle.snap_register.proofs.seats.WriteSeat.of.Goals as goal
+
+pub invariant_of-result : goal.invariant_of-result
+invariant_of-result c =
+    let v = c.args.access.seat.me.0 in
+    let d = c.requires.pool in
+    let sized = c.args.access.sized in
+    let few : buffers v.plan ≤ 34 = let a = sized.few in let b = sized.few_scanners in let e = sized.segments_are in let f = sized.scanners_are in omega arith in
+    let none = ap (λ (h : List Entry). count c.args.segment h) c.requires.number.1 in
+    record {
+      role = c.requires.role.0;
+      inside = c.requires.role.1;
+      number_is = let n = c.requires.number.0 in omega arith;
+      at_is = sym (ap (λ (x : Pool). x.at) d);
+      at_inside = omega arith;
+      tried_is = ap (λ (x : Pool). x.tried) d;
+      counts = ap (λ (x : Pool). length x.counted) d ∙ length-replicate (buffers v.plan) 0;
+      counted_are = λ b lb. get_or-replicate 34 b 0 0 (omega arith) ∙ sym (ap (λ (x : Pool). get_or x.counted b 0) d ∙ get_or-replicate (buffers v.plan) b 0 0 lb);
+    }

@@ -1,0 +1,7 @@
+pub mod History
+pub mod Rule
+pub mod Setup
+pub mod Seat
+pub mod Parts
+pub mod Packing
+pub mod Held

@@ -1,0 +1,39 @@
+-- The seats of one opening.
+use Rattle.std.specs.Prelude.{◌≡◌, ℕ, ◌+◌, ◌^◌, ◌<◌, List, [], length, slice_get, Some, None}
+use Rattle.snap_register.specs.declared.plan.Opening.{Opening}
+use Rattle.snap_register.specs.declared.plan.Plan.{Plan}
+use Rattle.snap_register.specs.History.{starts}
+use Rattle.snap_register.specs.Packing.{IsBlock}
+use Rattle.snap_register.specs.Rule.{segments}
+use Rattle.snap_register.specs.Seat.{Known}
+use Rattle.atomic_table.specs.Seated.{TableId}
+
+-- a seat that has seen nothing yet, with all its looks, that writes the segments from `low` on and below `high`
+pub record IsNewSeat (z : TableId) (p : Plan) (low high : ℕ) (a : Known) : Type 0 where
+  pub table_is : a.table ≡ z
+  pub plan_is : a.plan ≡ p
+  pub seen_is : a.seen ≡ []
+  pub low_is : a.low ≡ low
+  pub high_is : a.high ≡ high
+  pub left_is : a.left ≡ p.looks
+
+-- the seats are those of the writers, in order of their segments
+abbrev pub AreWriters : TableId → Plan → List Known → Type 0
+AreWriters z p xs = (i : ℕ) (a : Known) → slice_get xs i ≡ Some a → IsNewSeat z p i (i + 1) a
+
+-- the seats write nothing
+abbrev pub AreReaders : TableId → Plan → List Known → Type 0
+AreReaders z p xs = (i : ℕ) (a : Known) → slice_get xs i ≡ Some a → IsNewSeat z p 0 0 a
+
+-- at the start each segment has its number and its value
+pub record IsOpening (p : Plan) (looks : ℕ) (values : List (ℕ × List ℕ)) : Type 0 where
+  pub segments_are : segments p ≡ length values
+  pub looks_are : p.looks ≡ looks
+  pub each : (i : ℕ) (x : ℕ × List ℕ) → slice_get values i ≡ Some x → starts p i ≡ x
+
+-- the words hold the number and the value
+pub record IsPacked (x : ℕ × List ℕ) (o : Opening) : Type 0 where
+  pub number_is : o.number ≡ x.0
+  pub low : x.0 < 2 ^ 63
+  pub wide : length o.words.items ≡ 512
+  pub block : IsBlock o.words.items 0 x.0 x.1

@@ -1,0 +1,128 @@
+-- What a caller sees of a seat.
+use Rattle.std.specs.Prelude.{◌≡◌, ◌≢◌, ℕ, ◌+◌, ◌<◌, ◌≤◌, ◌^◌, ◌==◌, Option, Some, None, cond, List, [], ◌∷◌, ◌++◌, length, slice_index, slice_get}
+use Rattle.atomic_table.specs.Seated.{TableId}
+use Rattle.snap_history.specs.History.{Update, IsBeginning, number_after, value_after, updates_of}
+use Rattle.snap_register.specs.declared.plan.Plan.{Plan}
+use Rattle.snap_register.specs.declared.plan.SeatView.{SeatView}
+use Rattle.snap_register.specs.declared.view.View.{View}
+use Rattle.snap_register.specs.declared.view.View.TheVariants.{Collected, Borrowed}
+use Rattle.snap_register.specs.History.{starts, updates, start_at}
+use Rattle.snap_register.specs.Rule.{segments}
+
+-- the table and its plan, the updates that the seat has seen, the segments that it writes, from `low` on and below `high`,
+-- which buffers and which records its last looks found, and how many looks it has left
+pub record Known : Type 0 where
+  pub table : TableId
+  pub plan : Plan
+  pub seen : List Update
+  pub low : ℕ
+  pub high : ℕ
+  pub pins : List ℕ
+  pub records : List ℕ
+  pub left : ℕ
+
+abbrev pub known : TableId → SeatView → Known
+known z v = record { table = z; plan = v.plan; seen = updates v.seen; low = v.low; high = v.high; pins = v.pins; records = v.records; left = v.left }
+
+-- the number that the last look at the segment j told
+abbrev pub looked : Known → ℕ → Option ℕ
+looked a j = cond (slice_index a.pins j == 0) None (Some ((start_at a.plan j).number + slice_index a.records j))
+
+-- the segment that a writer's seat writes
+abbrev pub own_of : Known → ℕ
+own_of a = a.low
+
+-- the number and the value of the segment i after these updates
+abbrev pub number_in : Known → List Update → ℕ → ℕ
+number_in a h i = number_after (starts a.plan) h i
+
+abbrev pub value_in : Known → List Update → ℕ → List ℕ
+value_in a h i = value_after (starts a.plan) h i
+
+-- the numbers of what was seen are below 2^63
+abbrev pub IsBelow : Known → Type 0
+IsBelow a = (i : ℕ) → i < segments a.plan → number_in a a.seen i < 2 ^ 63
+
+-- the seats are of one opening
+pub record AreTogether (a b : Known) : Type 0 where
+  pub table : b.table ≡ a.table
+  pub plan : b.plan ≡ a.plan
+
+-- the seat has seen more, at the end of its list, and no further update of its own segment
+pub record Grows (a b : Known) : Type 0 where
+  pub table : b.table ≡ a.table
+  pub plan : b.plan ≡ a.plan
+  pub low : b.low ≡ a.low
+  pub high : b.high ≡ a.high
+  pub later : IsBeginning a.seen b.seen
+  pub own : (i : ℕ) → a.low ≤ i → i < a.high → number_in a b.seen i ≡ number_in a a.seen i
+
+-- the same, and nothing else: no look was taken, and the last looks are as they were
+pub record Meets (a b : Known) : Type 0 where
+  pub grows : Grows a b
+  pub looks : (i : ℕ) → looked b i ≡ looked a i
+  pub left : b.left ≡ a.left
+
+-- the last look at j told this number, and those at the other segments are as they were
+pub record Looks (a b : Known) (j number : ℕ) : Type 0 where
+  pub here : looked b j ≡ Some number
+  pub others : (i : ℕ) → i ≢ j → looked b i ≡ looked a i
+
+-- there was a look at j
+abbrev pub HasLooked : Known → ℕ → Type 0
+HasLooked a j = looked a j ≢ None
+
+-- there was one, which told a number above the start's
+pub record HasFoundUpdate (a : Known) (j : ℕ) : Type 0 where
+  pub told : ℕ
+  pub is : looked a j ≡ Some told
+  pub above : (starts a.plan j).0 < told
+
+-- the value is that of the number last looked at: of j after a beginning of what was seen in which j has that number
+pub record IsValue (a : Known) (j : ℕ) (value : List ℕ) : Type 0 where
+  pub part : List Update
+  pub beginning : IsBeginning part a.seen
+  pub number : looked a j ≡ Some (number_in a part j)
+  pub value_is : value ≡ value_in a part j
+
+-- the list has each segment's number and value after these updates
+pub record IsMemory (a : Known) (part : List Update) (xs : List (ℕ × List ℕ)) : Type 0 where
+  pub size : length xs ≡ segments a.plan
+  pub each : (i : ℕ) → i < segments a.plan → slice_get xs i ≡ Some (number_in a part i, value_in a part i)
+
+-- the list has the memory after a beginning of what was seen, in which j has the number below the one last looked at
+pub record IsView (a : Known) (j : ℕ) (xs : List (ℕ × List ℕ)) : Type 0 where
+  pub part : List Update
+  pub beginning : IsBeginning part a.seen
+  pub before : looked a j ≡ Some (number_in a part j + 1)
+  pub memory : IsMemory a part xs
+
+-- all last looks told the numbers after a beginning of what was seen, which has all updates of the own segment
+pub record IsCollected (a : Known) : Type 0 where
+  pub part : List Update
+  pub beginning : IsBeginning part a.seen
+  pub whole : number_in a part (own_of a) ≡ number_in a a.seen (own_of a)
+  pub each : (i : ℕ) → i < segments a.plan → looked a i ≡ Some (number_in a part i)
+
+-- the last look at j found an update, and a beginning of what was seen that lacks just that update of j has all updates of the own segment
+pub record IsBorrowed (a : Known) (j : ℕ) : Type 0 where
+  pub inside : j < segments a.plan
+  pub found : HasFoundUpdate a j
+  pub whole : (part : List Update) → IsBeginning part a.seen → looked a j ≡ Some (number_in a part j + 1) → number_in a part (own_of a) ≡ number_in a a.seen (own_of a)
+
+-- an update of this seat may take this view along
+abbrev pub MayPublish : Known → View → Type 0
+MayPublish a Collected = IsCollected a
+MayPublish a (Borrowed j) = IsBorrowed a j
+
+-- the update of the own segment to this value stands at the end of what is seen
+pub record Shows (a b : Known) (value : List ℕ) : Type 0 where
+  pub table : b.table ≡ a.table
+  pub plan : b.plan ≡ a.plan
+  pub low : b.low ≡ a.low
+  pub high : b.high ≡ a.high
+  pub looks : (i : ℕ) → looked b i ≡ looked a i
+  pub left : b.left ≡ a.left
+  pub between : List Update
+  pub seen : b.seen ≡ (a.seen ++ between) ++ record { segment = own_of a; value = value } ∷ []
+  pub others : updates_of (own_of a) between ≡ 0

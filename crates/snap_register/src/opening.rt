@@ -1,0 +1,189 @@
+//! A table, and the seats at it.
+ghost use Rattle.std.specs.Prelude.{◌≡◌, ℕ, ◌+◌, ◌*◌, ◌^◌, ◌<◌, ◌≤◌, ◌++◌, [], length, map};
+ghost use Rattle.std.specs.Prelude.{replicate, IfOk, OnOk, slice_index, false};
+ghost use Rattle.std.specs.List.{flat_map};
+ghost use Rattle.std.specs.Arc.{arc_value};
+ghost use Rattle.atomic_table.specs.Seated.{TableId};
+ghost use Rattle.snap_register.specs.History.{start_at};
+ghost use Rattle.snap_register.specs.Rule.{segments, seats, size};
+ghost use Rattle.snap_register.specs.Parts.{AreWriters, AreReaders};
+ghost use Rattle.snap_register.specs.Setup.{plan_with, plan_of, newcomer, unused, laid, IsReady};
+ghost use Rattle.snap_register.specs.Setup.{IsSized, IsFirst, IsFresh};
+
+use crate::access::Access;
+use crate::plan::Opening;
+use crate::seats::{ReadSeat, WriteSeat};
+use crate::setup::{Setup, SplitReader, SplitWriter, TableSeat, WordTable};
+use atomic_table::Table;
+use std::alloc::{AllocError, Global};
+use std::snapshot::Snapshot;
+use std::sync::Arc;
+
+/// The counts of a table.
+#[derive(Clone, Copy)]
+struct Sizes {
+    segments: usize,
+    scanners: usize,
+    head: usize,
+    words: usize,
+    looks: u64,
+}
+
+fn append_zeros(words: &mut Vec<u64>, count: usize) -> Result<(), AllocError>
+    ensures { OnOk result (words.new.items ≡ words.old.items ++ replicate count 0) }
+{
+    for _ in 0..count {
+        words.push(0)?;
+    }
+    Ok(())
+}
+
+fn append(words: &mut Vec<u64>, x: &Opening, rest: usize) -> Result<(), AllocError>
+    ensures { OnOk result (words.new.items ≡ words.old.items ++
+        (x.now.words.items ++ replicate rest 0)) }
+{
+    words.extend_from_slice(x.words.as_slice())?;
+    append_zeros(words, rest)
+}
+
+fn lay(
+    alloc: Global,
+    values: &Vec<Opening>,
+    front: usize,
+    rest: usize,
+) -> Result<Vec<u64>, AllocError>
+    ensures { IfOk result (λ v. v.items ≡ replicate front 0 ++ flat_map
+        (λ x. x.words.items ++ replicate rest 0) values.now.items) }
+{
+    let mut words = Vec::new(alloc);
+    append_zeros(&mut words, front)?;
+    for x in values {
+        append(&mut words, x, rest)?;
+    }
+    Ok(words)
+}
+
+// A access for a fresh seat.
+fn sit(table: &Arc<WordTable, Global>, seat: TableSeat, sizes: Sizes) -> Result<Access, AllocError>
+    requires own { seat.table_id ≡ (arc_value table.now).shared.table_id }
+    requires sized { IsSized sizes.segments sizes.scanners sizes.head sizes.words seat.me.0.plan
+        × (sizes.looks ≡ seat.me.0.plan.looks) }
+    requires fresh { IsFresh seat.table_id.words seat.me }
+    ensures { IfOk result (λ c. (c.seat.table_id ≡ seat.table_id) × (c.seat.me ≡ seat.me)) }
+{
+    let table = Arc::try_clone(table)?;
+    Ok(Access {
+        table,
+        seat,
+        segments: sizes.segments,
+        scanners: sizes.scanners,
+        head: sizes.head,
+        words: sizes.words,
+        pins: [0; 16],
+        left: sizes.looks,
+    })
+}
+
+/// The seats of one opening.
+#[derive(Drop)]
+pub struct Parts {
+    /// The writers' seats, one for each segment, in order.
+    pub writers: Vec<WriteSeat>,
+    /// The scanners' seats.
+    pub scanners: Vec<ReadSeat>,
+}
+
+// Gives a seat to each writer.
+fn seat_writers(
+    alloc: Global,
+    table: &Arc<WordTable, Global>,
+    place: &mut TableSeat,
+    sizes: Sizes,
+    values: &Vec<Opening>,
+) -> Result<Vec<WriteSeat>, AllocError>
+    requires own { place.old.table_id ≡ (arc_value table.now).shared.table_id }
+    requires sized { IsSized sizes.segments sizes.scanners sizes.head sizes.words place.old.me.0.plan
+        × (sizes.looks ≡ place.old.me.0.plan.looks) }
+    requires first { IsFirst place.old.table_id.words (seats place.old.me.0.plan) place.old.me
+        × (place.old.me.0.low ≡ 0) × (place.old.me.0.high ≡ sizes.segments) }
+    requires numbers { (length values.now.items ≡ sizes.segments) × ((i : ℕ)
+        → i < segments place.old.me.0.plan
+        → slice_index (map (λ x. x.number) values.now.items) i
+        ≡ (start_at place.old.me.0.plan i).number) }
+    ensures place { IfOk result (λ _. IsFirst place.new.table_id.words sizes.scanners place.new.me
+        × (place.new.table_id ≡ place.old.table_id) × (place.new.me.0.plan ≡ place.old.me.0.plan)) }
+    ensures seats { IfOk result (λ v. (length v.items ≡ sizes.segments)
+        × AreWriters place.old.table_id place.old.me.0.plan v.items) }
+{
+    let mut writers = Vec::new(alloc);
+    for i in 0..sizes.segments {
+        let seat = table.shared.split_seat::<SplitWriter>(place);
+        let number = values[i].number;
+        writers.push(WriteSeat::of(sit(table, seat, sizes)?, i, number))?;
+    }
+    Ok(writers)
+}
+
+// Gives a seat to each scanner.
+fn seat_readers(
+    alloc: Global,
+    table: &Arc<WordTable, Global>,
+    place: &mut TableSeat,
+    sizes: Sizes,
+) -> Result<Vec<ReadSeat>, AllocError>
+    requires own { place.old.table_id ≡ (arc_value table.now).shared.table_id }
+    requires sized { IsSized sizes.segments sizes.scanners sizes.head sizes.words place.old.me.0.plan
+        × (sizes.looks ≡ place.old.me.0.plan.looks) }
+    requires first { IsFirst place.old.table_id.words sizes.scanners place.old.me }
+    ensures { IfOk result (λ v. (length v.items ≡ sizes.scanners)
+        × AreReaders place.old.table_id place.old.me.0.plan v.items) }
+{
+    let mut readers = Vec::new(alloc);
+    for k in 0..sizes.scanners {
+        let seat = table.shared.split_seat::<SplitReader>(place);
+        readers.push(ReadSeat::of(sit(table, seat, sizes)?))?;
+    }
+    Ok(readers)
+}
+
+/// The seats over a table whose first records hold these words.
+pub(crate) fn open(
+    alloc: Global,
+    values: &Vec<Opening>,
+    head: usize,
+    scanners: usize,
+    looks: u64,
+) -> Result<Parts, AllocError>
+    requires count { (0 < length values.now.items) × (length values.now.items ≤ 16)
+        × (scanners ≤ 16) }
+    requires ready { IsReady (plan_with scanners looks head values.now.items) }
+    ensures counts { IfOk result (λ r. (length r.writers.items ≡ length values.now.items)
+        × (length r.scanners.items ≡ scanners)) }
+    ensures seats { IfOk result (λ r. (z : TableId)
+        × AreWriters z (plan_with scanners looks head values.now.items) r.writers.items
+        × AreReaders z (plan_with scanners looks head values.now.items) r.scanners.items) }
+{
+    let n = values.len();
+    let buffers = n + scanners + 2;
+    let width = (n + 1) * head;
+    let rest = n * head + (n + scanners + 1) * width;
+    let words = lay(alloc, values, n + n * buffers, rest)?;
+    let setup = Setup {
+        scanners,
+        looks,
+        head,
+        values: Snapshot::of(values),
+    };
+    let (table, mut place) = Table::of_words(alloc, words.as_slice(), &setup)?;
+    let table = Arc::new(alloc, table)?;
+    let sizes = Sizes {
+        segments: n,
+        scanners,
+        head,
+        words: n + (n * buffers + n * buffers * width),
+        looks,
+    };
+    let writers = seat_writers(alloc, &table, &mut place, sizes, values)?;
+    let scanners = seat_readers(alloc, &table, &mut place, sizes)?;
+    Ok(Parts { writers, scanners })
+}

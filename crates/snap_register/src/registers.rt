@@ -1,0 +1,79 @@
+//! Registers that start with given numbers and values.
+ghost use Rattle.std.specs.Prelude.{◌≡◌, ℕ, ◌^◌, ◌<◌, ◌≤◌, length, map, slice_get, Some, IfOk};
+ghost use Rattle.atomic_table.specs.Seated.{TableId};
+ghost use Rattle.snap_register.specs.declared.plan.Plan.{Plan};
+ghost use Rattle.snap_register.specs.Packing.{value_at, IsBlock};
+ghost use Rattle.snap_register.specs.Parts.{IsOpening, AreWriters, AreReaders};
+
+use crate::opening::{Parts, open};
+use crate::packing::{BLOCK_WORDS, word_of};
+use crate::plan::Opening;
+use std::alloc::{AllocError, Global};
+
+/// Registers that threads share, one for each segment.
+pub struct Registers;
+
+impl Registers {
+    /// Registers of which segment i starts with the number and the value `values[i]`: one seat for
+    /// each segment's writer and one for each scanner, each with so many `looks`. Nobody has seen
+    /// an
+    /// update yet.
+    ///
+    /// Where memory runs out it answers the `AllocError`, and nothing is kept.
+    pub fn open(
+        alloc: Global,
+        values: &[(u64, Vec<u8>)],
+        scanners: usize,
+        looks: u64,
+    ) -> Result<Parts, AllocError>
+        requires count { (0 < length values.now) × (length values.now ≤ 16) }
+        requires scanners { scanners ≤ 16 }
+        requires looks { looks ≤ 2 ^ 50 }
+        requires numbers { (i : ℕ) (x : _) → slice_get values.now i ≡ Some x → x.0 < 2 ^ 63 }
+        requires sizes { (i : ℕ) (x : _) → slice_get values.now i ≡ Some x
+            → length x.1.items ≤ 4080 }
+        ensures writers { IfOk result (λ r. length r.writers.items ≡ length values.now) }
+        ensures scanners { IfOk result (λ r. length r.scanners.items ≡ scanners) }
+        ensures seats { IfOk result (λ r. (z : TableId) × (p : Plan)
+            × IsOpening p looks (map (λ x. (x.0, x.1.items)) values.now)
+            × AreWriters z p r.writers.items × AreReaders z p r.scanners.items) }
+    {
+        let mut openings = Vec::new(alloc);
+        for start in values {
+            openings.push(opening_of(alloc, start.0, &start.1)?)?;
+        }
+        open(alloc, &openings, BLOCK_WORDS, scanners, looks)
+    }
+}
+
+// The words of the number and the value.
+fn opening_of(alloc: Global, number: u64, value: &[u8]) -> Result<Opening, AllocError>
+    requires { length value.now ≤ 4080 }
+    ensures number { IfOk result (λ x. x.number ≡ number) }
+    ensures size { IfOk result (λ x. length x.words.items ≡ 512) }
+    ensures block { IfOk result (λ x. IsBlock x.words.items 0 number value.now) }
+{
+    let mut words = [0u64; BLOCK_WORDS];
+    pack(number, value, &mut words);
+    Ok(Opening {
+        number,
+        words: words.as_slice().to_vec(alloc)?,
+    })
+}
+
+// Writes the block of the number and the value.
+fn pack(number: u64, value: &[u8], words: &mut [u64])
+    requires bytes { length value.now ≤ 4080 }
+    requires words { length words.old ≡ 512 }
+    ensures size { length words.new ≡ 512 }
+    ensures block { IsBlock words.new 0 number value.now }
+{
+    let mut bytes = [0u8; 4080];
+    bytes[..value.len()].copy_from_slice(value);
+    words[0] = number;
+    words[1] = value.len() as u64;
+    for q in 0..510 {
+        let at = 8 * q;
+        words[2 + q] = word_of(&bytes[at..at + 8]);
+    }
+}

@@ -1,0 +1,241 @@
+//! The two kinds of seat.
+ghost use Rattle.std.specs.Prelude.{◌≡◌, ℕ, ◌+◌, ◌*◌, ◌^◌, ◌<◌, ◌≤◌, length, take, [], IsTrue, ◌↔◌};
+ghost use Rattle.snap_register.specs.History.{start_at};
+ghost use Rattle.snap_register.specs.Rule.{segments, IsWriter};
+ghost use Rattle.snap_register.specs.Setup.{IsPool, first_pool};
+ghost use Rattle.snap_register.specs.Seat.{Known, known as known_of, own_of, number_in, IsBelow};
+ghost use Rattle.snap_register.specs.Seat.{AreTogether, Grows, Meets, Looks, HasLooked};
+ghost use Rattle.snap_register.specs.Seat.{HasFoundUpdate, IsValue, IsView, MayPublish, Shows};
+
+use crate::access::Access;
+use crate::snapshot::SnapshotBuf;
+use crate::view::View;
+use std::marker::Model;
+
+/// What both kinds of seat can do. A seat has a list of the updates that it has seen. The lists of
+/// all seats of one opening are beginnings of one history.
+pub trait Looker {
+    // What the seat knows of the registers.
+    ghost known: { Self → Known };
+
+    /// How many looks it may still take. Each look takes one off, and nothing else does.
+    fn looks_left(&self) -> u64
+        ensures left { result ≡ (known self.now).left };
+
+    /// How many segments there are.
+    fn segments(&self) -> usize
+        ensures count { result ≡ segments (known self.now).plan }
+        ensures some { (0 < result) × (result ≤ 16) };
+
+    /// Whether there was a look at the segment `j`.
+    fn has_looked(&self, j: usize) -> bool
+        requires segment { j < segments (known self.now).plan }
+        ensures looked { IsTrue result ↔ HasLooked (known self.now) j };
+
+    /// Looks at the segment `j`: the seat sees all updates that stand in the history at this
+    /// moment,
+    /// and the number of `j` among them is the answer. The record that was found stays as it is
+    /// until the seat's next look at `j`. A look waits for nobody.
+    fn look(&mut self, j: usize) -> u64
+        requires segment { j < segments (known self.old).plan }
+        requires left { 0 < (known self.old).left }
+        ensures seen { Grows (known self.old) (known self.new) }
+        ensures below { IsBelow (known self.new) }
+        ensures number { result ≡ number_in (known self.new) (known self.new).seen j }
+        ensures looked { Looks (known self.old) (known self.new) j result }
+        ensures left { (known self.new).left + 1 ≡ (known self.old).left };
+
+    /// Writes the value of the record of the last look at `j` to the front of `out`, and answers
+    /// its
+    /// length.
+    fn value(&mut self, j: usize, out: &mut [u8]) -> usize
+        requires segment { j < segments (known self.old).plan }
+        requires looked { HasLooked (known self.old) j }
+        requires room { 4080 ≤ length out.old }
+        ensures value { IsValue (known self.old) j (take result out.new) }
+        ensures size { result ≤ 4080 }
+        ensures same { known self.new ≡ known self.old };
+
+    /// Fills `out` with the view of the record of the last look at `j`: the memory that the scan
+    /// inside that update answered.
+    fn view(&mut self, j: usize, out: &mut SnapshotBuf)
+        requires segment { j < segments (known self.old).plan }
+        requires updated { HasFoundUpdate (known self.old) j }
+        requires room { length out.old ≡ segments (known self.old).plan }
+        ensures view { IsView (known self.old) j out.new }
+        ensures same { known self.new ≡ known self.old };
+}
+
+/// A seat that looks and writes nothing.
+#[derive(Drop)]
+pub struct ReadSeat {
+    access: Access,
+}
+
+impl Model for ReadSeat {
+    ghost use Rattle.std.specs.Prelude.{◌≡◌, []};
+    ghost use Rattle.snap_register.specs.Seat.{Known, known};
+
+    ghost Value = { Known };
+
+    ghost view = { λ s. known s.access.seat.table_id s.access.seat.me.0 };
+
+    ghost invariant = { λ s. (s.access.seat.me.0.low ≡ 0) × (s.access.seat.me.0.high ≡ 0) };
+}
+
+impl Looker for ReadSeat {
+    ghost known = { λ s. s };
+
+    fn looks_left(&self) -> u64 {
+        self.access.left
+    }
+
+    fn segments(&self) -> usize {
+        self.access.count_segments()
+    }
+
+    fn has_looked(&self, j: usize) -> bool {
+        self.access.has_looked(j)
+    }
+
+    fn look(&mut self, j: usize) -> u64 {
+        self.access.look(j)
+    }
+
+    fn value(&mut self, j: usize, out: &mut [u8]) -> usize {
+        self.access.value(j, out)
+    }
+
+    fn view(&mut self, j: usize, out: &mut SnapshotBuf) {
+        self.access.view(j, out);
+    }
+}
+
+impl ReadSeat {
+    pub(crate) fn of(access: Access) -> ReadSeat
+        requires { (access.seat.me.0.low ≡ 0) × (access.seat.me.0.high ≡ 0) }
+        ensures { result ≡ known_of access.seat.table_id access.seat.me.0 }
+    {
+        ReadSeat { access }
+    }
+
+    /// Afterwards both seats have seen the same: all that either had seen, and all that stands in
+    /// the history at a moment of this call. It isn't a look, and the last looks of both stay.
+    pub fn meet(&mut self, writer: &mut WriteSeat)
+        requires together { AreTogether self.old writer.old }
+        ensures scanner { Meets self.old self.new }
+        ensures writer { Meets writer.old writer.new }
+        ensures met { self.new.seen ≡ writer.new.seen }
+        ensures below { IsBelow self.new }
+    {
+        self.access.meet(&mut writer.access);
+    }
+}
+
+/// The seat of a segment's only writer.
+#[derive(Drop)]
+pub struct WriteSeat {
+    access: Access,
+    segment: usize,
+    number: u64,
+    /// The current buffer.
+    at: usize,
+    /// The pins that were counted for each buffer.
+    counted: [u64; 34],
+}
+
+impl Model for WriteSeat {
+    ghost use Rattle.snap_register.specs.Setup.{IsPool};
+    ghost use Rattle.snap_register.specs.Seat.{Known, known};
+
+    ghost Value = { Known };
+
+    ghost view = { λ s. known s.access.seat.table_id s.access.seat.me.0 };
+
+    ghost invariant = { λ s. IsPool s.segment s.number s.at s.counted s.access.seat.me };
+}
+
+impl Looker for WriteSeat {
+    ghost known = { λ s. s };
+
+    fn looks_left(&self) -> u64 {
+        self.access.left
+    }
+
+    fn segments(&self) -> usize {
+        self.access.count_segments()
+    }
+
+    fn has_looked(&self, j: usize) -> bool {
+        self.access.has_looked(j)
+    }
+
+    fn look(&mut self, j: usize) -> u64 {
+        self.access.look(j)
+    }
+
+    fn value(&mut self, j: usize, out: &mut [u8]) -> usize {
+        self.access.value(j, out)
+    }
+
+    fn view(&mut self, j: usize, out: &mut SnapshotBuf) {
+        self.access.view(j, out);
+    }
+}
+
+impl WriteSeat {
+    pub(crate) fn of(access: Access, segment: usize, number: u64) -> WriteSeat
+        requires role { IsWriter access.seat.me.0 segment
+            × (segment < segments access.seat.me.0.plan) }
+        requires number { (number ≡ (start_at access.seat.me.0.plan segment).number)
+            × (access.seat.me.0.seen ≡ []) }
+        requires pool { access.seat.me.0.pool ≡ first_pool access.seat.me.0.plan }
+        ensures { result ≡ known_of access.seat.table_id access.seat.me.0 }
+    {
+        WriteSeat {
+            access,
+            segment,
+            number,
+            at: 0,
+            counted: [0; 34],
+        }
+    }
+
+    /// The segment that it writes, and no other.
+    pub fn segment(&self) -> usize
+        ensures own { result ≡ own_of self.now }
+        ensures inside { result < segments self.now.plan }
+        ensures alone { self.now.high ≡ self.now.low + 1 }
+    {
+        self.segment
+    }
+
+    /// The number of its segment.
+    pub fn number(&self) -> u64
+        ensures number { result ≡ number_in self.now self.now.seen (own_of self.now) }
+    {
+        self.number
+    }
+
+    /// Shows an update of the own segment to this value, with this view, and answers its number.
+    /// The
+    /// update stands in the history from one moment of this call on. It always finds a free buffer,
+    /// so it waits for nobody and refuses nothing.
+    pub fn publish(&mut self, value: &[u8], view: &View) -> u64
+        requires size { length value.now ≤ 4080 }
+        requires next { number_in self.old self.old.seen (own_of self.old) + 1 < 2 ^ 63 }
+        requires view { MayPublish self.old view.now }
+        ensures shown { Shows self.old self.new value.now }
+        ensures below { IsBelow self.new }
+        ensures number { result ≡ number_in self.new self.new.seen (own_of self.new) }
+    {
+        let next = self.number + 1;
+        let (at, pins) = self
+            .access
+            .publish(self.segment, self.at, &self.counted, next, value, view);
+        self.counted[self.at] += pins;
+        self.at = at;
+        self.number = next;
+        next
+    }
+}

@@ -1,0 +1,126 @@
+//! The table of the registers' words, its rule (specs/Rule.antt), and what each step on it tells.
+ghost use Rattle.snap_register.specs.Rule.{Kept, pinning, giving, glanced, read, checked, drafted};
+ghost use Rattle.snap_register.specs.Rule.{published, onlooker, reader, less, first_role};
+ghost use Rattle.snap_register.specs.Rule.{other_roles, joint, adopted, spent};
+
+use crate::plan::{Opening, SeatView};
+use atomic_table::{Join, Play, Seat, Split, Table, TableRule};
+use std::alloc::Global;
+use std::snapshot::Snapshot;
+
+/// What the table is told when it is made.
+#[derive(Drop)]
+pub struct Setup {
+    pub scanners: usize,
+    pub looks: u64,
+    pub head: usize,
+    pub values: Snapshot<Vec<Opening>>,
+}
+
+pub struct OneHistory;
+
+impl TableRule<(), SeatView, Setup> for OneHistory {
+    ghost use Rattle.snap_register.specs.Setup.{plan_of, newcomer};
+
+    ghost holds = { λ g. Kept (plan_of g) };
+
+    ghost first = { λ g. newcomer (plan_of g) };
+}
+
+pub type WordTable = Table<(), SeatView, Setup, OneHistory, Global>;
+
+pub type TableSeat = Seat<(), SeatView>;
+
+// A fetch_add on a current word.
+pub(crate) struct Pin;
+
+impl Play<(), SeatView> for Pin {
+    ghost then = { pinning };
+}
+
+// A fetch_add on a given-back count.
+pub(crate) struct GiveBack;
+
+impl Play<(), SeatView> for GiveBack {
+    ghost then = { giving };
+}
+
+// A load of a current word.
+pub(crate) struct Glance;
+
+impl Play<(), SeatView> for Glance {
+    ghost then = { glanced };
+}
+
+// A load of a word of a pinned buffer.
+pub(crate) struct Read;
+
+impl Play<(), SeatView> for Read {
+    ghost then = { read };
+}
+
+// A load of the given-back count of an own buffer.
+pub(crate) struct Check;
+
+impl Play<(), SeatView> for Check {
+    ghost then = { checked };
+}
+
+// A store into the free buffer.
+pub(crate) struct Draft;
+
+impl Play<(), SeatView> for Draft {
+    ghost then = { drafted };
+}
+
+// A swap of the own current word.
+pub(crate) struct Publish;
+
+impl Play<(), SeatView> for Publish {
+    ghost then = { published };
+}
+
+/// A messenger: it has seen as much, pins nothing and writes nothing.
+pub(crate) struct SplitMessenger;
+
+impl Split<SeatView> for SplitMessenger {
+    ghost left = { λ v. v };
+
+    ghost right = { onlooker };
+}
+
+/// The new seat writes the first segment.
+pub(crate) struct SplitWriter;
+
+impl Split<SeatView> for SplitWriter {
+    ghost left = { other_roles };
+
+    ghost right = { first_role };
+}
+
+/// The new seat writes nothing.
+pub(crate) struct SplitReader;
+
+impl Split<SeatView> for SplitReader {
+    ghost left = { less };
+
+    ghost right = { reader };
+}
+
+/// What the second has seen is told to the first.
+pub(crate) struct JoinMessage;
+
+impl Join<SeatView> for JoinMessage {
+    ghost both = { joint };
+
+    ghost spent = { spent };
+}
+
+/// The first has seen what the second has.
+pub(crate) struct JoinAnswer;
+
+impl Join<SeatView> for JoinAnswer {
+    ghost both = { adopted };
+
+    ghost spent = { spent };
+}

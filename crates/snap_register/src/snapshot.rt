@@ -1,0 +1,94 @@
+//! Room for the numbers and values of all segments, which is made once and filled again and again.
+ghost use Rattle.std.specs.Prelude.{◌≡◌, ℕ, ◌<◌, List, length, slice_get, Some, IfOk};
+
+use crate::packing::MAX_VALUE_LEN;
+use std::alloc::{AllocError, Global};
+use std::marker::Model;
+
+/// A number and a value.
+#[derive(Drop)]
+pub(crate) struct Held {
+    pub(crate) number: u64,
+    pub(crate) length: usize,
+    pub(crate) bytes: [u8; MAX_VALUE_LEN],
+}
+
+impl Model for Held {
+    ghost use Rattle.std.specs.Prelude.{◌≤◌, ℕ, List, take};
+
+    ghost Value = { ℕ × List ℕ };
+
+    ghost view = { λ h. (h.number, take h.length h.bytes) };
+
+    ghost invariant = { λ h. h.length ≤ 4080 };
+}
+
+impl Held {
+    fn value(&self) -> &[u8]
+        ensures { result.now ≡ self.now.1 }
+    {
+        &self.bytes[..self.length]
+    }
+
+    fn number(&self) -> u64
+        ensures { result ≡ self.now.0 }
+    {
+        self.number
+    }
+}
+
+/// Room for the number and the value of each segment.
+#[derive(Drop)]
+pub struct SnapshotBuf {
+    pub(crate) segments: Vec<Held>,
+}
+
+impl Model for SnapshotBuf {
+    ghost use Rattle.std.specs.Prelude.{ℕ, List};
+
+    ghost Value = { List (ℕ × List ℕ) };
+
+    ghost view = { λ s. s.segments.items };
+}
+
+impl SnapshotBuf {
+    /// Room for n segments, each at number 0 with the empty value. It takes 4,096 bytes a segment.
+    ///
+    /// Where memory runs out it answers the `AllocError`, and nothing is kept.
+    pub fn new(alloc: Global, n: usize) -> Result<SnapshotBuf, AllocError>
+        ensures size { IfOk result (λ s. length s ≡ n) }
+    {
+        let mut segments = Vec::new(alloc);
+        for _ in 0..n {
+            segments.push(Held {
+                number: 0,
+                length: 0,
+                bytes: [0; MAX_VALUE_LEN],
+            })?;
+        }
+        Ok(SnapshotBuf { segments })
+    }
+
+    /// How many segments it has room for.
+    pub fn len(&self) -> usize
+        ensures { result ≡ length self.now }
+    {
+        self.segments.len()
+    }
+
+    /// The number of the segment i.
+    pub fn number(&self, i: usize) -> u64
+        requires { i < length self.now }
+        ensures { (x : ℕ × List ℕ) → slice_get self.now i ≡ Some x → result ≡ x.0 }
+    {
+        self.segments[i].number()
+    }
+
+    /// The value of the segment i.
+    pub fn value(&self, i: usize) -> &[u8]
+        requires { i < length self.now }
+        ensures { (x : ℕ × List ℕ) → slice_get self.now i ≡ Some x → result.now ≡ x.1 }
+    {
+        self.segments[i].value()
+    }
+}
