@@ -1,6 +1,8 @@
 -- The phases of writers and scanners: where each event may come, and what it makes of them.
-use Rattle.std.specs.Prelude.{◌≡◌, ℕ, ◌-◌, ◌^◌, ◌<◌, ◌≤◌, ◌⊎◌, List, [], ◌∷◌, ◌++◌, length, Some, slice_get, slice_set}
+use Rattle.std.specs.Prelude.{◌≡◌, ℕ, ◌<◌, ◌⊎◌, List, [], ◌∷◌, ◌++◌, Some, slice_get, slice_set}
 use Rattle.snap_history.specs.History.{from_nothing, number_after}
+use Rattle.snap_slot.specs.Layout.{IsShort}
+use Rattle.snap_slot.specs.declared.layout.TheConstants.{LAST_NUMBER}
 use Rattle.snap_scan.specs.Looks.{IsDecided}
 use Rattle.snap_world.specs.Answers.{ScanState}
 use Rattle.snap_world.specs.Machine.{State, WriterState, Opened}
@@ -36,8 +38,8 @@ scanner_to p i phase = record { writers = p.writers; scanners = slice_set p.scan
 -- in state x with phases p the event may come
 abbrev pub IsEnabled : State → Phases → Event → Type 0
 IsEnabled x p (Begin w v) =
-    WriterIs p w writer.Idle × (length v.items ≤ 4080)
-    × (number_after from_nothing x.history w < 2 ^ 63 - 1)
+    WriterIs p w writer.Idle × IsShort v.items
+    × (number_after from_nothing x.history w < LAST_NUMBER)
 IsEnabled x p (Look (actor.Writer w)) = WriterIs p w writer.Scanning
 IsEnabled x p (Look (actor.Scanner i)) = ScannerIs p i scanner.Scanning
 IsEnabled x p (Show w) = WriterIs p w writer.Stored
