@@ -3,8 +3,8 @@ ghost use Rattle.std.specs.Prelude.{ℕ, ◌≤◌, [], MatchOption, IfOk};
 ghost use Rattle.snap_script.specs.Words.{Finds, words_of, IsNumber};
 ghost use Rattle.snap_script.specs.Line.{IsWorldLine, IsEventLine, IsActor, TakesNumber, HasForm};
 
-use super::verb::Verb;
-use super::words::{bytes, cut, fill, is, number, one_part, two_parts};
+use crate::verb::Verb;
+use crate::words::{bytes, cut, fill, is, number, one_part, two_parts};
 use snap_world::{Actor, Event};
 use std::alloc::{AllocError, Global};
 
