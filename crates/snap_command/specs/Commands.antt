@@ -1,11 +1,13 @@
 -- What each command does to its device and its streams, by how it ends.
-use Rattle.std.specs.Prelude.{◌≡◌, ◌≢◌, ◌⊎◌, ℕ, ◌+◌, ◌-◌, ◌^◌, ◌<◌, List, [], ◌++◌, length, slice_index, Option, Result, Ok, Err, IfSome, is_some, codes, if◌then◌else◌, Bool, true, false}
+use Rattle.std.specs.Prelude.{◌≡◌, ◌≢◌, ◌⊎◌, ℕ, ◌+◌, ◌<◌, List, [], ◌++◌, length, Option, Result, Ok, Err, IfSome, is_some, codes, if◌then◌else◌, Bool, true, false}
 use Rattle.std.specs.Fmt.{decimal}
 use Rattle.std.specs.Io.KnownBytes.{Appends, Keeps}
 use Rattle.snap_disk.specs.Device.{Device, IsSettled, MayLeave}
 use Rattle.snap_disk.specs.declared.refusal.Refusal.{Refusal}
 use Rattle.snap_disk.specs.declared.refusal.Refusal.TheVariants as refusal
-use Rattle.snap_slot.specs.Layout.{Head, Holds, Bare, IsFileOf}
+use Rattle.snap_disk.specs.declared.file.TheConstants.{FILE_LEN}
+use Rattle.snap_slot.specs.declared.layout.TheConstants.{MAX_VALUE_LEN, LAST_NUMBER}
+use Rattle.snap_slot.specs.Layout.{Head, Holds, Bare, IsFormatted, IsFileOf}
 use Rattle.snap_slot.specs.States.{IsAtRest, IsEither}
 use Rattle.snap_slot.specs.Findings.{AreFindings, IsNoOpening}
 use Rattle.snap_slot.specs.Text.{findings_text}
@@ -53,8 +55,8 @@ IsNewlyFormatted i n old new = Bare old.bytes × IsAtRest i n 0 [] false new
 
 -- why a file was not formatted, where its bytes are the reason
 abbrev pub IsNoFormat : List ℕ → Refusal → Type 0
-IsNoFormat b refusal.WrongFile = length b ≢ 20480
-IsNoFormat b refusal.AlreadyFormatted = slice_index b 4095 ≡ 0xA5
+IsNoFormat b refusal.WrongFile = length b ≢ FILE_LEN
+IsNoFormat b refusal.AlreadyFormatted = IsFormatted b
 IsNoFormat b refusal.DeviceFailed = Unit {0}
 IsNoFormat b refusal.NoMemory = Unit {0}
 IsNoFormat b why = ⊥
@@ -79,7 +81,7 @@ pub record IsStored (i n c : ℕ) (v : List ℕ) (old new : Device) : Type 0 whe
 
 -- why value v was not stored: why the file can't be opened, or that its number is the last one
 abbrev pub IsNoStore : (i n : ℕ) (v b : List ℕ) → Refusal → Type 0
-IsNoStore i n v b refusal.Exhausted = Head b i n × ((u : List ℕ) × Holds b (2 ^ 63 - 1) u)
+IsNoStore i n v b refusal.Exhausted = Head b i n × ((u : List ℕ) × Holds b LAST_NUMBER u)
 IsNoStore i n v b refusal.DeviceFailed = Unit {0}
 IsNoStore i n v b why = IsNoOpening i n b why
 
@@ -108,7 +110,7 @@ abbrev pub EndsPut : (honest : Type 0) (i n : ℕ) (known : Option (List ℕ)) (
     (out out' : Option (List ℕ)) → End → Type 0
 EndsPut honest i n known old new out out' (Err (Input error)) = (new ≡ old) × Keeps out out'
 EndsPut honest i n known old new out out' (Err (Refused refusal.TooLong)) =
-    IfSome known (λ xs. 4080 < length xs) × (new ≡ old) × Keeps out out'
+    IfSome known (λ xs. MAX_VALUE_LEN < length xs) × (new ≡ old) × Keeps out out'
 EndsPut honest i n known old new out out' end =
     (v : List ℕ) × Had known v × EndsStore honest i n v old new out out' end
 
@@ -133,7 +135,7 @@ EndsGet honest i n old out out' end = ⊥
 
 -- why nothing was found
 abbrev pub IsNoCheck : List ℕ → Refusal → Type 0
-IsNoCheck b refusal.WrongFile = length b ≢ 20480
+IsNoCheck b refusal.WrongFile = length b ≢ FILE_LEN
 IsNoCheck b refusal.DeviceFailed = Unit {0}
 IsNoCheck b refusal.NoMemory = Unit {0}
 IsNoCheck b why = ⊥

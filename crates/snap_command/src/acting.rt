@@ -5,6 +5,9 @@
 //! leave the device as it was. `act` alone turns an end into a status and a line on standard error.
 ghost use Rattle.std.specs.Prelude.{◌≡◌, ◌≢◌, ◌<◌, ◌≤◌, ◌-◌, ◌^◌, length};
 ghost use Rattle.snap_disk.specs.Device.{Device, LeavesOnly, MayLeave};
+ghost use Rattle.snap_disk.specs.declared.file.TheConstants.{FILE_LEN};
+ghost use Rattle.snap_slot.specs.declared.layout.TheConstants.{MAX_COUNT};
+ghost use Rattle.snap_slot.specs.Layout.{IsShort};
 ghost use Rattle.snap_segment.specs.Format.{IsFresh};
 ghost use Rattle.snap_command.specs.Commands.{CountsEnd, End, EndSays, EndsCheck, EndsFormat};
 ghost use Rattle.snap_command.specs.Commands.{EndsGet, EndsOrder, EndsPut, EndsStore, OrderLeaves};
@@ -16,12 +19,10 @@ use crate::Failure;
 use snap_disk::{Disk, Refusal};
 use snap_order::{Ended, FileOrder, Status};
 use snap_segment::{Segment, check, format};
+use snap_slot::MAX_VALUE_LEN;
 use snap_stream::{read_up_to, write_whole};
 use std::alloc::Global;
 use std::io::{Read, Write};
-
-/// The longest value.
-const MAX_VALUE: usize = 4080;
 
 /// Does the order on its device, and says how the program ends. What the command prints goes to
 /// `writer`, and why it ended early to `errors`, as one line that begins `snapd: `.
@@ -52,7 +53,7 @@ pub fn act<D: Disk, R: Read, W: Write, E: Write>(
         (D.device result.0) (W.contents writer.old) (W.contents writer.new) end }
 
     // A device of another length is left untouched.
-    ensures wrong_length { length (D.device disk).bytes ≢ 20480 → result.0 ≡ disk }
+    ensures wrong_length { length (D.device disk).bytes ≢ FILE_LEN → result.0 ≡ disk }
 
     // A crash at any moment leaves what the order may leave.
     ensures any_moment { D.is_honest result.0 → LeavesOnly D.moment D.might_have_left disk result.0
@@ -82,7 +83,7 @@ fn format_file<D: Disk, W: Write>(
     writer: &mut W,
 ) -> (D, Result<Status, Failure>)
     requires below { index < count }
-    requires few { count ≤ 16 }
+    requires few { count ≤ MAX_COUNT }
     requires room { D.failure_count disk < 2 ^ 64 - 1 }
     ensures honest { D.is_honest result.0 → D.is_honest disk }
     ensures count { CountsEnd result.1 (D.failure_count disk) (D.failure_count result.0) }
@@ -90,7 +91,7 @@ fn format_file<D: Disk, W: Write>(
         (D.device result.0) (W.contents writer.old) (W.contents writer.new) result.1 }
     ensures keeps { FormatKeeps (result.0 ≡ disk) (D.is_honest result.0 → LeavesOnly D.moment
         D.might_have_left disk result.0 (MayLeave (D.device disk))) result.1 }
-    ensures wrong_length { length (D.device disk).bytes ≢ 20480 → result.0 ≡ disk }
+    ensures wrong_length { length (D.device disk).bytes ≢ FILE_LEN → result.0 ≡ disk }
     ensures any_moment { D.is_honest result.0 → LeavesOnly D.moment D.might_have_left disk result.0
         (IsFresh index count (D.device disk)) }
 {
@@ -118,7 +119,7 @@ fn put<D: Disk, R: Read, W: Write>(
     writer: &mut W,
 ) -> (D, Result<Status, Failure>)
     requires below { index < count }
-    requires few { count ≤ 16 }
+    requires few { count ≤ MAX_COUNT }
     requires room { D.failure_count disk < 2 ^ 64 - 1 }
     ensures honest { D.is_honest result.0 → D.is_honest disk }
     ensures count { CountsEnd result.1 (D.failure_count disk) (D.failure_count result.0) }
@@ -127,17 +128,17 @@ fn put<D: Disk, R: Read, W: Write>(
         result.1 }
     ensures keeps { PutKeeps (result.0 ≡ disk) (D.is_honest result.0 → LeavesOnly D.moment
         D.might_have_left disk result.0 (MayLeave (D.device disk))) result.1 }
-    ensures wrong_length { length (D.device disk).bytes ≢ 20480 → result.0 ≡ disk }
+    ensures wrong_length { length (D.device disk).bytes ≢ FILE_LEN → result.0 ≡ disk }
     ensures any_moment { D.is_honest result.0 → LeavesOnly D.moment D.might_have_left disk result.0
         (PutLeaves index count (R.remaining reader.old) (D.device disk)) }
 {
     // One byte more than a value may have shows that the input is too long.
-    let mut input = [0u8; MAX_VALUE + 1];
+    let mut input = [0u8; MAX_VALUE_LEN + 1];
     let len = match read_up_to(reader, &mut input) {
         Ok(len) => len,
         Err(error) => return (disk, Err(Failure::Input(error))),
     };
-    if len > MAX_VALUE {
+    if len > MAX_VALUE_LEN {
         return (disk, Err(Failure::Refused(Refusal::TooLong)));
     }
     store(alloc, disk, index, count, &input[..len], writer)
@@ -153,16 +154,16 @@ fn store<D: Disk, W: Write>(
     writer: &mut W,
 ) -> (D, Result<Status, Failure>)
     requires below { index < count }
-    requires few { count ≤ 16 }
+    requires few { count ≤ MAX_COUNT }
     requires room { D.failure_count disk < 2 ^ 64 - 1 }
-    requires fits { length value.now ≤ 4080 }
+    requires fits { IsShort value.now }
     ensures honest { D.is_honest result.0 → D.is_honest disk }
     ensures count { CountsEnd result.1 (D.failure_count disk) (D.failure_count result.0) }
     ensures ends { EndsStore (D.is_honest result.0) index count value.now (D.device disk)
         (D.device result.0) (W.contents writer.old) (W.contents writer.new) result.1 }
     ensures keeps { StoreKeeps (D.is_honest result.0 → LeavesOnly D.moment
         D.might_have_left disk result.0 (MayLeave (D.device disk))) result.1 }
-    ensures wrong_length { length (D.device disk).bytes ≢ 20480 → result.0 ≡ disk }
+    ensures wrong_length { length (D.device disk).bytes ≢ FILE_LEN → result.0 ≡ disk }
     ensures any_moment { D.is_honest result.0 → LeavesOnly D.moment D.might_have_left disk result.0
         (StoreLeaves index count value.now (D.device disk)) }
 {
@@ -198,13 +199,13 @@ fn get<D: Disk, W: Write>(
     writer: &mut W,
 ) -> (D, Result<Status, Failure>)
     requires below { index < count }
-    requires few { count ≤ 16 }
+    requires few { count ≤ MAX_COUNT }
     requires room { D.failure_count disk < 2 ^ 64 - 1 }
     ensures honest { D.is_honest result.0 → D.is_honest disk }
     ensures count { CountsEnd result.1 (D.failure_count disk) (D.failure_count result.0) }
     ensures ends { EndsGet (D.is_honest result.0) index count (D.device disk)
         (W.contents writer.old) (W.contents writer.new) result.1 }
-    ensures wrong_length { length (D.device disk).bytes ≢ 20480 → result.0 ≡ disk }
+    ensures wrong_length { length (D.device disk).bytes ≢ FILE_LEN → result.0 ≡ disk }
     ensures any_moment { D.is_honest result.0 → LeavesOnly D.moment D.might_have_left disk result.0
         (MayLeave (D.device disk)) }
 {
@@ -229,7 +230,7 @@ fn check_file<D: Disk, W: Write>(
     ensures count { CountsEnd result.1 (D.failure_count disk) (D.failure_count result.0) }
     ensures ends { EndsCheck (D.is_honest result.0) (D.device disk) (W.contents writer.old)
         (W.contents writer.new) result.1 }
-    ensures wrong_length { length (D.device disk).bytes ≢ 20480 → result.0 ≡ disk }
+    ensures wrong_length { length (D.device disk).bytes ≢ FILE_LEN → result.0 ≡ disk }
     ensures any_moment { D.is_honest result.0 → LeavesOnly D.moment D.might_have_left disk result.0
         (MayLeave (D.device disk)) }
 {

@@ -1,5 +1,6 @@
 -- What holds of an order.
 use Rattle.std.specs.Prelude.{ℕ, ◌<◌, ◌≤◌, List}
+use Rattle.snap_slot.specs.declared.layout.TheConstants.{MAX_COUNT}
 use Rattle.snap_order.specs.declared.order.Order.{Order}
 use Rattle.snap_order.specs.declared.order.Order.TheVariants as order
 use Rattle.snap_order.specs.declared.order.FileOrder.{FileOrder}
@@ -7,7 +8,7 @@ use Rattle.snap_order.specs.declared.order.FileOrder.TheVariants.{Format, Put, G
 
 -- there are 1 to 16 segments, and this is one of them
 abbrev pub IsPlace : ℕ → ℕ → Type 0
-IsPlace index count = (index < count) × (count ≤ 16)
+IsPlace index count = (index < count) × (count ≤ MAX_COUNT)
 
 -- its place is one
 abbrev pub IsFileWithinLimits : FileOrder → Type 0

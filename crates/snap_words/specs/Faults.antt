@@ -1,6 +1,7 @@
 -- Which order and which fault goes with the words of a command.
 use Rattle.std.specs.Prelude.{◌≡◌, ◌⊎◌, ℕ, ◌<◌, ◌≤◌, ◌^◌, List, [], ◌∷◌, Option, Some, None, codes, option_and_then}
 use Rattle.std.specs.Str.Parse.{IsNumeral, digits_value, without_leading_plus}
+use Rattle.snap_slot.specs.declared.layout.TheConstants.{MAX_COUNT}
 use Rattle.clap.specs.Words.{IsAmong, Row, Text, fault_of, first_of, kind_of, subcommand_of}
 use Rattle.clap.specs.declared.error.Error.{Error}
 use Rattle.clap.specs.declared.error.kind.ErrorKind.{ErrorKind}
@@ -37,8 +38,8 @@ IsNumberFault word what why = ⊥
 
 -- what is wrong with these words for an index and a count
 abbrev pub IsPlaceFault : (index count : Option Text) → WordFault → Type 0
-IsPlaceFault index count (fault.Count n) = IsNumberOf count n × ((n ≡ 0) ⊎ (16 < n))
-IsPlaceFault index count (fault.Index i n) = IsNumberOf index i × IsNumberOf count n × (n ≤ i) × (n ≤ 16)
+IsPlaceFault index count (fault.Count n) = IsNumberOf count n × ((n ≡ 0) ⊎ (MAX_COUNT < n))
+IsPlaceFault index count (fault.Index i n) = IsNumberOf index i × IsNumberOf count n × (n ≤ i) × (n ≤ MAX_COUNT)
 IsPlaceFault index count why = IsNumberFault index (codes "index") why ⊎ IsNumberFault count (codes "count") why
 
 -- the kinds of what is asked for in place of an order

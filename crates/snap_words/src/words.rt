@@ -11,11 +11,9 @@ use crate::grammar::grammar;
 use clap::ArgMatches;
 use clap::error::ErrorKind;
 use snap_order::{FileOrder, Order};
+use snap_slot::MAX_COUNT;
 use std::alloc::Global;
 use std::convert::AsStr;
-
-/// The most segments that one server serves.
-const MAX_COUNT: u8 = 16;
 
 /// Reads the words of the program, of which the first is its name.
 ///
