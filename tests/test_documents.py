@@ -32,6 +32,9 @@ def test_clauses_stand_at_the_functions_that_are_named(snapd, random):
         for name, target, clauses in CITED.findall(document.read_text()):
             source = (document.parent / target).read_text()
             name = name.rpartition("::")[2]
+            if name[0].isupper():
+                assert re.search(rf"\b(trait|struct|enum) {name}\b", source), f"{document.name}: {target} has no {name}"
+                continue
             at = re.search(rf"\bfn {name}\b.*?(?=^\s*(?:pub(?:\([a-z]+\))? )?(?:const )?fn |\Z)", source, re.S | re.M)
             assert at, f"{document.name}: there is no function {name} in {target}"
             for clause in re.findall(r"`([a-z_]+)`", clauses):

@@ -1,4 +1,5 @@
-//! Stores many values in one process, for `make bench`, which times it against the bare system calls.
+//! Stores many values in one process, for `make bench`, which times it against the bare system
+//! calls.
 //!
 //!     bench_store FILE COUNT
 //!
@@ -7,34 +8,11 @@
 
 use snap_disk::{FileDisk, Refusal};
 use snap_segment::{Segment, format};
-use std::env;
-use std::process::ExitCode;
+use std::{env, io};
 
-fn main(rt: HostRuntime) -> ExitCode {
-    match run(&rt) {
-        Ok(number) => match println!(rt; "stored {number}") {
-            Ok(()) => ExitCode::SUCCESS,
-            Err(_) => ExitCode::from(1),
-        },
-        Err(why) => {
-            let _ = eprintln!(rt; "bench_store: {why}");
-            ExitCode::from(3)
-        }
-    }
-}
-
-fn run(rt: &HostRuntime) -> Result<u64, Refusal> {
-    let Ok(mut words) = env::args(rt) else {
-        return Err(Refusal::NoMemory);
-    };
-    let (_, file, count) = (words.next(), words.next(), words.next());
-    let (Some(file), Some(count)) = (file, count) else {
-        return Err(Refusal::Malformed);
-    };
-    let Ok(count) = count.parse::<u64>() else {
-        return Err(Refusal::Malformed);
-    };
-    let Ok(mut disk) = FileDisk::create(rt, file.as_str()) else {
+/// Makes and formats the file, and stores that many values.
+fn run(rt: &HostRuntime, file: &str, count: u64) -> Result<u64, Refusal> {
+    let Ok(mut disk) = FileDisk::create(rt, file) else {
         return Err(Refusal::WrongFile);
     };
     format(&mut disk, 0, 1)?;
@@ -47,4 +25,18 @@ fn run(rt: &HostRuntime) -> Result<u64, Refusal> {
         segment.store(&value)?;
     }
     Ok(segment.number())
+}
+
+fn main(rt: HostRuntime) -> io::Result<()> {
+    let words: Vec<String> = env::args(&rt)?.collect(rt.alloc())?;
+    let [_, file, count] = words.as_slice() else {
+        return Err(io::Error::other("wanted: bench_store FILE COUNT"));
+    };
+    let Ok(count) = count.parse::<u64>() else {
+        return Err(io::Error::other("COUNT is a number"));
+    };
+    match run(&rt, file.as_str(), count) {
+        Ok(number) => println!(rt; "stored {number}"),
+        Err(_) => Err(io::Error::other("the file or a store was refused")),
+    }
 }

@@ -2,6 +2,6 @@ pub mod Parts
 pub mod Operands
 pub mod Crashes
 pub mod Digits
-pub mod Written
 pub mod Plays
 pub mod Scripts
+pub mod Played

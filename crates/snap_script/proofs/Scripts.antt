@@ -11,7 +11,7 @@ use Rattle.snap_script.specs.Player.{Played, HaltsAt}
 use Rattle.snap_script.specs.Script.{full_lines, MayPrint, Prints, PrintsPart, IsAt}
 use Rattle.snap_script.specs.declared.fault.LineFault.{LineFault}
 use Rattle.snap_script.specs.declared.player.Halt.TheVariants.{Fault}
-use Rattle.snap_script.proofs.Written.{Appends-nil, Appends-trans}
+use Rattle.std.proofs.KnownBytes.{Appends-nil, Appends-trans}
 use Rattle.snap_world.specs.declared.world.World.{World}
 
 -- the lines of what is left of a script

@@ -15,7 +15,8 @@ BeginsWith line word = (words : List (List ℕ)) × (words_of line ≡ word ∷ 
 abbrev pub IsFaultOf : List ℕ → LineFault → Type 0
 IsFaultOf line NoWorld = ⊥
 IsFaultOf line SecondWorld = BeginsWith line (codes "world")
-IsFaultOf line UnknownWord = (v : Verb) → BeginsWith line (name_of v) → ⊥
+IsFaultOf line UnknownWord =
+    (BeginsWith line (codes "world") → ⊥) × ((v : Verb) → BeginsWith line (name_of v) → ⊥)
 IsFaultOf line (Form v) = BeginsWith line (name_of v)
 
 -- behind these lines the line can't be read, and this is what is wrong in it

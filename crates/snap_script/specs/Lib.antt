@@ -4,3 +4,4 @@ pub mod Text
 pub mod Fault
 pub mod Script
 pub mod Player
+pub mod Playing

@@ -3,6 +3,7 @@ use Rattle.std.specs.Prelude.{◌≡◌, ℕ, ◌≤◌, List, [], ◌∷◌, le
 use Rattle.std.specs.declared.vec.Vec.{Vec}
 use Rattle.std.specs.declared.alloc.Global.{Global}
 use Rattle.snap_disk.specs.declared.fill.Fill.{Fill}
+use Rattle.snap_slot.specs.declared.layout.TheConstants.{MAX_COUNT}
 use Rattle.snap_script.specs.Words.{words_of, IsNumber, IsHex, IsFill}
 use Rattle.snap_script.specs.declared.verb.Verb.{Verb}
 use Rattle.snap_script.specs.declared.verb.Verb.TheVariants as verb
@@ -15,7 +16,7 @@ use Rattle.snap_world.specs.declared.event.Event.TheVariants as event
 abbrev pub IsWorldLine : List ℕ → ℕ → ℕ → Type 0
 IsWorldLine line n s =
     (a b : List ℕ) × (words_of line ≡ codes "world" ∷ a ∷ b ∷ []) × IsNumber a n × IsNumber b s
-    × (1 ≤ n) × (n ≤ 16) × (1 ≤ s) × (s ≤ 16)
+    × (1 ≤ n) × (n ≤ MAX_COUNT) × (1 ≤ s) × (s ≤ MAX_COUNT)
 
 -- the word by which an event's line begins
 abbrev pub name_of : Verb → List ℕ

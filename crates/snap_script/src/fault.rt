@@ -1,8 +1,8 @@
 //! What can be wrong in a line of a script.
 ghost use Rattle.std.specs.Prelude.{◌≡◌, ℕ, ◌∷◌, List};
 
-use super::verb::Verb;
-use super::words::{cut, is};
+use crate::verb::Verb;
+use crate::words::{cut, is};
 use std::fmt;
 
 /// What is wrong in a line that can't be read. It prints as what was wanted there.

@@ -7,22 +7,28 @@
 //! of, and the printed text in specs/Text.antt. A line is read as an event exactly where its words
 //! have that event's form.
 //!
+//! [`play`] is the command `script` of the program: it reads a script from one stream, and says on
+//! another why it ended early.
+//!
 //! A line costs the memory of its event's own values and of a reply's, and no more: the text of
 //! each line is made in one list, which is kept.
 #![tactic(auto)]
 
 mod fault;
 mod line;
-mod output;
 mod player;
+mod playing;
 mod print;
 mod run;
 mod verb;
 mod words;
 
 pub use fault::LineFault;
+pub use playing::{PlayFailure, play};
 pub use run::{ScriptEnd, script};
 pub use verb::Verb;
 
+#[cfg(test)]
+mod playing_tests;
 #[cfg(test)]
 mod tests;

@@ -1,10 +1,12 @@
 //! The lines of a script, read.
 ghost use Rattle.std.specs.Prelude.{ℕ, ◌≤◌, [], MatchOption, IfOk};
+ghost use Rattle.snap_slot.specs.declared.layout.TheConstants.{MAX_COUNT};
 ghost use Rattle.snap_script.specs.Words.{Finds, words_of, IsNumber};
 ghost use Rattle.snap_script.specs.Line.{IsWorldLine, IsEventLine, IsActor, TakesNumber, HasForm};
 
-use super::verb::Verb;
-use super::words::{bytes, cut, fill, is, number, one_part, two_parts};
+use crate::verb::Verb;
+use crate::words::{bytes, cut, fill, is, number, one_part, two_parts};
+use snap_slot::MAX_COUNT;
 use snap_world::{Actor, Event};
 use std::alloc::{AllocError, Global};
 
@@ -23,12 +25,12 @@ pub(crate) fn world_line(line: &[u8]) -> Option<(usize, usize)>
     Some((segments, scanners))
 }
 
-/// A number from 1 to 16.
+/// A number of segments or of scanners: 1 to [`MAX_COUNT`].
 fn small_number(word: &[u8]) -> Option<usize>
-    ensures { Finds result (λ n. IsNumber word.now n × (1 ≤ n) × (n ≤ 16)) }
+    ensures { Finds result (λ n. IsNumber word.now n × (1 ≤ n) × (n ≤ MAX_COUNT)) }
 {
     let number = number(word)?;
-    if number == 0 || number > 16 {
+    if number == 0 || number > MAX_COUNT as u64 {
         return None;
     }
     Some(number as usize)

@@ -3,9 +3,9 @@ ghost use Rattle.std.specs.Prelude.{◌≡◌, ℕ, List, [], ◌∷◌, ◌++�
 ghost use Rattle.snap_script.specs.Player.{Played, HaltsAt};
 ghost use Rattle.snap_script.specs.declared.player.Halt.TheVariants.{NoMemory};
 
-use super::fault::LineFault;
-use super::line::{event_line, world_line};
-use super::print::{print_reply, print_world};
+use crate::fault::LineFault;
+use crate::line::{event_line, world_line};
+use crate::print::{print_reply, print_world};
 use snap_world::World;
 use std::alloc::{AllocError, Global};
 

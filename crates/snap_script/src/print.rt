@@ -2,7 +2,8 @@
 ghost use Rattle.std.specs.Prelude.{◌≡◌, ◌≤◌, ◌++◌, length, map, codes, OnOk};
 ghost use Rattle.std.specs.Fmt.{decimal};
 ghost use Rattle.hex.specs.Hex.{encode_lower};
-ghost use Rattle.snap_script.specs.Text.{hex_text, kind_text, values_text, reply_text, world_text, line_text};
+ghost use Rattle.snap_script.specs.Text.{hex_text, kind_text, line_text, reply_text};
+ghost use Rattle.snap_script.specs.Text.{values_text, world_text};
 
 use itoa::Buffer;
 use snap_world::{Kind, Reply, Write};

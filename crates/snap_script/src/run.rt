@@ -2,10 +2,10 @@
 ghost use Rattle.std.specs.Prelude.{◌≡◌, ℕ};
 ghost use Rattle.snap_script.specs.Script.{Ends};
 
-use super::fault::LineFault;
-use super::output::write_whole;
-use super::player::{Halt, Player};
-use super::words::cut;
+use crate::fault::LineFault;
+use crate::player::{Halt, Player};
+use crate::words::cut;
+use snap_stream::write_whole;
 use std::alloc::Global;
 use std::io::Write;
 

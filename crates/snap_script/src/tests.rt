@@ -1,5 +1,5 @@
 //! Whole scripts: what they write, and how they end.
-use super::*;
+use crate::*;
 use std::alloc::{AllocError, Global};
 use std::io::{self, ErrorKind, Write};
 
@@ -210,7 +210,8 @@ fn worked_script(rt: HostRuntime) {
     // Where the crash closes the gate that was written open, the first restart finds the old value.
     let (end, written) = run(
         rt.alloc(),
-        b"world 1 1\nbegin 0 61\nlook w0\nlook w0\ncall 0\ncall 0\ncall 0\ncrash 00\nrestart\nrecall\nrecall\nserve\n",
+        b"world 1 1\nbegin 0 61\nlook w0\nlook w0\ncall 0\ncall 0\ncall 0\n\
+crash 00\nrestart\nrecall\nrecall\nserve\n",
     );
     assert_eq!(rt; end, ScriptEnd::Done);
     assert!(rt; written.ends_with(b"\nmemory -\n"));
@@ -430,7 +431,8 @@ fn printed_memory(rt: HostRuntime) -> Result<(), AllocError> {
     let mut input = String::from_str(rt.alloc(), "world 2 1\nbegin 1 ")?;
     let mut output = String::from_str(
         rt.alloc(),
-        "world 2 1\nbegun\nnumber 0\nnumber 0\nnumber 0\nnumber 0\ncalled body\ncalled sync\ncalled open\ncalled sync\nshown\nscanning\n",
+        "world 2 1\nbegun\nnumber 0\nnumber 0\nnumber 0\nnumber 0\n\
+called body\ncalled sync\ncalled open\ncalled sync\nshown\nscanning\n",
     )?;
     output.push_str("number 0\nnumber 1\nnumber 0\nnumber 1\nmemory - ")?;
     for _ in 0..65 {

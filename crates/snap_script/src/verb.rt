@@ -1,7 +1,7 @@
 //! The first words of event lines.
 ghost use Rattle.std.specs.Prelude.{◌≡◌, ◌≢◌, MatchOption};
 
-use super::words::is;
+use crate::words::is;
 
 /// The word by which the line of an event begins.
 #[derive(Clone, Copy, Debug, Drop, PartialEq, Eq)]

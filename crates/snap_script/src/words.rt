@@ -1,5 +1,6 @@
 //! The parts of a text, and what stands in a word.
-ghost use Rattle.std.specs.Prelude.{◌≡◌, ◌≢◌, ◌==◌, ◌+◌, ◌<◌, ◌∷◌, [], length, take, drop, List, ℕ, IsTrue, ◌↔◌, MatchOption, IfOk};
+ghost use Rattle.std.specs.Prelude.{◌≡◌, ◌≢◌, ◌==◌, ◌+◌, ◌<◌, ◌∷◌, ◌↔◌, [], length, take, drop};
+ghost use Rattle.std.specs.Prelude.{List, ℕ, IsTrue, MatchOption, IfOk};
 ghost use Rattle.std.specs.List.{position_from};
 ghost use Rattle.snap_script.specs.Words.{Finds, parts_at, IsNumber, IsHex, IsFill, IsFillAt};
 ghost use Rattle.hex.specs.Hex.{decode_of};

@@ -2,6 +2,7 @@
 use Rattle.std.specs.Prelude.{◌≡◌, ℕ, ◌+◌, ◌<◌, ◌≤◌, List, length, Some, slice_get}
 use Rattle.snap_disk.specs.Device.{IsSettled}
 use Rattle.snap_slot.specs.Findings.{IsFound}
+use Rattle.snap_slot.specs.declared.layout.TheConstants.{MAX_COUNT}
 use Rattle.snap_history.specs.Pairs.{Pairs}
 use Rattle.snap_world.specs.Drives.{DrivesStand, DrivesDown, device_of}
 use Rattle.snap_world.specs.Machine.{State, WriterState, ScannerState, Closed}
@@ -38,7 +39,7 @@ pub record IsUp (parts : Parts) (drives : List Drive) (x : State) : Type 0 where
 -- nobody is at work, and the places for values and scans have their sizes
 pub record PartsRest (w : Parts) (x : State) : Type 0 where
   pub least : 0 < w.segments
-  pub most : w.segments ≤ 16
+  pub most : w.segments ≤ MAX_COUNT
   pub registers_n : length w.registers.items ≡ w.segments
   pub views_n : (i : ℕ) (r : Register) → slice_get w.registers.items i ≡ Some r
       → length r.view.items ≡ w.segments

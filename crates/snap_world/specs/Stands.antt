@@ -1,7 +1,9 @@
 -- Which abstract states the parts of a world stand for. They store no history.
-use Rattle.std.specs.Prelude.{◌≡◌, ℕ, ◌+◌, ◌^◌, ◌<◌, ◌≤◌, Bool, true, false, List, length}
+use Rattle.std.specs.Prelude.{◌≡◌, ℕ, ◌+◌, ◌<◌, ◌≤◌, Bool, true, false, List, length}
 use Rattle.snap_history.specs.History.{Update, from_nothing, number_after}
 use Rattle.snap_history.specs.Pairs.{Pairs}
+use Rattle.snap_slot.specs.Layout.{IsNumber, IsShort}
+use Rattle.snap_slot.specs.declared.layout.TheConstants.{MAX_COUNT}
 use Rattle.snap_scan.specs.Looks.{IsDecided}
 use Rattle.snap_world.specs.Answers.{ScanState, IsAnswer, number_at}
 use Rattle.snap_world.specs.Gathers.{Gathers, IsUnderWay, RegistersStand}
@@ -21,8 +23,8 @@ use Rattle.snap_world.specs.declared.scanner.ScannerPhase.TheVariants as scanner
 pub record HasBegun (n : ℕ) (h : List Update) (g i : ℕ) (w : Writer) (s : WriterState) : Type 0 where
   pub born : g ≤ s.scan.start
   pub pending : s.pending ≡ Begun w.value
-  pub fits : length w.value ≤ 4080
-  pub room : number_after from_nothing h i + 1 < 2 ^ 63
+  pub fits : IsShort w.value
+  pub room : IsNumber (number_after from_nothing h i + 1)
   pub own : number_at h s.scan.start i ≡ number_after from_nothing h i
   pub gathers : Gathers n h s.scan w.collector
 
@@ -64,7 +66,7 @@ pub record ScannerStands (n : ℕ) (h : List Update) (g i : ℕ) (c : Scanner) (
 -- the parts stand for this state
 pub record PartsStand (w : Parts) (x : State) : Type 0 where
   pub least : 0 < w.segments
-  pub most : w.segments ≤ 16
+  pub most : w.segments ≤ MAX_COUNT
   -- the length of the history when the node last began to serve
   pub since : ℕ
   pub within : since ≤ length x.history

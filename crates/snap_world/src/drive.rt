@@ -22,6 +22,9 @@ use snap_persist::{Answer, Next, Persist, Stage, Write};
 use snap_slot::{BLOCK_LEN, FILE_LEN, Found, encode_body, encode_fresh_file, recover, slot_of};
 use std::alloc::{AllocError, Global};
 
+/// What stands for a body where none is written.
+static NO_BODY: [u8; BLOCK_LEN] = [0; BLOCK_LEN];
+
 /// The device of one segment, with the order of the store that is under way on it, or of the next
 /// one.
 #[derive(Drop)]
@@ -95,10 +98,16 @@ impl Drive {
             (write_bytes (body_block number value.now) write)
             (device_of self.old) (device_of self.new) }
     {
-        let mut block = [0u8; BLOCK_LEN];
-        encode_body(number, value, &mut block);
-        let place = write.place(self.order.slot());
-        self.image.put(place as usize, write.bytes(&block));
+        let place = write.place(self.order.slot()) as usize;
+        match write {
+            Write::Body => {
+                let mut block = [0u8; BLOCK_LEN];
+                encode_body(number, value, &mut block);
+                self.image.put(place, &block);
+            }
+            // A gate's byte doesn't depend on the body.
+            Write::Close | Write::Open => self.image.put(place, write.bytes(&NO_BODY)),
+        }
     }
 
     /// The next call of the store, which fails: the touched places get the fill, and the store is

@@ -1,5 +1,6 @@
 //! A node: its parts in memory, the devices of its segments, and what one event does to them.
 ghost use Rattle.std.specs.Prelude.{◌≡◌, ℕ, ◌<◌, ◌≤◌, IfOk, OnErr};
+ghost use Rattle.snap_slot.specs.declared.layout.TheConstants.{MAX_COUNT};
 ghost use Rattle.snap_world.specs.Start.{start_state, start_world_phases, AreFormatted};
 ghost use Rattle.snap_world.specs.NodePhases.{NeedsMemory};
 ghost use Rattle.snap_world.specs.NodeStands.{NodeStands, NodeStand};
@@ -43,7 +44,7 @@ impl Node {
     /// Formatted devices, and nobody is at work.
     pub fn new(alloc: Global, segments: usize, scanners: usize) -> Result<Node, AllocError>
         requires least { 0 < segments }
-        requires most { segments ≤ 16 }
+        requires most { segments ≤ MAX_COUNT }
         ensures segments { IfOk result (λ w. w.parts.segments ≡ segments) }
         ensures phases { IfOk result (λ w.
             phases_of_node w ≡ start_world_phases segments scanners) }

@@ -1,5 +1,6 @@
 //! What a node has in memory, and what an event of a writer or a scanner does to it.
 ghost use Rattle.std.specs.Prelude.{◌≡◌, ℕ, ◌<◌, ◌≤◌, IfOk, OnErr};
+ghost use Rattle.snap_slot.specs.declared.layout.TheConstants.{MAX_COUNT};
 ghost use Rattle.snap_world.specs.Start.{start_state, start_phases};
 ghost use Rattle.snap_world.specs.NodePhases.{NeedsMemory, up};
 ghost use Rattle.snap_world.specs.Stands.{PartsStand, Stand};
@@ -27,7 +28,7 @@ impl Parts {
     /// Nothing was shown, and nobody is at work.
     pub fn new(alloc: Global, segments: usize, scanners: usize) -> Result<Parts, AllocError>
         requires least { 0 < segments }
-        requires most { segments ≤ 16 }
+        requires most { segments ≤ MAX_COUNT }
         ensures segments { IfOk result (λ p. p.segments ≡ segments) }
         ensures phases { IfOk result (λ p. phases_of_parts p ≡ start_phases segments scanners) }
         ensures stands { IfOk result (λ p. PartsStand p (start_state segments scanners)) }

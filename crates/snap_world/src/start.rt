@@ -1,5 +1,6 @@
 //! The parts of a new world: nothing was shown, nobody is at work.
 ghost use Rattle.std.specs.Prelude.{◌≡◌, ℕ, ◌<◌, ◌≤◌, length, IfOk};
+ghost use Rattle.snap_slot.specs.declared.layout.TheConstants.{MAX_COUNT};
 ghost use Rattle.snap_world.specs.Fresh.{IsFreshRegister, IsFreshWriter, IsFreshScanner, Each};
 
 use crate::collector::Collector;
@@ -24,7 +25,7 @@ fn blank(alloc: Global, segments: usize) -> Result<Vec<Value>, AllocError>
 /// A place for a scan, which has not begun.
 fn new_collector(alloc: Global, segments: usize) -> Result<Collector, AllocError>
     requires least { 0 < segments }
-    requires most { segments ≤ 16 }
+    requires most { segments ≤ MAX_COUNT }
     ensures { IfOk result (λ c. length c.memory.items ≡ segments) }
 {
     Ok(Collector {
@@ -52,7 +53,7 @@ pub fn new_registers(alloc: Global, segments: usize) -> Result<Vec<Register>, Al
 /// The writer of each segment.
 pub fn new_writers(alloc: Global, segments: usize) -> Result<Vec<Writer>, AllocError>
     requires least { 0 < segments }
-    requires most { segments ≤ 16 }
+    requires most { segments ≤ MAX_COUNT }
     ensures { IfOk result (λ v. (length v.items ≡ segments) × Each (IsFreshWriter segments) v.items) }
 {
     let mut writers = Vec::new(alloc);
@@ -74,7 +75,7 @@ pub fn new_scanners(
     count: usize,
 ) -> Result<Vec<Scanner>, AllocError>
     requires least { 0 < segments }
-    requires most { segments ≤ 16 }
+    requires most { segments ≤ MAX_COUNT }
     ensures { IfOk result (λ v. (length v.items ≡ count) × Each (IsFreshScanner segments) v.items) }
 {
     let mut scanners = Vec::new(alloc);

@@ -1,5 +1,6 @@
 //! A value in a place of its own, so that no copy of one takes memory.
-ghost use Rattle.std.specs.Prelude.{◌≡◌, ℕ, ◌<◌, ◌≤◌, List, [], length, take, IfOk};
+ghost use Rattle.std.specs.Prelude.{◌≡◌, [], IfOk};
+ghost use Rattle.snap_slot.specs.Layout.{IsShort};
 
 use snap_slot::MAX_VALUE_LEN;
 use std::alloc::{AllocError, Global};
@@ -13,11 +14,14 @@ pub struct Value {
 }
 
 impl Model for Value {
+    ghost use Rattle.std.specs.Prelude.{ℕ, ◌≤◌, List, take};
+    ghost use Rattle.snap_slot.specs.declared.layout.TheConstants.{MAX_VALUE_LEN};
+
     ghost Value = { List ℕ };
 
     ghost view = { λ v. take v.len v.bytes };
 
-    ghost invariant = { λ v. v.len ≤ 4080 };
+    ghost invariant = { λ v. v.len ≤ MAX_VALUE_LEN };
 }
 
 impl Value {
@@ -33,7 +37,7 @@ impl Value {
 
     /// Becomes these bytes.
     pub fn set(&mut self, bytes: &[u8])
-        requires { length bytes.now ≤ 4080 }
+        requires { IsShort bytes.now }
         ensures { self.new ≡ bytes.now }
     {
         self.bytes[..bytes.len()].copy_from_slice(bytes);

@@ -1,6 +1,7 @@
 //! A world, which always stands for some state of the abstract machine.
 ghost use Rattle.std.specs.Prelude.{◌≡◌, ℕ, ◌<◌, ◌≤◌, List, [], ◌∷◌, length, take};
 ghost use Rattle.std.specs.Prelude.{IfOk, IfErr, OnErr};
+ghost use Rattle.snap_slot.specs.declared.layout.TheConstants.{MAX_COUNT};
 ghost use Rattle.snap_history.specs.History.{IsBeginning};
 ghost use Rattle.snap_world.specs.Machine.{State};
 ghost use Rattle.snap_world.specs.NodePhases.{TellsWhether, PhasesMove, NeedsMemory, StopsAt};
@@ -44,7 +45,7 @@ impl World {
     /// Where memory runs out it answers the `AllocError`, and nothing is kept.
     pub fn new(alloc: Global, segments: usize, scanners: usize) -> Result<World, AllocError>
         requires least { 0 < segments }
-        requires most { segments ≤ 16 }
+        requires most { segments ≤ MAX_COUNT }
         requires scanners_least { 0 < scanners }
         requires scanners_most { scanners ≤ 16 }
         ensures segments { IfOk result (λ w. segments_of w ≡ segments) }

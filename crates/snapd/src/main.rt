@@ -1,34 +1,24 @@
 //! The program `snapd`, which keeps one value in each of its files, safe from crashes.
 //!
-//! `order` reads the words, and `act` does what they ask for over any device, reader and writer.
-//! What is here only ties them to the system: its words, its files and its standard streams.
+//! `snap_words` reads the words, and `snap_command` and `snap_script` do what they ask for over any
+//! device, reader and writer. What is here only ties them to the system: its words, its files and
+//! its standard streams.
 #![tactic(auto)]
 
-ghost use Rattle.snapd.specs.Order.{IsFileWithinLimits};
+ghost use Rattle.snap_order.specs.Order.{IsFileWithinLimits};
 
-mod acting;
-mod failure;
 mod opening;
-mod orders;
-mod output;
-mod playing;
-mod status;
-#[cfg(test)]
-mod tests;
-mod words;
 
-use acting::act;
-use failure::Failure;
 use opening::{check_streams, open_file};
-use orders::{FileOrder, Order, WordFault};
-use output::complain;
-use playing::play;
+use snap_command::{Failure, act};
 use snap_disk::{FileFault, Refusal};
-use status::Status;
+use snap_order::{FileOrder, Order, Status};
+use snap_script::play;
+use snap_stream::complain;
+use snap_words::{WordFault, order};
 use std::env;
 use std::io::{BufWriter, ErrorKind};
 use std::process::ExitCode;
-use words::order;
 
 fn main(rt: HostRuntime) -> ExitCode {
     let status = match words_of(&rt) {
@@ -60,7 +50,11 @@ fn explain(rt: &HostRuntime, fault: &WordFault) -> Status {
         },
         WordFault::Memory => stop(rt, &Failure::Refused(Refusal::NoMemory)),
         _ => {
-            complain(rt.alloc(), &mut rt.stderr(), fault);
+            let _ = match fault.to_string(rt.alloc()) {
+                // Some texts have a line feed of their own.
+                Ok(text) => complain(rt.alloc(), &mut rt.stderr(), &text.trim_end()),
+                Err(_) => complain(rt.alloc(), &mut rt.stderr(), fault),
+            };
             Status::Misused
         }
     }
@@ -72,22 +66,25 @@ fn run(rt: &HostRuntime, order: &FileOrder<'_>) -> Status
 {
     match check_streams(&rt.stdin(), &rt.stdout(), &rt.stderr()) {
         Ok(()) => {}
-        Err(failure) => return stop(rt, &failure),
+        Err(why) => {
+            let _ = complain(rt.alloc(), &mut rt.stderr(), &why);
+            return Status::Failed;
+        }
     }
     let disk = match open_file(rt, order) {
         Ok(disk) => disk,
         Err(FileFault::WrongFile { .. }) => return stop(rt, &Failure::Refused(Refusal::WrongFile)),
-        Err(FileFault::System(error)) => {
+        Err(fault) => {
             let file = order.file();
-            complain(
+            let _ = complain(
                 rt.alloc(),
                 &mut rt.stderr(),
-                &format_args!("{file}: {error}"),
+                &format_args!("{file}: {fault}"),
             );
             return Status::Failed;
         }
     };
-    let (_disk, status) = act(
+    let (_disk, ended) = act(
         rt.alloc(),
         order,
         disk,
@@ -95,19 +92,20 @@ fn run(rt: &HostRuntime, order: &FileOrder<'_>) -> Status
         &mut rt.stdout(),
         &mut rt.stderr(),
     );
-    status
+    ended.status
 }
 
 /// Runs the script on standard input. Its output is buffered, since each line of it is one write.
 fn play_script(rt: &HostRuntime) -> Status {
     match BufWriter::new(rt.alloc(), rt.stdout()) {
-        Ok(mut writer) => play(rt.alloc(), &mut rt.stdin(), &mut writer, &mut rt.stderr()),
+        Ok(mut writer) => {
+            play(rt.alloc(), &mut rt.stdin(), &mut writer, &mut rt.stderr()).status
+        }
         Err(_) => stop(rt, &Failure::Refused(Refusal::NoMemory)),
     }
 }
 
 /// Says why the program stops.
 fn stop(rt: &HostRuntime, failure: &Failure) -> Status {
-    complain(rt.alloc(), &mut rt.stderr(), failure);
-    failure.status()
+    failure.report(rt.alloc(), &mut rt.stderr()).status
 }

@@ -1,0 +1,3 @@
+pub mod Failure
+pub mod Commands
+pub mod Keeping

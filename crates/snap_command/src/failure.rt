@@ -1,0 +1,75 @@
+//! Why a command did not do what was asked.
+ghost use Rattle.std.specs.Prelude.{◌≡◌, true};
+ghost use Rattle.std.specs.Io.KnownBytes.{Appends};
+ghost use Rattle.snap_command.specs.Failure.{Says, status_of};
+ghost use Rattle.snap_stream.specs.Streams.{AppendsBeginning, refused_line};
+
+use snap_disk::Refusal;
+use snap_order::{Ended, Status};
+use snap_stream::{complain, complain_of_refusal};
+use std::alloc::Global;
+use std::io::{self, Write};
+use thiserror::Error;
+
+/// Why a command ended early. Its text is what standard error gets behind `snapd: `.
+#[derive(Debug, Drop, Error)]
+pub enum Failure {
+    /// It was refused by number.
+    #[error("refused {0}")]
+    Refused(Refusal),
+    /// The reader failed.
+    #[error("standard input: {0}")]
+    Input(io::Error),
+    /// The writer failed.
+    #[error("standard output: {0}")]
+    Output(io::Error),
+    /// The value is stored, and only the line that says so failed.
+    #[error("stored {number}, but standard output: {error}")]
+    Unsaid { number: u64, error: io::Error },
+}
+
+impl Failure {
+    /// A refusal has a status of its own. Each other failure is of a stream.
+    pub fn status(&self) -> Status
+        ensures { result ≡ status_of self.now }
+    {
+        match self {
+            Failure::Refused(_) => Status::Refused,
+            _ => Status::Failed,
+        }
+    }
+
+    /// Says on standard error why the command ended, as one line that begins `snapd: `. A refusal's
+    /// line takes no memory.
+    pub fn report<E: Write>(&self, alloc: Global, errors: &mut E) -> Ended
+        ensures status { result.status ≡ status_of self.now }
+        ensures says { Says self.now result.is_told (E.contents errors.old)
+            (E.contents errors.new) }
+    {
+        match self {
+            Failure::Refused(why) => report_refusal(*why, errors),
+            Failure::Input(_) | Failure::Output(_) | Failure::Unsaid { .. } => Ended {
+                status: Status::Failed,
+                is_told: complain(alloc, errors, self).is_ok(),
+            },
+        }
+    }
+}
+
+/// Says on standard error that the command was refused.
+fn report_refusal<E: Write>(why: Refusal, errors: &mut E) -> Ended
+    ensures status { result.status ≡ Status.Refused }
+    ensures beginning { AppendsBeginning (E.contents errors.old) (E.contents errors.new)
+        (refused_line why) }
+    ensures whole { result.is_told ≡ true
+        → Appends (E.contents errors.old) (E.contents errors.new) (refused_line why) }
+{
+    let is_told = match complain_of_refusal(errors, why) {
+        Ok(()) => true,
+        Err(_) => false,
+    };
+    Ended {
+        status: Status::Refused,
+        is_told,
+    }
+}

@@ -1,0 +1,8 @@
+//! What the program `snapd` can be asked to do, and how it can end.
+#![tactic(auto)]
+
+mod order;
+mod status;
+
+pub use order::{FileOrder, Order};
+pub use status::{Ended, Status};

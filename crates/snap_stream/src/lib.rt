@@ -1,0 +1,15 @@
+//! Whole reads and writes of a program's streams.
+//!
+//! [`write_whole`] and [`read_up_to`] go on after a call that moved fewer bytes than asked for,
+//! and end at the first one that failed. [`complain`] and [`complain_of_refusal`] say on standard
+//! error why a program stops.
+#![tactic(auto)]
+
+mod complaint;
+mod whole;
+
+pub use complaint::{complain, complain_of_refusal};
+pub use whole::{read_up_to, write_whole};
+
+#[cfg(test)]
+mod tests;

@@ -1,0 +1,100 @@
+//! The commands and their words, as the parser of words reads them.
+ghost use Rattle.std.specs.Prelude.{◌≡◌, IfOk, false};
+ghost use Rattle.clap.specs.Words.{app_of, new_app, rule_of};
+ghost use Rattle.clap.specs.declared.builder.Command.TheViews.{out-Command};
+ghost use Rattle.snap_words.specs.Grammar.{file_rule, grammar_of, number_rule, placed, program_of};
+
+use crate::help::{CHECK_HELP, FORMAT_HELP, GET_HELP, PROGRAM_HELP, PUT_HELP, SCRIPT_HELP};
+use clap::{Arg, ArgAction, Command, value_parser};
+use std::alloc::{AllocError, Global};
+
+const VERSION: &str = "0.1.0";
+
+/// The commands of the program with their words.
+pub(crate) fn grammar<'a>(alloc: Global) -> Result<Command<'a>, AllocError>
+    ensures { IfOk result (λ command. app_of command ≡ grammar_of) }
+{
+    let about = "Make and format the file of one segment";
+    let format = described(placed_command(alloc, "format")?, about, FORMAT_HELP);
+    let about = "Store standard input as the segment's next value";
+    let put = described(placed_command(alloc, "put")?, about, PUT_HELP);
+    let about = "Print the segment's value, and nothing else";
+    let get = described(placed_command(alloc, "get")?, about, GET_HELP);
+    let about = "Show what a file holds, slot by slot, and change nothing";
+    let check = Command::new(alloc, "check").arg(file_word(alloc))?;
+    let check = described(check, about, CHECK_HELP);
+    let about = "Run a script of writers and scanners, and print what each step answers";
+    let script = described(Command::new(alloc, "script"), about, SCRIPT_HELP);
+    program(alloc)
+        .subcommand(format)?
+        .subcommand(put)?
+        .subcommand(get)?
+        .subcommand(check)?
+        .subcommand(script)
+}
+
+/// The command with its texts for help.
+fn described<'a>(command: Command<'a>, about: &'a str, more: &'a str) -> Command<'a>
+    ensures app { app_of result ≡ app_of command.entry }
+    ensures local { (out-Command result).has_globals ≡ (out-Command command.entry).has_globals }
+{
+    command.about(about).after_help(more)
+}
+
+/// The program with no command yet.
+fn program<'a>(alloc: Global) -> Command<'a>
+    ensures app { app_of result ≡ program_of }
+    ensures local { (out-Command result).has_globals ≡ false }
+{
+    Command::new(alloc, "snapd")
+        .about("Keep one value of up to 4,080 bytes in a file, safe from crashes")
+        .version(VERSION)
+        .propagate_version(true)
+        .subcommand_required(true)
+        .after_help(PROGRAM_HELP)
+}
+
+/// A command with its file and the place of the file's segment.
+fn placed_command<'a>(alloc: Global, name: &'a str) -> Result<Command<'a>, AllocError>
+    ensures app { IfOk result (λ command. app_of command ≡ placed (new_app name.entry.now)) }
+    ensures local { IfOk result (λ command. (out-Command command).has_globals ≡ false) }
+{
+    let help = "The segment's index, below N";
+    let index = number_option(alloc, "index", "0", "I", help);
+    let help = "How many segments there are, 1 to 16";
+    let count = number_option(alloc, "count", "1", "N", help);
+    Command::new(alloc, name)
+        .arg(file_word(alloc))?
+        .arg(index)?
+        .arg(count)
+}
+
+fn file_word<'a>(alloc: Global) -> Arg<'a>
+    ensures rule { rule_of result ≡ file_rule }
+    ensures local { result.global ≡ false }
+{
+    Arg::new(alloc, "file")
+        .value_name("FILE")
+        .help("The path of the segment's file")
+        .required(true)
+        .action(ArgAction::Set)
+}
+
+/// An option for a number, with its default.
+fn number_option<'a>(
+    alloc: Global,
+    name: &'a str,
+    default: &'a str,
+    shown: &'a str,
+    help: &'a str,
+) -> Arg<'a>
+    ensures rule { rule_of result ≡ number_rule name.entry.now default.entry.now }
+    ensures local { result.global ≡ false }
+{
+    Arg::new(alloc, name)
+        .long(name)
+        .value_parser(value_parser!(u8))
+        .default_value(default)
+        .value_name(shown)
+        .help(help)
+}

@@ -1,0 +1,98 @@
+//! The texts of help.
+
+pub(crate) const PROGRAM_HELP: &str = "\
+Example:
+  snapd format manifest.snap
+  echo 'step 100' | snapd put manifest.snap
+  snapd get manifest.snap
+
+Exit status:
+  0  done
+  1  a path or a standard stream failed
+  2  the words can't be read
+  3  refused; the number and the name of the refusal are on standard error";
+
+pub(crate) const FORMAT_HELP: &str = "\
+FILE is made where it isn't there. An empty file is taken, and so is one of 20,480 bytes
+that was never formatted. Prints `formatted I of N`. A file that is formatted keeps its bytes:
+it is refused as 12 AlreadyFormatted.
+
+Example:
+  snapd format manifest.snap";
+
+pub(crate) const PUT_HELP: &str = "\
+Reads at most 4,080 bytes; a longer value is refused as 3 TooLong, and nothing is changed.
+Prints `stored K` once the value is on the disk for good, where K is its number.
+
+Example:
+  echo 'step 100' | snapd put manifest.snap";
+
+pub(crate) const GET_HELP: &str = "\
+Example:
+  snapd get manifest.snap > manifest";
+
+pub(crate) const CHECK_HELP: &str = "\
+Prints the header, both slots, and `answer number K` or `answer none`. Ends with status 3
+where there is no answer.
+
+Example:
+  snapd check manifest.snap";
+
+pub(crate) const SCRIPT_HELP: &str = "\
+A script is lines of words, which single spaces part. Empty lines are skipped. The first other
+line is `world N S`: a new world of N segments and S scanners, 1 to 16 each. Every other line is
+one event, and for each line one is printed: what the world answers, or `not now` where the event
+may not come.
+
+  Line             Prints            What happens
+  world N S        world N S         every segment has number 0 and the empty value
+  begin W HEX      begun             writer W begins an update by this value; `-` is the empty one
+  look wW          number K          writer W's embedded scan looks at the next segment: number K
+  call W           called KIND       the next device call of writer W's store succeeds
+  fail W FILL      device failed     it fails, and the segment is fenced until a restart
+  show W           shown             writer W's update is visible from now on
+  ack W            stored K          writer W's update is acknowledged, as number K
+  scan S           scanning          scanner S begins a scan
+  look sS          number K          scanner S looks at the next segment: number K
+  answer S         memory HEX ..     scanner S answers the value of each segment, in order
+  crash FILL ..    crashed           every device crashes, with one fill each
+  restart          restarting        the node starts again
+  recall           called KIND       the next device call of the restart succeeds
+  refail FILL      device failed     it fails, and the node is down again
+  serve            memory HEX ..     the restart ends with the recovered memory
+
+W is a segment and S a scanner, both counted from 0. HEX is two hexadecimal digits for each byte.
+KIND is close, body, open, sync or read. FILL says what touched bytes get: `keep` what they had,
+two hexadecimal digits that byte, `at:OFFSET:HEX` these bytes from that place on.
+
+A line that can't be read ends the program with status 2, after the lines before it were done.
+
+Example: a crash after the gate of a stored value was written, and before it was synced. With
+`crash 00` in place of `crash a5` the memory is the one before the update.
+
+  $ snapd script <<END
+  world 1 1
+  begin 0 6869
+  look w0
+  look w0
+  call 0
+  call 0
+  call 0
+  crash a5
+  restart
+  recall
+  recall
+  serve
+  END
+  world 1 1
+  begun
+  number 0
+  number 0
+  called body
+  called sync
+  called open
+  crashed
+  restarting
+  called sync
+  called read
+  memory 6869";

@@ -1,0 +1,105 @@
+//! Reads the words of the program.
+ghost use Rattle.std.specs.Prelude.{◌≡◌, IfErr, IfOk, codes, map, true};
+ghost use Rattle.clap.specs.Words.{first_value, found_of, takes};
+ghost use Rattle.snap_order.specs.Order.{IsPlace, IsWithinLimits};
+ghost use Rattle.snap_words.specs.Faults.{AreNumbersOf, IsFaultOf, IsNumberFault, IsNumberOf};
+ghost use Rattle.snap_words.specs.Faults.{IsParseFault, IsPlaceFault};
+ghost use Rattle.snap_words.specs.Grammar.{IsAskedBy, IsLaterFault, grammar_of};
+
+use crate::WordFault;
+use crate::grammar::grammar;
+use clap::ArgMatches;
+use clap::error::ErrorKind;
+use snap_order::{FileOrder, Order};
+use snap_slot::MAX_COUNT;
+use std::alloc::Global;
+use std::convert::AsStr;
+
+/// Reads the words of the program, of which the first is its name.
+///
+/// Where it answers Ok the order's words were given: its index and count are the numbers of their
+/// words, the count from 1 to 16 and the index below it. Each fault says what is wrong in the
+/// words, so good ones are refused for want of memory alone.
+pub fn order<'a, S: AsStr>(alloc: Global, words: &'a [S]) -> Result<Order<'a>, WordFault>
+    ensures limits { IfOk result IsWithinLimits }
+    ensures asked { IfOk result (IsAskedBy (map S.text words.entry.now)) }
+    ensures numbers { IfOk result (AreNumbersOf (map S.text words.entry.now)) }
+    ensures faults { IfErr result (IsFaultOf (map S.text words.entry.now)) }
+    ensures taken { takes grammar_of (map S.text words.entry.now) ≡ true
+        → IfErr result IsLaterFault }
+{
+    let Ok(commands) = grammar(alloc) else {
+        return Err(WordFault::Memory);
+    };
+    let matches = match commands.try_get_matches_from(words) {
+        Ok(matches) => matches,
+        Err(error) => return Err(fault_of(error)),
+    };
+    let Some((command, matches)) = matches.subcommand() else {
+        return Err(WordFault::NoCommand);
+    };
+    if command == "script" {
+        return Ok(Order::Script);
+    }
+    let Some(file) = matches.get_str("file") else {
+        return Err(WordFault::Missing { what: "file" });
+    };
+    if command == "check" {
+        return Ok(Order::File(FileOrder::Check { file }));
+    }
+    let (index, count) = place(matches)?;
+    let order = match command {
+        "format" => FileOrder::Format { file, index, count },
+        "put" => FileOrder::Put { file, index, count },
+        "get" => FileOrder::Get { file, index, count },
+        _ => return Err(WordFault::NoCommand),
+    };
+    Ok(Order::File(order))
+}
+
+/// The place of a file's segment, within the limits.
+fn place(matches: &ArgMatches<'_>) -> Result<(u8, u8), WordFault>
+    ensures place { IfOk result (λ place. IsPlace place.0 place.1) }
+    ensures index { IfOk result
+        (λ place. IsNumberOf (first_value (found_of matches.now) (codes "index")) place.0) }
+    ensures count { IfOk result
+        (λ place. IsNumberOf (first_value (found_of matches.now) (codes "count")) place.1) }
+    ensures fault { IfErr result
+        (IsPlaceFault (first_value (found_of matches.now) (codes "index"))
+        (first_value (found_of matches.now) (codes "count"))) }
+{
+    let index = number_of(matches, "index")?;
+    let count = number_of(matches, "count")?;
+    if count == 0 || count > MAX_COUNT {
+        return Err(WordFault::Count { count });
+    }
+    if index >= count {
+        return Err(WordFault::Index { index, count });
+    }
+    Ok((index, count))
+}
+
+/// The number that stands for this, from 0 to 255.
+fn number_of(matches: &ArgMatches<'_>, what: &'static str) -> Result<u8, WordFault>
+    ensures number { IfOk result (IsNumberOf (first_value (found_of matches.now) what.now)) }
+    ensures fault { IfErr result (IsNumberFault (first_value (found_of matches.now) what.now) what.now) }
+{
+    let Some(word) = matches.get_str(what) else {
+        return Err(WordFault::Missing { what });
+    };
+    match word.parse::<u8>() {
+        Ok(number) => Ok(number),
+        Err(_) => Err(WordFault::Number { what }),
+    }
+}
+
+/// What a parse answered in place of matches.
+fn fault_of(error: clap::Error) -> WordFault
+    ensures fault { IsParseFault error result }
+{
+    match error.kind() {
+        ErrorKind::OutOfMemory => WordFault::Memory,
+        ErrorKind::DisplayHelp | ErrorKind::DisplayVersion => WordFault::Help(error),
+        _ => WordFault::Words(error),
+    }
+}

@@ -1,0 +1,79 @@
+"""One `snapd` on a file at a time: who writes it shuts all others out, and readers shut out who would write."""
+
+import fcntl
+import subprocess
+import time
+
+IN_USE = "snapd: F: it is in use by another snapd\n"
+WRITERS = [("format", "F"), ("put", "F")]
+READERS = [("get", "F"), ("check", "F")]
+
+
+def locked(file, how):
+    holder = open(file, "rb")
+    fcntl.flock(holder, how | fcntl.LOCK_NB)
+    return holder
+
+
+def is_locked(file):
+    try:
+        locked(file, fcntl.LOCK_SH).close()
+        return False
+    except BlockingIOError:
+        return True
+
+
+def test_writer_shuts_all_others_out(snapd, _):
+    file = snapd.formatted()
+    before = file.read_bytes()
+    with locked(file, fcntl.LOCK_EX):
+        for words in WRITERS + READERS:
+            snapd(*words, stdin="hi").gave(1, errors=IN_USE)
+    assert file.read_bytes() == before
+    snapd("put", "F", stdin="hi").gave(0, "stored 1\n")
+
+
+def test_readers_shut_writers_out(snapd, _):
+    file = snapd.formatted()
+    snapd("put", "F", stdin="hi").gave(0, "stored 1\n")
+    with locked(file, fcntl.LOCK_SH):
+        for words in WRITERS:
+            snapd(*words, stdin="ho").gave(1, errors=IN_USE)
+        snapd("get", "F").gave(0, "hi")
+        assert snapd("check", "F").status == 0
+    snapd("get", "F").gave(0, "hi")
+
+
+def test_file_in_use_is_not_made(snapd, _):
+    """A file that another program is making is left to it."""
+    file = snapd.file()
+    file.write_bytes(b"")
+    with locked(file, fcntl.LOCK_EX):
+        snapd("format", "F").gave(1, errors=IN_USE)
+    assert file.read_bytes() == b""
+    snapd("format", "F").gave(0, "formatted 0 of 1\n")
+
+
+def test_put_has_its_file_from_its_beginning(snapd, _):
+    """A `put` that waits for its value has the file, also where it is killed: the lock ends with it."""
+    file = snapd.formatted()
+    for ends in ("by its value", "by a kill"):
+        put = subprocess.Popen(
+            [snapd.path, "put", "F"], cwd=snapd.folder, stdin=subprocess.PIPE, stdout=subprocess.PIPE, stderr=subprocess.PIPE
+        )
+        try:
+            until = time.monotonic() + 10
+            while not is_locked(file):
+                assert time.monotonic() < until, "the put never locked its file"
+                time.sleep(0.002)
+            for words in WRITERS + READERS:
+                snapd(*words, stdin="ho").gave(1, errors=IN_USE)
+            if ends == "by a kill":
+                put.kill()
+                assert put.communicate()[0] == b""
+            else:
+                assert put.communicate(b"hi")[0] == b"stored 1\n"
+        finally:
+            put.kill()
+            put.wait()
+        snapd("get", "F").gave(0, "hi")
