@@ -28,7 +28,7 @@ from program import Program, Skipped  # noqa: E402
 def tests_in(only):
     for path in sorted(HERE.glob("test_*.py")):
         module = importlib.import_module(path.stem)
-        for name, test in vars(module).items():
+        for name, test in list(vars(module).items()):
             if name.startswith("test_") and only in f"{path.stem}.{name}":
                 yield f"{path.stem}.{name}", test
 

@@ -14,6 +14,7 @@ format, and the next `put` has to work. Once the last sync is done, only the new
 the runner. The tests know the file format and nothing of the program's code or proof.
 """
 
+import fcntl
 import os
 import signal
 import subprocess
@@ -216,6 +217,9 @@ def test_killed_two_hundred_times(snapd, random):
             time.sleep(random.uniform(0, moment))
             os.killpg(run.pid, signal.SIGKILL)
             run.wait()
+        with open(snapd.file(), "rb") as file:
+            # The killed put may outlive its shell for a moment, and its lock ends with it.
+            fcntl.flock(file, fcntl.LOCK_SH)
         acknowledged = number
         for line in output.read_text().splitlines(keepends=True):
             if line.endswith("\n"):

@@ -11,7 +11,11 @@ READERS = [("get", "F"), ("check", "F")]
 
 def locked(file, how):
     holder = open(file, "rb")
-    fcntl.flock(holder, how | fcntl.LOCK_NB)
+    try:
+        fcntl.flock(holder, how | fcntl.LOCK_NB)
+    except BlockingIOError:
+        holder.close()
+        raise
     return holder
 
 

@@ -10,9 +10,13 @@ TOP = pathlib.Path(__file__).resolve().parent.parent
 README = (TOP / "README.md").read_text()
 
 
+# The examples: each fence that opens one, with its language or none, is paired with the one that ends it.
+EXAMPLES = re.findall(r"^```\w*\n(.*?)^```$", README, re.S | re.M)
+
+
 def shown():
     """The commands of the README's examples on files, each with the lines that it is to print."""
-    block = next(it for it in re.findall(r"```\n(.*?)```", README, re.S) if "$ snapd format" in it)
+    block = next(it for it in EXAMPLES if "$ snapd format" in it)
     for part in re.split(r"^\$ ", block, flags=re.M)[1:]:
         command, _, printed = part.partition("\n")
         yield command, printed
@@ -29,7 +33,7 @@ def test_readme_shows_what_is_printed(snapd, random):
 
 
 def test_readme_script_prints_what_it_shows(snapd, random):
-    block = next(it for it in re.findall(r"```\n(.*?)```", README, re.S) if "snapd script" in it)
+    block = next(it for it in EXAMPLES if "snapd script" in it)
     command, _, printed = block.removeprefix("$ ").rpartition("| tail -n 1\n")
     env = {**os.environ, "PATH": f"{pathlib.Path(snapd.path).parent}:{os.environ['PATH']}"}
     run = subprocess.run(f"{command} | tail -n 1", shell=True, cwd=snapd.folder, env=env, capture_output=True, text=True)
