@@ -7,7 +7,7 @@ not in memory. The runs of the two programs alternate; printed are both medians 
 A whole process is to cost at most 1.3 times the C program's, and a store inside a process at most 1.05 times.
 
 Then it counts events a second of a world and lines a second of a script, each also ten times as long: the cost of an event
-is not to grow with their number.
+is not to grow with their number. Last it counts the looks of a scan, alone and beside writers.
 """
 
 import argparse
@@ -89,6 +89,39 @@ def scripts():
     print(f"\n{'lines of a script':<44} {rates[0]:>12,.0f} {rates[1]:>12,.0f}   a second, at 100 kB and at 1 MB")
 
 
+def update(writer, segments):
+    """The lines of one update while nobody else writes. A store whose spare gate is closed answers the last calls `not now`."""
+    return [f"begin {writer} 61"] + [f"look w{writer}"] * (2 * segments) + [f"call {writer}"] * 6 + [f"show {writer}", f"ack {writer}"]
+
+
+def looks_beside(segments, writer_before):
+    """How many looks a scan makes where this writer, if any, makes an update before each of its looks."""
+    snapd = str(TOP / "bin" / "snapd")
+    lines, at = [f"world {segments} 1", "scan 0"], []
+    for look in range(segments * (segments + 2) + 1):
+        writer = writer_before(look)
+        if writer is not None:
+            lines += update(writer, segments)
+        at.append(len(lines))
+        lines.append("look s0")
+    script = "\n".join([*lines, "answer 0", ""])
+    printed = subprocess.run([snapd, "script"], input=script, check=True, stdout=subprocess.PIPE, text=True).stdout.splitlines()
+    assert printed[-1].startswith("memory "), printed[-1]
+    return sum(printed[place].startswith("number ") for place in at)
+
+
+def looks():
+    """Looks of a scan alone, beside a writer that moves between all looks, and beside writers each of which moves once."""
+    names = ("alone", "one writer between all looks", "one in each collect", "one in each second collect")
+    print(f"\n{'looks of a scan':<20}" + "".join(f"{name:>30}" for name in names))
+    for segments in (1, 2, 4, 16):
+        # In collect m a writer that hasn't moved yet moves just before it is looked at, so the collect differs from the last.
+        each = {m * segments + m - 1: m - 1 for m in range(1, segments + 1)}
+        second = {(2 * m + 1) * segments + m: m for m in range(segments)}
+        schedules = (lambda look: None, lambda look: 0 if look else None, each.get, second.get)
+        print(f"  {segments:>2} segments{'':<7}" + "".join(f"{looks_beside(segments, it):>30}" for it in schedules))
+
+
 def main():
     words = argparse.ArgumentParser()
     words.add_argument("--folder")
@@ -125,6 +158,7 @@ def main():
         print(f"allocations with 1 store and with {STORES}: {few} and {more}")
         worlds()
         scripts()
+        looks()
         return 0 if few == more else 1
 
 
