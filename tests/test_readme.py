@@ -1,5 +1,6 @@
 """What the README shows is what happens: its first commands, and its job, killed at random moments."""
 
+import fcntl
 import os
 import pathlib
 import re
@@ -40,6 +41,20 @@ def test_readme_script_prints_what_it_shows(snapd, random):
     assert (run.stdout, run.stderr) == (printed, ""), run
 
 
+def wait_for_lock(file):
+    """A killed command ends a moment later where it was in a call of the disk, and its lock ends with it."""
+    if not file.exists():
+        return
+    until = time.monotonic() + 30
+    with open(file, "rb") as holder:
+        while True:
+            try:
+                return fcntl.flock(holder, fcntl.LOCK_EX | fcntl.LOCK_NB)
+            except BlockingIOError:
+                assert time.monotonic() < until, "a killed job keeps its lock"
+                time.sleep(0.005)
+
+
 def test_job_of_the_readme_restarts_where_it_was(snapd, random):
     job = re.search(r"```sh\n(.*?)```", README, re.S)[1]
     (snapd.folder / "job").write_text(job)
@@ -58,8 +73,7 @@ def test_job_of_the_readme_restarts_where_it_was(snapd, random):
         except subprocess.TimeoutExpired:
             os.killpg(run.pid, 9)
             run.wait()
-            # A killed command's lock ends with it, which the system may do a moment later.
-            time.sleep(0.01)
+            wait_for_lock(snapd.file("job.seg"))
     else:
         raise AssertionError("the job never ended")
     steps = [int(it) for it in (snapd.folder / "done").read_text().split()]
