@@ -7,7 +7,7 @@ use std::fmt;
 #[derive(Clone, Copy)]
 pub enum Garbage {
     Keep,
-    Shut,
+    Closed,
     Open,
 }
 
@@ -15,7 +15,7 @@ impl Garbage {
     pub(crate) fn fill(self) -> Fill {
         match self {
             Garbage::Keep => Fill::Keep,
-            Garbage::Shut => Fill::All(0x00),
+            Garbage::Closed => Fill::All(0x00),
             Garbage::Open => Fill::All(0xA5),
         }
     }
@@ -25,7 +25,7 @@ impl fmt::Display for Garbage {
     fn fmt<W: fmt::Write>(&self, f: &mut fmt::Formatter<W>) -> fmt::Result {
         f.write_str(match self {
             Garbage::Keep => "keep",
-            Garbage::Shut => "00",
+            Garbage::Closed => "00",
             Garbage::Open => "a5",
         })
     }

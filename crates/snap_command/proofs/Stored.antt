@@ -21,11 +21,11 @@ stored i n i' n' k u v old new same_i same_n head held last = record {
 }
 
 -- an opening and a store behind it, in the words of the command
-pub store_leaves : {D : Type 0} (moment : D → ℕ) (might_have_left : D → ℕ → List ℕ → Type 0) (old mid new : D) (device : Device) (i n i' n' k : ℕ) (u v : List ℕ) → i' ≡ i → n' ≡ n
-    → Head device.bytes i n → Holds device.bytes k u → LeavesOnly moment might_have_left old mid (MayLeave device) → LeavesOnly moment might_have_left mid new (IsEither i' n' k u v)
-    → LeavesOnly moment might_have_left old new (StoreLeaves i n v device)
-store_leaves moment might_have_left old mid new device i n i' n' k u v same_i same_n head holds first second =
-    then moment might_have_left old mid new (MayLeave device) (IsEither i' n' k u v) (StoreLeaves i n v device) first second (λ b left. inl left)
+pub store_leaves : {D : Type 0} (clock : D → ℕ) (might_have_left : D → ℕ → List ℕ → Type 0) (old mid new : D) (device : Device) (i n i' n' k : ℕ) (u v : List ℕ) → i' ≡ i → n' ≡ n
+    → Head device.bytes i n → Holds device.bytes k u → LeavesOnly clock might_have_left old mid (MayLeave device) → LeavesOnly clock might_have_left mid new (IsEither i' n' k u v)
+    → LeavesOnly clock might_have_left old new (StoreLeaves i n v device)
+store_leaves clock might_have_left old mid new device i n i' n' k u v same_i same_n head holds first second =
+    then clock might_have_left old mid new (MayLeave device) (IsEither i' n' k u v) (StoreLeaves i n v device) first second (λ b left. inl left)
     (λ b either. inr (k, u, head, holds, subst (λ (x : ℕ). IsEither x n k u v b) same_i (subst (λ (x : ℕ). IsEither i' x k u v b) same_n either)))
 
 -- a reader that gave more than a value's bytes had more

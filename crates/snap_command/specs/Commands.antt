@@ -7,7 +7,7 @@ use Rattle.snap_disk.specs.declared.refusal.Refusal.{Refusal}
 use Rattle.snap_disk.specs.declared.refusal.Refusal.TheVariants as refusal
 use Rattle.snap_disk.specs.declared.file.TheConstants.{FILE_LEN}
 use Rattle.snap_slot.specs.declared.layout.TheConstants.{MAX_VALUE_LEN, LAST_NUMBER}
-use Rattle.snap_slot.specs.Layout.{Head, Holds, Bare, IsFormatted, IsFileOf}
+use Rattle.snap_slot.specs.Layout.{Head, Holds, IsUnformatted, IsFormatted, IsFileOf}
 use Rattle.snap_slot.specs.States.{IsAtRest, IsEither}
 use Rattle.snap_slot.specs.Findings.{AreFindings, IsNoOpening}
 use Rattle.snap_slot.specs.Text.{findings_text}
@@ -51,7 +51,7 @@ stored_line k = codes "stored " ++ (decimal k ++ codes "\n")
 
 -- the file was unformatted, and is that of segment i of n with number 0 and the empty value
 abbrev pub IsNewlyFormatted : ℕ → ℕ → Device → Device → Type 0
-IsNewlyFormatted i n old new = Bare old.bytes × IsAtRest i n 0 [] false new
+IsNewlyFormatted i n old new = IsUnformatted old.bytes × IsAtRest i n 0 [] false new
 
 -- why a file was not formatted, where its bytes are the reason
 abbrev pub IsNoFormat : List ℕ → Refusal → Type 0
@@ -97,7 +97,7 @@ EndsStore honest i n v old new out out' (Err (Refused why)) =
     (honest → IsNoStore i n v old.bytes why) × Keeps out out'
 EndsStore honest i n v old new out out' end = ⊥
 
--- a crash at some moment of a store of v may leave what the file held, or v with the next number
+-- a crash during a store of v may leave what the file held, or v with the next number
 abbrev pub LeavesEither : (i n : ℕ) (v : List ℕ) (old : Device) → List ℕ → Type 0
 LeavesEither i n v old b = (c : ℕ) × (u : List ℕ) × Head old.bytes i n × Holds old.bytes c u × IsEither i n c u v b
 
@@ -160,7 +160,7 @@ EndsOrder (Put file i n) honest known old new out out' end = EndsPut honest i n 
 EndsOrder (Get file i n) honest known old new out out' end = EndsGet honest i n old out out' end
 EndsOrder (Check file) honest known old new out out' end = EndsCheck honest old out out' end
 
--- what a crash at some moment of the order may leave
+-- what a crash during the order may leave
 abbrev pub OrderLeaves : FileOrder → (known : Option (List ℕ)) (old : Device) → List ℕ → Type 0
 OrderLeaves (Format file i n) known old b = IsFresh i n old b
 OrderLeaves (Put file i n) known old b = PutLeaves i n known old b

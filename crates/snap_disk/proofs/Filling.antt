@@ -24,7 +24,7 @@ filled is_touched old v size elsewhere = record {
   size = size;
   each = λ p within. elim (is_touched p) as (λ b. (is_touched p ≡ b) → slice_index v.items p ≡ (if b then fill_byte (At 0 v) p (slice_index old p) else slice_index old p)) [
     | true ↦ λ touched. sym (at_zero v p (slice_index old p) (omega (arith, within, size)))
-    | false ↦ λ shut. elsewhere p shut
+    | false ↦ λ closed. elsewhere p closed
   ] refl;
 }
 
@@ -43,8 +43,8 @@ any_failed_write at n old new small is = some_fill (in_range at n) old new small
 pub inside_any_write : InsideAnyWrite
 inside_any_write at n old new b small touched left =
     let size : length new.bytes ≡ length old.bytes = touched.bytes_elsewhere.size in
-    some_fill new.is_open new.bytes b (omega (arith, small, size)) (left.size ∙ sym size) (λ p shut.
-    let before : (in_range at n p || old.is_open p) ≡ false = sym (touched.opened p) ∙ shut in
+    some_fill new.is_open new.bytes b (omega (arith, small, size)) (left.size ∙ sym size) (λ p closed.
+    let before : (in_range at n p || old.is_open p) ≡ false = sym (touched.opened p) ∙ closed in
     left.elsewhere p before ∙ sym (touched.bytes_elsewhere.elsewhere p (or_parts (in_range at n p) (old.is_open p) before).0))
 
 -- the laws, for the function that has them

@@ -92,22 +92,22 @@ TakesOff held (Ok None) new = IsPartial held × (new ≡ record { bytes = held; 
 TakesOff held (Err failure) new = Fails held failure new
 
 -- What `next` of a feed answers over the bytes held, and what it leaves.
-abbrev pub Next : List ℕ → Result (Option Request) Refusal → Held → Type 0
-Next held (Ok (Some r)) new =
+abbrev pub IsNextRequest : List ℕ → Result (Option Request) Refusal → Held → Type 0
+IsNextRequest held (Ok (Some r)) new =
     (x : List ℕ) × HasFrame held x new.bytes × Asks x r × (new.failure ≡ None)
-Next held (Ok None) new = IsPartial held × (new ≡ record { bytes = held; failure = None })
-Next held (Err why) new =
+IsNextRequest held (Ok None) new = IsPartial held × (new ≡ record { bytes = held; failure = None })
+IsNextRequest held (Err why) new =
     ((why ≡ refusals.Malformed) × (x : List ℕ) × HasFrame held x new.bytes × Malformed x × (new.failure ≡ None))
     ⊎ ((failure : Failure) × (why ≡ refusal_of failure) × Fails held failure new)
 
 -- What `next` of a reply feed answers over the bytes held, and what it leaves.
-abbrev pub NextReply : List ℕ → Result (Option Reply) ReplyFault → Held → Type 0
-NextReply held (Ok (Some r)) new =
+abbrev pub IsNextReply : List ℕ → Result (Option Reply) ReplyFault → Held → Type 0
+IsNextReply held (Ok (Some r)) new =
     (x : List ℕ) × HasFrame held x new.bytes × Says x r × (new.failure ≡ None)
-NextReply held (Ok None) new = IsPartial held × (new ≡ record { bytes = held; failure = None })
-NextReply held (Err BadReply) new =
+IsNextReply held (Ok None) new = IsPartial held × (new ≡ record { bytes = held; failure = None })
+IsNextReply held (Err BadReply) new =
     (x : List ℕ) × HasFrame held x new.bytes × SaysNothing x × (new.failure ≡ None)
-NextReply held (Err (Failed failure)) new = Fails held failure new
+IsNextReply held (Err (Failed failure)) new = Fails held failure new
 
 -- no frame is a beginning of another frame
 abbrev pub NoFrameBeginsAnother : Type 0

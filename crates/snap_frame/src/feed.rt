@@ -1,7 +1,7 @@
 //! Requests out of a stream that comes in pieces.
 ghost use Rattle.std.specs.Prelude.{◌≡◌, ◌++◌, ◌↔◌, ◌⊎◌, ℕ, IsTrue, List, Some, None, Ok, Err, OnOk, OnErr, IfSome, IfErr};
 ghost use Rattle.snap_frame.specs.Messages.{Malformed};
-ghost use Rattle.snap_frame.specs.Stream.{Held, empty, Next, refusal_of, HasFrame, HasLongLength, IsPartial, NoFrameBeginsAnother};
+ghost use Rattle.snap_frame.specs.Stream.{Held, empty, IsNextRequest, refusal_of, HasFrame, HasLongLength, IsPartial, NoFrameBeginsAnother};
 
 use crate::frame_buffer::{Failure, FrameBuffer};
 use crate::request::{Request, read_request};
@@ -65,7 +65,7 @@ impl Feed {
         ensures failed { IfSome self.old.failure (λ f. (result ≡ Err (refusal_of f))
             × (self.new ≡ self.old)) }
         // What it answers, and what it leaves.
-        ensures next { self.old.failure ≡ None → Next self.old.bytes result self.new }
+        ensures next { self.old.failure ≡ None → IsNextRequest self.old.bytes result self.new }
         // None comes exactly where no whole frame and no length above the limit stands first.
         ensures none { self.old.failure ≡ None
             → (result ≡ Ok None ↔ IsPartial self.old.bytes) }

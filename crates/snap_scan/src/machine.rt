@@ -88,7 +88,7 @@ impl Machine {
     /// Takes in a number that decides nothing by itself.
     fn keep(&mut self, segment: usize, number: u64)
         requires place { segment < MAX_SEGMENTS }
-        requires room { self.old.looks + 1 < 2 ^ 64 }
+        requires headroom { self.old.looks + 1 < 2 ^ 64 }
         ensures { self.new ≡ record self.old {
           looks = self.old.looks + 1;
           changed = self.old.changed || not (slice_index self.old.latest segment == number);

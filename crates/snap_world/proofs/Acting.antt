@@ -15,7 +15,7 @@ use Rattle.snap_world.specs.declared.event.Event.TheVariants.{Begin, Look, Show,
 use Rattle.snap_world.specs.declared.event.Reply.{Reply}
 use Rattle.snap_world.specs.declared.event.Reply.TheVariants.{Begun, Number, Shown, Stored, ScanBegun, Memory, NotNow}
 use Rattle.snap_world.specs.declared.node.Node.{Node}
-use Rattle.snap_persist.specs.declared.persist.Next.{Next}
+use Rattle.snap_persist.specs.declared.persist.NextCall.{NextCall}
 use Rattle.snap_world.specs.declared.node.NodePhase.{NodePhase}
 use Rattle.snap_world.specs.declared.node.NodePhase.TheVariants.{Up}
 use Rattle.snap_world.specs.declared.parts.Parts.{Parts}
@@ -86,7 +86,7 @@ gates_stay event reply q ds a = tt
 
 pub same_phases : (p q : WorldPhases) → q.node ≡ p.node → q.actors ≡ p.actors → q.calls ≡ p.calls → q ≡ p
 same_phases p q node actors calls =
-    let Made : NodePhase → Phases → List (List Next) → WorldPhases = λ a b c. record { node = a; actors = b; calls = c } in
+    let Made : NodePhase → Phases → List (List NextCall) → WorldPhases = λ a b c. record { node = a; actors = b; calls = c } in
     ap (λ a. Made a q.actors q.calls) node ∙ ap (λ b. Made p.node b q.calls) actors ∙ ap (λ c. Made p.node p.actors c) calls
 
 -- what is left of phases: those of writers and scanners

@@ -11,7 +11,7 @@ use Rattle.snap_disk.specs.declared.fill.Fill.{Fill}
 use Rattle.snap_slot.specs.States.{IsEither}
 use Rattle.snap_slot.proofs.Rest.{at_rest_leaves}
 use Rattle.snap_persist.proofs.Stages.{stage_leaves}
-use Rattle.snap_persist.specs.Stage.{Order, calls_left}
+use Rattle.snap_persist.specs.Stage.{PersistState, calls_left}
 use Rattle.snap_history.specs.History.{Update, from_nothing, number_after, value_after}
 use Rattle.snap_history.specs.Pairs.{Pairs}
 use Rattle.snap_history.proofs.Pairing.{element, partner}
@@ -42,7 +42,7 @@ use Rattle.snap_world.proofs.Starting.{all_same}
 use Rattle.snap_world.proofs.Sweeping.{map_element, map_same}
 
 -- what a crash leaves of a segment, by the phase of its writer
-module _ (n : ℕ) (h : List Update) (g i : ℕ) (a : Writer) (s : WriterState) (d : Device) (order : Order) where
+module _ (n : ℕ) (h : List Update) (g i : ℕ) (a : Writer) (s : WriterState) (d : Device) (persist : PersistState) where
   abbrev k : ℕ
   k = number_after from_nothing h i
 
@@ -52,11 +52,11 @@ module _ (n : ℕ) (h : List Update) (g i : ℕ) (a : Writer) (s : WriterState) 
   begun_either : (v : List ℕ) → s.pending ≡ Begun v → (b : List ℕ) → IsEither i n k u v b → HoldsEither i n k u (crashed_pending s.pending) b
   begun_either v begun b either = ⊎_elim (λ old. inl old) (λ new. inr (v, ap crashed_pending begun, new)) either
 
-  phase_leaves : (phase : WriterPhase) → IsAtPhase n h g i a s phase → IsDriveAt i n k u phase s.pending d order → (b : List ℕ) → MayLeave d b → HoldsEither i n k u (crashed_pending s.pending) b
+  phase_leaves : (phase : WriterPhase) → IsAtPhase n h g i a s phase → IsDriveAt i n k u phase s.pending d persist → (b : List ℕ) → MayLeave d b → HoldsEither i n k u (crashed_pending s.pending) b
   phase_leaves writer.Idle at drive b left = inl (at_rest_leaves i n k u drive.spare_open d drive.rest b left)
   phase_leaves writer.Scanning at drive b left = inl (at_rest_leaves i n k u drive.spare_open d drive.rest b left)
   phase_leaves writer.Storing at drive b left =
-      begun_either a.value at.0.pending b (stage_leaves i n k u a.value at.0.room at.0.fits order.stage d (drive a.value at.0.pending).at_stage b left)
+      begun_either a.value at.0.pending b (stage_leaves i n k u a.value at.0.room at.0.fits persist.stage d (drive a.value at.0.pending).at_stage b left)
   phase_leaves writer.Stored at drive b left =
       let ready = drive a.value at.0.pending in inr (a.value, ap crashed_pending at.0.pending, at_rest_leaves i n (k + 1) a.value ready.spare_open d ready.rest b left)
   phase_leaves writer.Shown at drive b left = inl (at_rest_leaves i n k u drive.spare_open d drive.rest b left)
@@ -76,7 +76,7 @@ up_leaves parts ds x up i d s ed es =
     let a = element parts.writers.items i (omega arith) in
     let here : WriterStands parts.segments x.history stand.since i a.0 s = stand.writers.each i a.0 s a.1 es in
     let phase : slice_get (phases_of_parts parts).writers i ≡ Some a.0.phase = slice_get-map (λ (v : Writer). v.phase) parts.writers.items i ∙ ap (option_map (λ (v : Writer). v.phase)) a.1 in
-    phase_leaves parts.segments x.history stand.since i a.0 s (device_of d) d.order a.0.phase here.phase (up.drives_stand i d s a.0.phase ed es phase)
+    phase_leaves parts.segments x.history stand.since i a.0 s (device_of d) d.persist a.0.phase here.phase (up.drives_stand i d s a.0.phase ed es phase)
 
 either_stays : (i n k : ℕ) (u : List ℕ) (p : Pending) (b : List ℕ) → HoldsEither i n k u p b → HoldsEither i n k u (crashed_pending p) b
 either_stays i n k u p b (inl old) = inl old
@@ -219,7 +219,7 @@ pub crashed_calls : (ds es : List Drive) (fills : List Fill) → length fills �
 crashed_calls ds es fills size crash = map_same store_left es ds (sym crash.size) (λ i e d ee ed. (
     let low : i < length ds = slice_get_within ds i d ed in
     let f = element fills i (omega arith) in
-    ap (λ (o : Order). calls_left o.stage) (crash.each i d e ed ee f.0 f.1).order))
+    ap (λ (o : PersistState). calls_left o.stage) (crash.each i d e ed ee f.0 f.1).persist))
 
 -- how many devices there are
 pub few_drives : (w : Node) → NodeStand w → (length w.drives.items ≤ 16) × (length w.drives.items ≡ w.parts.segments)

@@ -58,8 +58,8 @@ inside : (at n : ℕ) (old new left : Device) → IsTouched at n old new → IsU
 inside at n old new left touched is = record {
   left = record {
     size = is.left.size ∙ sym touched.bytes_elsewhere.size;
-    elsewhere = λ p shut. (
-        let before : (in_range at n p || old.is_open p) ≡ false = sym (touched.opened p) ∙ shut in
+    elsewhere = λ p closed. (
+        let before : (in_range at n p || old.is_open p) ≡ false = sym (touched.opened p) ∙ closed in
         is.left.elsewhere p before ∙ sym (touched.bytes_elsewhere.elsewhere p (or_parts (in_range at n p) (old.is_open p) before).0));
   };
   places = λ p. is.places p ∙ sym (touched.opened p);

@@ -3,7 +3,7 @@ use Rattle.std.proofs.Common.{ap, ⊎_elim, ◌≡◌, ◌≢◌, ◌⊎◌, ℕ
 use Rattle.std.proofs.lemmas.Bool.{cases_eq}
 use Rattle.snap_disk.specs.Device.{Device}
 use Rattle.snap_persist.specs.Device.{IsAtStage}
-use Rattle.snap_persist.specs.Stage.{Order, calls_left, first_stage}
+use Rattle.snap_persist.specs.Stage.{PersistState, calls_left, first_stage}
 use Rattle.snap_persist.specs.declared.persist.Stage.{Stage}
 use Rattle.snap_persist.proofs.Stages.{begins}
 use Rattle.snap_history.specs.History.{Update, from_nothing, number_after, value_after}
@@ -42,7 +42,7 @@ drives_change n h g ss ts ps qs ds es i states phases drives same here stand j d
       (here d s phase (subst (λ k. slice_get es k ≡ Some d) e ed) (subst (λ k. slice_get ts k ≡ Some s) e es_) (subst (λ k. slice_get qs k ≡ Some phase) e ep))
   | inr ne ↦ (
       let was : DriveStands n h j phase s.pending d = stand j d s phase (sym (drives j ne) ∙ ed) (sym (states j ne) ∙ es_) (sym (phases j ne) ∙ ep) in
-      let At : ℕ → List ℕ → Type 0 = λ k u. IsDriveAt j n k u phase s.pending (device_of d) d.order in
+      let At : ℕ → List ℕ → Type 0 = λ k u. IsDriveAt j n k u phase s.pending (device_of d) d.persist in
       subst (At (number_after from_nothing g j)) (same j ne).1 (subst (λ k. At k (value_after from_nothing h j)) (same j ne).0 was))
 ]
 
@@ -54,10 +54,10 @@ first_calls true at e none = let f : calls_left (first_stage true) ≡ [] = subs
 first_calls false at e none = let f : calls_left (first_stage false) ≡ [] = subst (λ z. calls_left z ≡ []) e none in cc
 
 -- the device is ready for a store of any value
-pub store_begins : (i n k : ℕ) (u v : List ℕ) (d : Device) (order : Order) → IsReady i n k u d order → IsStoreUnderWay i n k u v d order
-store_begins i n k u v d order is = record {
+pub store_begins : (i n k : ℕ) (u v : List ℕ) (d : Device) (persist : PersistState) → IsReady i n k u d persist → IsStoreUnderWay i n k u v d persist
+store_begins i n k u v d persist is = record {
   slot = is.slot;
-  going = first_calls is.spare_open order.stage is.stage;
+  going = first_calls is.spare_open persist.stage is.stage;
   at_stage = let At : Stage → Type 0 = λ at. IsAtStage i n k u v at d in subst At (sym is.stage) (begins i n k u v is.spare_open d is.rest);
 }
 
@@ -86,9 +86,9 @@ module _ (n : ℕ) (h : List Update) (ss : List WriterState) (ps : List WriterPh
       (λ j ne. get-set_other ss w j t ne) (λ j ne. get-set_other ps w j writer.Shown ne) (λ j ne. refl)
       (λ j ne. (sym (number-push_other from_nothing h u j (λ e. ne (sym e))), sym (value-push_other from_nothing h u j (λ e. ne (sym e)))))
       (λ d r ph ed er eq. (
-      let was : IsReady w n (number_after from_nothing h w + 1) v (device_of d) d.order = stand w d s writer.Stored ed es ep v begun in
-      let At : ℕ → List ℕ → Type 0 = λ k z. IsReady w n k z (device_of d) d.order in
-      let now : IsReady w n (number_after from_nothing (h ++ u ∷ []) w) (value_after from_nothing (h ++ u ∷ []) w) (device_of d) d.order =
+      let was : IsReady w n (number_after from_nothing h w + 1) v (device_of d) d.persist = stand w d s writer.Stored ed es ep v begun in
+      let At : ℕ → List ℕ → Type 0 = λ k z. IsReady w n k z (device_of d) d.persist in
+      let now : IsReady w n (number_after from_nothing (h ++ u ∷ []) w) (value_after from_nothing (h ++ u ∷ []) w) (device_of d) d.persist =
       subst (At (number_after from_nothing (h ++ u ∷ []) w)) (sym (value-push from_nothing h u)) (subst (λ k. At k v) (sym (number-push from_nothing h u)) was) in
       subst (λ z. DriveStands n (h ++ u ∷ []) w z r.pending d) (set_is ps w writer.Shown ph eq) now)) stand
 
@@ -97,7 +97,7 @@ look_follows : (n : ℕ) (h : List Update) (ss : List WriterState) (p q : Phases
     → slice_get ss w ≡ Some s → slice_get p.writers w ≡ Some writer.Scanning → s.pending ≡ t.pending
     → (q ≡ writer_to p w writer.Storing) ⊎ (q ≡ p) → DrivesStand n h (slice_set ss w t) q.writers ds
 look_follows n h ss p q ds stand w s t es ep same (inl e) = subst (λ (z : Phases). DrivesStand n h (slice_set ss w t) z.writers ds) (sym e)
-    (writer_changes n h ss p.writers ds stand w t writer.Storing (λ d ed v begun. store_begins w n (number_after from_nothing h w) (value_after from_nothing h w) v (device_of d) d.order (stand w d s writer.Scanning ed es ep)))
+    (writer_changes n h ss p.writers ds stand w t writer.Storing (λ d ed v begun. store_begins w n (number_after from_nothing h w) (value_after from_nothing h w) v (device_of d) d.persist (stand w d s writer.Scanning ed es ep)))
 look_follows n h ss p q ds stand w s t es ep same (inr e) = subst (λ (z : Phases). DrivesStand n h (slice_set ss w t) z.writers ds) (sym e) (writer_told n h ss p.writers ds stand w s t es same)
 
 -- a scanner's look changes no writer's phase

@@ -17,7 +17,7 @@ use Rattle.snap_slot.specs.Layout.{IsFileOf}
 use Rattle.snap_history.proofs.Lists.{get-set_other}
 use Rattle.snap_history.proofs.Pairing.{element}
 use Rattle.snap_history.specs.History.{from_nothing, number_after, value_after}
-use Rattle.snap_persist.specs.Stage.{Order, calls_left}
+use Rattle.snap_persist.specs.Stage.{PersistState, calls_left}
 use Rattle.snap_world.specs.Devices.{Changes, IsRefilled}
 use Rattle.snap_world.specs.Drives.{device_of}
 use Rattle.snap_world.specs.Machine.{State}
@@ -107,9 +107,9 @@ module _ (w : Node) (i : ℕ) (d : Drive) (within : i < length w.drives.items) (
   at_call : (call : OpeningCall) → w.phase ≡ Restarting i call → (x : State) → NodeStands w x → (i < w.parts.segments) × IsRestarting w.parts w.drives.items x i call
   at_call call restarting x stands = subst (IsNodeAt w.parts w.drives.items x) restarting stands.at
 
-  module _ (e : Drive) (order : e.order ≡ d.order) where
+  module _ (e : Drive) (persist : e.persist ≡ d.persist) where
     same_calls : map store_left (slice_set w.drives.items i e) ≡ map store_left w.drives.items
-    same_calls = map-set_same store_left w.drives.items i e d (ap (λ (o : Order). calls_left o.stage) order ∙ ap store_left read)
+    same_calls = map-set_same store_left w.drives.items i e d (ap (λ (o : PersistState). calls_left o.stage) persist ∙ ap store_left read)
 
     changed : (R : Device → Device → Type 0) → R (device_of d) (device_of e) → Changes i R (devices_of_node w) (map device_of (slice_set w.drives.items i e))
     changed R change = record {
@@ -189,7 +189,7 @@ module _ (w : Node) (i : ℕ) (d : Drive) (within : i < length w.drives.items) (
       let long : length w.parts.writers.items ≡ length x.writers = down.parts_rest.writers.size in
       let all : length w.parts.writers.items ≡ w.parts.segments = down.parts_rest.writers_n in
       let s = element x.writers i (omega arith) in
-      let either = down.drives_down i d s.0 there s.1 (device_of d).bytes (record { size = refl; elsewhere = λ p shut. refl }) in
+      let either = down.drives_down i d s.0 there s.1 (device_of d).bytes (record { size = refl; elsewhere = λ p closed. refl }) in
       let File : ℕ → ℕ → List ℕ → Type 0 = λ n k v. IsFileOf i n k v (device_of d).bytes in
       elim either [
         | inl old ↦ (number_after from_nothing x.history i, value_after from_nothing x.history i, subst (λ n. File n (number_after from_nothing x.history i) (value_after from_nothing x.history i)) (sym size) old)

@@ -6,8 +6,8 @@ use Rattle.snap_history.specs.History.{IsBeginning}
 use Rattle.snap_history.proofs.Beginnings.{beginning-self, beginning-trans}
 use Rattle.snap_world.specs.Machine.{State, Step, chosen}
 use Rattle.snap_world.specs.NodeSteps.{IsNodeStep}
-use Rattle.snap_world.specs.Runs.{Moment, Run}
-use Rattle.snap_world.specs.Surface.{StandsFor, IsRun, segments_of, moment}
+use Rattle.snap_world.specs.Runs.{Configuration, Run}
+use Rattle.snap_world.specs.Surface.{StandsFor, IsRun, segments_of, configuration}
 use Rattle.snap_world.specs.declared.event.Actor.TheVariants.{Writer, Scanner}
 use Rattle.snap_world.specs.declared.event.Event.{Event}
 use Rattle.snap_world.specs.declared.event.Event.TheVariants.{Begin, Look, Call, Fail, Show, Acknowledge, Scan, Answer, Crash, Restart, RestartCall, RestartFail, Serve}
@@ -38,7 +38,7 @@ Step-grows n x Serve (Memory m) y s = (chosen 0 x.writers s.0, ap (λ v. v.histo
 Step-grows n x event reply y s = absurd s
 
 -- two runs, one after the other
-pub Run-append : (n : ℕ) (a : Moment) (events : List Event) (replies : List Reply) (b : Moment) (more : List Event) (others : List Reply) (c : Moment)
+pub Run-append : (n : ℕ) (a : Configuration) (events : List Event) (replies : List Reply) (b : Configuration) (more : List Event) (others : List Reply) (c : Configuration)
     → Run n a events replies b → Run n b more others c → Run n a (events ++ more) (replies ++ others) c
 Run-append n a [] [] b more others c f g = subst (λ v. Run n v more others c) f g
 Run-append n a (event ∷ events) (reply ∷ replies) b more others c f g = (f.0, f.1, Run-append n f.0 events replies b more others c f.2 g)
@@ -55,9 +55,9 @@ IsRun-append old mid new events replies more others a b = record {
   run = λ x stands. (
       let f = a.run x stands in
       let g = b.run f.0 f.2 in
-      let rest : Run (segments_of old) (moment mid f.0) more others (moment new g.0) = subst (λ n. Run n (moment mid f.0) more others (moment new g.0)) a.segments g.1 in (
+      let rest : Run (segments_of old) (configuration mid f.0) more others (configuration new g.0) = subst (λ n. Run n (configuration mid f.0) more others (configuration new g.0)) a.segments g.1 in (
         g.0,
-        Run-append (segments_of old) (moment old x) events replies (moment mid f.0) more others (moment new g.0) f.1 rest,
+        Run-append (segments_of old) (configuration old x) events replies (configuration mid f.0) more others (configuration new g.0) f.1 rest,
         g.2,
         beginning-trans x.history f.0.history g.0.history f.3 g.3,
       ));
@@ -69,7 +69,7 @@ IsRun-one old new event reply s = record {
   segments = s.segments;
   run = λ x stands. (
       let f = s.step x stands in
-      (f.0, (moment new f.0, record { step = f.1; comes = s.comes x stands; phases = s.phases x stands; devices = f.2; gates = s.gates x stands }, refl), f.3, Step-grows (segments_of old) x event reply f.0 f.1));
+      (f.0, (configuration new f.0, record { step = f.1; comes = s.comes x stands; phases = s.phases x stands; devices = f.2; gates = s.gates x stands }, refl), f.3, Step-grows (segments_of old) x event reply f.0 f.1));
 }
 
 pub IsRun-step : (old new : World) (event : Event) (r : Result Reply AllocError) → IfOk r (λ reply. IsNodeStep old.node event reply new.node) → IfOk r (λ reply. IsRun old (event ∷ []) (reply ∷ []) new)

@@ -27,7 +27,7 @@ use Rattle.snap_world.specs.Serving.{found_value, IsReadable, IsResumed, IsRecov
 use Rattle.snap_world.specs.Stands.{PartsStand, WriterStands, ScannerStands, IsAtPhase, IsScannerAt, is_fenced}
 use Rattle.snap_world.specs.Steps.{phases_of_parts}
 use Rattle.snap_world.specs.declared.drive.Drive.{Drive}
-use Rattle.snap_persist.specs.declared.persist.Next.{Next}
+use Rattle.snap_persist.specs.declared.persist.NextCall.{NextCall}
 use Rattle.snap_world.specs.declared.node.Node.{Node}
 use Rattle.snap_world.specs.declared.node.NodePhase.TheVariants.{Ready}
 use Rattle.snap_world.specs.declared.parts.Parts.{Parts}
@@ -78,7 +78,7 @@ module _ (w : Node) (x : State) (stands : NodeStands w x) (is_ready : w.phase �
         element x.writers i (omega arith)
 
     pub either : (s : WriterState) → slice_get x.writers i ≡ Some s → HoldsEither i n (number_after from_nothing x.history i) (value_after from_nothing x.history i) s.pending (device_of d).bytes
-    either s es = at.down.drives_down i d s there es (device_of d).bytes (record { size = refl; elsewhere = λ p shut. refl })
+    either s es = at.down.drives_down i d s there es (device_of d).bytes (record { size = refl; elsewhere = λ p closed. refl })
 
     pub long : length (device_of d).bytes ≡ 20480
     long = elim (either state.0 state.1) [ inl file ↦ file.size | inr new ↦ new.2.size ]
@@ -246,7 +246,7 @@ module _ (w : Node) (x : State) (stands : NodeStands w x) (is_ready : w.phase �
       };
     }
 
-    ready : (i : ℕ) (e : Drive) → slice_get es i ≡ Some e → IsReady i n (number_after from_nothing h i) (value_after from_nothing h i) (device_of e) e.order
+    ready : (i : ℕ) (e : Drive) → slice_get es i ≡ Some e → IsReady i n (number_after from_nothing h i) (value_after from_nothing h i) (device_of e) e.persist
     ready i e ee =
         let d = was i e ee in
         let after = is_after i d.0 d.1 in
@@ -284,7 +284,7 @@ module _ (w : Node) (x : State) (stands : NodeStands w x) (is_ready : w.phase �
         } in
         subst (IsServed i n y) same here
 
-    pub gates : (i : ℕ) (device : Device) (calls : List Next) → slice_get (map device_of es) i ≡ Some device → slice_get (map store_left es) i ≡ Some calls
+    pub gates : (i : ℕ) (device : Device) (calls : List NextCall) → slice_get (map device_of es) i ≡ Some device → slice_get (map store_left es) i ≡ Some calls
         → (spare_open : Bool) × (calls ≡ store_calls spare_open) × ((k : ℕ) (v : List ℕ) → Holds device.bytes k v → IsSpare spare_open device.bytes k)
     gates i device calls there called =
         let e = map_element device_of es i device there in

@@ -10,12 +10,12 @@ use Rattle.snap_disk.specs.Device.{Device, MayLeave}
 use Rattle.snap_disk.specs.declared.fill.Fill.{Fill}
 use Rattle.snap_slot.specs.Layout.{body_block}
 use Rattle.snap_slot.specs.States.{IsEither}
-use Rattle.snap_persist.specs.Stage.{Order, calls_left, first_stage, after_call}
+use Rattle.snap_persist.specs.Stage.{PersistState, calls_left, first_stage, after_call}
 use Rattle.snap_persist.specs.declared.persist.Stage.TheVariants as stage
 use Rattle.snap_history.specs.History.{from_nothing, number_after, value_after}
 use Rattle.snap_history.proofs.Lists.{get-set_other}
 use Rattle.snap_history.proofs.Pairing.{element, partner}
-use Rattle.snap_persist.specs.declared.persist.Next.{Next}
+use Rattle.snap_persist.specs.declared.persist.NextCall.{NextCall}
 use Rattle.snap_persist.specs.Stage.{store_calls}
 use Rattle.snap_world.specs.Calls.{store_call}
 use Rattle.snap_world.specs.Devices.{IsMade, IsMissed, Changes, DevicesMove}
@@ -115,14 +115,14 @@ module _ (w : Node) (x : State) (stands : NodeStands w x) (i : ℕ) (may : MaySt
     pub there : slice_get w.drives.items i ≡ Some d
     there = slice_get_read w.drives.items w.parts.segments i d (sym stands.drives_n) within read
 
-    pub storing : IsStoreUnderWay i n k u v (device_of d) d.order
+    pub storing : IsStoreUnderWay i n k u v (device_of d) d.persist
     storing = up.drives_stand i d state.0 writer.Storing there state.1 may.1 v begun.pending
 
     pub size : length (device_of d).bytes ≡ 20480
-    size = stage_size i n k u v d.order.stage (device_of d) room fits storing.at_stage
+    size = stage_size i n k u v d.persist.stage (device_of d) room fits storing.at_stage
 
-    pub slot_low : d.order.slot < 2
-    slot_low = let s : d.order.slot ≡ (k + 1) % 2 = storing.slot in omega arith
+    pub slot_low : d.persist.slot < 2
+    slot_low = let s : d.persist.slot ≡ (k + 1) % 2 = storing.slot in omega arith
 
     low_drive : i < length w.drives.items
     low_drive = slice_get_within w.drives.items i d there
@@ -139,23 +139,23 @@ module _ (w : Node) (x : State) (stands : NodeStands w x) (i : ℕ) (may : MaySt
       others = map-set device_of w.drives.items i e;
     }
 
-    module _ (e : Drive) (kind : Kind) (made : IsMade d.order.slot (body_block (k + 1) v) (store_call kind) (device_of d) (device_of e)) where
+    module _ (e : Drive) (kind : Kind) (made : IsMade d.persist.slot (body_block (k + 1) v) (store_call kind) (device_of d) (device_of e)) where
       made_here : Changes i (IsMade ((k + 1) % 2) (body_block (k + 1) v) (store_call kind)) (devices_of_node w) (map device_of (slice_set w.drives.items i e))
       made_here = changes (IsMade ((k + 1) % 2) (body_block (k + 1) v) (store_call kind)) e (subst (λ s. IsMade s (body_block (k + 1) v) (store_call kind) (device_of d) (device_of e)) storing.slot made)
 
       -- a call that is not the last one
-      pub call_goes : store_left d ≡ store_call kind ∷ store_left e → e.order.slot ≡ d.order.slot → e.order.stage ≡ after_call d.order.stage → calls_left e.order.stage ≢ []
+      pub call_goes : store_left d ≡ store_call kind ∷ store_left e → e.persist.slot ≡ d.persist.slot → e.persist.stage ≡ after_call d.persist.stage → calls_left e.persist.stage ≢ []
           → (y : State) × Step n x (Call i) (Called kind) y × DevicesMove n x (phases_of_node w) (devices_of_node w) (Call i) (Called kind) y (map device_of (slice_set w.drives.items i e))
           × NodeStands (with_drive w i e) y
       call_goes asked slot_same stage going =
-          let goes : IsStoreUnderWay i n k u v (device_of e) e.order = store_goes i n k u v room fits (device_of d) (device_of e) d.order e.order (store_call kind) asked slot_same stage going storing made in
+          let goes : IsStoreUnderWay i n k u v (device_of e) e.persist = store_goes i n k u v room fits (device_of d) (device_of e) d.persist e.persist (store_call kind) asked slot_same stage going storing made in
           let now : IsUp w.parts (slice_set w.drives.items i e) x = record {
             parts_stand = up.parts_stand;
             drives_stand = drives_change n x.history x.history x.writers x.writers (phases_of_parts w.parts).writers (phases_of_parts w.parts).writers w.drives.items (slice_set w.drives.items i e) i
                 (λ j ne. refl) (λ j ne. refl) (λ j ne. get-set_other w.drives.items i j e ne) (nothing_grows x.history i)
                 (λ f t phase ef et ep. subst (λ z. DriveStands n x.history i phase t.pending z) (set_is w.drives.items i e f ef)
                 (subst (λ z. DriveStands n x.history i z t.pending e) (same_Some writer.Storing phase (sym may.1 ∙ ep))
-                (λ z is. subst (λ b. IsStoreUnderWay i n k u b (device_of e) e.order) (pending_is t et z is) goes))) up.drives_stand;
+                (λ z is. subst (λ b. IsStoreUnderWay i n k u b (device_of e) e.persist) (pending_is t et z is) goes))) up.drives_stand;
           } in (
             x,
             refl,
@@ -164,19 +164,19 @@ module _ (w : Node) (x : State) (stands : NodeStands w x) (i : ℕ) (may : MaySt
           )
 
       -- the last one, after which the device is ready for the next store
-      pub call_ends : (next : Order) (parts : Parts) → store_left d ≡ store_call kind ∷ calls_left next.stage → next.stage ≡ after_call d.order.stage → next.stage ≡ stage.Stored
-          → e.order.stage ≡ first_stage true → e.order.slot ≡ (k + 1 + 1) % 2 → parts.segments ≡ w.parts.segments → PartsStand parts x
+      pub call_ends : (next : PersistState) (parts : Parts) → store_left d ≡ store_call kind ∷ calls_left next.stage → next.stage ≡ after_call d.persist.stage → next.stage ≡ stage.Stored
+          → e.persist.stage ≡ first_stage true → e.persist.slot ≡ (k + 1 + 1) % 2 → parts.segments ≡ w.parts.segments → PartsStand parts x
           → phases_of_parts parts ≡ writer_to (phases_of_parts w.parts) i writer.Stored
           → (y : State) × Step n x (Call i) (Called kind) y × DevicesMove n x (phases_of_node w) (devices_of_node w) (Call i) (Called kind) y (map device_of (slice_set w.drives.items i e))
           × NodeStands (with_drive_and_parts w i e parts) y
       call_ends next parts asked at done first slot segments parts_stand moved =
-          let ends : IsReady i n (k + 1) v (device_of e) e.order = store_ends i n k u v room fits (device_of d) (device_of e) d.order next e.order (store_call kind) asked at done first slot storing made in
+          let ends : IsReady i n (k + 1) v (device_of e) e.persist = store_ends i n k u v room fits (device_of d) (device_of e) d.persist next e.persist (store_call kind) asked at done first slot storing made in
           let drives : DrivesStand n x.history x.writers (slice_set (phases_of_parts w.parts).writers i writer.Stored) (slice_set w.drives.items i e) =
           drives_change n x.history x.history x.writers x.writers (phases_of_parts w.parts).writers (slice_set (phases_of_parts w.parts).writers i writer.Stored) w.drives.items (slice_set w.drives.items i e) i
           (λ j ne. refl) (λ j ne. get-set_other (phases_of_parts w.parts).writers i j writer.Stored ne) (λ j ne. get-set_other w.drives.items i j e ne) (nothing_grows x.history i)
           (λ f t phase ef et ep. subst (λ z. DriveStands n x.history i phase t.pending z) (set_is w.drives.items i e f ef)
           (subst (λ z. DriveStands n x.history i z t.pending e) (set_is (phases_of_parts w.parts).writers i writer.Stored phase ep)
-          (λ z is. subst (λ b. IsReady i n (k + 1) b (device_of e) e.order) (pending_is t et z is) ends))) up.drives_stand in
+          (λ z is. subst (λ b. IsReady i n (k + 1) b (device_of e) e.persist) (pending_is t et z is) ends))) up.drives_stand in
           let now : IsUp parts (slice_set w.drives.items i e) x = record {
             parts_stand = parts_stand;
             drives_stand = subst (λ m. DrivesStand m x.history x.writers (phases_of_parts parts).writers (slice_set w.drives.items i e)) (sym segments)
@@ -189,14 +189,14 @@ module _ (w : Node) (x : State) (stands : NodeStands w x) (i : ℕ) (may : MaySt
           )
 
     -- a call that failed
-    pub call_fails : (e : Drive) (fill : Fill) (call : Next) (rest : List Next) (parts : Parts) → store_left d ≡ call ∷ rest → IsMissed d.order.slot fill call (device_of d) (device_of e)
+    pub call_fails : (e : Drive) (fill : Fill) (call : NextCall) (rest : List NextCall) (parts : Parts) → store_left d ≡ call ∷ rest → IsMissed d.persist.slot fill call (device_of d) (device_of e)
         → parts.segments ≡ w.parts.segments
         → ((s : WriterState) (z : List ℕ) → slice_get x.writers i ≡ Some s → s.pending ≡ Begun z → PartsStand parts (with_writer x i (record s { fenced = true })))
         → phases_of_parts parts ≡ writer_to (phases_of_parts w.parts) i writer.Fenced
         → (y : State) × Step n x (Fail i fill) DeviceFailed y × DevicesMove n x (phases_of_node w) (devices_of_node w) (Fail i fill) DeviceFailed y (map device_of (slice_set w.drives.items i e))
         × NodeStands (with_drive_and_parts w i e parts) y
     call_fails e fill call rest parts asked missed segments parts_stand moved =
-        let leaves : (b : List ℕ) → MayLeave (device_of e) b → IsEither i n k u v b = store_missed i n k u v room fits (device_of d) (device_of e) d.order fill call rest asked storing missed in
+        let leaves : (b : List ℕ) → MayLeave (device_of e) b → IsEither i n k u v b = store_missed i n k u v room fits (device_of d) (device_of e) d.persist fill call rest asked storing missed in
         let s : WriterState = record state.0 { fenced = true } in
         let drives : DrivesStand n x.history (slice_set x.writers i s) (slice_set (phases_of_parts w.parts).writers i writer.Fenced) (slice_set w.drives.items i e) =
         drives_change n x.history x.history x.writers (slice_set x.writers i s) (phases_of_parts w.parts).writers (slice_set (phases_of_parts w.parts).writers i writer.Fenced) w.drives.items (slice_set w.drives.items i e) i
@@ -221,7 +221,7 @@ module _ (w : Node) (x : State) (stands : NodeStands w x) (i : ℕ) (may : MaySt
 
 -- the phases after a call
 
-after_going : (p : WorldPhases) (w : ℕ) (calls : List Next) (q : WorldPhases) → calls ≢ [] → q ≡ record { node = p.node; actors = p.actors; calls = slice_set p.calls w calls } → AfterCall p w calls q
+after_going : (p : WorldPhases) (w : ℕ) (calls : List NextCall) (q : WorldPhases) → calls ≢ [] → q ≡ record { node = p.node; actors = p.actors; calls = slice_set p.calls w calls } → AfterCall p w calls q
 after_going p w [] q going is = absurd (going refl)
 after_going p w (call ∷ calls) q going is = is
 
@@ -236,7 +236,7 @@ module _ (w : Node) (i : ℕ) (d : Drive) (there : slice_get w.drives.items i �
       (map-set store_left w.drives.items i e ∙ ap (slice_set (map store_left w.drives.items) i) none)
 
   module _ (kind : Kind) where
-    pub call_moves : (n : ℕ) (x : State) (e : Drive) → store_left d ≡ store_call kind ∷ store_left e → calls_left e.order.stage ≢ [] → PhasesMove n x (phases_of_node w) (Call i) (Called kind) (phases_of_node (with_drive w i e))
+    pub call_moves : (n : ℕ) (x : State) (e : Drive) → store_left d ≡ store_call kind ∷ store_left e → calls_left e.persist.stage ≢ [] → PhasesMove n x (phases_of_node w) (Call i) (Called kind) (phases_of_node (with_drive w i e))
     call_moves n x e asked going = (
       store_left e,
       calls_are ∙ ap (λ z. Some z) asked,

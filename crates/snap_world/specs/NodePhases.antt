@@ -7,7 +7,7 @@ use Rattle.snap_world.specs.Answers.{ScanState}
 use Rattle.snap_world.specs.Phases.{Phases, WriterIs, ScannerIs, writer_to, scanner_to}
 use Rattle.snap_slot.specs.declared.layout.TheConstants.{LAST_NUMBER}
 use Rattle.snap_slot.specs.Layout.{IsShort}
-use Rattle.snap_persist.specs.declared.persist.Next.{Next}
+use Rattle.snap_persist.specs.declared.persist.NextCall.{NextCall}
 use Rattle.snap_persist.specs.Stage.{store_calls}
 use Rattle.snap_world.specs.Calls.{store_call, opening_kind}
 use Rattle.snap_world.specs.declared.event.Actor.TheVariants as actor
@@ -27,7 +27,7 @@ use Rattle.snap_world.specs.declared.scanner.ScannerPhase.TheVariants as scanner
 pub record WorldPhases : Type 0 where
   pub node : NodePhase
   pub actors : Phases
-  pub calls : List (List Next)
+  pub calls : List (List NextCall)
 
 -- a node that is up, with these writers and scanners and no device
 abbrev pub up : Phases → WorldPhases
@@ -79,7 +79,7 @@ pub record LooksOn {P : Type 0} (n : ℕ) (told : List ℕ) (p r q : P) : Type 0
 
 -- after a call with these ones left; once none is left the update is stored, and the next store finds
 -- its spare gate open
-abbrev pub AfterCall : WorldPhases → ℕ → List Next → WorldPhases → Type 0
+abbrev pub AfterCall : WorldPhases → ℕ → List NextCall → WorldPhases → Type 0
 AfterCall p w [] q = q ≡ record {
   node = p.node;
   actors = writer_to p.actors w writer.Stored;
@@ -115,7 +115,7 @@ PhasesMove n x p (Look (actor.Scanner i)) (Number k) q =
     (s : ScanState) → slice_get x.scanners i ≡ Some (Opened s)
     → LooksOn n (s.told ++ k ∷ []) p (actors_to p (scanner_to p.actors i scanner.Ready)) q
 PhasesMove n x p (Call w) (Called kind) q =
-    (rest : List Next) × (slice_get p.calls w ≡ Some (store_call kind ∷ rest)) × AfterCall p w rest q
+    (rest : List NextCall) × (slice_get p.calls w ≡ Some (store_call kind ∷ rest)) × AfterCall p w rest q
 PhasesMove n x p (Fail w fill) DeviceFailed q = q ≡ record {
   node = p.node;
   actors = writer_to p.actors w writer.Fenced;

@@ -10,7 +10,7 @@ use Rattle.snap_world.specs.NodeStands.{NodeStands}
 use Rattle.snap_world.specs.Phases.{WriterIs}
 use Rattle.snap_world.specs.Steps.{phases_of_parts}
 use Rattle.snap_world.specs.declared.event.Event.{Event}
-use Rattle.snap_persist.specs.declared.persist.Next.{Next}
+use Rattle.snap_persist.specs.declared.persist.NextCall.{NextCall}
 use Rattle.snap_world.specs.declared.event.Reply.{Reply}
 use Rattle.snap_world.specs.declared.event.Reply.TheVariants.{NotNow}
 use Rattle.snap_world.specs.declared.drive.Drive.{Drive}
@@ -23,8 +23,8 @@ abbrev pub devices_of_node : Node → List Device
 devices_of_node w = map device_of w.drives.items
 
 -- the device calls that are left of the store under way on it, or of the next one
-abbrev pub store_left : Drive → List Next
-store_left d = calls_left d.order.stage
+abbrev pub store_left : Drive → List NextCall
+store_left d = calls_left d.persist.stage
 
 abbrev pub phases_of_node : Node → WorldPhases
 phases_of_node w = record {

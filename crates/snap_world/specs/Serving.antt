@@ -26,9 +26,9 @@ AllReadable drives = (i : ℕ) (d : Drive) → slice_get drives i ≡ Some d →
 -- the device is as it was, and the order is that of the store after what was found
 pub record IsResumed (d e : Drive) : Type 0 where
   pub image : e.image ≡ d.image
-  pub slot : e.order.slot ≡ slot_of (d.found.number + 1)
-  pub stage : e.order.stage ≡ first_stage d.found.spare_open
-  pub calls : calls_left e.order.stage ≡ store_calls d.found.spare_open
+  pub slot : e.persist.slot ≡ slot_of (d.found.number + 1)
+  pub stage : e.persist.stage ≡ first_stage d.found.spare_open
+  pub calls : calls_left e.persist.stage ≡ store_calls d.found.spare_open
 
 -- the register has what was found
 pub record IsRecovered (d : Drive) (r s : Register) : Type 0 where

@@ -74,8 +74,8 @@ returns-in-Err-store-clause-wrong_length g c = λ other. absurd (other c.in-Ok.e
 pub returns-in-Ok-write_whole-clause-wrong_length : goal.returns-in-Ok-write_whole-clause-wrong_length
 returns-in-Ok-write_whole-clause-wrong_length g c = λ other. absurd (other c.in-Ok.ensures.file_length)
 
-pub returns-in-Ok-write_whole-clause-any_moment : goal.returns-in-Ok-write_whole-clause-any_moment
-returns-in-Ok-write_whole-clause-any_moment g c = λ honest.
+pub returns-in-Ok-write_whole-clause-any_time : goal.returns-in-Ok-write_whole-clause-any_time
+returns-in-Ok-write_whole-clause-any_time g c = λ honest.
     let device = g.D.Disk.device in
     let segment = c.in-Ok.segment in
     let opened = c.in-Ok.ensures in
@@ -84,12 +84,12 @@ returns-in-Ok-write_whole-clause-any_moment g c = λ honest.
     let is_honest = subst g.D.Disk.is_honest back.ensures honest in
     let was_honest = answer.honest is_honest in
     let holds = opened.holds was_honest in
-    subst (λ (d : g.row.D.Denot). LeavesOnly g.D.Disk.moment g.D.Disk.might_have_left c.args.disk d (StoreLeaves c.args.index c.args.count c.args.value.now (device c.args.disk))) (sym back.ensures)
-    (store_leaves g.D.Disk.moment g.D.Disk.might_have_left c.args.disk segment.device c.store.new.self.device (device c.args.disk) c.args.index c.args.count segment.index segment.count segment.number segment.value c.args.value.now
-    opened.opened.0 opened.opened.1 holds.0 holds.1 (opened.any_moment_ok was_honest) (answer.any_moment is_honest opened.opened.2))
+    subst (λ (d : g.row.D.Denot). LeavesOnly g.D.Disk.clock g.D.Disk.might_have_left c.args.disk d (StoreLeaves c.args.index c.args.count c.args.value.now (device c.args.disk))) (sym back.ensures)
+    (store_leaves g.D.Disk.clock g.D.Disk.might_have_left c.args.disk segment.device c.store.new.self.device (device c.args.disk) c.args.index c.args.count segment.index segment.count segment.number segment.value c.args.value.now
+    opened.opened.0 opened.opened.1 holds.0 holds.1 (opened.any_time_ok was_honest) (answer.any_time is_honest opened.opened.2))
 
-pub returns-clause-any_moment : goal.returns-clause-any_moment
-returns-clause-any_moment g c = λ honest.
+pub returns-clause-any_time : goal.returns-clause-any_time
+returns-clause-any_time g c = λ honest.
     let device = g.D.Disk.device in
     let segment = c.in-Ok.segment in
     let opened = c.in-Ok.ensures in
@@ -98,6 +98,6 @@ returns-clause-any_moment g c = λ honest.
     let is_honest = subst g.D.Disk.is_honest back.ensures honest in
     let was_honest = answer.honest is_honest in
     let holds = opened.holds was_honest in
-    subst (λ (d : g.row.D.Denot). LeavesOnly g.D.Disk.moment g.D.Disk.might_have_left c.args.disk d (StoreLeaves c.args.index c.args.count c.args.value.now (device c.args.disk))) (sym back.ensures)
-    (store_leaves g.D.Disk.moment g.D.Disk.might_have_left c.args.disk segment.device c.store.new.self.device (device c.args.disk) c.args.index c.args.count segment.index segment.count segment.number segment.value c.args.value.now
-    opened.opened.0 opened.opened.1 holds.0 holds.1 (opened.any_moment_ok was_honest) (answer.any_moment is_honest opened.opened.2))
+    subst (λ (d : g.row.D.Denot). LeavesOnly g.D.Disk.clock g.D.Disk.might_have_left c.args.disk d (StoreLeaves c.args.index c.args.count c.args.value.now (device c.args.disk))) (sym back.ensures)
+    (store_leaves g.D.Disk.clock g.D.Disk.might_have_left c.args.disk segment.device c.store.new.self.device (device c.args.disk) c.args.index c.args.count segment.index segment.count segment.number segment.value c.args.value.now
+    opened.opened.0 opened.opened.1 holds.0 holds.1 (opened.any_time_ok was_honest) (answer.any_time is_honest opened.opened.2))

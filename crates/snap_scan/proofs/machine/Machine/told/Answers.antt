@@ -17,8 +17,8 @@ returns-then-has_moved_twice-clause-told c = λ told st.
 pub keep-requires-clause-place : goal.keep-requires-clause-place
 keep-requires-clause-place c = (turn_fits c.args.self.now c.args.segment c.args.number c.requires.turn c.requires.stands).0
 
-pub keep-requires-clause-room : goal.keep-requires-clause-room
-keep-requires-clause-room c = omega (arith, (turn_fits c.args.self.now c.args.segment c.args.number c.requires.turn c.requires.stands).1)
+pub keep-requires-clause-headroom : goal.keep-requires-clause-headroom
+keep-requires-clause-headroom c = omega (arith, (turn_fits c.args.self.now c.args.segment c.args.number c.requires.turn c.requires.stands).1)
 
 pub overflow_add-segment : goal.overflow_add-segment
 overflow_add-segment c = omega (arith, (turn_fits c.args.self.now c.args.segment c.args.number c.requires.turn c.requires.stands).0)

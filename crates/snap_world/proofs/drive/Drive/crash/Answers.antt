@@ -5,5 +5,5 @@ pub returns : goal.returns
 returns c = record {
   left = record { left = c.crash.ensures.left; places = λ p. ap (λ (f : ℕ → Bool). f p) c.crash.ensures.places };
   filled = c.crash.ensures.filled;
-  order = refl;
+  persist = refl;
 }

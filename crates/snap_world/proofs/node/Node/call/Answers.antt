@@ -4,7 +4,7 @@ use Rattle.std.proofs.Props.{props}
 use Rattle.snap_history.specs.History.{from_nothing, number_after}
 use Rattle.snap_slot.specs.Layout.{body_block}
 use Rattle.snap_persist.specs.Stage.{calls_left, first_call, after_call}
-use Rattle.snap_persist.specs.declared.persist.Next.TheVariants.{Done}
+use Rattle.snap_persist.specs.declared.persist.NextCall.TheVariants.{Done}
 use Rattle.snap_world.specs.Calls.{store_call}
 use Rattle.snap_world.specs.Devices.{IsMade}
 use Rattle.snap_world.specs.Drives.{device_of}
@@ -94,26 +94,26 @@ returns-in-Done c =
     let d = c.index_mut-drive.result.now in
     let read = c.index_mut-drive.ensures.value in
     let mid = c.call-kind.new.self in
-    let e : Drive = record { image = mid.image; order = c.begin-drive.result; found = mid.found } in
+    let e : Drive = record { image = mid.image; persist = c.begin-drive.result; found = mid.found } in
     let kind = c.call-kind.result in
     let parts = c.end_store.new.self in
     let at = c.call-kind.ensures.stage in
-    let last : first_call (calls_left (after_call d.order.stage)) ≡ Done = ap (λ s. first_call (calls_left s)) (sym at) ∙ sym c.next.ensures ∙ c.in-Done.is in
+    let last : first_call (calls_left (after_call d.persist.stage)) ≡ Done = ap (λ s. first_call (calls_left s)) (sym at) ∙ sym c.next.ensures ∙ c.in-Done.is in
     record {
       step = record {
         segments = c.end_store.ensures.segments;
         step = λ x stands. (
             let number = number_is w x stands i may c.index.result.now c.index.ensures in
             let value = c.as_slice.ensures ∙ same_value w x stands i may c.index-2.result.now c.index-2.ensures in
-            let done = at ∙ going_done d.order.stage (storing w x stands i may d read).going last in
-            let made = subst (λ k. IsMade d.order.slot (body_block (k + 1) (found w x stands i may).0.value) (store_call kind) (device_of d) (device_of e)) number
-            (subst (λ v. IsMade d.order.slot (body_block (c.index.result.now.number + 1) v) (store_call kind) (device_of d) (device_of e)) value c.call-kind.ensures.made) in
-            call_ends w x stands i may d read e kind made mid.order parts c.call-kind.ensures.kind at done c.begin-drive.ensures.stage
+            let done = at ∙ going_done d.persist.stage (storing w x stands i may d read).going last in
+            let made = subst (λ k. IsMade d.persist.slot (body_block (k + 1) (found w x stands i may).0.value) (store_call kind) (device_of d) (device_of e)) number
+            (subst (λ v. IsMade d.persist.slot (body_block (c.index.result.now.number + 1) v) (store_call kind) (device_of d) (device_of e)) value c.call-kind.ensures.made) in
+            call_ends w x stands i may d read e kind made mid.persist parts c.call-kind.ensures.kind at done c.begin-drive.ensures.stage
             (c.begin-drive.ensures.slot ∙ c.slot_of.ensures ∙ ap (λ k. (k + 1 + 1) % 2) number) c.end_store.ensures.segments
             (c.end_store.ensures.stands x (is_up w x may.0 stands).parts_stand may.1) c.end_store.ensures.phases);
         comes = λ x stands. record { refused = λ f. cc; came = λ _. may };
         phases = λ x stands. (
-            let done = at ∙ going_done d.order.stage (storing w x stands i may d read).going last in
+            let done = at ∙ going_done d.persist.stage (storing w x stands i may d read).going last in
             call_stores w i d (there w x stands i may d read) kind w.parts.segments x e parts
             (c.call-kind.ensures.kind ∙ ap (λ s. store_call kind ∷ calls_left s) done) c.begin-drive.ensures.calls c.end_store.ensures.phases);
         gates = λ x stands. tt;
@@ -130,15 +130,15 @@ returns-in_default c =
     let read = c.index_mut-drive.ensures.value in
     let e = c.call-kind.new.self in
     let kind = c.call-kind.result in
-    let going = not_done e.order.stage (λ f. c.in_default.not-Done (c.next.ensures ∙ f)) in
+    let going = not_done e.persist.stage (λ f. c.in_default.not-Done (c.next.ensures ∙ f)) in
     record {
       step = record {
         segments = refl;
         step = λ x stands. (
             let number = number_is w x stands i may c.index.result.now c.index.ensures in
             let value = c.as_slice.ensures ∙ same_value w x stands i may c.index-2.result.now c.index-2.ensures in
-            let made = subst (λ k. IsMade d.order.slot (body_block (k + 1) (found w x stands i may).0.value) (store_call kind) (device_of d) (device_of e)) number
-            (subst (λ v. IsMade d.order.slot (body_block (c.index.result.now.number + 1) v) (store_call kind) (device_of d) (device_of e)) value c.call-kind.ensures.made) in
+            let made = subst (λ k. IsMade d.persist.slot (body_block (k + 1) (found w x stands i may).0.value) (store_call kind) (device_of d) (device_of e)) number
+            (subst (λ v. IsMade d.persist.slot (body_block (c.index.result.now.number + 1) v) (store_call kind) (device_of d) (device_of e)) value c.call-kind.ensures.made) in
             call_goes w x stands i may d read e kind made c.call-kind.ensures.kind c.call-kind.ensures.slot c.call-kind.ensures.stage going);
         comes = λ x stands. record { refused = λ f. cc; came = λ _. may };
         phases = λ x stands. call_moves w i d (there w x stands i may d read) kind w.parts.segments x e c.call-kind.ensures.kind going;

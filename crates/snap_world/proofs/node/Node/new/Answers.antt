@@ -17,7 +17,7 @@ use Rattle.snap_world.proofs.Starting.{all_same}
 use Rattle.snap_world.proofs.Sweeping.{map_element}
 use Rattle.snap_world.proofs.node.Node.new.Goals as goal
 
-ready_of : (i n : ℕ) (d : Drive) → IsFormatted i n d → IsReady i n 0 [] (device_of d) d.order
+ready_of : (i n : ℕ) (d : Drive) → IsFormatted i n d → IsReady i n 0 [] (device_of d) d.persist
 ready_of i n d is = record { spare_open = false; rest = is.rest; slot = is.slot; stage = is.stage }
 
 pub returns-clause-phases : goal.returns-clause-phases

@@ -29,7 +29,7 @@ returns-in-Sync c =
     let w = c.args.self.now in
     let i = c.in-Restarting.segment in
     let d = c.index_mut.result.now in
-    let e : Drive = record { image = c.settle.new.self; order = d.order; found = d.found } in
+    let e : Drive = record { image = c.settle.new.self; persist = d.persist; found = d.found } in
     let low : i < length w.drives.items = opening_within w i c.in-Restarting.call c.in-Restarting.is c.requires.stands in
     record { step = sync_step w i d low c.index_mut.ensures.value e refl (c.in-Restarting.is ∙ ap (Restarting i) c.in-Sync.is) c.settle.ensures }
 
@@ -66,7 +66,7 @@ returns-in-Read c =
     let low : i < length w.drives.items = opening_within w i c.in-Restarting.call c.in-Restarting.is c.requires.stands in
     let size : length w.drives.items ≡ c.len-count.result = omega (arith, c.args.self.now.drives.ok.0) in
     record {
-      step = read_step w i d low c.index_mut-in-Read.ensures.value e c.read.ensures.order c.after_read-self.result
+      step = read_step w i d low c.index_mut-in-Read.ensures.value e c.read.ensures.persist c.after_read-self.result
           (c.after_read-self.ensures ∙ ap (λ n. after_opening_call n i opening.Read) (sym size)) (c.in-Restarting.is ∙ ap (Restarting i) c.in-Read.is) (ap image_device c.read.ensures.image)
           (λ n is. subst (λ m. IsFound i m (device_of d).bytes e.found) (sym (is ∙ size)) c.read.ensures.found);
     }

@@ -15,7 +15,7 @@ returns-in-Sync c =
     let w = c.args.self.now in
     let i = c.in-Restarting.segment in
     let d = c.index_mut.result.now in
-    let e : Drive = record { image = c.settle_failed.new.self; order = d.order; found = d.found } in
+    let e : Drive = record { image = c.settle_failed.new.self; persist = d.persist; found = d.found } in
     let low : i < length w.drives.items = opening_within w i c.in-Restarting.call c.in-Restarting.is c.requires.stands in
     record {
       step = sync_fail_step w i d low c.index_mut.ensures.value e refl c.args.fill.now (c.in-Restarting.is ∙ ap (Restarting i) c.in-Sync.is)
