@@ -1,8 +1,8 @@
-//! Makes each device call of a format and of a store fail in turn, or be the last before the power goes, crashes the
-//! machine behind it, and prints what the file is then opened as.
+//! Makes each device call of a format and of a store fail in turn, or be the last before the power
+//! goes, crashes the machine behind it, and prints what the file is then opened as.
 //!
-//! What it must print is worked out from the disk model and the file's format by tests/oracle/segment_sweep.py, which
-//! knows nothing of this code.
+//! What it must print is worked out from the disk model and the file's format by
+//! tests/oracle/segment_sweep.py, which knows nothing of this code.
 #![tactic(auto)]
 
 mod stop;
@@ -31,7 +31,8 @@ fn main(rt: HostRuntime) -> io::Result<()> {
     Ok(())
 }
 
-/// One line: how the call was stopped, what it answered, and what stands after a crash with each garbage.
+/// One line: how the call was stopped, what it answered, and what stands after a crash with each
+/// garbage.
 fn row<R: Print + AllocGlobal>(rt: &R, subject: Subject, stop: Stop) -> io::Result<()> {
     let (answer, keep) = cell(rt.alloc(), subject, stop, Garbage::Keep)?;
     let (_, closed) = cell(rt.alloc(), subject, stop, Garbage::Closed)?;

@@ -3,7 +3,8 @@ use snap_disk::{FaultPlan, Fill};
 use std::alloc::{AllocError, Global};
 use std::fmt;
 
-/// What stands at the touched places: the bytes that were there, or the byte of a closed or an open gate.
+/// What stands at the touched places: the bytes that were there, or the byte of a closed or an open
+/// gate.
 #[derive(Clone, Copy)]
 pub enum Garbage {
     Keep,

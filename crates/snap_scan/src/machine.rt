@@ -1,5 +1,29 @@
 //! What a scan keeps of the numbers that it was told: its first looks and its latest ones.
-ghost use Rattle.std.specs.Prelude.{◌≡◌, ℕ, ◌+◌, ◌*◌, ◌^◌, ◌<◌, ◌≤◌, ◌↔◌, ◌==◌, ◌||◌, List, [], ◌∷◌, ◌++◌, length, not, slice_index, slice_set, nat_lt, IsTrue, MatchBool, false, if◌then◌else◌};
+ghost use Rattle.std.specs.Prelude.{
+  ◌≡◌,
+  ℕ,
+  ◌+◌,
+  ◌*◌,
+  ◌^◌,
+  ◌<◌,
+  ◌≤◌,
+  ◌↔◌,
+  ◌==◌,
+  ◌||◌,
+  List,
+  [],
+  ◌∷◌,
+  ◌++◌,
+  length,
+  not,
+  slice_index,
+  slice_set,
+  nat_lt,
+  IsTrue,
+  MatchBool,
+  false,
+  if◌then◌else◌,
+};
 
 use crate::limits::MAX_SEGMENTS;
 use crate::next::Next;

@@ -15,15 +15,29 @@ use Rattle.snap_world.specs.Machine.{State, WriterState, Begun}
 use Rattle.snap_world.specs.NodePhases.{WorldPhases}
 use Rattle.snap_world.specs.declared.node.NodePhase.TheVariants.{Restarting}
 use Rattle.snap_world.specs.declared.event.Event.{Event}
-use Rattle.snap_world.specs.declared.event.Event.TheVariants.{Call, Fail, Crash, RestartCall, RestartFail, Serve}
+use Rattle.snap_world.specs.declared.event.Event.TheVariants.{
+  Call,
+  Fail,
+  Crash,
+  RestartCall,
+  RestartFail,
+  Serve,
+}
 use Rattle.snap_world.specs.declared.node.OpeningCall.{OpeningCall}
 use Rattle.snap_world.specs.declared.node.OpeningCall.TheVariants as opening
 use Rattle.snap_world.specs.declared.event.Reply.{Reply}
-use Rattle.snap_world.specs.declared.event.Reply.TheVariants.{Called, DeviceFailed, Crashed, Memory, NotNow}
+use Rattle.snap_world.specs.declared.event.Reply.TheVariants.{
+  Called,
+  DeviceFailed,
+  Crashed,
+  Memory,
+  NotNow,
+}
 
 -- this call of a store of this body block into this slot succeeded
 abbrev pub IsMade : ℕ → List ℕ → NextCall → Device → Device → Type 0
-IsMade slot body (next.Write w) old new = IsJustWritten (write_at slot w) (write_bytes body w) old new
+IsMade slot body (next.Write w) old new =
+    IsJustWritten (write_at slot w) (write_bytes body w) old new
 IsMade slot body next.Sync old new = IsSynced old new
 IsMade slot body next.Done old new = ⊥
 
@@ -39,7 +53,8 @@ pub record IsRefilled (fill : Fill) (old new : Device) : Type 0 where
 
 -- this call of a store into this slot failed
 abbrev pub IsMissed : ℕ → Fill → NextCall → Device → Device → Type 0
-IsMissed slot fill (next.Write w) old new = IsWriteFailed (write_at slot w) (write_len w) fill old new
+IsMissed slot fill (next.Write w) old new =
+    IsWriteFailed (write_at slot w) (write_len w) fill old new
 IsMissed slot fill next.Sync old new = IsRefilled fill old new
 IsMissed slot fill next.Done old new = ⊥
 
@@ -54,7 +69,8 @@ pub record Changes (i : ℕ) (R : Device → Device → Type 0) (old new : List 
 -- each device gets its fill at its open places
 abbrev pub AreRefilled : List Fill → List Device → List Device → Type 0
 AreRefilled fills old new =
-    Pairs (λ i before after. (fill : Fill) → slice_get fills i ≡ Some fill → IsRefilled fill before after) old new
+    Pairs (λ i before after. (fill : Fill) → slice_get fills i ≡ Some fill
+    → IsRefilled fill before after) old new
 
 -- this call of a restart at segment i succeeded, or failed
 abbrev pub RestartMakes : ℕ → OpeningCall → List Device → List Device → Type 0
@@ -68,7 +84,8 @@ RestartMisses i fill opening.Read old new = new ≡ old
 -- the device of segment i holds the number and value that the segment has after the history
 pub record IsServed (i n : ℕ) (x : State) (device : Device) : Type 0 where
   pub head : Head device.bytes i n
-  pub holds : Holds device.bytes (number_after from_nothing x.history i) (value_after from_nothing x.history i)
+  pub holds : Holds device.bytes (number_after from_nothing x.history i)
+      (value_after from_nothing x.history i)
 
 abbrev pub AreServed : ℕ → State → List Device → Type 0
 AreServed n x devices =
@@ -105,7 +122,8 @@ DevicesMove n x p old (Crash fills) Crashed y new = AreRefilled fills.items old 
 DevicesMove n x p old RestartCall (Called kind) y new =
     (i : ℕ) × (call : OpeningCall) × (p.node ≡ Restarting i call) × RestartMakes i call old new
 DevicesMove n x p old (RestartFail fill) DeviceFailed y new =
-    (i : ℕ) × (call : OpeningCall) × (p.node ≡ Restarting i call) × RestartMisses i fill call old new
+    (i : ℕ) × (call : OpeningCall) × (p.node ≡ Restarting i call)
+    × RestartMisses i fill call old new
 -- a restart answers what the devices hold
 DevicesMove n x p old Serve (Memory m) y new = (new ≡ old) × AreServed n y new
 -- no other event changes a device

@@ -18,23 +18,26 @@ use Rattle.snap_world.specs.declared.writer.WriterPhase.TheVariants as writer
 abbrev pub device_of : Drive → Device
 device_of d = image_device d.image
 
--- the device of segment i of n is at rest with number k and value u, and the order is that of its next
--- store
-pub record IsReady (i n k : ℕ) (u : List ℕ) (device : Device) (persist : PersistState) : Type 0 where
+-- the device of segment i of n is at rest with number k and value u, and the order is that of its
+-- next store
+pub record IsReady (i n k : ℕ) (u : List ℕ) (device : Device)
+    (persist : PersistState) : Type 0 where
   pub spare_open : Bool
   pub rest : IsAtRest i n k u spare_open device
   pub slot : persist.slot ≡ slot_of (k + 1)
   pub stage : persist.stage ≡ first_stage spare_open
 
 -- a store of value v is under way at number k and value u
-pub record IsStoreUnderWay (i n k : ℕ) (u v : List ℕ) (device : Device) (persist : PersistState) : Type 0 where
+pub record IsStoreUnderWay (i n k : ℕ) (u v : List ℕ) (device : Device)
+    (persist : PersistState) : Type 0 where
   pub slot : persist.slot ≡ slot_of (k + 1)
   pub going : calls_left persist.stage ≢ []
   pub at_stage : IsAtStage i n k u v persist.stage device
 
--- the device of segment i, whose history has number k and value u, while its writer is in this phase
--- with this update
-abbrev pub IsDriveAt : (i n k : ℕ) (u : List ℕ) → WriterPhase → Pending → Device → PersistState → Type 0
+-- the device of segment i, whose history has number k and value u, while its writer is in this
+-- phase with this update
+abbrev pub IsDriveAt : (i n k : ℕ) (u : List ℕ) → WriterPhase → Pending → Device → PersistState
+    → Type 0
 IsDriveAt i n k u writer.Idle pending device persist = IsReady i n k u device persist
 IsDriveAt i n k u writer.Scanning pending device persist = IsReady i n k u device persist
 IsDriveAt i n k u writer.Storing pending device persist =
@@ -48,7 +51,8 @@ IsDriveAt i n k u writer.Fenced pending device persist =
 
 abbrev pub DriveStands : ℕ → List Update → ℕ → WriterPhase → Pending → Drive → Type 0
 DriveStands n h i phase pending d =
-    IsDriveAt i n (number_after from_nothing h i) (value_after from_nothing h i) phase pending (device_of d) d.persist
+    IsDriveAt i n (number_after from_nothing h i) (value_after from_nothing h i) phase pending
+    (device_of d) d.persist
 
 -- so it is for each segment
 abbrev pub DrivesStand : ℕ → List Update → List WriterState → List WriterPhase → List Drive → Type 0
@@ -57,15 +61,16 @@ DrivesStand n h writers phases drives =
     → slice_get drives i ≡ Some d → slice_get writers i ≡ Some s → slice_get phases i ≡ Some phase
     → DriveStands n h i phase s.pending d
 
--- after a crash: whatever one more leaves is the file of number k and value u, or of the next number
--- with the begun value
+-- after a crash: whatever one more leaves is the file of number k and value u, or of the next
+-- number with the begun value
 abbrev pub HoldsEither : (i n k : ℕ) (u : List ℕ) → Pending → List ℕ → Type 0
 HoldsEither i n k u pending b =
     IsFileOf i n k u b ⊎ ((v : List ℕ) × (pending ≡ Begun v) × IsFileOf i n (k + 1) v b)
 
 abbrev pub DrivesDown : ℕ → List Update → List WriterState → List Drive → Type 0
 DrivesDown n h writers drives =
-    (i : ℕ) (d : Drive) (s : WriterState) → slice_get drives i ≡ Some d → slice_get writers i ≡ Some s
+    (i : ℕ) (d : Drive) (s : WriterState) → slice_get drives i ≡ Some d
+    → slice_get writers i ≡ Some s
     → (b : List ℕ) → MayLeave (device_of d) b
     → HoldsEither i n (number_after from_nothing h i) (value_after from_nothing h i) s.pending b
 

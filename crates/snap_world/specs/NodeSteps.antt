@@ -37,14 +37,15 @@ phases_of_node w = record {
 abbrev pub MayStore : Node → ℕ → Type 0
 MayStore node w = (node.phase ≡ Up) × WriterIs (phases_of_parts node.parts) w writer.Storing
 
--- from each state that the node stood for, the event with its reply is a step to one that it stands for
--- now, and leaves these devices; the reply tells whether the event may come, the phases move by their
--- table, and after `NotNow` nothing has changed
+-- from each state that the node stood for, the event with its reply is a step to one that it stands
+-- for now, and leaves these devices; the reply tells whether the event may come, the phases move by
+-- their table, and after `NotNow` nothing has changed
 pub record IsNodeStep (old : Node) (event : Event) (reply : Reply) (new : Node) : Type 0 where
   pub segments : new.parts.segments ≡ old.parts.segments
   pub step : (x : State) → NodeStands old x
       → (y : State) × Step old.parts.segments x event reply y
-      × DevicesMove old.parts.segments x (phases_of_node old) (devices_of_node old) event reply y (devices_of_node new)
+      × DevicesMove old.parts.segments x (phases_of_node old) (devices_of_node old) event reply y
+      (devices_of_node new)
       × NodeStands new y
   pub comes : (x : State) → NodeStands old x → TellsWhether x (phases_of_node old) event reply
   pub phases : (x : State) → NodeStands old x

@@ -31,11 +31,13 @@ StandsFor w x = NodeStands w.node x
 abbrev pub configuration : World → State → Configuration
 configuration w x = record { state = x; phases = phases_of w; devices = devices_of w }
 
--- from each state that the old world stood for, the events with these replies are a run of the abstract
--- machine, with the phases and devices of the old world and the new one, to a state that the new one
--- stands for, whose history only grew at its end
-pub record IsRun (old : World) (events : List Event) (replies : List Reply) (new : World) : Type 0 where
+-- from each state that the old world stood for, the events with these replies are a run of the
+-- abstract machine, with the phases and devices of the old world and the new one, to a state that
+-- the new one stands for, whose history only grew at its end
+pub record IsRun (old : World) (events : List Event) (replies : List Reply)
+    (new : World) : Type 0 where
   pub segments : segments_of new ≡ segments_of old
   pub run : (x : State) → StandsFor old x
-      → (y : State) × Run (segments_of old) (configuration old x) events replies (configuration new y)
+      → (y : State) × Run (segments_of old) (configuration old x) events replies
+      (configuration new y)
       × StandsFor new y × IsBeginning x.history y.history

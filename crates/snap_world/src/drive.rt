@@ -69,7 +69,8 @@ impl Drive {
         ensures stage { self.new.persist.stage ≡ after_call self.old.persist.stage }
         ensures kind { calls_left self.old.persist.stage
             ≡ store_call result ∷ calls_left self.new.persist.stage }
-        ensures made { IsMade self.old.persist.slot (body_block number value.now) (store_call result)
+        ensures made { IsMade self.old.persist.slot (body_block number value.now)
+            (store_call result)
             (device_of self.old) (device_of self.new) }
     {
         let kind = match self.persist.next() {
@@ -119,7 +120,8 @@ impl Drive {
         ensures stage { self.new.persist.stage ≡ Stage.Fenced }
         ensures missed { (call : NextCall) × (rest : List NextCall)
             × (calls_left self.old.persist.stage ≡ call ∷ rest)
-            × IsMissed self.old.persist.slot fill.now call (device_of self.old) (device_of self.new) }
+            × IsMissed self.old.persist.slot fill.now call (device_of self.old)
+            (device_of self.new) }
     {
         match self.persist.next() {
             NextCall::Write(write) => self.put_failed(write, fill),

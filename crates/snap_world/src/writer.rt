@@ -131,7 +131,8 @@ impl Parts {
         ensures segments { self.new.segments ≡ self.old.segments }
         ensures registers { self.new.registers ≡ self.old.registers }
         ensures stands { (x : State) → PartsStand self.old x
-            → WriterIs (phases_of_parts self.old) segment WriterPhase.Storing → PartsStand self.new x }
+            → WriterIs (phases_of_parts self.old) segment WriterPhase.Storing
+            → PartsStand self.new x }
         ensures phases { phases_of_parts self.new
             ≡ writer_to (phases_of_parts self.old) segment WriterPhase.Stored }
     {
@@ -144,7 +145,8 @@ impl Parts {
         requires within { segment < self.old.segments }
         ensures segments { self.new.segments ≡ self.old.segments }
         ensures stands { (x : State) → PartsStand self.old x
-            → (s : WriterState) (v : List ℕ) → slice_get x.writers segment ≡ Some s → s.pending ≡ Begun v
+            → (s : WriterState) (v : List ℕ) → slice_get x.writers segment ≡ Some s
+            → s.pending ≡ Begun v
             → PartsStand self.new
             (with_writer x segment (record s { fenced = true })) }
         ensures phases { phases_of_parts self.new
