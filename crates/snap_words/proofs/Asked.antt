@@ -1,6 +1,7 @@
 -- The command that a parse met, as the grammar has it.
 use Rattle.std.proofs.Common.{
   ◌≡◌,
+  ◌⊎◌,
   ◌∙◌,
   sym,
   ap,
@@ -24,6 +25,7 @@ use Rattle.clap.specs.declared.error.kind.ErrorKind.{ErrorKind}
 use Rattle.clap.specs.declared.error.kind.ErrorKind.TheVariants.{OutOfMemory}
 use Rattle.snap_words.specs.Faults.{
   IsFaultOf,
+  IsMissing,
   IsNoNumber,
   IsNumberOf,
   IsParseFault,
@@ -152,30 +154,32 @@ parse_later error Memory is wanting = tt
 
 -- a fault of the place, by the words of the command
 pub place_fault : (words : List Text) (of : Text → Option Text)
-    → ((what : Text) → of what ≡ word_of words what) → (why : WordFault)
+    → ((what : Text) → of what ≡ word_of words what)
+    → ((what : Text) → (what ≡ codes "index") ⊎ (what ≡ codes "count")
+    → word_of words what ≡ None → IsMissing words what) → (why : WordFault)
     → IsPlaceFault (of (codes "index")) (of (codes "count")) why → IsFaultOf words why
-place_fault words of same (Help e) (inl is) = absurd is
-place_fault words of same (Help e) (inr is) = absurd is
-place_fault words of same (Words e) (inl is) = absurd is
-place_fault words of same (Words e) (inr is) = absurd is
-place_fault words of same (Count n) is =
+place_fault words of same gone (Help e) (inl is) = absurd is
+place_fault words of same gone (Help e) (inr is) = absurd is
+place_fault words of same gone (Words e) (inl is) = absurd is
+place_fault words of same gone (Words e) (inr is) = absurd is
+place_fault words of same gone (Count n) is =
     (subst (λ (o : Option Text). IsNumberOf o n) (same (codes "count")) is.0, is.1)
-place_fault words of same (Index i n) is = (
+place_fault words of same gone (Index i n) is = (
   subst (λ (o : Option Text). IsNumberOf o i) (same (codes "index")) is.0,
   subst (λ (o : Option Text). IsNumberOf o n) (same (codes "count")) is.1,
   is.2,
   is.3,
 )
-place_fault words of same (Number what) (inl is) =
+place_fault words of same gone (Number what) (inl is) =
     subst IsNoNumber (same (codes "index") ∙ ap (word_of words) (sym is.0)) is.1
-place_fault words of same (Number what) (inr is) =
+place_fault words of same gone (Number what) (inr is) =
     subst IsNoNumber (same (codes "count") ∙ ap (word_of words) (sym is.0)) is.1
-place_fault words of same (Missing what) (inl is) =
-    sym (same (codes "index") ∙ ap (word_of words) (sym is.0)) ∙ is.1
-place_fault words of same (Missing what) (inr is) =
-    sym (same (codes "count") ∙ ap (word_of words) (sym is.0)) ∙ is.1
-place_fault words of same NoCommand (inl is) = absurd is
-place_fault words of same NoCommand (inr is) = absurd is
-place_fault words of same NotText (inl is) = absurd is
-place_fault words of same NotText (inr is) = absurd is
-place_fault words of same Memory is = tt
+place_fault words of same gone (Missing what) (inl is) =
+    gone what.now (inl is.0) (sym (same (codes "index") ∙ ap (word_of words) (sym is.0)) ∙ is.1)
+place_fault words of same gone (Missing what) (inr is) =
+    gone what.now (inr is.0) (sym (same (codes "count") ∙ ap (word_of words) (sym is.0)) ∙ is.1)
+place_fault words of same gone NoCommand (inl is) = absurd is
+place_fault words of same gone NoCommand (inr is) = absurd is
+place_fault words of same gone NotText (inl is) = absurd is
+place_fault words of same gone NotText (inr is) = absurd is
+place_fault words of same gone Memory is = tt

@@ -1,6 +1,7 @@
 -- Which order and which fault goes with the words of a command.
 use Rattle.std.specs.Prelude.{
   ◌≡◌,
+  ◌≢◌,
   ◌⊎◌,
   ℕ,
   ◌<◌,
@@ -82,6 +83,17 @@ IsCommandName name =
     (name ≡ codes "format") ⊎ ((name ≡ codes "put") ⊎ ((name ≡ codes "get")
     ⊎ ((name ≡ codes "check") ⊎ (name ≡ codes "script"))))
 
+-- the command takes this word behind its name
+abbrev pub HasWord : Text → Text → Type 0
+HasWord command what = (command ≢ codes "script") × ((what ≡ codes "file")
+    ⊎ ((command ≢ codes "check") × ((what ≡ codes "index") ⊎ (what ≡ codes "count"))))
+
+-- the command takes this word, and none was found
+abbrev pub IsMissing : List Text → Text → Type 0
+IsMissing words what = (command : Text) × (rows : List Row)
+    × (subcommand_of grammar_of words ≡ Some (command, rows)) × HasWord command what
+    × (word_of words what ≡ None)
+
 -- What is wrong with the words: what the grammar answers in place of a command, and of a command's
 -- place what is wrong with it.
 abbrev pub IsFaultOf : List Text → WordFault → Type 0
@@ -94,7 +106,7 @@ IsFaultOf words (fault.Count n) =
 IsFaultOf words (fault.Index i n) =
     IsPlaceFault (word_of words (codes "index")) (word_of words (codes "count")) (fault.Index i n)
 IsFaultOf words (fault.Number name) = IsNoNumber (word_of words name.now)
-IsFaultOf words (fault.Missing name) = word_of words name.now ≡ None
+IsFaultOf words (fault.Missing name) = IsMissing words name.now
 IsFaultOf words fault.NoCommand =
     (name : Text) (rows : List Row) → subcommand_of grammar_of words ≡ Some (name, rows)
     → IsCommandName name → ⊥

@@ -2,13 +2,13 @@
 use Rattle.std.proofs.Common.{◌≡◌, inl, inr, ⊎_elim, ℕ, List, length, refl, ap, sym, ◌∙◌, subst}
 use Rattle.snap_disk.specs.Device.{Device}
 use Rattle.snap_world.specs.Devices.{DevicesMove, GatesTold}
-use Rattle.snap_world.specs.Drives.{DrivesStand}
+use Rattle.snap_world.specs.inside.Drives.{DrivesStand}
 use Rattle.snap_world.specs.Machine.{State}
 use Rattle.snap_world.specs.NodePhases.{WorldPhases, MayCome, PhasesMove, LooksOn, up, actors_to}
-use Rattle.snap_world.specs.NodeStands.{NodeStands, IsUp, IsNodeAt}
-use Rattle.snap_world.specs.NodeSteps.{IsNodeStep, phases_of_node, devices_of_node}
+use Rattle.snap_world.specs.inside.NodeStands.{NodeStands, IsUp, IsNodeAt}
+use Rattle.snap_world.specs.inside.NodeSteps.{IsNodeStep, phases_of_node, devices_of_node}
 use Rattle.snap_world.specs.Phases.{Phases}
-use Rattle.snap_world.specs.Steps.{IsActors, IsPartsStep, phases_of_parts}
+use Rattle.snap_world.specs.inside.Steps.{IsActors, IsPartsStep, phases_of_parts}
 use Rattle.snap_world.specs.declared.event.Actor.TheVariants as actor
 use Rattle.snap_world.specs.declared.event.Event.{Event}
 use Rattle.snap_world.specs.declared.event.Event.TheVariants.{

@@ -42,7 +42,7 @@ use Rattle.snap_persist.proofs.Stages.{
   sync_leaves,
 }
 use Rattle.snap_world.specs.Devices.{IsMade, IsMissed, IsWriteFailed, IsRefilled}
-use Rattle.snap_world.specs.Drives.{IsReady, IsStoreUnderWay}
+use Rattle.snap_world.specs.inside.Drives.{IsReady, IsStoreUnderWay}
 
 -- the calls that are left, of which this one is the first
 left_from : (calls : List NextCall) (call : NextCall) → first_call calls ≡ call

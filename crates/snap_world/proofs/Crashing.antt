@@ -36,7 +36,7 @@ use Rattle.snap_history.specs.History.{Update, from_nothing, number_after, value
 use Rattle.snap_history.specs.Pairs.{Pairs}
 use Rattle.snap_history.proofs.Pairing.{element, partner}
 use Rattle.snap_world.specs.Devices.{AreRefilled, IsRefilled}
-use Rattle.snap_world.specs.Drives.{
+use Rattle.snap_world.specs.inside.Drives.{
   IsDriveAt,
   DrivesDown,
   HoldsEither,
@@ -44,7 +44,7 @@ use Rattle.snap_world.specs.Drives.{
   AreCrashed,
   device_of,
 }
-use Rattle.snap_world.specs.Halting.{IsHalted, IsScannerHalted}
+use Rattle.snap_world.specs.inside.Halting.{IsHalted, IsScannerHalted}
 use Rattle.snap_world.specs.Machine.{
   State,
   WriterState,
@@ -57,7 +57,7 @@ use Rattle.snap_world.specs.Machine.{
   crashed_writer,
 }
 use Rattle.snap_world.specs.NodePhases.{all_idle}
-use Rattle.snap_world.specs.NodeStands.{
+use Rattle.snap_world.specs.inside.NodeStands.{
   NodeStand,
   PartsRest,
   WriterRests,
@@ -66,10 +66,10 @@ use Rattle.snap_world.specs.NodeStands.{
   IsDown,
   IsNodeAt,
 }
-use Rattle.snap_world.specs.NodeSteps.{store_left}
+use Rattle.snap_world.specs.inside.NodeSteps.{store_left}
 use Rattle.snap_world.specs.Phases.{Phases}
-use Rattle.snap_world.specs.Stands.{PartsStand, WriterStands, ScannerStands, IsAtPhase}
-use Rattle.snap_world.specs.Steps.{phases_of_parts}
+use Rattle.snap_world.specs.inside.Stands.{PartsStand, WriterStands, ScannerStands, IsAtPhase}
+use Rattle.snap_world.specs.inside.Steps.{phases_of_parts}
 use Rattle.snap_world.specs.declared.drive.Drive.{Drive}
 use Rattle.snap_world.specs.declared.node.Node.{Node}
 use Rattle.snap_world.specs.declared.node.NodePhase.{NodePhase}

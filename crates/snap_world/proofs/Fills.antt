@@ -42,7 +42,7 @@ use Rattle.snap_world.specs.Crashes.{
   AnyFault,
 }
 use Rattle.snap_world.specs.Devices.{AreRefilled, Changes, IsRefilled}
-use Rattle.snap_world.specs.Drives.{device_of}
+use Rattle.snap_world.specs.inside.Drives.{device_of}
 use Rattle.snap_world.specs.Surface.{devices_of}
 use Rattle.snap_world.specs.declared.drive.Drive.{Drive}
 use Rattle.snap_world.specs.declared.world.World.{World}

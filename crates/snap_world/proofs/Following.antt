@@ -42,7 +42,7 @@ use Rattle.snap_history.proofs.Moments.{
   value-push_other,
 }
 use Rattle.snap_world.specs.Answers.{scan_from}
-use Rattle.snap_world.specs.Drives.{
+use Rattle.snap_world.specs.inside.Drives.{
   IsReady,
   IsStoreUnderWay,
   IsDriveAt,
@@ -53,7 +53,7 @@ use Rattle.snap_world.specs.Drives.{
 use Rattle.snap_world.specs.Machine.{State, WriterState, Free, Begun, Shown, Step}
 use Rattle.snap_world.specs.NodePhases.{WorldPhases, TellsWhether, PhasesMove, LooksOn, up}
 use Rattle.snap_world.specs.Phases.{Phases, writer_to, scanner_to}
-use Rattle.snap_world.specs.Steps.{IsActors}
+use Rattle.snap_world.specs.inside.Steps.{IsActors}
 use Rattle.snap_world.specs.declared.drive.Drive.{Drive}
 use Rattle.snap_world.specs.declared.event.Actor.TheVariants as actor
 use Rattle.snap_world.specs.declared.event.Event.{Event}

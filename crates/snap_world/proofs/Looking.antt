@@ -44,7 +44,13 @@ use Rattle.snap_collect.proofs.Collecting.{
   clean_moment,
 }
 use Rattle.snap_world.specs.Answers.{ScanState, number_at, value_at}
-use Rattle.snap_world.specs.Gathers.{Gathers, Gathered, RegisterStands, ViewStands, RegistersStand}
+use Rattle.snap_world.specs.inside.Gathers.{
+  Gathers,
+  Gathered,
+  RegisterStands,
+  ViewStands,
+  RegistersStand,
+}
 use Rattle.snap_world.specs.Machine.{State, WriterState, ShownWith, Decides, looked, IsLook}
 use Rattle.snap_world.specs.declared.register.Register.{Register}
 use Rattle.snap_world.specs.declared.collector.Collector.{Collector}

@@ -25,7 +25,7 @@ use Rattle.std.specs.Vec.{with_item}
 use Rattle.std.proofs.lemmas.Option.{same_Some}
 use Rattle.snap_scan.specs.Looks.{IsDecided}
 use Rattle.snap_world.specs.Answers.{ScanState, number_at}
-use Rattle.snap_world.specs.Gathers.{Gathers, IsLookOf, IsUnderWay, RegistersStand}
+use Rattle.snap_world.specs.inside.Gathers.{Gathers, IsLookOf, IsUnderWay, RegistersStand}
 use Rattle.snap_world.specs.Machine.{
   State,
   WriterState,
@@ -39,7 +39,7 @@ use Rattle.snap_world.specs.Machine.{
 }
 use Rattle.snap_world.specs.NodePhases.{LooksOn, up, actors_to}
 use Rattle.snap_world.specs.Phases.{Phases, writer_to, scanner_to}
-use Rattle.snap_world.specs.Stands.{
+use Rattle.snap_world.specs.inside.Stands.{
   PartsStand,
   WriterStands,
   ScannerStands,
@@ -48,7 +48,7 @@ use Rattle.snap_world.specs.Stands.{
   IsScannerAt,
   is_fenced,
 }
-use Rattle.snap_world.specs.Steps.{phases_of_parts}
+use Rattle.snap_world.specs.inside.Steps.{phases_of_parts}
 use Rattle.snap_world.specs.declared.event.Actor.TheVariants as actor
 use Rattle.snap_world.specs.declared.event.Event.TheVariants.{Look}
 use Rattle.snap_world.specs.declared.event.Reply.TheVariants.{Number}

@@ -46,7 +46,7 @@ use Rattle.snap_scan.specs.declared.next.Next.TheVariants.{Look, Clean, Borrow}
 use Rattle.snap_scan.specs.Looks.{IsDecided}
 use Rattle.snap_collect.proofs.Collecting.{Collects-none, Collects-same, IsMoment-same}
 use Rattle.snap_world.specs.Answers.{ScanState, scan_from, IsAnswer, number_at, value_at}
-use Rattle.snap_world.specs.Gathers.{
+use Rattle.snap_world.specs.inside.Gathers.{
   Gathers,
   Gathered,
   IsUnderWay,
@@ -63,7 +63,7 @@ use Rattle.snap_world.specs.Machine.{
   with_scanner,
   with_update,
 }
-use Rattle.snap_world.specs.Stands.{
+use Rattle.snap_world.specs.inside.Stands.{
   HasBegun,
   HasAnswer,
   WriterStands,

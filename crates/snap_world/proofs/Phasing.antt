@@ -22,8 +22,8 @@ use Rattle.std.proofs.lemmas.Option.{slice_get-map, slice_get_read, slice_get_wi
 use Rattle.snap_world.specs.Machine.{State, Step}
 use Rattle.snap_world.specs.NodePhases.{MayCome, PhasesMove, up}
 use Rattle.snap_world.specs.Phases.{Phases, WriterIs, ScannerIs, writer_to, scanner_to}
-use Rattle.snap_world.specs.Stands.{PartsStand}
-use Rattle.snap_world.specs.Steps.{phases_of_parts, IsPartsStep}
+use Rattle.snap_world.specs.inside.Stands.{PartsStand}
+use Rattle.snap_world.specs.inside.Steps.{phases_of_parts, IsPartsStep}
 use Rattle.snap_world.specs.declared.event.Event.{Event}
 use Rattle.snap_world.specs.declared.event.Reply.{Reply}
 use Rattle.snap_world.specs.declared.event.Reply.TheVariants.{NotNow}

@@ -42,10 +42,10 @@ use Rattle.snap_history.proofs.Pairing.{element}
 use Rattle.snap_history.specs.History.{from_nothing, number_after, value_after}
 use Rattle.snap_persist.specs.Stage.{PersistState, calls_left}
 use Rattle.snap_world.specs.Devices.{Changes, IsRefilled}
-use Rattle.snap_world.specs.Drives.{device_of}
+use Rattle.snap_world.specs.inside.Drives.{device_of}
 use Rattle.snap_world.specs.Machine.{State}
 use Rattle.snap_world.specs.NodePhases.{node_to, after_opening_call}
-use Rattle.snap_world.specs.NodeStands.{
+use Rattle.snap_world.specs.inside.NodeStands.{
   NodeStands,
   NodeStand,
   IsDown,
@@ -53,7 +53,12 @@ use Rattle.snap_world.specs.NodeStands.{
   IsRestarting,
   IsNodeAt,
 }
-use Rattle.snap_world.specs.NodeSteps.{IsNodeStep, store_left, phases_of_node, devices_of_node}
+use Rattle.snap_world.specs.inside.NodeSteps.{
+  IsNodeStep,
+  store_left,
+  phases_of_node,
+  devices_of_node,
+}
 use Rattle.snap_world.specs.declared.drive.Drive.{Drive}
 use Rattle.snap_world.specs.declared.event.Event.TheVariants.{RestartCall, RestartFail}
 use Rattle.snap_world.specs.declared.event.Kind.TheVariants as kind

@@ -26,7 +26,7 @@ use Rattle.std.specs.declared.alloc.AllocError.{AllocError}
 use Rattle.snap_history.specs.History.{IsBeginning}
 use Rattle.snap_history.proofs.Beginnings.{beginning-self, beginning-trans}
 use Rattle.snap_world.specs.Machine.{State, Step, chosen}
-use Rattle.snap_world.specs.NodeSteps.{IsNodeStep}
+use Rattle.snap_world.specs.inside.NodeSteps.{IsNodeStep}
 use Rattle.snap_world.specs.Runs.{Configuration, Run}
 use Rattle.snap_world.specs.Surface.{StandsFor, IsRun, segments_of, configuration}
 use Rattle.snap_world.specs.declared.event.Actor.TheVariants.{Writer, Scanner}

@@ -40,8 +40,14 @@ use Rattle.snap_history.proofs.Pairing.{element, partner}
 use Rattle.snap_world.specs.Answers.{number_at}
 use Rattle.snap_persist.specs.Stage.{store_calls}
 use Rattle.snap_world.specs.Devices.{IsServed, AreServed}
-use Rattle.snap_world.specs.Drives.{IsReady, DriveStands, DrivesStand, HoldsEither, device_of}
-use Rattle.snap_world.specs.Gathers.{RegisterStands, ViewStands}
+use Rattle.snap_world.specs.inside.Drives.{
+  IsReady,
+  DriveStands,
+  DrivesStand,
+  HoldsEither,
+  device_of,
+}
+use Rattle.snap_world.specs.inside.Gathers.{RegisterStands, ViewStands}
 use Rattle.snap_world.specs.Machine.{
   State,
   WriterState,
@@ -53,17 +59,23 @@ use Rattle.snap_world.specs.Machine.{
   served,
 }
 use Rattle.snap_world.specs.NodePhases.{all_idle}
-use Rattle.snap_world.specs.NodeStands.{
+use Rattle.snap_world.specs.inside.NodeStands.{
   NodeStands,
   WriterRests,
   ScannerRests,
   IsRecovering,
   IsNodeAt,
 }
-use Rattle.snap_world.specs.NodeSteps.{store_left}
+use Rattle.snap_world.specs.inside.NodeSteps.{store_left}
 use Rattle.snap_world.specs.Phases.{Phases}
-use Rattle.snap_world.specs.Serving.{found_value, IsReadable, IsResumed, IsRecovered, AreRecovered}
-use Rattle.snap_world.specs.Stands.{
+use Rattle.snap_world.specs.inside.Serving.{
+  found_value,
+  IsReadable,
+  IsResumed,
+  IsRecovered,
+  AreRecovered,
+}
+use Rattle.snap_world.specs.inside.Stands.{
   PartsStand,
   WriterStands,
   ScannerStands,
@@ -71,7 +83,7 @@ use Rattle.snap_world.specs.Stands.{
   IsScannerAt,
   is_fenced,
 }
-use Rattle.snap_world.specs.Steps.{phases_of_parts}
+use Rattle.snap_world.specs.inside.Steps.{phases_of_parts}
 use Rattle.snap_world.specs.declared.drive.Drive.{Drive}
 use Rattle.snap_persist.specs.declared.persist.NextCall.{NextCall}
 use Rattle.snap_world.specs.declared.node.Node.{Node}

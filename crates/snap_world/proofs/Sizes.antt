@@ -3,7 +3,7 @@ use Rattle.std.proofs.Common.{◌≡◌, ℕ, ◌<◌, ◌≤◌, length, arith}
 use Rattle.std.specs.Vec.{vec_len}
 use Rattle.std.proofs.Math.Logic.{∥∥₁_elim}
 use Rattle.std.proofs.Props.{props}
-use Rattle.snap_world.specs.Stands.{Stand}
+use Rattle.snap_world.specs.inside.Stands.{Stand}
 use Rattle.snap_world.specs.declared.parts.Parts.{Parts}
 
 pub segments_least : (w : Parts) → Stand w → 0 < w.segments

@@ -22,7 +22,7 @@ use Rattle.std.proofs.Common.{
 }
 use Rattle.std.proofs.lemmas.List.{length-replicate}
 use Rattle.snap_world.specs.Machine.{WriterState, ScannerState, Closed, resting}
-use Rattle.snap_world.specs.Stands.{
+use Rattle.snap_world.specs.inside.Stands.{
   PartsStand,
   WriterStands,
   ScannerStands,
@@ -30,9 +30,9 @@ use Rattle.snap_world.specs.Stands.{
   IsScannerAt,
   is_fenced,
 }
-use Rattle.snap_world.specs.Fresh.{Each, IsFreshRegister, IsFreshWriter, IsFreshScanner}
+use Rattle.snap_world.specs.inside.Fresh.{Each, IsFreshRegister, IsFreshWriter, IsFreshScanner}
 use Rattle.snap_world.specs.Start.{start_state, start_phases}
-use Rattle.snap_world.specs.Steps.{phases_of_parts}
+use Rattle.snap_world.specs.inside.Steps.{phases_of_parts}
 use Rattle.snap_world.specs.declared.parts.Parts.{Parts}
 use Rattle.snap_world.specs.declared.writer.Writer.{Writer}
 use Rattle.snap_world.specs.declared.scanner.Scanner.{Scanner}

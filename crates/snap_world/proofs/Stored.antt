@@ -44,14 +44,20 @@ use Rattle.snap_persist.specs.declared.persist.NextCall.{NextCall}
 use Rattle.snap_persist.specs.Stage.{store_calls}
 use Rattle.snap_world.specs.Calls.{store_call}
 use Rattle.snap_world.specs.Devices.{IsMade, IsMissed, Changes, DevicesMove}
-use Rattle.snap_world.specs.Drives.{IsReady, IsStoreUnderWay, DriveStands, DrivesStand, device_of}
+use Rattle.snap_world.specs.inside.Drives.{
+  IsReady,
+  IsStoreUnderWay,
+  DriveStands,
+  DrivesStand,
+  device_of,
+}
 use Rattle.snap_world.specs.Machine.{State, WriterState, Begun, Step, with_writer}
 use Rattle.snap_world.specs.NodePhases.{WorldPhases, AfterCall, PhasesMove}
-use Rattle.snap_world.specs.NodeStands.{NodeStands, NodeStand, IsUp, IsNodeAt}
-use Rattle.snap_world.specs.NodeSteps.{MayStore, phases_of_node, devices_of_node, store_left}
+use Rattle.snap_world.specs.inside.NodeStands.{NodeStands, NodeStand, IsUp, IsNodeAt}
+use Rattle.snap_world.specs.inside.NodeSteps.{MayStore, phases_of_node, devices_of_node, store_left}
 use Rattle.snap_world.specs.Phases.{Phases, WriterIs, writer_to}
-use Rattle.snap_world.specs.Stands.{Stand, PartsStand, WriterStands, HasBegun, IsAtPhase}
-use Rattle.snap_world.specs.Steps.{phases_of_parts}
+use Rattle.snap_world.specs.inside.Stands.{Stand, PartsStand, WriterStands, HasBegun, IsAtPhase}
+use Rattle.snap_world.specs.inside.Steps.{phases_of_parts}
 use Rattle.snap_world.specs.declared.drive.Drive.{Drive}
 use Rattle.snap_world.specs.declared.event.Event.TheVariants.{Call, Fail}
 use Rattle.snap_world.specs.declared.event.Kind.{Kind}

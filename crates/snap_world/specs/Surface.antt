@@ -4,8 +4,8 @@ use Rattle.snap_disk.specs.Device.{Device}
 use Rattle.snap_history.specs.History.{IsBeginning}
 use Rattle.snap_world.specs.Machine.{State}
 use Rattle.snap_world.specs.NodePhases.{WorldPhases}
-use Rattle.snap_world.specs.NodeStands.{NodeStands}
-use Rattle.snap_world.specs.NodeSteps.{phases_of_node, devices_of_node}
+use Rattle.snap_world.specs.inside.NodeStands.{NodeStands}
+use Rattle.snap_world.specs.inside.NodeSteps.{phases_of_node, devices_of_node}
 use Rattle.snap_world.specs.Runs.{Configuration, Run}
 use Rattle.snap_world.specs.declared.event.Event.{Event}
 use Rattle.snap_world.specs.declared.event.Reply.{Reply}

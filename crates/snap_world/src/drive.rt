@@ -11,9 +11,15 @@ ghost use Rattle.snap_persist.specs.Device.{IsJustWritten, write_at, write_bytes
 ghost use Rattle.snap_persist.specs.Stage.{calls_left, after_call, first_call};
 ghost use Rattle.snap_world.specs.Calls.{store_call};
 ghost use Rattle.snap_world.specs.Devices.{IsMade, IsMissed, IsWriteFailed};
-ghost use Rattle.snap_world.specs.Drives.{device_of, IsFormatted, AllReady, IsCrashed, AreCrashed};
+ghost use Rattle.snap_world.specs.inside.Drives.{
+  device_of,
+  IsFormatted,
+  AllReady,
+  IsCrashed,
+  AreCrashed,
+};
 ghost use Rattle.snap_history.specs.Pairs.{Pairs};
-ghost use Rattle.snap_world.specs.Serving.{found_value, AllReadable, IsResumed};
+ghost use Rattle.snap_world.specs.inside.Serving.{found_value, AllReadable, IsResumed};
 ghost use Rattle.snap_persist.specs.declared.persist.NextCall.{NextCall};
 
 use crate::event::Kind;

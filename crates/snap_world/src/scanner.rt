@@ -1,8 +1,8 @@
 //! The scanners: what each event of a scanner does.
 ghost use Rattle.std.specs.Prelude.{◌≡◌, ◌≤◌, ◌<◌, IfOk, OnErr};
-ghost use Rattle.snap_world.specs.Stands.{Stand};
+ghost use Rattle.snap_world.specs.inside.Stands.{Stand};
 ghost use Rattle.snap_world.specs.Phases.{ScannerIs};
-ghost use Rattle.snap_world.specs.Steps.{IsPartsStep, phases_of_parts};
+ghost use Rattle.snap_world.specs.inside.Steps.{IsPartsStep, phases_of_parts};
 ghost use Rattle.snap_world.specs.declared.event.Actor.{Actor};
 ghost use Rattle.snap_world.specs.declared.event.Event.{Event};
 

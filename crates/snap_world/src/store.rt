@@ -1,8 +1,8 @@
 //! The device calls of a store.
 ghost use Rattle.std.specs.Prelude.{◌≡◌, ◌<◌, IsTrue, ◌↔◌};
 ghost use Rattle.snap_disk.specs.declared.fill.Fill.{Fill};
-ghost use Rattle.snap_world.specs.NodeStands.{NodeStand};
-ghost use Rattle.snap_world.specs.NodeSteps.{IsNodeStep, MayStore};
+ghost use Rattle.snap_world.specs.inside.NodeStands.{NodeStand};
+ghost use Rattle.snap_world.specs.inside.NodeSteps.{IsNodeStep, MayStore};
 ghost use Rattle.snap_world.specs.declared.event.Event.{Event};
 
 use crate::event::Reply;

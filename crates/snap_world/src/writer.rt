@@ -2,8 +2,8 @@
 ghost use Rattle.std.specs.Prelude.{◌≡◌, ◌≤◌, ◌<◌, ℕ, true, List, slice_get};
 ghost use Rattle.snap_world.specs.Machine.{State, WriterState, Begun, with_writer};
 ghost use Rattle.snap_world.specs.Phases.{WriterIs, writer_to};
-ghost use Rattle.snap_world.specs.Stands.{Stand, PartsStand};
-ghost use Rattle.snap_world.specs.Steps.{IsPartsStep, phases_of_parts};
+ghost use Rattle.snap_world.specs.inside.Stands.{Stand, PartsStand};
+ghost use Rattle.snap_world.specs.inside.Steps.{IsPartsStep, phases_of_parts};
 ghost use Rattle.snap_world.specs.declared.event.Actor.{Actor};
 ghost use Rattle.snap_world.specs.declared.event.Event.{Event};
 

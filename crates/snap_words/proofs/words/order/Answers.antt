@@ -1,6 +1,8 @@
 use Rattle.std.proofs.Common.{
   rules,
   ◌≡◌,
+  ◌≢◌,
+  ◌⊎◌,
   ◌∙◌,
   ap,
   sym,
@@ -10,6 +12,10 @@ use Rattle.std.proofs.Common.{
   ℕ,
   Option,
   Some,
+  None,
+  inl,
+  inr,
+  refl,
   arith,
   codes,
 }
@@ -26,7 +32,7 @@ use Rattle.clap.specs.Words.{
   subcommand_of,
   takes,
 }
-use Rattle.snap_words.specs.Faults.{IsFaultOf, IsNumberOf, word_of}
+use Rattle.snap_words.specs.Faults.{IsFaultOf, IsMissing, IsNumberOf, word_of}
 use Rattle.snap_words.specs.Grammar.{IsCommand, grammar_of}
 use Rattle.snap_words.proofs.Asked.{
   asked,
@@ -73,7 +79,15 @@ returns-in_default-get_str-clause-faults g c =
     let same = word_is words _ c.in-Ok.ensures c.in-Ok-try_get_matches_from.matches
     c.in-Some.matches.now c.in-Ok-try_get_matches_from.ensures.matches c.in-Some.command.now
     (sym found.name) (sym found.rows) in
-    sym (same (codes "file")) ∙ sym c.in_default-get_str.ensures
+    let not_script : c.in-Some.command.now ≢ codes "script" = grind (arith, common_steps) in (
+      c.in-Some.command.now,
+      rows_of (found_of c.in-Some.matches.now),
+      met _ _ c.in-Ok.ensures c.in-Ok-try_get_matches_from.matches
+          c.in-Ok-try_get_matches_from.ensures.matches c.in-Some.command.now _
+          (sym found.name) (sym found.rows),
+      (not_script, inl refl),
+      sym (same (codes "file")) ∙ sym c.in_default-get_str.ensures,
+    )
 
 pub returns-then-eq-2-clause-asked : goal.returns-then-eq-2-clause-asked
 returns-then-eq-2-clause-asked g c =
@@ -94,8 +108,21 @@ returns-in_err-index-clause-faults g c =
     let same = word_is words _ c.in-Ok.ensures c.in-Ok-try_get_matches_from.matches
     c.in-Some.matches.now c.in-Ok-try_get_matches_from.ensures.matches c.in-Some.command.now
     (sym found.name) (sym found.rows) in
+    let not_script : c.in-Some.command.now ≢ codes "script" = grind (arith, common_steps) in
+    let not_check : c.in-Some.command.now ≢ codes "check" = grind (arith, common_steps) in
+    let is_met = met _ _ c.in-Ok.ensures c.in-Ok-try_get_matches_from.matches
+    c.in-Ok-try_get_matches_from.ensures.matches c.in-Some.command.now
+    (rows_of (found_of c.in-Some.matches.now)) (sym found.name) (sym found.rows) in
+    let gone : (what : Text) → (what ≡ codes "index") ⊎ (what ≡ codes "count")
+    → word_of words what ≡ None → IsMissing words what = λ what its none. (
+      c.in-Some.command.now,
+      rows_of (found_of c.in-Some.matches.now),
+      is_met,
+      (not_script, inr (not_check, its)),
+      none,
+    ) in
     let fault : IsFaultOf words c.in_err-index.field-0.0 =
-    place_fault words (first_value (found_of c.in-Some.matches.now)) same
+    place_fault words (first_value (found_of c.in-Some.matches.now)) same gone
     c.in_err-index.field-0.0 c.in_err-index.ensures.fault in
     search rules
 

@@ -1,7 +1,7 @@
 use Rattle.std.proofs.Common.{◌≡◌, ℕ, ◌<◌, length, Some, slice_get, refl, sym, ◌∙◌, subst, arith}
 use Rattle.std.proofs.lemmas.Option.{slice_get_read, same_Some}
 use Rattle.snap_disk.specs.declared.fill.Fill.{Fill}
-use Rattle.snap_world.specs.Drives.{IsCrashed}
+use Rattle.snap_world.specs.inside.Drives.{IsCrashed}
 use Rattle.snap_world.specs.declared.drive.Drive.{Drive}
 use Rattle.snap_world.proofs.Sweeping.{swept-none, swept-more, swept-all}
 use Rattle.snap_world.proofs.drive.crash_all.Goals as goal

@@ -19,7 +19,7 @@ use Rattle.std.proofs.Common.{
   arith,
 }
 use Rattle.std.proofs.lemmas.List.{map-append, take_more, take-map}
-use Rattle.snap_world.specs.Serving.{found_value}
+use Rattle.snap_world.specs.inside.Serving.{found_value}
 use Rattle.std.proofs.lemmas.Option.{slice_get_read}
 use Rattle.snap_world.proofs.drive.found_values.Goals as goal
 

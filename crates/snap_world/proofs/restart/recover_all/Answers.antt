@@ -15,7 +15,7 @@ use Rattle.std.proofs.Common.{
   arith,
 }
 use Rattle.std.proofs.lemmas.Option.{slice_get_read, same_Some}
-use Rattle.snap_world.specs.Serving.{IsRecovered, found_value}
+use Rattle.snap_world.specs.inside.Serving.{IsRecovered, found_value}
 use Rattle.snap_world.specs.declared.drive.Drive.{Drive}
 use Rattle.snap_world.specs.declared.register.Register.{Register}
 use Rattle.snap_world.proofs.Sweeping.{swept-more, swept-all}

@@ -1,5 +1,5 @@
 use Rattle.std.proofs.Common.{◌≡◌, Some, slice_get}
-use Rattle.snap_world.specs.Serving.{IsRecovered}
+use Rattle.snap_world.specs.inside.Serving.{IsRecovered}
 use Rattle.snap_world.specs.declared.drive.Drive.{Drive}
 use Rattle.snap_world.proofs.Sweeping.{Swept}
 use Rattle.snap_world.proofs.restart.recover_all.Given as goal

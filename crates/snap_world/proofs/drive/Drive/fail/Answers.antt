@@ -2,7 +2,7 @@ use Rattle.std.proofs.Common.{◌≡◌, ◌∷◌, List, sym, ◌∙◌, subst}
 use Rattle.snap_disk.specs.Image.{image_device}
 use Rattle.snap_persist.specs.Stage.{calls_left}
 use Rattle.snap_world.specs.Devices.{IsMissed}
-use Rattle.snap_world.specs.Drives.{device_of}
+use Rattle.snap_world.specs.inside.Drives.{device_of}
 use Rattle.snap_world.specs.declared.drive.Drive.{Drive}
 use Rattle.snap_persist.specs.declared.persist.NextCall.{NextCall}
 use Rattle.snap_world.proofs.Calling.{write_missed, sync_missed}

@@ -24,7 +24,7 @@ use Rattle.snap_persist.specs.Stage.{calls_left, first_call, after_call}
 use Rattle.snap_persist.specs.declared.persist.NextCall.TheVariants.{Done}
 use Rattle.snap_world.specs.Calls.{store_call}
 use Rattle.snap_world.specs.Devices.{IsMade}
-use Rattle.snap_world.specs.Drives.{device_of}
+use Rattle.snap_world.specs.inside.Drives.{device_of}
 use Rattle.snap_world.specs.declared.drive.Drive.{Drive}
 use Rattle.snap_world.proofs.Acting.{is_up, refuses}
 use Rattle.snap_world.proofs.Calling.{going_done, not_done}

@@ -1,9 +1,9 @@
 use Rattle.std.proofs.Common.{◌≡◌, length, map, refl, sym, ◌∙◌, arith}
 use Rattle.std.proofs.lemmas.List.{length-map}
 use Rattle.snap_world.specs.Machine.{crashed}
-use Rattle.snap_world.specs.NodeSteps.{store_left, phases_of_node}
+use Rattle.snap_world.specs.inside.NodeSteps.{store_left, phases_of_node}
 use Rattle.snap_world.specs.NodePhases.{WorldPhases, all_idle}
-use Rattle.snap_world.specs.Steps.{phases_of_parts}
+use Rattle.snap_world.specs.inside.Steps.{phases_of_parts}
 use Rattle.snap_world.specs.declared.node.Node.{Node}
 use Rattle.snap_world.specs.declared.node.NodePhase.TheVariants.{Down}
 use Rattle.snap_world.proofs.Acting.{same_phases}

@@ -19,9 +19,9 @@ use Rattle.snap_slot.specs.States.{IsAtRest}
 use Rattle.snap_persist.specs.Stage.{calls_left}
 use Rattle.snap_history.proofs.Lists.{get-replicate}
 use Rattle.snap_persist.specs.Stage.{store_calls}
-use Rattle.snap_world.specs.Drives.{DriveStands, IsFormatted, IsReady, device_of}
+use Rattle.snap_world.specs.inside.Drives.{DriveStands, IsFormatted, IsReady, device_of}
 use Rattle.snap_world.specs.declared.drive.Drive.{Drive}
-use Rattle.snap_world.specs.NodeSteps.{store_left, phases_of_node}
+use Rattle.snap_world.specs.inside.NodeSteps.{store_left, phases_of_node}
 use Rattle.snap_world.specs.Phases.{Phases}
 use Rattle.snap_world.specs.Start.{start_world_phases}
 use Rattle.snap_world.specs.declared.node.Node.{Node}

@@ -3,7 +3,7 @@ use Rattle.std.proofs.Math.Logic.{∥∥₁_map}
 use Rattle.snap_slot.specs.Findings.{IsFound}
 use Rattle.snap_slot.specs.Layout.{IsFileOf}
 use Rattle.snap_disk.specs.Image.{image_device}
-use Rattle.snap_world.specs.Drives.{device_of}
+use Rattle.snap_world.specs.inside.Drives.{device_of}
 use Rattle.snap_world.specs.NodePhases.{after_opening_call}
 use Rattle.snap_world.specs.declared.drive.Drive.{Drive}
 use Rattle.snap_world.specs.declared.node.NodePhase.TheVariants.{Restarting}

@@ -3,7 +3,7 @@ use Rattle.std.proofs.Math.Logic.{∥∥₁_elim, ∥∥₁_map}
 use Rattle.std.proofs.Props.{props}
 use Rattle.std.proofs.lemmas.List.{length-map}
 use Rattle.snap_history.specs.History.{from_nothing, IsMemory}
-use Rattle.snap_world.specs.NodeSteps.{store_left}
+use Rattle.snap_world.specs.inside.NodeSteps.{store_left}
 use Rattle.snap_world.specs.declared.parts.Parts.{Parts}
 use Rattle.snap_world.proofs.Crashing.{sized}
 use Rattle.snap_world.proofs.Serves.{

@@ -2,8 +2,8 @@ use Rattle.std.proofs.Common.{◌≡◌, ◌<◌, length, refl, ap, subst, ◌�
 use Rattle.snap_world.specs.Answers.{scan_from}
 use Rattle.snap_world.specs.Machine.{WriterState, Free, with_writer}
 use Rattle.snap_world.specs.Phases.{WriterIs}
-use Rattle.snap_world.specs.Stands.{WriterStands, IsAtPhase, is_fenced}
-use Rattle.snap_world.specs.Steps.{phases_of_parts}
+use Rattle.snap_world.specs.inside.Stands.{WriterStands, IsAtPhase, is_fenced}
+use Rattle.snap_world.specs.inside.Steps.{phases_of_parts}
 use Rattle.snap_world.specs.declared.writer.Writer.{Writer}
 use Rattle.snap_world.specs.declared.writer.WriterPhase.TheVariants as writer
 use Rattle.snap_world.proofs.Moves.{the_writer, the_register, writer_moves, same_read}

@@ -2,8 +2,8 @@ use Rattle.std.proofs.Common.{◌≡◌, ◌<◌, length, Some, map, refl, ap, s
 use Rattle.snap_world.specs.Answers.{IsAnswer}
 use Rattle.snap_world.specs.Machine.{Closed, with_scanner}
 use Rattle.snap_world.specs.Phases.{ScannerIs}
-use Rattle.snap_world.specs.Stands.{ScannerStands, IsScannerAt}
-use Rattle.snap_world.specs.Steps.{phases_of_parts}
+use Rattle.snap_world.specs.inside.Stands.{ScannerStands, IsScannerAt}
+use Rattle.snap_world.specs.inside.Steps.{phases_of_parts}
 use Rattle.snap_world.specs.declared.scanner.Scanner.{Scanner}
 use Rattle.snap_world.specs.declared.scanner.ScannerPhase.TheVariants as scanner
 use Rattle.snap_world.proofs.Moves.{the_scanner, scanner_moves, same_read}

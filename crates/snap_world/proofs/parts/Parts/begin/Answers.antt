@@ -18,8 +18,8 @@ use Rattle.snap_history.specs.History.{from_nothing, number_after}
 use Rattle.snap_world.specs.Answers.{scan_from}
 use Rattle.snap_world.specs.Machine.{WriterState, Begun, Free, with_writer}
 use Rattle.snap_world.specs.Phases.{WriterIs}
-use Rattle.snap_world.specs.Stands.{WriterStands, IsAtPhase, is_fenced}
-use Rattle.snap_world.specs.Steps.{phases_of_parts}
+use Rattle.snap_world.specs.inside.Stands.{WriterStands, IsAtPhase, is_fenced}
+use Rattle.snap_world.specs.inside.Steps.{phases_of_parts}
 use Rattle.snap_world.specs.declared.writer.Writer.{Writer}
 use Rattle.snap_world.specs.declared.writer.WriterPhase.TheVariants as writer
 use Rattle.snap_world.proofs.Looking.{number_now}

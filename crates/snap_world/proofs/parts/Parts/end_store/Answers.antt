@@ -1,6 +1,6 @@
 use Rattle.std.proofs.Common.{◌≡◌, ap, sym, ◌∙◌, subst}
 use Rattle.std.proofs.lemmas.Option.{same_Some}
-use Rattle.snap_world.specs.Stands.{HasBegun, WriterStands, IsAtPhase, is_fenced}
+use Rattle.snap_world.specs.inside.Stands.{HasBegun, WriterStands, IsAtPhase, is_fenced}
 use Rattle.snap_world.specs.declared.writer.Writer.{Writer}
 use Rattle.snap_world.specs.declared.writer.WriterPhase.TheVariants as writer
 use Rattle.snap_world.proofs.Moves.{the_writer, writer_stays}

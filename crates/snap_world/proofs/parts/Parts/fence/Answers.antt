@@ -1,6 +1,6 @@
 use Rattle.std.proofs.Common.{true, refl}
 use Rattle.snap_world.specs.Machine.{WriterState}
-use Rattle.snap_world.specs.Stands.{WriterStands}
+use Rattle.snap_world.specs.inside.Stands.{WriterStands}
 use Rattle.snap_world.specs.declared.writer.Writer.{Writer}
 use Rattle.snap_world.specs.declared.writer.WriterPhase.TheVariants as writer
 use Rattle.snap_world.proofs.Moves.{the_writer, writer_moves}

@@ -1,10 +1,10 @@
 use Rattle.std.proofs.Math.Logic.{∥∥₁_map}
 use Rattle.std.proofs.lemmas.Bool.{MatchBool-at_true, MatchBool-at_false}
 use Rattle.std.proofs.Common.{◌≡◌, ◌<◌, refl, ap, subst, ◌∙◌, sym}
-use Rattle.snap_world.specs.Gathers.{IsUnderWay}
+use Rattle.snap_world.specs.inside.Gathers.{IsUnderWay}
 use Rattle.snap_world.specs.Phases.{WriterIs}
-use Rattle.snap_world.specs.Stands.{PartsStand}
-use Rattle.snap_world.specs.Steps.{IsPartsStep, phases_of_parts}
+use Rattle.snap_world.specs.inside.Stands.{PartsStand}
+use Rattle.snap_world.specs.inside.Steps.{IsPartsStep, phases_of_parts}
 use Rattle.snap_world.specs.Machine.{State}
 use Rattle.snap_world.specs.declared.event.Actor.TheVariants as actor
 use Rattle.snap_world.specs.declared.event.Event.TheVariants.{Look}

@@ -22,8 +22,8 @@ use Rattle.snap_history.specs.History.{from_nothing, number_after, IsMemory}
 use Rattle.snap_world.specs.Answers.{number_at}
 use Rattle.snap_world.specs.Machine.{WriterState, Shown, with_update}
 use Rattle.snap_world.specs.Phases.{WriterIs}
-use Rattle.snap_world.specs.Stands.{WriterStands, IsAtPhase, is_fenced}
-use Rattle.snap_world.specs.Steps.{phases_of_parts}
+use Rattle.snap_world.specs.inside.Stands.{WriterStands, IsAtPhase, is_fenced}
+use Rattle.snap_world.specs.inside.Steps.{phases_of_parts}
 use Rattle.snap_world.specs.declared.register.Register.{Register}
 use Rattle.snap_world.specs.declared.writer.Writer.{Writer}
 use Rattle.snap_world.specs.declared.writer.WriterPhase.TheVariants as writer

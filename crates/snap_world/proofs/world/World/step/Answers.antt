@@ -1,7 +1,7 @@
 use Rattle.std.proofs.Common.{◌≡◌, Ok, Err, IfOk, OnErr, sym, subst}
 use Rattle.std.proofs.Math.Logic.{∥∥₁_map}
-use Rattle.snap_world.specs.NodeStands.{NodeStand}
-use Rattle.snap_world.specs.NodeSteps.{IsNodeStep}
+use Rattle.snap_world.specs.inside.NodeStands.{NodeStand}
+use Rattle.snap_world.specs.inside.NodeSteps.{IsNodeStep}
 use Rattle.snap_world.proofs.Runs.{IsRun-step}
 use Rattle.snap_world.proofs.world.World.step.Goals as goal
 

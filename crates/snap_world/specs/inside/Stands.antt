@@ -6,7 +6,7 @@ use Rattle.snap_slot.specs.Layout.{IsNumber, IsShort}
 use Rattle.snap_slot.specs.declared.layout.TheConstants.{MAX_COUNT}
 use Rattle.snap_scan.specs.Looks.{IsDecided}
 use Rattle.snap_world.specs.Answers.{ScanState, IsAnswer, number_at}
-use Rattle.snap_world.specs.Gathers.{Gathers, IsUnderWay, RegistersStand}
+use Rattle.snap_world.specs.inside.Gathers.{Gathers, IsUnderWay, RegistersStand}
 use Rattle.snap_world.specs.Machine.{
   State,
   WriterState,

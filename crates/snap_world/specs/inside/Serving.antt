@@ -5,7 +5,7 @@ use Rattle.snap_slot.specs.declared.layout.TheConstants.{MAX_VALUE_LEN}
 use Rattle.snap_slot.specs.Layout.{IsNumber, slot_of}
 use Rattle.snap_slot.specs.Findings.{value_in}
 use Rattle.snap_persist.specs.Stage.{calls_left, first_stage, store_calls}
-use Rattle.snap_world.specs.Drives.{device_of}
+use Rattle.snap_world.specs.inside.Drives.{device_of}
 use Rattle.snap_history.specs.Pairs.{Pairs}
 use Rattle.snap_world.specs.declared.drive.Drive.{Drive}
 use Rattle.snap_world.specs.declared.register.Register.{Register}

@@ -4,10 +4,10 @@ use Rattle.snap_disk.specs.Device.{IsSettled}
 use Rattle.snap_slot.specs.Findings.{IsFound}
 use Rattle.snap_slot.specs.declared.layout.TheConstants.{MAX_COUNT}
 use Rattle.snap_history.specs.Pairs.{Pairs}
-use Rattle.snap_world.specs.Drives.{DrivesStand, DrivesDown, device_of}
+use Rattle.snap_world.specs.inside.Drives.{DrivesStand, DrivesDown, device_of}
 use Rattle.snap_world.specs.Machine.{State, WriterState, ScannerState, Closed}
-use Rattle.snap_world.specs.Stands.{PartsStand}
-use Rattle.snap_world.specs.Steps.{phases_of_parts}
+use Rattle.snap_world.specs.inside.Stands.{PartsStand}
+use Rattle.snap_world.specs.inside.Steps.{phases_of_parts}
 use Rattle.snap_world.specs.declared.drive.Drive.{Drive}
 use Rattle.snap_world.specs.declared.node.Node.{Node}
 use Rattle.snap_world.specs.declared.node.NodePhase.{NodePhase}

@@ -3,12 +3,12 @@ use Rattle.std.specs.Prelude.{◌≡◌, ℕ, List, map}
 use Rattle.snap_disk.specs.Device.{Device}
 use Rattle.snap_persist.specs.Stage.{calls_left}
 use Rattle.snap_world.specs.Devices.{DevicesMove, GatesTold}
-use Rattle.snap_world.specs.Drives.{device_of}
+use Rattle.snap_world.specs.inside.Drives.{device_of}
 use Rattle.snap_world.specs.Machine.{State, Step}
 use Rattle.snap_world.specs.NodePhases.{WorldPhases, TellsWhether, PhasesMove}
-use Rattle.snap_world.specs.NodeStands.{NodeStands}
+use Rattle.snap_world.specs.inside.NodeStands.{NodeStands}
 use Rattle.snap_world.specs.Phases.{WriterIs}
-use Rattle.snap_world.specs.Steps.{phases_of_parts}
+use Rattle.snap_world.specs.inside.Steps.{phases_of_parts}
 use Rattle.snap_world.specs.declared.event.Event.{Event}
 use Rattle.snap_persist.specs.declared.persist.NextCall.{NextCall}
 use Rattle.snap_world.specs.declared.event.Reply.{Reply}

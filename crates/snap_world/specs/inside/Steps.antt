@@ -3,7 +3,7 @@ use Rattle.std.specs.Prelude.{◌≡◌, map}
 use Rattle.snap_world.specs.Machine.{State, Step}
 use Rattle.snap_world.specs.NodePhases.{TellsWhether, PhasesMove, up}
 use Rattle.snap_world.specs.Phases.{Phases}
-use Rattle.snap_world.specs.Stands.{PartsStand}
+use Rattle.snap_world.specs.inside.Stands.{PartsStand}
 use Rattle.snap_world.specs.declared.event.Event.{Event}
 use Rattle.snap_world.specs.declared.event.Event.TheVariants.{
   Call,
