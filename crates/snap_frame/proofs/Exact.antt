@@ -1,38 +1,7 @@
 -- What stands first in the bytes is one thing.
 use Rattle.std.proofs.Common.{
-  ◌≡◌,
-  ◌≢◌,
-  ℕ,
-  ◌+◌,
-  ◌<◌,
-  ◌≤◌,
-  ◌⊎◌,
-  List,
-  ◌∷◌,
-  ◌++◌,
-  [],
-  length,
-  Option,
-  Some,
-  None,
-  Result,
-  Ok,
-  Err,
-  inl,
-  inr,
-  refl,
-  sym,
-  ◌∙◌,
-  ap,
-  subst,
-  arith,
-  append_assoc,
-  append-nil,
-  length-append,
-  take,
-  drop,
-  take_at,
-  drop_at,
+    ◌≡◌, ◌≢◌, ℕ, List, ◌++◌, [], length, Option, Some, None, Result, Ok, Err, inl, inr, refl, sym,
+    ◌∙◌, ap, arith, append_assoc, append-nil, length-append, take, drop, take_at, drop_at
 }
 use Rattle.std.specs.Int.{w32, to_be_bytes}
 use Rattle.std.specs.declared.io.Error.{Error}
@@ -43,34 +12,16 @@ use Rattle.tokio_util.specs.declared.codec.length_delimited.LengthDelimitedCodec
 use Rattle.tokio_util.specs.declared.codec.length_delimited.DecodeState.{DecodeState}
 use Rattle.tokio_util.specs.declared.codec.length_delimited.DecodeState.TheVariants.{Head, Data}
 use Rattle.tokio_util.specs.Codec.Next.{DecodesAtEnd}
-use Rattle.tokio_util.specs.Codec.LengthField.{Layout}
 use Rattle.tokio_util.specs.Codec.LengthDelimited.{
-  codec_layout,
-  Cut,
-  frame,
-  too_big,
-  overflows,
-  unfinished,
-  cut,
-  cut_in,
-  Answers,
-  AnswersLast,
-  AnswersAtEnd,
-  gives_frames,
+    Cut, frame, too_big, overflows, unfinished, cut, Answers, AnswersLast, AnswersAtEnd,
+    gives_frames
 }
 use Rattle.snap_frame.specs.Messages as messages
 use Rattle.snap_frame.specs.Stream.{
-  HasFrame,
-  HasLongLength,
-  IsPartial,
-  pending,
-  pending_in,
-  StateFits,
-  Ready,
-  IsBytes,
-  NoFrameBeginsAnother,
+    HasFrame, HasLongLength, pending, pending_in, Ready, IsBytes, NoFrameBeginsAnother
 }
-use Rattle.snap_frame.proofs.Cuts.{same_length, Means}
+use Rattle.snap_frame.proofs.BigEndian.{same_length}
+use Rattle.snap_frame.proofs.Cuts.{Means}
 use Rattle.snap_frame.proofs.Decode.{means}
 
 pub append_split : (x y r s : List ℕ) → length x ≡ length y → x ++ r ≡ y ++ s → (x ≡ y) × (r ≡ s)
