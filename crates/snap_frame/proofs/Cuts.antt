@@ -1,7 +1,31 @@
 -- What the codec's cuts mean for the bytes held.
 use Rattle.std.proofs.Common.{
-    ◌≡◌, ℕ, ◌+◌, ◌<◌, ◌≤◌, ◌^◌, List, ◌∷◌, ◌++◌, [], length, take, drop, Some, inl, inr, refl, sym,
-    ◌∙◌, ap, subst, arith, append_assoc, length-append, length-take, pos
+  ◌≡◌,
+  ℕ,
+  ◌+◌,
+  ◌<◌,
+  ◌≤◌,
+  ◌^◌,
+  List,
+  ◌∷◌,
+  ◌++◌,
+  [],
+  length,
+  take,
+  drop,
+  Some,
+  inl,
+  inr,
+  refl,
+  sym,
+  ◌∙◌,
+  ap,
+  subst,
+  arith,
+  append_assoc,
+  length-append,
+  length-take,
+  pos,
 }
 use Rattle.std.specs.Int.{w32, to_be_bytes}
 use Rattle.std.proofs.lemmas.List.{take-append-drop}

@@ -1,8 +1,35 @@
 -- What `decode` says of the bytes held.
 use Rattle.std.proofs.Common.{
-    ◌≡◌, ◌≢◌, ℕ, ◌≤◌, List, ◌++◌, [], length, take, drop, replicate, Option, Some, None, IfNone, Ok,
-    Err, inl, inr, refl, sym, ◌∙◌, ap, ap₂, subst, arith, append_assoc, length-append, length-take,
-    pos
+  ◌≡◌,
+  ◌≢◌,
+  ℕ,
+  ◌≤◌,
+  List,
+  ◌++◌,
+  [],
+  length,
+  take,
+  drop,
+  replicate,
+  Option,
+  Some,
+  None,
+  IfNone,
+  Ok,
+  Err,
+  inl,
+  inr,
+  refl,
+  sym,
+  ◌∙◌,
+  ap,
+  ap₂,
+  subst,
+  arith,
+  append_assoc,
+  length-append,
+  length-take,
+  pos,
 }
 use Rattle.std.specs.Int.{w32, to_be_bytes}
 use Rattle.std.specs.IoError.{error_kind, kind_at}
@@ -32,8 +59,21 @@ use Rattle.tokio_util.specs.Codec.LengthField.{
   skip_len,
 }
 use Rattle.tokio_util.specs.Codec.LengthDelimited.{
-    codec_layout, with_state, Cut, frame, too_big, overflows, unfinished, cut_payload, cut_adjusted,
-    cut_frame, cut_in, cut, Answers, IsSettled, gives_frames
+  codec_layout,
+  with_state,
+  Cut,
+  frame,
+  too_big,
+  overflows,
+  unfinished,
+  cut_payload,
+  cut_adjusted,
+  cut_frame,
+  cut_in,
+  cut,
+  Answers,
+  IsSettled,
+  gives_frames,
 }
 use Rattle.tokio_util.specs.Codec.LengthDelimitedLaws.{
   cut_payload_whole,
@@ -274,12 +314,18 @@ waits c t xs ys ready bytes_xs bytes_ys told =
           )
       | too_big ↦ λ e _. fails (error_of 21) (λ m. let wrong : InvalidData ≡ OutOfMemory =
           sym data_kind ∙ m in cc)
-          (subst (λ (v : Cut). Answers t zs v (Err (error_of 21)) t zs) (sym e) (data_kind, refl,
-              refl))
+          (subst (λ (v : Cut). Answers t zs v (Err (error_of 21)) t zs) (sym e) (
+            data_kind,
+            refl,
+            refl,
+          ))
       | overflows ↦ λ e _. fails (error_of 20) (λ m. let wrong : InvalidInput ≡ OutOfMemory =
           sym input_kind ∙ m in cc)
-          (subst (λ (v : Cut). Answers t zs v (Err (error_of 20)) t zs) (sym e) (input_kind, refl,
-              refl))
+          (subst (λ (v : Cut). Answers t zs v (Err (error_of 20)) t zs) (sym e) (
+            input_kind,
+            refl,
+            refl,
+          ))
       | unfinished s k ↦ λ _ none. absurd none
     ] refl end.done
 

@@ -1,7 +1,32 @@
 -- What stands first in the bytes is one thing.
 use Rattle.std.proofs.Common.{
-    ◌≡◌, ◌≢◌, ℕ, List, ◌++◌, [], length, Option, Some, None, Result, Ok, Err, inl, inr, refl, sym,
-    ◌∙◌, ap, arith, append_assoc, append-nil, length-append, take, drop, take_at, drop_at
+  ◌≡◌,
+  ◌≢◌,
+  ℕ,
+  List,
+  ◌++◌,
+  [],
+  length,
+  Option,
+  Some,
+  None,
+  Result,
+  Ok,
+  Err,
+  inl,
+  inr,
+  refl,
+  sym,
+  ◌∙◌,
+  ap,
+  arith,
+  append_assoc,
+  append-nil,
+  length-append,
+  take,
+  drop,
+  take_at,
+  drop_at,
 }
 use Rattle.std.specs.Int.{w32, to_be_bytes}
 use Rattle.std.specs.declared.io.Error.{Error}
@@ -13,12 +38,26 @@ use Rattle.tokio_util.specs.declared.codec.length_delimited.DecodeState.{DecodeS
 use Rattle.tokio_util.specs.declared.codec.length_delimited.DecodeState.TheVariants.{Head, Data}
 use Rattle.tokio_util.specs.Codec.Next.{DecodesAtEnd}
 use Rattle.tokio_util.specs.Codec.LengthDelimited.{
-    Cut, frame, too_big, overflows, unfinished, cut, Answers, AnswersLast, AnswersAtEnd,
-    gives_frames
+  Cut,
+  frame,
+  too_big,
+  overflows,
+  unfinished,
+  cut,
+  Answers,
+  AnswersLast,
+  AnswersAtEnd,
+  gives_frames,
 }
 use Rattle.snap_frame.specs.Messages as messages
 use Rattle.snap_frame.specs.Stream.{
-    HasFrame, HasLongLength, pending, pending_in, Ready, IsBytes, NoFrameBeginsAnother
+  HasFrame,
+  HasLongLength,
+  pending,
+  pending_in,
+  Ready,
+  IsBytes,
+  NoFrameBeginsAnother,
 }
 use Rattle.snap_frame.proofs.BigEndian.{same_length}
 use Rattle.snap_frame.proofs.Cuts.{Means}

@@ -1,6 +1,18 @@
 -- How long the payloads of replies are.
 use Rattle.std.proofs.Common.{
-    ◌≡◌, ◌+◌, ◌*◌, ◌≤◌, List, [], ◌∷◌, length, flat_map, All, refl, arith, length-append
+  ◌≡◌,
+  ◌+◌,
+  ◌*◌,
+  ◌≤◌,
+  List,
+  [],
+  ◌∷◌,
+  length,
+  flat_map,
+  All,
+  refl,
+  arith,
+  length-append,
 }
 use Rattle.std.proofs.lemmas.List.Elements.{All-tail}
 use Rattle.snap_slot.specs.declared.layout.TheConstants.{MAX_VALUE_LEN}

@@ -1,6 +1,20 @@
 -- A talk that goes on.
 use Rattle.std.proofs.Common.{
-    ◌≡◌, ℕ, List, [], ◌++◌, Option, Some, None, refl, sym, ◌∙◌, ap, subst, append-nil, append_assoc
+  ◌≡◌,
+  ℕ,
+  List,
+  [],
+  ◌++◌,
+  Option,
+  Some,
+  None,
+  refl,
+  sym,
+  ◌∙◌,
+  ap,
+  subst,
+  append-nil,
+  append_assoc,
 }
 use Rattle.snap_frame.specs.declared.request.Request.{Request}
 use Rattle.snap_frame.specs.declared.reply.Reply.{Reply}
@@ -8,7 +22,11 @@ use Rattle.snap_frame.specs.declared.frame_buffer.Failure.{Failure}
 use Rattle.snap_frame.specs.declared.frame_buffer.Failure.TheVariants.{TooLarge, NoMemory}
 use Rattle.snap_session.specs.Talk.{Talk, Goes, Stays, Moves, Run, Phase, frames, came}
 use Rattle.snap_session.proofs.Runs.{
-    frames-append, Joins, run_on, stays_joins, loosen as loosen_run
+  frames-append,
+  Joins,
+  run_on,
+  stays_joins,
+  loosen as loosen_run,
 }
 
 -- what is taken, cut and said doesn't matter

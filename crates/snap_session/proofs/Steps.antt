@@ -36,8 +36,18 @@ use Rattle.snap_frame.specs.declared.frame_buffer.Failure.{Failure}
 use Rattle.snap_frame.specs.declared.frame_buffer.Failure.TheVariants.{TooLarge, NoMemory}
 use Rattle.snap_frame.specs.Messages.{says}
 use Rattle.snap_session.specs.Talk.{
-    refused_too_large, Talk, Goes, Stays, Run, Answer, Phase, HasTaken, Owes, frames, came,
-    asked_bytes
+  refused_too_large,
+  Talk,
+  Goes,
+  Stays,
+  Run,
+  Answer,
+  Phase,
+  HasTaken,
+  Owes,
+  frames,
+  came,
+  asked_bytes,
 }
 
 abbrev pub owed_of : Talk → List ℕ

@@ -1,7 +1,25 @@
 -- Turns one after another.
 use Rattle.std.proofs.Common.{
-    ◌≡◌, ℕ, List, [], ◌++◌, Option, None, refl, sym, ◌∙◌, ap, subst, append-nil, append_assoc, take,
-    drop, length, length-append, arith, ◌≤◌
+  ◌≡◌,
+  ℕ,
+  List,
+  [],
+  ◌++◌,
+  Option,
+  None,
+  refl,
+  sym,
+  ◌∙◌,
+  ap,
+  subst,
+  append-nil,
+  append_assoc,
+  take,
+  drop,
+  length,
+  length-append,
+  arith,
+  ◌≤◌,
 }
 use Rattle.std.specs.Io.KnownBytes.{Appends, Consumes, Keeps}
 use Rattle.snap_frame.specs.declared.request.Request.{Request}
@@ -9,7 +27,14 @@ use Rattle.snap_frame.specs.declared.reply.Reply.{Reply}
 use Rattle.snap_session.specs.declared.turns.End.{End}
 use Rattle.std.proofs.lemmas.List.{take-append-drop}
 use Rattle.snap_session.specs.Talk.{
-    Talk, Goes, Stays, HasTaken, came, asked_bytes, start, most_owed
+  Talk,
+  Goes,
+  Stays,
+  HasTaken,
+  came,
+  asked_bytes,
+  start,
+  most_owed,
 }
 use Rattle.snap_session.specs.Turns.{Turns, Sends, Serves, EndsAt}
 use Rattle.snap_session.proofs.Runs.{Joins, stays_joins}

@@ -91,7 +91,7 @@ returns-in-TooLarge-clause-wants g c = (
   λ going none. absurd (owes_over c.hear.new.self refused_too_large c.owe-in-TooLarge.new.self
       c.owe-in-TooLarge.result c.owe-in-TooLarge.ensures.owes
       (λ wrong. let both : Some TooLarge ≡ None = sym (ap over_of c.in-TooLarge.ensures.1)
-          ∙ wrong in
+      ∙ wrong in
       cc) going),
 )
 
