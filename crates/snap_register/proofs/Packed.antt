@@ -1,7 +1,7 @@
 -- Registers that open with packed values.
-use Rattle.std.proofs.Common.{◌≡◌, ℕ, ◌+◌, ◌*◌, ◌^◌, ◌<◌, ◌≤◌, List, [], ◌∷◌, length, map, take, slice_get, get_or, Some, refl, ap, sym, subst, ◌∙◌, arith, mul-le-mul_right}
+use Rattle.std.proofs.Common.{◌≡◌, ℕ, ◌*◌, ◌^◌, ◌<◌, ◌≤◌, List, length, map, take, slice_get, Some, refl, ap, sym, subst, ◌∙◌, arith, mul-le-mul_right}
 use Rattle.std.proofs.lemmas.List.{length-map, take_all}
-use Rattle.std.proofs.lemmas.Option.{slice_get_within, get_or_from_slice_get, slice_get-map}
+use Rattle.std.proofs.lemmas.Option.{get_or_from_slice_get, slice_get-map}
 use Rattle.std.specs.Prelude.{option_map}
 use Rattle.snap_history.specs.Pairs.{Pairs}
 use Rattle.snap_history.proofs.Pairing.{element, partner}

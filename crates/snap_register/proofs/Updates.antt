@@ -1,5 +1,5 @@
 -- The registers' history as updates of a memory: what a seat knows, in a caller's words.
-use Rattle.std.proofs.Common.{◌≡◌, ◌≢◌, ℕ, zero, suc, ◌+◌, ◌<◌, ◌≤◌, ◌==◌, Bool, true, false, cond, List, [], ◌∷◌, ◌++◌, length, map, get_or, Some, None, Option, slice_get, refl, ap, sym, subst, ◌∙◌, arith, append_assoc, eq-eqb, ne_eqb}
+use Rattle.std.proofs.Common.{◌≡◌, ◌≢◌, ℕ, zero, suc, ◌+◌, ◌<◌, ◌≤◌, ◌==◌, Bool, true, false, cond, List, [], ◌∷◌, ◌++◌, length, get_or, Some, None, slice_get, refl, ap, sym, subst, ◌∙◌, arith, append_assoc, eq-eqb, ne_eqb}
 use Rattle.std.specs.Prelude.{if◌then◌else◌}
 use Rattle.std.proofs.lemmas.List.{map-append, append-nil}
 use Rattle.std.proofs.lemmas.Option.{same_Some}
@@ -16,12 +16,12 @@ use Rattle.snap_register.specs.declared.view.View.TheVariants.{Collected, Borrow
 use Rattle.snap_register.specs.History.{entry, only, count, number, start_at, memory, record_words, update_of, updates, starts}
 use Rattle.snap_register.specs.Rule.{segments, Has, IsLegal, Follows}
 use Rattle.snap_register.specs.Rule as rule
-use Rattle.snap_register.specs.Packing.{value_at, block_at, size_at, behind, IsBlock, AreBlocks, IsRecord}
+use Rattle.snap_register.specs.Packing.{value_at, size_at, IsBlock, AreBlocks, IsRecord}
 use Rattle.snap_register.specs.Held.{held, view_in, taken, Readable, CanTake, MayTake, IsPinned, IsShown}
-use Rattle.snap_register.specs.Seat.{Known, known, looked, number_in, value_in, own_of, IsBelow, Grows, Meets, Looks, HasLooked, HasFoundUpdate, IsValue, IsMemory, IsView, MayPublish, Shows}
-use Rattle.snap_register.proofs.Lines.{find, prefix_trans, only-append, only_same, count_prefix, count_push_same, record_prefix}
+use Rattle.snap_register.specs.Seat.{known, looked, IsBelow, Grows, Looks, HasLooked, HasFoundUpdate, IsValue, IsView, MayPublish, Shows}
+use Rattle.snap_register.proofs.Lines.{find, prefix_trans, count_push_same, record_prefix}
 use Rattle.snap_register.proofs.Blocks.{record_of}
-use Rattle.snap_register.proofs.Views.{Viewed, viewed}
+use Rattle.snap_register.proofs.Views.{viewed}
 
 counted : (b : Bool) (x : Entry) (l : List Entry) (n : ℕ) → n ≡ length l → (if b then 1 else 0) + n ≡ length (cond b (x ∷ l) l)
 counted true x l n e = omega arith

@@ -1,5 +1,5 @@
 -- The seats of one opening.
-use Rattle.std.specs.Prelude.{◌≡◌, ℕ, ◌+◌, ◌^◌, ◌<◌, List, [], length, slice_get, Some, None}
+use Rattle.std.specs.Prelude.{◌≡◌, ℕ, ◌+◌, ◌^◌, ◌<◌, List, [], length, slice_get, Some}
 use Rattle.snap_register.specs.declared.plan.Opening.{Opening}
 use Rattle.snap_register.specs.declared.plan.Plan.{Plan}
 use Rattle.snap_register.specs.History.{starts}

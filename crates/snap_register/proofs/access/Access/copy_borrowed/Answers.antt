@@ -1,7 +1,5 @@
-use Rattle.std.proofs.Common.{rules, ◌≡◌, ℕ, ◌+◌, ◌*◌, ◌^◌, ◌<◌, ◌≤◌, ◌++◌, [], List, length, get_or, ap, sym, subst, ◌∙◌, arith, length-append}
-use mathlib.Core.List.{IsPrefix}
+use Rattle.std.proofs.Common.{◌≡◌, ℕ, ◌+◌, ◌*◌, ◌^◌, ◌<◌, ◌≤◌, ◌++◌, List, length, get_or, ap, sym, subst, ◌∙◌, arith, length-append}
 use Rattle.atomic_table.specs.Table.{Me}
-use Rattle.snap_register.specs.declared.plan.Plan.{Plan}
 use Rattle.snap_register.specs.declared.plan.SeatView.{SeatView}
 use Rattle.snap_register.specs.declared.view.View.TheVariants.{Borrowed}
 use Rattle.snap_register.specs.Rule.{segments, width}
@@ -10,7 +8,7 @@ use Rattle.snap_register.specs.Packing.{IsWhole, AreBlocks, piece, size_at, bloc
 use Rattle.snap_register.proofs.Blocks.{blocks_push, piece_length, behind_more}
 use Rattle.snap_register.proofs.Lines.{prefix_trans}
 use Rattle.snap_register.proofs.Views.{viewed, width_is}
-use Rattle.snap_register.proofs.Drafts.{Drafted, drafted, drafted_then, draft_is, held_drafted}
+use Rattle.snap_register.proofs.Drafts.{drafted, drafted_then, draft_is, held_drafted}
 use Rattle.snap_register.proofs.access.Access.copy_borrowed.Goals as goal
 use Rattle.snap_register.proofs.access.Access.copy_borrowed.Goals.{In-loop}
 

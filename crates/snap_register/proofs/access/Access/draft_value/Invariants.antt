@@ -1,4 +1,4 @@
-use Rattle.std.proofs.Common.{◌≡◌, ℕ, ◌+◌, ◌*◌, ◌<◌, length, take, slice_index}
+use Rattle.std.proofs.Common.{◌≡◌, ◌+◌, ◌*◌, length, take, slice_index}
 use Rattle.snap_register.specs.Packing.{bytes_at}
 use Rattle.snap_register.proofs.access.Access.draft_value.Given as goal
 

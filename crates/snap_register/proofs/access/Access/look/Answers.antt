@@ -2,7 +2,7 @@ use Rattle.std.proofs.Common.{◌≡◌, ℕ, ◌+◌, ◌<◌, ◌≤◌, ◌/�
 use Rattle.atomic_table.specs.Table.{Me}
 use Rattle.snap_register.specs.declared.plan.Plan.{Plan}
 use Rattle.snap_register.specs.declared.plan.SeatView.{SeatView}
-use Rattle.snap_register.specs.History.{number, start_at, count}
+use Rattle.snap_register.specs.History.{number, start_at}
 use Rattle.snap_register.specs.Held.{held, Readable}
 use Rattle.snap_register.specs.Rule.{segments, Learns}
 use Rattle.snap_register.proofs.access.Access.look.Goals as goal

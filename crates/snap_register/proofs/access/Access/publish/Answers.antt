@@ -1,5 +1,4 @@
-use Rattle.std.proofs.Common.{rules, ◌≡◌, ℕ, ◌+◌, ◌<◌, ◌≤◌, ◌++◌, ◌∷◌, [], List, length, get_or, refl, ap, sym, subst, ◌∙◌, arith}
-use mathlib.Core.List.{IsPrefix}
+use Rattle.std.proofs.Common.{◌≡◌, ℕ, ◌+◌, ◌++◌, ◌∷◌, [], List, length, refl, ap, sym, subst, ◌∙◌, arith}
 use Rattle.atomic_table.specs.Table.{Me}
 use Rattle.snap_register.specs.declared.plan.Entry.{Entry}
 use Rattle.snap_register.specs.declared.plan.Plan.{Plan}
@@ -7,10 +6,10 @@ use Rattle.snap_register.specs.declared.plan.Pool.{Pool}
 use Rattle.snap_register.specs.declared.plan.SeatView.{SeatView}
 use Rattle.snap_register.specs.declared.view.View.{View}
 use Rattle.snap_register.specs.declared.view.View.TheVariants.{Collected, Borrowed}
-use Rattle.snap_register.specs.History.{entry, only, count, number, start_at}
+use Rattle.snap_register.specs.History.{entry, count, start_at}
 use Rattle.snap_register.specs.Rule.{segments, IsLegal, IsBelow, Follows}
-use Rattle.snap_register.specs.Held.{taken, IsShown}
-use Rattle.snap_register.specs.Packing.{AreBlocks, IsBlock, size_at, value_at}
+use Rattle.snap_register.specs.Held.{taken}
+use Rattle.snap_register.specs.Packing.{AreBlocks}
 use Rattle.snap_register.proofs.Blocks.{block_stays}
 use Rattle.snap_register.proofs.Later.{publishes_count}
 use Rattle.snap_register.proofs.Updates.{follows_is}

@@ -1,4 +1,4 @@
-use Rattle.std.proofs.Common.{◌≡◌, sym, subst}
+use Rattle.std.proofs.Common.{sym, subst}
 use Rattle.snap_register.specs.Seat.{Known, HasLooked}
 use Rattle.snap_register.proofs.Updates.{looked_some, pinned_looked}
 use Rattle.snap_register.proofs.seats.ReadSeatLooker.has_looked.Goals as goal

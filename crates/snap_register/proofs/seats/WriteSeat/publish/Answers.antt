@@ -1,18 +1,16 @@
-use Rattle.std.proofs.Common.{rules, ◌≡◌, ℕ, ◌+◌, ◌^◌, ◌<◌, ◌≤◌, List, length, take, get_or, set, refl, ap, sym, subst, ◌∙◌, arith}
-use Rattle.atomic_table.specs.Table.{Me}
+use Rattle.std.proofs.Common.{rules, ◌≡◌, ℕ, ◌+◌, ◌^◌, ◌<◌, ◌≤◌, length, get_or, set, ap, sym, subst, ◌∙◌, arith}
 use Rattle.snap_register.specs.declared.plan.Plan.{Plan}
 use Rattle.snap_register.specs.declared.plan.SeatView.{SeatView}
 use Rattle.snap_register.specs.History.{number}
 use Rattle.snap_register.specs.Rule.{segments}
-use Rattle.snap_register.specs.Rule as rule
-use Rattle.snap_register.specs.Seat.{Known, known, Grows, Meets, Looks, HasLooked, HasFoundUpdate, IsValue, IsView, MayPublish, Shows, number_in, own_of, AreTogether}
+use Rattle.snap_register.specs.Seat.{Known, known, MayPublish, Shows, number_in, own_of}
 use mathlib.Core.Logic.{dite}
 use native.Mathlib.Decide.{ℕ_discrete}
 use Rattle.std.proofs.Common.{get_or-set_same, get_or-set_other}
 use Rattle.std.proofs.lemmas.List.{length-set}
 use Rattle.snap_register.specs.declared.plan.Pool.{Pool}
 use Rattle.snap_register.specs.Rule.{buffers}
-use Rattle.snap_register.specs.Held.{CanTake, MayTake, IsShown}
+use Rattle.snap_register.specs.Held.{MayTake, IsShown}
 use Rattle.snap_register.proofs.Updates.{can_take, may_take, shown_is, below_is, number_is}
 use Rattle.snap_register.proofs.seats.WriteSeat.publish.Goals as goal
 use Rattle.snap_register.proofs.seats.WriteSeat.publish.Goals.{After-publish-at}
