@@ -3,9 +3,13 @@
 #![tactic(auto)]
 
 mod access;
+mod drafting;
+mod looking;
+mod meeting;
 mod opening;
 mod packing;
 mod plan;
+mod publishing;
 mod registers;
 mod seats;
 mod setup;
