@@ -11,7 +11,7 @@ Owns v i = IsWriter v i × (i < segments v.plan)
 
 -- the buffer b of the own register is noted as free
 abbrev pub IsFree : SeatView → ℕ → Type 0
-IsFree v b = (b ≡ v.pool.spare) × (b < buffers v.plan)
+IsFree v b = (b ≡ v.pool.free_buffer) × (b < buffers v.plan)
 
 -- the seat pins a buffer of the register j
 abbrev pub HasPin : SeatView → ℕ → Type 0

@@ -1,14 +1,16 @@
 //! A seat with its table, and where each word lies.
 ghost use Rattle.std.specs.Prelude.{◌≡◌, ◌<◌, ◌≤◌, slice_index, IsTrue, ◌↔◌};
+ghost use Rattle.snap_slot.specs.declared.layout.TheConstants.{MAX_COUNT};
 ghost use Rattle.snap_register.specs.Rule.{segments, buffers, width, given, cell};
 ghost use Rattle.snap_register.specs.Setup.{IsSized, IsSeated};
 
+use crate::plan::MAX_SEGMENTS;
 use crate::setup::{TableSeat, WordTable};
 use std::alloc::Global;
 use std::sync::Arc;
 
-// What the pins of a current word count up to.
-pub(crate) const PINS: u64 = 72_057_594_037_927_936;
+/// A current word is its buffer times this, and the pins on it.
+pub(crate) const PIN_RANGE: u64 = 1 << 56;
 
 /// A seat, its table, and the table's sizes.
 #[derive(Drop)]
@@ -17,13 +19,13 @@ pub(crate) struct Access {
     pub(crate) seat: TableSeat,
     pub(crate) segments: usize,
     pub(crate) scanners: usize,
-    pub(crate) head: usize,
+    pub(crate) block_words: usize,
     pub(crate) words: usize,
     /// For each register the buffer that is pinned, plus 1, or 0.
-    pub(crate) pins: [u64; 16],
+    pub(crate) pins: [u64; MAX_SEGMENTS],
     pub(crate) left: u64,
     ghost own: { seat.table_id ≡ table.value.shared.table_id },
-    ghost sized: { IsSized segments scanners head words seat.me.0.plan },
+    ghost sized: { IsSized segments scanners block_words words seat.me.0.plan },
     ghost seated: { IsSeated seat.table_id.words pins left seat.me },
 }
 
@@ -31,7 +33,7 @@ impl Access {
     /// How many segments there are.
     pub(crate) fn count_segments(&self) -> usize
         ensures count { result ≡ segments self.now.seat.me.0.plan }
-        ensures some { (0 < result) × (result ≤ 16) }
+        ensures some { (0 < result) × (result ≤ MAX_COUNT) }
     {
         self.segments
     }
@@ -55,7 +57,7 @@ impl Access {
     pub(crate) fn width(&self) -> usize
         ensures { result ≡ width self.now.seat.me.0.plan }
     {
-        (self.segments + 1) * self.head
+        (self.segments + 1) * self.block_words
     }
 
     /// Where the given-back count of the buffer b of the register i lies.

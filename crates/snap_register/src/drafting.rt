@@ -1,6 +1,8 @@
 //! The record of an update, as its writer stores it word by word in a free buffer.
 ghost use Rattle.std.specs.Prelude.{◌≡◌, ◌+◌, ◌*◌, ◌<◌, ◌≤◌, ◌++◌, ◌∷◌, length, take, []};
 ghost use mathlib.Core.List.{IsPrefix};
+ghost use Rattle.snap_slot.specs.Layout.{IsShort};
+ghost use Rattle.snap_register.specs.declared.packing.TheConstants.{BLOCK_WORDS};
 ghost use Rattle.snap_register.specs.Rule.{segments, width};
 ghost use Rattle.snap_register.specs.Packing.{IsWhole, IsBlock, AreBlocks, bytes_at, piece};
 ghost use Rattle.snap_register.specs.Packing.{size_at, words_for};
@@ -13,18 +15,18 @@ use crate::setup::Draft;
 use crate::view::View;
 
 impl Access {
-    /// Stores the block of the number k and this value as the first of the free buffer. Answers how
+    /// Stores the block of this number and this value as the first of the free buffer. Answers how
     /// many words it takes.
-    pub(crate) fn draft_value(&mut self, i: usize, b: usize, k: u64, value: &[u8]) -> usize
+    pub(crate) fn draft_value(&mut self, i: usize, b: usize, number: u64, value: &[u8]) -> usize
         requires own { Owns self.old.seat.me.0 i }
         requires buffer { IsFree self.old.seat.me.0 b }
-        requires empty { (self.old.seat.me.0.pool.draft ≡ []) × (length value.now ≤ 4080) }
+        requires empty { (self.old.seat.me.0.pool.draft ≡ []) × IsShort value.now }
         ensures same { HasDrafted self.old self.new self.new.seat.me.0.pool.draft }
-        ensures block { IsBlock self.new.seat.me.0.pool.draft 0 k value.now }
+        ensures block { IsBlock self.new.seat.me.0.pool.draft 0 number value.now }
         ensures size { (result ≡ length self.new.seat.me.0.pool.draft)
-            × (result ≡ size_at self.new.seat.me.0.pool.draft 0) × (result ≤ 512) }
+            × (result ≡ size_at self.new.seat.me.0.pool.draft 0) × (result ≤ BLOCK_WORDS) }
     {
-        self.draft(i, b, 0, k);
+        self.draft(i, b, 0, number);
         self.draft(i, b, 1, value.len() as u64);
         let whole = value.len() / 8;
         for q in 0..whole {
@@ -41,7 +43,7 @@ impl Access {
         requires buffer { IsFree self.old.seat.me.0 b }
         requires place { (length self.old.seat.me.0.pool.draft ≡ 2 + whole)
             × (8 * whole ≤ length value.now) × (length value.now < 8 * whole + 8)
-            × (length value.now ≤ 4080) }
+            × IsShort value.now }
         requires bytes { bytes_at self.old.seat.me.0.pool.draft 2 whole ≡ take
             (8 * whole) value.now }
         ensures same { HasDrafted self.old self.new self.new.seat.me.0.pool.draft }
@@ -61,7 +63,7 @@ impl Access {
         requires own { Owns self.old.seat.me.0 i }
         requires buffer { IsFree self.old.seat.me.0 b }
         requires pinned { CanTake self.old.seat.me.0 view.now }
-        requires place { (at ≡ length self.old.seat.me.0.pool.draft) × (at ≤ 512) }
+        requires place { (at ≡ length self.old.seat.me.0.pool.draft) × (at ≤ BLOCK_WORDS) }
         ensures same { HasDrafted self.old self.new self.new.seat.me.0.pool.draft }
         ensures prefix { IsPrefix self.old.seat.me.0.pool.draft self.new.seat.me.0.pool.draft }
         ensures blocks { AreBlocks self.new.seat.me.0.pool.draft at
@@ -78,7 +80,7 @@ impl Access {
         requires own { Owns self.old.seat.me.0 i }
         requires buffer { IsFree self.old.seat.me.0 b }
         requires pinned { CanTake self.old.seat.me.0 View.Collected }
-        requires place { (at ≡ length self.old.seat.me.0.pool.draft) × (at ≤ 512) }
+        requires place { (at ≡ length self.old.seat.me.0.pool.draft) × (at ≤ BLOCK_WORDS) }
         ensures same { HasDrafted self.old self.new self.new.seat.me.0.pool.draft }
         ensures prefix { IsPrefix self.old.seat.me.0.pool.draft self.new.seat.me.0.pool.draft }
         ensures blocks { AreBlocks self.new.seat.me.0.pool.draft at
@@ -95,7 +97,7 @@ impl Access {
         requires own { Owns self.old.seat.me.0 i }
         requires buffer { IsFree self.old.seat.me.0 b }
         requires pinned { CanTake self.old.seat.me.0 (View.Borrowed j) }
-        requires place { (at ≡ length self.old.seat.me.0.pool.draft) × (at ≤ 512) }
+        requires place { (at ≡ length self.old.seat.me.0.pool.draft) × (at ≤ BLOCK_WORDS) }
         ensures same { HasDrafted self.old self.new self.new.seat.me.0.pool.draft }
         ensures prefix { IsPrefix self.old.seat.me.0.pool.draft self.new.seat.me.0.pool.draft }
         ensures blocks { AreBlocks self.new.seat.me.0.pool.draft at
@@ -118,10 +120,10 @@ impl Access {
         requires pinned { HasPin self.old.seat.me.0 j }
         requires block { IsWhole (held self.old.seat.me.0 j) from }
         requires place { (to ≡ length self.old.seat.me.0.pool.draft)
-            × (to + 512 ≤ width self.old.seat.me.0.plan) }
+            × (to + BLOCK_WORDS ≤ width self.old.seat.me.0.plan) }
         ensures same { HasDrafted self.old self.new
             (self.old.seat.me.0.pool.draft ++ piece (held self.old.seat.me.0 j) from result) }
-        ensures size { (result ≡ size_at (held self.old.seat.me.0 j) from) × (result ≤ 512) }
+        ensures size { (result ≡ size_at (held self.old.seat.me.0 j) from) × (result ≤ BLOCK_WORDS) }
     {
         let count = self.size_at(j, from);
         for q in 0..count {

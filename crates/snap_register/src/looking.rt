@@ -1,13 +1,15 @@
 //! Looks: a seat gives its old pin back, pins the current buffer, and reads what is pinned.
 ghost use Rattle.std.specs.Prelude.{◌≡◌, ℕ, ◌+◌, ◌<◌, ◌≤◌, length, slice_index, slice_get};
 ghost use Rattle.std.specs.Prelude.{slice_set, take, Some};
+ghost use Rattle.snap_slot.specs.declared.layout.TheConstants.{MAX_VALUE_LEN};
+ghost use Rattle.snap_register.specs.declared.packing.TheConstants.{BLOCK_WORDS};
 ghost use Rattle.snap_register.specs.History.{number};
 ghost use Rattle.snap_register.specs.Rule.{segments, Learns, IsLegal};
 ghost use Rattle.snap_register.specs.Packing.{IsWhole, size_at, value_at};
 ghost use Rattle.snap_register.specs.Held.{held, view_in, IsPinned, HasLookedFrom};
 ghost use Rattle.snap_register.specs.Steps.{HasPin, IsSame};
 
-use crate::access::{Access, PINS};
+use crate::access::{Access, PIN_RANGE};
 use crate::packing::block_size;
 use crate::setup::{GiveBack, Pin, Read};
 use crate::snapshot::{Held, SnapshotBuf};
@@ -63,7 +65,7 @@ impl Access {
         ensures view { HasLookedFrom self.old.seat.me.0 self.new.seat.me.0 }
     {
         let found = self.table.shared.fetch_add::<Pin>(&mut self.seat, j, 1);
-        self.pins[j] = found / PINS + 1;
+        self.pins[j] = found / PIN_RANGE + 1;
         self.left -= 1;
     }
 
@@ -84,7 +86,7 @@ impl Access {
     pub(crate) fn size_at(&mut self, j: usize, at: usize) -> usize
         requires pinned { HasPin self.old.seat.me.0 j }
         requires block { IsWhole (held self.old.seat.me.0 j) at }
-        ensures size { (result ≡ size_at (held self.old.seat.me.0 j) at) × (result ≤ 512) }
+        ensures size { (result ≡ size_at (held self.old.seat.me.0 j) at) × (result ≤ BLOCK_WORDS) }
         ensures legal { IsLegal self.old.seat.me.0.plan self.old.seat.me.0.seen }
         ensures same { IsSame self.old self.new }
     {
@@ -95,9 +97,9 @@ impl Access {
     /// The value of the pinned record of j. Answers its length.
     pub(crate) fn value(&mut self, j: usize, out: &mut [u8]) -> usize
         requires pinned { HasPin self.old.seat.me.0 j }
-        requires room { 4080 ≤ length out.old }
+        requires room { MAX_VALUE_LEN ≤ length out.old }
         ensures value { take result out.new ≡ value_at (held self.old.seat.me.0 j) 0 }
-        ensures size { result ≤ 4080 }
+        ensures size { result ≤ MAX_VALUE_LEN }
         ensures same { IsSame self.old self.new }
     {
         self.read_value(j, 0, out)
@@ -107,10 +109,10 @@ impl Access {
     fn read_value(&mut self, j: usize, at: usize, out: &mut [u8]) -> usize
         requires pinned { HasPin self.old.seat.me.0 j }
         requires block { IsWhole (held self.old.seat.me.0 j) at }
-        requires room { 4080 ≤ length out.old }
+        requires room { MAX_VALUE_LEN ≤ length out.old }
         ensures value { take result out.new ≡ value_at (held self.old.seat.me.0 j) at }
         ensures size { (result ≡ slice_index (held self.old.seat.me.0 j) (at + 1))
-            × (result ≤ 4080) }
+            × (result ≤ MAX_VALUE_LEN) }
         ensures same { IsSame self.old self.new }
     {
         let length = self.read(j, at + 1) as usize;

@@ -21,7 +21,7 @@ impl Access {
               self.old.seat.me.1,
             ))
             × (self.new.left ≡ self.old.left) }
-        ensures told { IsPrefix self.old.seat.me.0.seen other.new.seat.me.0.seen }
+        ensures received { IsPrefix self.old.seat.me.0.seen other.new.seat.me.0.seen }
         ensures other { (other.new.seat.table_id ≡ other.old.seat.table_id)
             × (other.new.seat.me ≡ (
               record other.old.seat.me.0

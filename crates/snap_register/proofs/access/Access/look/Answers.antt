@@ -38,5 +38,5 @@ pub returns-clause-learns : goal.returns-clause-learns
 returns-clause-learns c =
     let v : SeatView = c.args.self.now.seat.me.0 in
     let l = subst (λ (m : Me (Unit {0}) SeatView). Learns m.0 c.pin.new.self.seat.me.0) c.give_back.ensures.3 c.pin.ensures.learns in
-    let mine : Learns v c.pin.new.self.seat.me.0 = record { later = l.later; told = l.told; own = l.own; given = l.given; legal = l.legal; below = l.below } in
+    let mine : Learns v c.pin.new.self.seat.me.0 = record { later = l.later; received = l.received; own = l.own; given = l.given; legal = l.legal; below = l.below } in
     subst (λ (m : Me (Unit {0}) SeatView). Learns v m.0) (sym c.read.ensures.same.2) mine

@@ -44,7 +44,7 @@ may_follow c legal =
     let took : taken c.draft_value-filled.new.self.seat.me.0 c.args.view.now ≡ taken v c.args.view.now = ap (λ (u : SeatView). taken u c.args.view.now) (second_is c) ∙ taken_pool v c.draft_value-filled.new.self.seat.me.0.pool c.args.view.now in
     let blocks : AreBlocks c.copy_view.new.self.seat.me.0.pool.draft (length c.draft_value-filled.new.self.seat.me.0.pool.draft) (segments v.plan) (taken v c.args.view.now)
     = subst (λ (x : ℕ × Plan × (ℕ → ℕ × List ℕ)). AreBlocks c.copy_view.new.self.seat.me.0.pool.draft x.0 (segments x.1) x.2) (λ t. (size.0 t, plan t, took t)) c.copy_view.ensures.blocks in
-    follows_is v c.args.i c.args.k c.args.view.now c.args.value.now c.draft_value-filled.new.self.seat.me.0.pool.draft c.copy_view.new.self.seat.me.0.pool.draft c.requires.view.0 c.requires.view.1 c.args.self.now.seated.records_are c.requires.next.0
+    follows_is v c.args.i c.args.next c.args.view.now c.args.value.now c.draft_value-filled.new.self.seat.me.0.pool.draft c.copy_view.new.self.seat.me.0.pool.draft c.requires.view.0 c.requires.view.1 c.args.self.now.seated.records_are c.requires.next.0
     c.draft_value-filled.ensures.block (sym size.0 ∙ size.1) c.copy_view.ensures.prefix blocks legal
 
 pub swap-pins-requires-clause-view : goal.swap-pins-requires-clause-view

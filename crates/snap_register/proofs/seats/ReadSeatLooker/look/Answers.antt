@@ -12,7 +12,7 @@ returns-clause-seen c =
     let s = c.self.inside.access.seat in
     let l = c.look.ensures in
     let w : SeatView = c.look.new.self.seat.me.0 in
-    let edge = c.self.inside.access.seated.edge_is in
+    let seen_end = c.self.inside.access.seated.seen_end_is in
     subst (λ (a : Known). Grows a (known c.look.new.self.seat.table_id w)) c.self.view_is
     (grows_is s.table_id c.look.new.self.seat.table_id s.me.0 w l.same.0 (ap (λ (u : SeatView). u.plan) l.view) (ap (λ (u : SeatView). u.low) l.view) (ap (λ (u : SeatView). u.high) l.view) l.learns.later
     (λ i has. let x = has.1 in l.learns.own i has (omega arith)))
