@@ -49,17 +49,18 @@ fn append(words: &mut Vec<u64>, x: &Opening, rest: usize) -> Result<(), AllocErr
 }
 
 // The first words of the table: zeros, and then for each segment the words of its first record and
-// the `rest`, which are zeros too.
+// the `rest`, which are zeros too. There are `count` words, for which room is made at once.
 fn first_words(
     alloc: Global,
     values: &Vec<Opening>,
     front: usize,
     rest: usize,
+    count: usize,
 ) -> Result<Vec<u64>, AllocError>
     ensures { IfOk result (λ v. v.items ≡ replicate front 0 ++ flat_map
         (λ x. x.words.items ++ replicate rest 0) values.now.items) }
 {
-    let mut words = Vec::new(alloc);
+    let mut words = Vec::with_capacity(alloc, count)?;
     append_zeros(&mut words, front)?;
     for x in values {
         append(&mut words, x, rest)?;
@@ -175,7 +176,8 @@ pub(crate) fn open(
     let buffers = n + scanners + 2;
     let width = (n + 1) * block_words;
     let rest = n * block_words + (n + scanners + 1) * width;
-    let words = first_words(alloc, values, n + n * buffers, rest)?;
+    let count = n + (n * buffers + n * buffers * width);
+    let words = first_words(alloc, values, n + n * buffers, rest, count)?;
     let setup = Setup {
         scanners,
         looks,
@@ -183,12 +185,14 @@ pub(crate) fn open(
         values: Snapshot::of(values),
     };
     let (table, mut first_seat) = Table::of_words(alloc, words.as_slice(), &setup)?;
+    // The table has a copy of its own, so for this moment there are two.
+    drop(words);
     let table = Arc::new(alloc, table)?;
     let sizes = Sizes {
         segments: n,
         scanners,
         block_words,
-        words: n + (n * buffers + n * buffers * width),
+        words: count,
         looks,
     };
     let writers = seat_writers(alloc, &table, &mut first_seat, sizes, values)?;
