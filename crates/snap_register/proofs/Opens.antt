@@ -14,8 +14,8 @@ use Rattle.snap_register.specs.declared.plan.Plan.{Plan}
 use Rattle.snap_register.specs.declared.plan.Start.{Start}
 use Rattle.snap_register.specs.declared.plan.SeatView.{SeatView}
 use Rattle.snap_register.specs.History.{no_start, start_at, updates}
-use Rattle.snap_register.specs.Rule.{segments, seats, buffers, width, given, cell, size, other, pins_of, Knows, Kept, first_role, without_first_role, reader, without_reader}
-use Rattle.snap_register.specs.Setup.{first_view, first_pool, start_of, plan_with, unused, opening_words, IsReady, IsSized, IsFirst, IsFresh}
+use Rattle.snap_register.specs.Rule.{segments, seats, buffers, width, given, cell, size, other, pins_of, Knows, Kept}
+use Rattle.snap_register.specs.Setup.{first_view, first_pool, start_of, plan_with, unused, opening_words, IsReady, IsSized, IsFirst}
 use Rattle.snap_register.specs.Seat.{Known, known}
 use Rattle.snap_register.specs.Parts.{IsNewSeat, AreWriters, AreReaders}
 use Rattle.snap_register.specs.Held.{Readable}
@@ -43,71 +43,25 @@ module _ (S : Type 0) where
       (λ past. get_or_past (replicate (segments m.0.plan) 0) i 0 (let e : length (replicate {A = ℕ} (segments m.0.plan) 0) ≡ segments m.0.plan = length-replicate (segments m.0.plan) 0 in omega arith))
       (λ here. get_or-replicate (segments m.0.plan) i 0 0 (omega arith))
 
-  pub first_less : (words words' l : ℕ) (m n : Me S SeatView) → IsFirst words l m → 0 < l → words' ≡ words → n ≡ (without_reader m.0, m.1) → IsFirst words' (l - 1) n
-  first_less words words' l m n f any same is = subst (λ (z : Me S SeatView). IsFirst words' (l - 1) z) (sym is) (record {
-    words_are = same ∙ f.words_are;
-    alone = f.alone;
-    here = f.here;
-    seen_is = f.seen_is;
-    received_none = f.received_none;
-    seen_end_is = f.seen_end_is;
-    pool_end_is = f.pool_end_is;
-    pool_is = f.pool_is;
-    pin_quota_is = let e = f.pin_quota_is in omega arith;
-    left_is = ap (λ (z : ℕ). z - m.0.plan.looks) f.left_is ∙ (fewer_looks l m.0.plan.looks any).1;
-    readable = f.readable;
-    pins_are = f.pins_are;
-    records_are = f.records_are;
-  })
-
-  pub first_other : (words words' l : ℕ) (m n : Me S SeatView) → IsFirst words l m → 0 < l → words' ≡ words → n ≡ (without_first_role m.0, m.1) → IsFirst words' (l - 1) n
-  first_other words words' l m n f any same is = subst (λ (z : Me S SeatView). IsFirst words' (l - 1) z) (sym is) (record {
-    words_are = same ∙ f.words_are;
-    alone = f.alone;
-    here = f.here;
-    seen_is = f.seen_is;
-    received_none = f.received_none;
-    seen_end_is = f.seen_end_is;
-    pool_end_is = f.pool_end_is;
-    pool_is = f.pool_is;
-    pin_quota_is = let e = f.pin_quota_is in omega arith;
-    left_is = ap (λ (z : ℕ). z - m.0.plan.looks) f.left_is ∙ (fewer_looks l m.0.plan.looks any).1;
-    readable = f.readable;
-    pins_are = f.pins_are;
-    records_are = f.records_are;
-  })
-
-  pub fresh_reader : (words words' l : ℕ) (m n : Me S SeatView) → IsFirst words l m → words' ≡ words → n ≡ (reader m.0, []) → IsFresh words' n
-  fresh_reader words words' l m n f same is = subst (λ (z : Me S SeatView). IsFresh words' z) (sym is) (record {
-    words_are = same ∙ f.words_are;
-    alone = refl;
-    here = f.here;
-    seen_is = f.seen_is;
-    received_none = refl;
-    seen_end_is = refl;
-    pool_is = f.pool_is;
-    pin_quota_is = refl;
-    left_is = refl;
-    readable = f.readable;
-    pins_are = f.pins_are;
-    records_are = f.records_are;
-  })
-
-  pub fresh_writer : (words words' l : ℕ) (m n : Me S SeatView) → IsFirst words l m → words' ≡ words → n ≡ (first_role m.0, []) → IsFresh words' n
-  fresh_writer words words' l m n f same is = subst (λ (z : Me S SeatView). IsFresh words' z) (sym is) (record {
-    words_are = same ∙ f.words_are;
-    alone = refl;
-    here = f.here;
-    seen_is = f.seen_is;
-    received_none = f.received_none;
-    seen_end_is = refl;
-    pool_is = f.pool_is;
-    pin_quota_is = refl;
-    left_is = refl;
-    readable = f.readable;
-    pins_are = f.pins_are;
-    records_are = f.records_are;
-  })
+  -- once a seat was handed out, which takes the segments below `low`
+  pub first_after : (words words' l k low : ℕ) (m n : Me S SeatView) → IsFirst words l m → k + 1 ≡ l → words' ≡ words → n ≡ (record m.0 { low = low; pin_quota = m.0.pin_quota - 1; left = m.0.left - m.0.plan.looks }, m.1) → IsFirst words' k n
+  first_after words words' l k low m n f e same is =
+      let one_less : l - 1 ≡ k = omega arith in
+      subst (λ (z : Me S SeatView). IsFirst words' k z) (sym is) (record {
+        words_are = same ∙ f.words_are;
+        alone = f.alone;
+        here = f.here;
+        seen_is = f.seen_is;
+        received_none = f.received_none;
+        seen_end_is = f.seen_end_is;
+        pool_end_is = f.pool_end_is;
+        pool_is = f.pool_is;
+        pin_quota_is = let e = f.pin_quota_is in omega arith;
+        left_is = ap (λ (z : ℕ). z - m.0.plan.looks) f.left_is ∙ ((fewer_looks l m.0.plan.looks (omega arith)).1 ∙ ap (λ (z : ℕ). z * m.0.plan.looks) one_less);
+        readable = f.readable;
+        pins_are = f.pins_are;
+        records_are = f.records_are;
+      })
 
 get_at_end : {A : Type 0} (l : List A) (a b : A) (j : ℕ) → slice_get (l ++ a ∷ []) j ≡ Some b → (slice_get l j ≡ Some b) ⊎ ((j ≡ length l) × (a ≡ b))
 get_at_end [] a b zero e = inr (refl, cc)
@@ -132,13 +86,6 @@ new_seat S z p low high a t m n me is te pe se le he fe =
       high_is = ap (λ (x : Known). x.high) is' ∙ he;
       left_is = ap (λ (x : Known). x.left) is' ∙ (fe ∙ ap (λ (x : Plan). x.looks) pe);
     }
-
--- the same with the count that is left
-pub first_reader : (S : Type 0) (words words' l k : ℕ) (m n : Me S SeatView) → IsFirst words l m → k + 1 ≡ l → words' ≡ words → n ≡ (without_reader m.0, m.1) → IsFirst words' k n
-first_reader S words words' l k m n f e same is = let g = first_less S words words' l m n f (omega arith) same is in subst (λ (x : ℕ). IsFirst words' x n) (omega arith) g
-
-pub first_writer : (S : Type 0) (words words' l k : ℕ) (m n : Me S SeatView) → IsFirst words l m → k + 1 ≡ l → words' ≡ words → n ≡ (without_first_role m.0, m.1) → IsFirst words' k n
-first_writer S words words' l k m n f e same is = let g = first_other S words words' l m n f (omega arith) same is in subst (λ (x : ℕ). IsFirst words' x n) (omega arith) g
 
 module _ {X : Type 0} (f : X → List ℕ) (d : X) (b : ℕ) where
   even_length : (xs : List X) → ((i : ℕ) → i < length xs → length (f (get_or xs i d)) ≡ b) → length (flat_map f xs) ≡ length xs * b

@@ -9,6 +9,7 @@ use native.Mathlib.Decide.{ℕ_discrete}
 use lib.ListN.{get_elem?}
 use Rattle.atomic_table.specs.Table.{State, Me, step, stepped, Allows}
 use Rattle.atomic_table.specs.Table.Act.{keeps}
+use Rattle.snap_slot.specs.Layout.{IsNumber}
 use Rattle.snap_register.specs.declared.plan.Entry.{Entry}
 use Rattle.snap_register.specs.declared.plan.Plan.{Plan}
 use Rattle.snap_register.specs.declared.plan.Pool.{Pool}
@@ -105,6 +106,23 @@ module _ (S : Type 0) where
             });
       }
 
+  -- what the writer of the register i knows of it before a step
+  record Own (s : St) (id : ℕ) (m : M) (k : Kept m.0.plan s) (i : ℕ) : Type 0 where
+    known : Knows m.0.plan k.history s.words k.writer k.pools id m.0
+    all : only i m.0.seen ≡ only i k.history
+    register : Register m.0.plan k.history s.words s.views i m.0.pool (k.pinned i)
+
+  own_register : (s : St) (id : ℕ) (m : M) (k : Kept m.0.plan s) (i : ℕ) → get_elem? s.views id ≡ some m.0 → IsWriter m.0 i → i < segments m.0.plan → Own s id m k i
+  own_register s id m k i at role inside =
+      let known = k.each_seat id m.0 at in
+      let own = known.role i (let a = role.0 in omega arith, let a = role.1 in omega arith) in
+      let its_pool : k.pools i ≡ m.0.pool = own.pool (let a = role.3 in omega arith) in
+      record {
+        known = known;
+        all = own.all (let a = role.2 in omega arith);
+        register = subst (λ (z : Pool). Register m.0.plan k.history s.words s.views i z (k.pinned i)) its_pool (k.registers i inside);
+      }
+
   check_at : (s : St) (id : ℕ) (m : M) (k : Kept m.0.plan s) (i c : ℕ) → get_elem? s.views id ≡ some m.0 → IsWriter m.0 i → i < segments m.0.plan → other m.0.pool.current m.0.pool.found_pinned < buffers m.0.plan → c ≡ given m.0.plan i (other m.0.pool.current m.0.pool.found_pinned)
       → (w : SeatView) × Kept m.0.plan (stepped s c (get_or s.words c 0) id m.1 w keeps) × checked (step 0 c 0 0 maybe.none) m (get_or s.words c 0) (w, m.1)
   check_at s id m k i c at role inside lb place =
@@ -113,19 +131,18 @@ module _ (S : Type 0) where
       let v : SeatView = m.0 in
       let p : Plan = v.plan in
       let h : List Entry = k.history in
-      let known = k.each_seat id v at in
-      let own = known.role i (let a = role.0 in omega arith, let a = role.1 in omega arith) in
+      let own = own_register s id m k i at role inside in
+      let known = own.known in
       let d : Pool = v.pool in
       let x : ℕ = k.pinned i in
-      let its_pool : k.pools i ≡ d = own.pool (let a = role.3 in omega arith) in
-      let r : Register p h s.words s.views i d x = subst (λ (z : Pool). Register p h s.words s.views i z x) its_pool (k.registers i inside) in
+      let r = own.register in
       let apart : d.current ≢ b = λ e. other_ne d.current d.found_pinned (sym is ∙ sym e) in
       let bal = r.balance b lb in
       let counted = pins_else d x b apart in
       let found : get_or s.words c 0 ≡ get_or s.words (given p i b) 0 = ap (λ (z : ℕ). get_or s.words z 0) place in
       let after : (w : SeatView) → Kept p record { words = s.words; homes = s.homes; views = set s.views id w } → Kept p (stepped s c (get_or s.words c 0) id m.1 w keeps) =
       λ w z. subst (λ (ws : List ℕ). Kept p record { words = ws; homes = s.homes; views = set s.views id w }) (sym (set-get_or s.words c 0)) z in
-      let all = own.all (let a = role.2 in omega arith) in
+      let all = own.all in
       let goes : (d' : Pool) → Register p h s.words (set s.views id (record v { pool = d' })) i d' x → Kept p (stepped s c (get_or s.words c 0) id m.1 (record v { pool = d' }) keeps) = λ d' mine. let w : SeatView = record v { pool = d' } in after w
       (pool_step p s k id i v w s.words h d' x at role inside refl (prefix_self h) k.legal (λ a ne. refl) (λ a la ne. refl) (λ a b la lb. refl) (λ a b q la lb lq ne. refl) refl refl refl refl refl refl refl refl refl refl known.seen known.received all mine) in
       let ons : (d' : Pool) (e : ℕ) → total (on i e) (set s.views id (record v { pool = d' })) ≡ total (on i e) s.views = λ d' e. total_same (on i e) s.views id v (record v { pool = d' }) at refl in
@@ -187,12 +204,11 @@ module _ (S : Type 0) where
       let v : SeatView = m.0 in
       let p : Plan = v.plan in
       let h : List Entry = k.history in
-      let known = k.each_seat id v at in
-      let own = known.role i (let a = role.0 in omega arith, let a = role.1 in omega arith) in
+      let own = own_register s id m k i at role inside in
+      let known = own.known in
       let d : Pool = v.pool in
       let x : ℕ = k.pinned i in
-      let its_pool : k.pools i ≡ d = own.pool (let a = role.3 in omega arith) in
-      let r : Register p h s.words s.views i d x = subst (λ (z : Pool). Register p h s.words s.views i z x) its_pool (k.registers i inside) in
+      let r = own.register in
       let d' : Pool = record d { draft = d.draft ++ y ∷ [] } in
       let w : SeatView = record v { pool = d' } in
       let ws : List ℕ = set s.words c y in
@@ -202,7 +218,7 @@ module _ (S : Type 0) where
       let cells : (a b q : ℕ) → b < buffers p → q < width p → ((a ≡ i) → (b ≡ d.free_buffer) → (q ≡ length d.draft) → ⊥) → get_or ws (cell p a b q) 0 ≡ get_or s.words (cell p a b q) 0 = λ a b q lb lq ne.
       get_or-set_other s.words c (cell p a b q) y 0 (λ e. let t = cell_same p a b q i d.free_buffer (length d.draft) lb free lq short (e ∙ place) in ne t.0 t.1 t.2) in
       let apart = (r.free_buffer free).0 in
-      let all = own.all (let a = role.2 in omega arith) in
+      let all = own.all in
       let long = length-append d.draft (y ∷ []) in
       pool_step p s k id i v w ws h d' x at role inside (length-set s.words c y) (prefix_self h) k.legal (λ a ne. refl) (λ a la ne. word a la) (λ a b la lb. givens a b la lb) (λ a b q la lb lq ne. cells a b q lb lq (λ e f g. ne e f)) refl refl refl refl refl refl refl refl refl refl known.seen known.received all
       record {
@@ -230,19 +246,18 @@ module _ (S : Type 0) where
       (w, keeps, tt, subst (λ (z : Plan). Kept z (stepped s c y id m.1 w keeps)) e r, refl)
 
   publish_at : (s : St) (id : ℕ) (m : M) (k : Kept m.0.plan s) (i y : ℕ) → get_elem? s.views id ≡ some m.0 → IsWriter m.0 i → i < segments m.0.plan → m.0.pool.free_buffer < buffers m.0.plan
-      → number m.0.plan m.0.seen i + 1 < 2 ^ 63 → (IsLegal m.0.plan m.0.seen → Follows m.0.plan m.0.seen (entry i m.0.pool.draft)) → y ≡ m.0.pool.free_buffer * 2 ^ 56
+      → IsNumber (number m.0.plan m.0.seen i + 1) → (IsLegal m.0.plan m.0.seen → Follows m.0.plan m.0.seen (entry i m.0.pool.draft)) → y ≡ m.0.pool.free_buffer * 2 ^ 56
       → (w : SeatView) × Kept m.0.plan (stepped s i y id m.1 w keeps) × published (step 0 i y 0 maybe.none) m (get_or s.words i 0) (w, m.1)
   publish_at s id m k i y at role inside free small follows is =
       let v : SeatView = m.0 in
       let p : Plan = v.plan in
       let h : List Entry = k.history in
-      let known = k.each_seat id v at in
-      let own = known.role i (let a = role.0 in omega arith, let a = role.1 in omega arith) in
+      let own = own_register s id m k i at role inside in
+      let known = own.known in
       let d : Pool = v.pool in
       let x : ℕ = k.pinned i in
-      let its_pool : k.pools i ≡ d = own.pool (let a = role.3 in omega arith) in
-      let r : Register p h s.words s.views i d x = subst (λ (z : Pool). Register p h s.words s.views i z x) its_pool (k.registers i inside) in
-      let all = own.all (let a = role.2 in omega arith) in
+      let r = own.register in
+      let all = own.all in
       let seen_all : count i v.seen ≡ count i h = ap length all in
       let e : Entry = entry i d.draft in
       let h' : List Entry = h ++ e ∷ [] in
@@ -258,9 +273,9 @@ module _ (S : Type 0) where
       let cells : (a b q : ℕ) → get_or ws (cell p a b q) 0 ≡ get_or s.words (cell p a b q) 0 = λ a b q. get_or-set_other s.words i (cell p a b q) y 0 (λ e. cell_behind p a b q i inside (sym e)) in
       let givens : (a b : ℕ) → get_or ws (given p a b) 0 ≡ get_or s.words (given p a b) 0 = λ a b. get_or-set_other s.words i (given p a b) y 0 (λ e. given_behind p a b i inside (sym e)) in
       let one_more : count i h' ≡ count i h + 1 = count_push_same i h e refl in
-      let number' : number p h' i < 2 ^ 63 = omega arith in
+      let number' : IsNumber (number p h' i) = omega arith in
       let below' : IsBelow p h' = λ a la. dite (ℕ_discrete a i)
-      (λ z. subst (λ (t : ℕ). number p h' t < 2 ^ 63) (sym z) number')
+      (λ z. subst (λ (t : ℕ). IsNumber (number p h' t)) (sym z) number')
       (λ z. let o : count a h' ≡ count a h = count_push_other a h e (λ t. z (sym t)) in let b = (k.registers a la).number in omega arith) in
       let ons : (b : ℕ) → total (on i b) vs ≡ total (on i b) s.views = λ b. total_same (on i b) s.views id v w at refl in
       let lefts = total_same (λ u. u.left) s.views id v w at refl in
@@ -316,7 +331,7 @@ module _ (S : Type 0) where
       )
 
   pub publishes : (p : Plan) (slots id : ℕ) (m : M) (i y : ℕ) → m.0.spent ≡ false → IsWriter m.0 i → i < segments m.0.plan → m.0.pool.free_buffer < buffers m.0.plan
-      → number m.0.plan m.0.seen i + 1 < 2 ^ 63 → (IsLegal m.0.plan m.0.seen → Follows m.0.plan m.0.seen (entry i m.0.pool.draft)) → y ≡ m.0.pool.free_buffer * 2 ^ 56
+      → IsNumber (number m.0.plan m.0.seen i + 1) → (IsLegal m.0.plan m.0.seen → Follows m.0.plan m.0.seen (entry i m.0.pool.draft)) → y ≡ m.0.pool.free_buffer * 2 ^ 56
       → Allows (Kept p) slots id m i (λ _. y) (published (step slots i y 0 maybe.none) m)
   publishes p slots id m i y here role inside free small follows is s k _ at _ =
       let e = own_plan S p s k id m.0 here at in

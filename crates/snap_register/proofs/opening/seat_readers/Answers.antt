@@ -6,7 +6,7 @@ use Rattle.snap_register.specs.Seat.{Known}
 use Rattle.snap_register.specs.Parts.{IsNewSeat, AreReaders}
 use Rattle.snap_register.proofs.Joining.{seats_reader}
 use Rattle.snap_register.proofs.Places.{word_inside}
-use Rattle.snap_register.proofs.Opens.{enough, bare, first_reader, readers_more, new_seat}
+use Rattle.snap_register.proofs.Opens.{enough, bare, first_after, readers_more, new_seat}
 use Rattle.snap_register.proofs.opening.seat_readers.Goals as goal
 
 pub split_seat-seat-requires : goal.split_seat-seat-requires
@@ -35,7 +35,7 @@ loop-k-preserved c =
     record {
       table = search rules;
       plan = search rules;
-      first = first_reader (Unit {0}) _ _ _ _ c.loop-k.first_seat.me _ first (omega arith) words split.2;
+      first = first_after (Unit {0}) _ _ _ _ _ c.loop-k.first_seat.me _ first (omega arith) words split.2;
       count = search rules;
       each = subst (λ (xs : List Known). AreReaders z p xs) (sym c.in_ok-push.ensures.items) (readers_more z p c.loop-k.readers.items c.of.result inv.each new);
     }

@@ -6,7 +6,7 @@ use Rattle.snap_register.specs.Seat.{Known}
 use Rattle.snap_register.specs.Parts.{IsNewSeat, AreWriters}
 use Rattle.snap_register.proofs.Joining.{gives}
 use Rattle.snap_register.proofs.Places.{word_inside}
-use Rattle.snap_register.proofs.Opens.{enough, bare, first_writer, writers_more, new_seat}
+use Rattle.snap_register.proofs.Opens.{enough, bare, first_after, writers_more, new_seat}
 use Rattle.snap_register.proofs.opening.seat_writers.Goals as goal
 
 pub split_seat-seat-requires : goal.split_seat-seat-requires
@@ -38,7 +38,7 @@ loop-i-preserved c =
     record {
       table = search rules;
       plan = search rules;
-      first = first_writer (Unit {0}) _ _ _ _ c.loop-i.first_seat.me _ first (omega arith) words split.2;
+      first = first_after (Unit {0}) _ _ _ _ _ c.loop-i.first_seat.me _ first (omega arith) words split.2;
       low = search rules;
       high = search rules;
       count = search rules;
