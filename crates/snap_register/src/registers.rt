@@ -20,8 +20,9 @@ pub struct Registers;
 
 impl Registers {
     /// Registers of which segment i starts with the number and the value `values[i]`: one seat for
-    /// each segment's writer and one for each scanner, each with so many `looks`. Nobody has seen an
-    /// update yet. There is nothing to give back: the registers end with the last of their seats.
+    /// each segment's writer and one for each scanner, each with so many `looks`. Nobody has seen
+    /// an update yet. There is nothing to give back: the registers end with the last of their
+    /// seats.
     ///
     /// Where memory runs out it answers the `AllocError`, and nothing is kept.
     pub fn open(
