@@ -1,7 +1,7 @@
 //! Room for the numbers and values of all segments, which is made once and filled again and again.
 ghost use Rattle.std.specs.Prelude.{◌≡◌, ℕ, ◌<◌, List, length, slice_get, Some, IfOk};
 
-use crate::packing::MAX_VALUE_LEN;
+use snap_slot::MAX_VALUE_LEN;
 use std::alloc::{AllocError, Global};
 use std::marker::Model;
 
@@ -15,12 +15,13 @@ pub(crate) struct Held {
 
 impl Model for Held {
     ghost use Rattle.std.specs.Prelude.{◌≤◌, ℕ, List, take};
+    ghost use Rattle.snap_slot.specs.declared.layout.TheConstants.{MAX_VALUE_LEN};
 
     ghost Value = { ℕ × List ℕ };
 
     ghost view = { λ h. (h.number, take h.length h.bytes) };
 
-    ghost invariant = { λ h. h.length ≤ 4080 };
+    ghost invariant = { λ h. h.length ≤ MAX_VALUE_LEN };
 }
 
 impl Held {
