@@ -131,6 +131,6 @@ Owes old y new false = HasNoMemory old new
 abbrev pub longest_frame : ℕ
 longest_frame = 4 + max_payload
 
--- the most bytes that are owed: fewer than those with which the last answer began, and its frame
+-- the most bytes that are owed: an answer begins below the bound, and adds one frame
 abbrev pub most_owed : ℕ
 most_owed = MAX_OWED + longest_frame

@@ -132,8 +132,9 @@ pub fn proceed<R: Read, W: Write, S: Service>(
 ///
 /// - [`End::Closed`], [`End::Truncated`], [`End::ReadFailed`]: all of them;
 /// - [`End::TooLarge`]: all of them, and the refusal of that length behind them;
-/// - [`End::NoMemory`]: those of all requests that were answered but at most the last one;
-/// - [`End::WriteFailed`]: a beginning of these bytes.
+/// - [`End::NoMemory`]: whole frames, those of all requests that were answered but at most the
+///   last one, and no refusal behind them;
+/// - [`End::WriteFailed`]: a beginning of these bytes, and not all of them.
 ///
 /// The service hands nothing over. An error of `WouldBlock` is an error here.
 pub fn serve<X: Wait, R: Read, W: Write, S: Service>(
