@@ -1,5 +1,26 @@
 -- The words of a crash's line, as they are read.
-use Rattle.std.proofs.Common.{◌≡◌, ℕ, ◌≤◌, Option, Some, None, List, [], ◌∷◌, ◌++◌, length, Bor, refl, sym, ap, ◌∙◌, subst, append_assoc, append-nil, arith}
+use Rattle.std.proofs.Common.{
+  ◌≡◌,
+  ℕ,
+  ◌≤◌,
+  Option,
+  Some,
+  None,
+  List,
+  [],
+  ◌∷◌,
+  ◌++◌,
+  length,
+  Bor,
+  refl,
+  sym,
+  ap,
+  ◌∙◌,
+  subst,
+  append_assoc,
+  append-nil,
+  arith,
+}
 use Rattle.std.specs.Prelude.{◌==◌, MatchOption}
 use Rattle.std.proofs.lemmas.List.Splits.{length-slice_split}
 use Rattle.snap_disk.specs.declared.fill.Fill.{Fill}
@@ -17,14 +38,17 @@ pub record IsRead (line : List ℕ) (fills : List Fill) (rest : Option (Bor (Lis
   pub whole : words_of line ≡ words ++ words_behind rest
   pub are : AreFills words fills
 
-pub AreFills-push : (words : List (List ℕ)) (fills : List Fill) (word : List ℕ) (fill : Fill) → AreFills words fills → IsFill word fill → AreFills (words ++ word ∷ []) (fills ++ fill ∷ [])
+pub AreFills-push : (words : List (List ℕ)) (fills : List Fill) (word : List ℕ) (fill : Fill)
+    → AreFills words fills → IsFill word fill → AreFills (words ++ word ∷ []) (fills ++ fill ∷ [])
 AreFills-push [] [] word fill h f = (f, tt)
 AreFills-push [] (x ∷ fills) word fill h f = absurd h
 AreFills-push (w ∷ words) [] word fill h f = absurd h
-AreFills-push (w ∷ words) (x ∷ fills) word fill h f = (h.0, AreFills-push words fills word fill h.1 f)
+AreFills-push (w ∷ words) (x ∷ fills) word fill h f =
+    (h.0, AreFills-push words fills word fill h.1 f)
 
 -- each word is a fill
-pub AreFills-at : (words rest : List (List ℕ)) (word : List ℕ) (fills : List Fill) → AreFills (words ++ word ∷ rest) fills → (f : Fill) × IsFill word f
+pub AreFills-at : (words rest : List (List ℕ)) (word : List ℕ) (fills : List Fill)
+    → AreFills (words ++ word ∷ rest) fills → (f : Fill) × IsFill word f
 AreFills-at [] rest word [] h = absurd h
 AreFills-at [] rest word (f ∷ fills) h = (f, h.0)
 AreFills-at (w ∷ words) rest word [] h = absurd h
@@ -34,20 +58,26 @@ AreFills-at (w ∷ words) rest word (x ∷ fills) h = AreFills-at words rest wor
 pub some_word : (line : List ℕ) → 1 ≤ length (words_of line)
 some_word line = omega (arith, length-slice_split (λ b. b == 32) line)
 
-pub cut-words : (text word : List ℕ) (o : Option (Bor (List ℕ))) → MatchOption o (words_of text ≡ word ∷ []) (λ rest. words_of text ≡ word ∷ words_of rest.now)
+pub cut-words : (text word : List ℕ) (o : Option (Bor (List ℕ)))
+    → MatchOption o (words_of text ≡ word ∷ []) (λ rest. words_of text ≡ word ∷ words_of rest.now)
     → words_of text ≡ word ∷ words_behind o
 cut-words text word None h = h
 cut-words text word (Some rest) h = h
 
-pub nothing_behind : (o : Option (Bor (List ℕ))) → ((x : Bor (List ℕ)) → o ≡ Some x → ⊥) → words_behind o ≡ []
+pub nothing_behind : (o : Option (Bor (List ℕ))) → ((x : Bor (List ℕ)) → o ≡ Some x → ⊥)
+    → words_behind o ≡ []
 nothing_behind None h = refl
 nothing_behind (Some x) h = absurd (h x refl)
 
 -- one word on
-module _ (line : List ℕ) (fills : List Fill) (now behind : Option (Bor (List ℕ))) (text : Bor (List ℕ)) (word : List ℕ)
-    (read : IsRead line fills now) (is : now ≡ Some text) (cut : MatchOption behind (words_of text.now ≡ word ∷ []) (λ rest. words_of text.now ≡ word ∷ words_of rest.now)) where
+module _ (line : List ℕ) (fills : List Fill) (now behind : Option (Bor (List ℕ)))
+    (text : Bor (List ℕ)) (word : List ℕ)
+    (read : IsRead line fills now) (is : now ≡ Some text)
+    (cut : MatchOption behind (words_of text.now ≡ word ∷ []) (λ rest. words_of text.now ≡ word
+    ∷ words_of rest.now)) where
   pub whole_on : words_of line ≡ read.words ++ word ∷ words_behind behind
-  whole_on = read.whole ∙ ap (λ o. read.words ++ words_behind o) is ∙ ap (λ ws. read.words ++ ws) (cut-words text.now word behind cut)
+  whole_on = read.whole ∙ ap (λ o. read.words ++ words_behind o) is
+      ∙ ap (λ ws. read.words ++ ws) (cut-words text.now word behind cut)
 
   pub read_on : (fill : Fill) → IsFill word fill → IsRead line (fills ++ fill ∷ []) behind
   read_on fill f = record {
@@ -56,10 +86,16 @@ module _ (line : List ℕ) (fills : List Fill) (now behind : Option (Bor (List �
     are = AreFills-push read.words fills word fill read.are f;
   }
 
-  pub no_fills : ((f : Fill) → IsFill word f → ⊥) → (all : List Fill) → AreFills (words_of line) all → ⊥
-  no_fills none all are = let some = AreFills-at read.words (words_behind behind) word all (subst (λ ws. AreFills ws all) whole_on are) in none some.0 some.1
+  pub no_fills : ((f : Fill) → IsFill word f → ⊥) → (all : List Fill) → AreFills (words_of line) all
+      → ⊥
+  no_fills none all are = let some =
+      AreFills-at read.words (words_behind behind) word all
+      (subst (λ ws. AreFills ws all) whole_on are) in none some.0 some.1
 
 -- nothing is left
-pub read_whole : (line : List ℕ) (fills : List Fill) (now : Option (Bor (List ℕ))) → IsRead line fills now → ((x : Bor (List ℕ)) → now ≡ Some x → ⊥) → AreFills (words_of line) fills
+pub read_whole : (line : List ℕ) (fills : List Fill) (now : Option (Bor (List ℕ)))
+    → IsRead line fills now → ((x : Bor (List ℕ)) → now ≡ Some x → ⊥)
+    → AreFills (words_of line) fills
 read_whole line fills now read none =
-    subst (λ ws. AreFills ws fills) (sym (read.whole ∙ ap (λ ws. read.words ++ ws) (nothing_behind now none) ∙ append-nil read.words)) read.are
+    subst (λ ws. AreFills ws fills) (sym (read.whole
+    ∙ ap (λ ws. read.words ++ ws) (nothing_behind now none) ∙ append-nil read.words)) read.are

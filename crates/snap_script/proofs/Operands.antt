@@ -1,5 +1,30 @@
 -- What stands in a word, and what doesn't.
-use Rattle.std.proofs.Common.{◌≡◌, ◌≢◌, ℕ, ◌+◌, ◌*◌, ◌^◌, ◌<◌, ◌≤◌, Option, Some, None, Result, Ok, Err, List, [], ◌∷◌, length, codes, refl, sym, ap, ◌∙◌, arith}
+use Rattle.std.proofs.Common.{
+  ◌≡◌,
+  ◌≢◌,
+  ℕ,
+  ◌+◌,
+  ◌*◌,
+  ◌^◌,
+  ◌<◌,
+  ◌≤◌,
+  Option,
+  Some,
+  None,
+  Result,
+  Ok,
+  Err,
+  List,
+  [],
+  ◌∷◌,
+  length,
+  codes,
+  refl,
+  sym,
+  ap,
+  ◌∙◌,
+  arith,
+}
 use Rattle.std.specs.Prelude.{MatchOption, IfOk}
 use Rattle.std.proofs.Math.Nat.{pow-le-pow_right}
 use Rattle.hex.specs.Hex.{decode_of, decode_sized, decode_pairs}
@@ -11,7 +36,8 @@ use Rattle.snap_script.specs.Words.{Finds, parts_at, IsNumber, IsHex, IsFill, Is
 -- a number of at most 18 digits has room for one more
 pub digits_fit : (v d i : ℕ) → v < 10 ^ i → i < 19 → d < 10 → v * 10 + d < 2 ^ 64
 digits_fit v d i h l e =
-    let p : 10 ^ i ≤ 10 ^ 18 = pow-le-pow_right {n = 10} (omega arith) {i = i} {j = 18} (omega arith) in
+    let p : 10 ^ i ≤ 10 ^ 18 = pow-le-pow_right {n = 10} (omega arith) {i = i} {j =
+    18} (omega arith) in
     omega (arith, p)
 
 -- two digits decode into room for one byte
@@ -25,7 +51,8 @@ sized_one s b h =
 -- a word behind `at:` is no other fill
 module _ (word rest : List ℕ) (at : parts_at 58 word ≡ codes "at" ∷ parts_at 58 rest) where
   abbrev IsNoFillAt : Type 0
-  IsNoFillAt = (o h bs : List ℕ) (p : ℕ) → parts_at 58 rest ≡ o ∷ h ∷ [] → IsNumber o p → IsHex h bs → ⊥
+  IsNoFillAt = (o h bs : List ℕ) (p : ℕ) → parts_at 58 rest ≡ o ∷ h ∷ [] → IsNumber o p → IsHex h bs
+      → ⊥
 
   abbrev IsFillBehind : Fill → Type 0
   IsFillBehind f = (o h : List ℕ) × (parts_at 58 rest ≡ o ∷ h ∷ []) × IsFillAt o h f
@@ -35,22 +62,27 @@ module _ (word rest : List ℕ) (at : parts_at 58 word ≡ codes "at" ∷ parts_
   found (All b) h = absurd h.3
   found (At o bs) h = (h.0, h.1, at ∙ ap (λ parts. codes "at" ∷ parts) h.2, h.3)
 
-  none : (codes "keep" ≢ word) → ((b : ℕ) → decode_of word ≢ Ok (b ∷ [])) → IsNoFillAt → (f : Fill) → IsFill word f → ⊥
+  none : (codes "keep" ≢ word) → ((b : ℕ) → decode_of word ≢ Ok (b ∷ [])) → IsNoFillAt → (f : Fill)
+      → IsFill word f → ⊥
   none keep byte other Keep h = keep (sym h)
   none keep byte other (All b) h = byte b h
-  none keep byte other (At p bs) h = other h.0 h.1 bs.items p (let e = sym at ∙ h.2 in cc) h.3.0 h.3.1
+  none keep byte other (At p bs) h =
+      other h.0 h.1 bs.items p (let e = sym at ∙ h.2 in cc) h.3.0 h.3.1
 
-  picked : (codes "keep" ≢ word) → ((b : ℕ) → decode_of word ≢ Ok (b ∷ [])) → (o : Option Fill) → MatchOption o IsNoFillAt IsFillBehind
+  picked : (codes "keep" ≢ word) → ((b : ℕ) → decode_of word ≢ Ok (b ∷ [])) → (o : Option Fill)
+      → MatchOption o IsNoFillAt IsFillBehind
       → Finds o (IsFill word)
   picked keep byte None h = none keep byte h
   picked keep byte (Some f) h = found f h
 
-  pub fill_behind : {E : Type 0} → (codes "keep" ≢ word) → ((b : ℕ) → decode_of word ≢ Ok (b ∷ [])) → (r : Result (Option Fill) E)
+  pub fill_behind : {E : Type 0} → (codes "keep" ≢ word) → ((b : ℕ) → decode_of word ≢ Ok (b ∷ []))
+      → (r : Result (Option Fill) E)
       → IfOk r (λ o. MatchOption o IsNoFillAt IsFillBehind) → IfOk r (λ o. Finds o (IsFill word))
   fill_behind keep byte (Ok o) h = picked keep byte o h
   fill_behind keep byte (Err e) h = tt
 
 -- where nothing was found
-pub where_none : {A : Type 0} (P : A → Type 0) (o : Option A) → Finds o P → ((x : A) → o ≡ Some x → ⊥) → (x : A) → P x → ⊥
+pub where_none : {A : Type 0} (P : A → Type 0) (o : Option A) → Finds o P
+    → ((x : A) → o ≡ Some x → ⊥) → (x : A) → P x → ⊥
 where_none P None h no_value = h
 where_none P (Some x) h no_value = absurd (no_value x refl)

@@ -6,7 +6,14 @@ use Rattle.snap_order.specs.declared.status.Status.{Status}
 use Rattle.snap_order.specs.declared.status.Status.TheVariants as status
 use Rattle.snap_stream.specs.Streams.{AppendsBeginning, refused_line}
 use Rattle.snap_script.specs.declared.run.ScriptEnd.{ScriptEnd}
-use Rattle.snap_script.specs.declared.run.ScriptEnd.TheVariants.{Done, BadLine, TooLong, NoMemory, ReadFailed, WriteFailed}
+use Rattle.snap_script.specs.declared.run.ScriptEnd.TheVariants.{
+  Done,
+  BadLine,
+  TooLong,
+  NoMemory,
+  ReadFailed,
+  WriteFailed,
+}
 
 abbrev pub status_of : ScriptEnd → Status
 status_of Done = status.Done
@@ -16,9 +23,9 @@ status_of NoMemory = status.Refused
 status_of (ReadFailed error) = status.Failed
 status_of (WriteFailed error) = status.Failed
 
--- What standard error got, by whether it took the line whole: nothing where the script was done; of want of memory a
--- beginning of its line, and where it took it that line. The other lines have a text of the system or of the script's
--- fault in them.
+-- What standard error got, by whether it took the line whole: nothing where the script was done; of
+-- want of memory a beginning of its line, and where it took it that line. The other lines have a
+-- text of the system or of the script's fault in them.
 abbrev pub EndSays : ScriptEnd → (is_told : Bool) (old new : Option (List ℕ)) → Type 0
 EndSays Done is_told old new = (is_told ≡ true) × Keeps old new
 EndSays NoMemory is_told old new =

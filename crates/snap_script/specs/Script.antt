@@ -1,5 +1,25 @@
 -- What a script writes, for each way in which it can end.
-use Rattle.std.specs.Prelude.{◌≡◌, ◌≢◌, ◌<◌, ◌≤◌, ◌⊎◌, ℕ, ◌+◌, ◌-◌, ◌^◌, min, List, [], ◌∷◌, ◌++◌, length, take, All, Option, ⊤}
+use Rattle.std.specs.Prelude.{
+  ◌≡◌,
+  ◌≢◌,
+  ◌<◌,
+  ◌≤◌,
+  ◌⊎◌,
+  ℕ,
+  ◌+◌,
+  ◌-◌,
+  ◌^◌,
+  min,
+  List,
+  [],
+  ◌∷◌,
+  ◌++◌,
+  length,
+  take,
+  All,
+  Option,
+  ⊤,
+}
 use Rattle.std.specs.Io.KnownBytes.{Appends, Consumes, Keeps}
 use Rattle.snap_stream.specs.Streams.{Had}
 use Rattle.snap_script.specs.Words.{lines_of}
@@ -7,7 +27,14 @@ use Rattle.snap_script.specs.Line.{IsWorldLine, IsEventLine}
 use Rattle.snap_script.specs.Text.{world_text, line_text, replies_text}
 use Rattle.snap_script.specs.Fault.{IsUnreadable}
 use Rattle.snap_script.specs.declared.run.ScriptEnd.{ScriptEnd}
-use Rattle.snap_script.specs.declared.run.ScriptEnd.TheVariants.{Done, BadLine, TooLong, NoMemory, ReadFailed, WriteFailed}
+use Rattle.snap_script.specs.declared.run.ScriptEnd.TheVariants.{
+  Done,
+  BadLine,
+  TooLong,
+  NoMemory,
+  ReadFailed,
+  WriteFailed,
+}
 use Rattle.snap_script.specs.declared.run.TheConstants.{MAX_LINE}
 use Rattle.snap_disk.specs.Device.{Device}
 use Rattle.snap_world.specs.Runs.{Configuration, Run}
@@ -30,11 +57,16 @@ AreEvents (line ∷ lines) [] = ⊥
 
 -- a new world of n segments and s scanners, with these devices
 abbrev pub start_configuration : ℕ → ℕ → List Device → Configuration
-start_configuration n s devices = record { state = start_state n s; phases = start_world_phases n s; devices = devices }
+start_configuration n s devices = record {
+  state = start_state n s;
+  phases = start_world_phases n s;
+  devices = devices;
+}
 
--- the first line makes a world of n segments and s scanners, and the others are events that may get replies, from a new such
--- world to configuration b, which are printed as this text
-pub record Plays (first : List ℕ) (lines : List (List ℕ)) (text : List ℕ) (n : ℕ) (b : Configuration) : Type 0 where
+-- the first line makes a world of n segments and s scanners, and the others are events that may get
+-- replies, from a new such world to configuration b, which are printed as this text
+pub record Plays (first : List ℕ) (lines : List (List ℕ)) (text : List ℕ) (n : ℕ)
+    (b : Configuration) : Type 0 where
   pub s : ℕ
   pub is_world : IsWorldLine first n s
   pub devices : List Device
@@ -72,15 +104,16 @@ pub record IsAt (text : List ℕ) (done behind : List (List ℕ)) : Type 0 where
 abbrev pub IsNumberBehind : List (List ℕ) → ℕ → Type 0
 IsNumberBehind done number = number ≡ min (length done + 1) (2 ^ 64 - 1)
 
--- How a script ends of which these bytes were read and the rest wasn't, and what a writer that held the old bytes then
--- holds.
+-- How a script ends of which these bytes were read and the rest wasn't, and what a writer that held
+-- the old bytes then holds.
 abbrev pub Ends : (taken rest : List ℕ) (old new : Option (List ℕ)) → ScriptEnd → Type 0
 -- every line was done
 Ends taken rest old new Done =
     (done : List (List ℕ)) × IsAt taken done [] × (rest ≡ []) × Prints old new (full_lines done)
 -- this line can't be read, though it isn't too long, and those before it were done
 Ends taken rest old new (BadLine number fault) =
-    (done behind : List (List ℕ)) × (line : List ℕ) × IsAt (taken ++ rest) done (line ∷ behind) × (line ≢ [])
+    (done behind : List (List ℕ)) × (line : List ℕ) × IsAt (taken ++ rest) done (line ∷ behind)
+    × (line ≢ [])
     × IsShort line × IsNumberBehind done number × IsUnreadable (full_lines done) line fault
     × Prints old new (full_lines done)
 -- this line is too long, and those before it were done
@@ -90,17 +123,22 @@ Ends taken rest old new (TooLong number) =
 -- memory ran out at first, or in some line, and those before it were done
 Ends taken rest old new NoMemory =
     Keeps old new
-    ⊎ ((done behind : List (List ℕ)) × (line : List ℕ) × IsAt (taken ++ rest) done (line ∷ behind) × (line ≢ [])
+    ⊎ ((done behind : List (List ℕ)) × (line : List ℕ) × IsAt (taken ++ rest) done (line ∷ behind)
+    × (line ≢ [])
     × Prints old new (full_lines done))
--- the reader failed, and all lines were done but the last one of what was read, which has no end there
+-- the reader failed, and all lines were done but the last one of what was read, which has no end
+-- there
 Ends taken rest old new (ReadFailed error) =
-    (done : List (List ℕ)) × (last : List ℕ) × IsAt taken done (last ∷ []) × Prints old new (full_lines done)
+    (done : List (List ℕ)) × (last : List ℕ) × IsAt taken done (last ∷ [])
+    × Prints old new (full_lines done)
 -- the writer failed in the text of some lines
 Ends taken rest old new (WriteFailed error) =
-    (done behind : List (List ℕ)) × IsAt (taken ++ rest) done behind × PrintsPart old new (full_lines done)
+    (done behind : List (List ℕ)) × IsAt (taken ++ rest) done behind
+    × PrintsPart old new (full_lines done)
 
 -- what a script reads and writes, and how it ends
-pub record Runs (read_old read_new written_old written_new : Option (List ℕ)) (end : ScriptEnd) : Type 0 where
+pub record Runs (read_old read_new written_old written_new : Option (List ℕ))
+    (end : ScriptEnd) : Type 0 where
   -- the bytes that were read, and those that the reader still has
   pub taken : List ℕ
   pub rest : List ℕ

@@ -6,7 +6,19 @@ use Rattle.snap_world.specs.declared.event.Kind.{Kind}
 use Rattle.snap_world.specs.declared.event.Kind.TheVariants.{Write, Sync, Read}
 use Rattle.snap_persist.specs.declared.persist.Write.TheVariants as write
 use Rattle.snap_world.specs.declared.event.Reply.{Reply}
-use Rattle.snap_world.specs.declared.event.Reply.TheVariants.{Begun, Number, Called, DeviceFailed, Shown, Stored, ScanBegun, Memory, Crashed, Restarting, NotNow}
+use Rattle.snap_world.specs.declared.event.Reply.TheVariants.{
+  Begun,
+  Number,
+  Called,
+  DeviceFailed,
+  Shown,
+  Stored,
+  ScanBegun,
+  Memory,
+  Crashed,
+  Restarting,
+  NotNow,
+}
 
 -- two hexadecimal digits for each byte, in lower case, or `-` for no byte
 abbrev pub hex_text : List ℕ → List ℕ

@@ -96,8 +96,8 @@ fn run(rt: &HostRuntime, order: &FileOrder<'_>) -> Status
     ended.status
 }
 
-/// Runs the script on standard input, which need not end: `waiting` is the runtime as what may wait.
-/// Its output is buffered, since each line of it is one write, and flushed before each read.
+/// Runs the script on standard input, which need not end: `waiting` is the runtime as what may
+/// wait. Its output is buffered, since each line of it is one write, and flushed before each read.
 fn play_script<X: Wait>(waiting: &X, rt: &HostRuntime) -> Status {
     match BufWriter::new(rt.alloc(), rt.stdout()) {
         Ok(mut writer) => {

@@ -3,4 +3,5 @@ use Rattle.snap_script.specs.Text.{values_text}
 use Rattle.snap_script.proofs.print.put_memory.Given as goal
 
 abbrev pub invariant-loop-value : goal.invariant-loop-value
-invariant-loop-value l = l.out.items ≡ l.fn.out.items ++ (codes "memory" ++ values_text (map (λ v. v.items) (take l.value-index l.values)))
+invariant-loop-value l = l.out.items ≡ l.fn.out.items
+    ++ (codes "memory" ++ values_text (map (λ v. v.items) (take l.value-index l.values)))

@@ -12,5 +12,8 @@ abbrev pub invariant-loop-rest : goal.invariant-loop-rest
 invariant-loop-rest g l =
     IsUnended l.self.held.items × IsShort l.rest
     × ((taken : List ℕ) (old : Option (List ℕ))
-    → IsTaken taken l.fn.self.held.items old (g.W.Write.contents l.fn.writer) l.fn.self.progress.player.world l.fn.self.progress.number
-    → IsTaken (taken ++ l.piece) (l.self.held.items ++ l.rest) old (g.W.Write.contents l.writer) l.self.progress.player.world l.self.progress.number)
+    → IsTaken taken l.fn.self.held.items old
+    (g.W.Write.contents l.fn.writer) l.fn.self.progress.player.world l.fn.self.progress.number
+    → IsTaken (taken ++ l.piece) (l.self.held.items
+    ++ l.rest) old (g.W.Write.contents l.writer) l.self.progress.player.world
+    l.self.progress.number)
