@@ -17,3 +17,6 @@ pub use scanner::Scanner;
 pub use snap_register::View;
 pub use snapshot::Snapshot;
 pub use update::{prepare, show};
+
+#[cfg(test)]
+mod tests;
