@@ -1,6 +1,6 @@
-//! Runs rounds of events on one world, for the benchmark: `bench_world SEGMENTS ROUNDS
-//! LENGTH`. In a round each writer makes an update of LENGTH bytes whole, device calls included, and then a scanner scans.
-//! Prints how many events were done.
+//! Runs rounds of events on one world, for the benchmark: `bench_world SEGMENTS ROUNDS LENGTH`. In
+//! a round each writer makes an update of LENGTH bytes whole, device calls included, and then a
+//! scanner scans. Prints how many events were done.
 #![tactic(auto)]
 
 ghost use Rattle.std.specs.Prelude.{◌<◌, ◌≤◌};
@@ -9,7 +9,8 @@ use snap_world::{Actor, Event, World};
 use std::alloc::{AllocError, Global};
 use std::{env, io};
 
-/// The events of one round. A store whose spare gate is closed has two calls fewer, which come as events that may not.
+/// The events of one round. A store whose spare gate is closed has two calls fewer, which come as
+/// events that may not.
 fn round(alloc: Global, segments: usize, length: usize) -> Result<Vec<Event>, AllocError>
     requires { segments ≤ 16 }
 {

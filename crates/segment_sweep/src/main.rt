@@ -1,8 +1,8 @@
-//! Makes each device call of a format and of a store fail in turn, or be the last before the power goes, crashes the
-//! machine behind it, and prints what the file is then opened as.
+//! Makes each device call of a format and of a store fail in turn, or be the last before the power
+//! goes, crashes the machine behind it, and prints what the file is then opened as.
 //!
-//! What it must print is worked out from the disk model and the file's format by tests/oracle/segment_sweep.py, which
-//! knows nothing of this code.
+//! What it must print is worked out from the disk model and the file's format by
+//! tests/oracle/segment_sweep.py, which knows nothing of this code.
 #![tactic(auto)]
 
 mod stop;
@@ -14,10 +14,10 @@ use std::string::String;
 use stop::{Garbage, Stop};
 use subject::Subject;
 
-const GARBAGE: [Garbage; 3] = [Garbage::Keep, Garbage::Shut, Garbage::Open];
+const GARBAGE: [Garbage; 3] = [Garbage::Keep, Garbage::Closed, Garbage::Open];
 
 fn main(rt: HostRuntime) -> io::Result<()> {
-    for subject in [Subject::Format, Subject::StoreShut, Subject::StoreOpen] {
+    for subject in [Subject::Format, Subject::StoreClosed, Subject::StoreOpen] {
         println!(rt; "{}", subject.title())?;
         for call in 1..=subject.calls() {
             for garbage in GARBAGE {
@@ -31,12 +31,13 @@ fn main(rt: HostRuntime) -> io::Result<()> {
     Ok(())
 }
 
-/// One line: how the call was stopped, what it answered, and what stands after a crash with each garbage.
+/// One line: how the call was stopped, what it answered, and what stands after a crash with each
+/// garbage.
 fn row<R: Print + AllocGlobal>(rt: &R, subject: Subject, stop: Stop) -> io::Result<()> {
     let (answer, keep) = cell(rt.alloc(), subject, stop, Garbage::Keep)?;
-    let (_, shut) = cell(rt.alloc(), subject, stop, Garbage::Shut)?;
+    let (_, closed) = cell(rt.alloc(), subject, stop, Garbage::Closed)?;
     let (_, open) = cell(rt.alloc(), subject, stop, Garbage::Open)?;
-    println!(rt; "{stop}: {answer}; {keep} | {shut} | {open}")
+    println!(rt; "{stop}: {answer}; {keep} | {closed} | {open}")
 }
 
 /// What the stopped call answered, and what stands after a crash with this garbage.

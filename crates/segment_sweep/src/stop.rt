@@ -3,11 +3,12 @@ use snap_disk::{FaultPlan, Fill};
 use std::alloc::{AllocError, Global};
 use std::fmt;
 
-/// What stands at the touched places: the bytes that were there, or the byte of a closed or an open gate.
+/// What stands at the touched places: the bytes that were there, or the byte of a closed or an open
+/// gate.
 #[derive(Clone, Copy)]
 pub enum Garbage {
     Keep,
-    Shut,
+    Closed,
     Open,
 }
 
@@ -15,7 +16,7 @@ impl Garbage {
     pub(crate) fn fill(self) -> Fill {
         match self {
             Garbage::Keep => Fill::Keep,
-            Garbage::Shut => Fill::All(0x00),
+            Garbage::Closed => Fill::All(0x00),
             Garbage::Open => Fill::All(0xA5),
         }
     }
@@ -25,7 +26,7 @@ impl fmt::Display for Garbage {
     fn fmt<W: fmt::Write>(&self, f: &mut fmt::Formatter<W>) -> fmt::Result {
         f.write_str(match self {
             Garbage::Keep => "keep",
-            Garbage::Shut => "00",
+            Garbage::Closed => "00",
             Garbage::Open => "a5",
         })
     }

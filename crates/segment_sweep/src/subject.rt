@@ -13,7 +13,7 @@ pub enum Subject {
     /// `format` on a device of zeros.
     Format,
     /// The store of `hi` on a fresh file, whose spare gate is closed.
-    StoreShut,
+    StoreClosed,
     /// The store of `yo` behind `hi`, with the spare gate open.
     StoreOpen,
 }
@@ -24,7 +24,7 @@ impl Subject {
             Subject::Format => {
                 "format on zeros; then a crash with keep | 00 | a5, an opening, and a second format"
             }
-            Subject::StoreShut => {
+            Subject::StoreClosed => {
                 "store of hi, the spare gate closed; then a crash with keep | 00 | a5 and an opening"
             }
             Subject::StoreOpen => {
@@ -37,7 +37,7 @@ impl Subject {
     pub(crate) fn calls(self) -> u64 {
         match self {
             Subject::Format => 7,
-            Subject::StoreShut => 4,
+            Subject::StoreClosed => 4,
             Subject::StoreOpen => 6,
         }
     }
@@ -46,7 +46,7 @@ impl Subject {
     pub(crate) fn run(self, alloc: Global, stop: Stop) -> io::Result<(String, MemDisk)> {
         match self {
             Subject::Format => run_format(alloc, stop),
-            Subject::StoreShut => run_store(alloc, fresh(alloc)?, stop, b"hi"),
+            Subject::StoreClosed => run_store(alloc, fresh(alloc)?, stop, b"hi"),
             Subject::StoreOpen => run_store(alloc, with_hi(alloc)?, stop, b"yo"),
         }
     }

@@ -3,15 +3,37 @@ use Rattle.std.proofs.Common.{◌≡◌, ℕ, ◌-◌, ◌^◌, List, refl, Opti
 use Rattle.std.specs.Io.KnownBytes.{Keeps}
 use Rattle.snap_disk.specs.Device.{Device}
 use Rattle.snap_disk.specs.declared.refusal.Refusal.{Refusal}
-use Rattle.snap_disk.specs.declared.refusal.Refusal.TheVariants.{Malformed, NoSegment, TooLong, Conflict, OutOfStep, Fenced, Full, NoMemory, Exhausted, Damaged, Unformatted, AlreadyFormatted, DeviceFailed, WrongFile, TooLarge, NotNow, Worn}
+use Rattle.snap_disk.specs.declared.refusal.Refusal.TheVariants.{
+  Malformed,
+  NoSegment,
+  TooLong,
+  Conflict,
+  OutOfStep,
+  Fenced,
+  Full,
+  NoMemory,
+  Exhausted,
+  Damaged,
+  Unformatted,
+  AlreadyFormatted,
+  DeviceFailed,
+  WrongFile,
+  TooLarge,
+  NotNow,
+  Worn,
+}
 use Rattle.snap_slot.specs.Layout.{Head, Holds}
 use Rattle.snap_slot.specs.Findings.{IsNoOpening}
 use Rattle.snap_segment.specs.Refusals.{IsStoreRefusal, IsOpenRefusal}
 use Rattle.snap_command.specs.Commands.{EndsStore}
 use Rattle.snap_command.specs.declared.failure.Failure.TheVariants.{Refused}
 
-pub refused_store : (honest : Type 0) (i n : ℕ) (v : List ℕ) (old new : Device) (out out' : Option (List ℕ)) (why : Refusal) → IsStoreRefusal why → (why ≡ TooLong → ⊥) → (why ≡ Fenced → ⊥)
-    → (why ≡ Exhausted → honest → Head old.bytes i n × ((u : List ℕ) × Holds old.bytes (2 ^ 63 - 1) u)) → Keeps out out' → EndsStore honest i n v old new out out' (Err (Refused why))
+pub refused_store : (honest : Type 0) (i n : ℕ) (v : List ℕ) (old new : Device)
+    (out out' : Option (List ℕ)) (why : Refusal) → IsStoreRefusal why → (why ≡ TooLong → ⊥)
+    → (why ≡ Fenced → ⊥)
+    → (why ≡ Exhausted → honest → Head old.bytes i n
+    × ((u : List ℕ) × Holds old.bytes (2 ^ 63 - 1) u)) → Keeps out out'
+    → EndsStore honest i n v old new out out' (Err (Refused why))
 refused_store honest i n v old new out out' Malformed is long fenced last keeps = absurd is
 refused_store honest i n v old new out out' NoSegment is long fenced last keeps = absurd is
 refused_store honest i n v old new out out' TooLong is long fenced last keeps = absurd (long refl)
@@ -24,13 +46,17 @@ refused_store honest i n v old new out out' Exhausted is long fenced last keeps 
 refused_store honest i n v old new out out' Damaged is long fenced last keeps = absurd is
 refused_store honest i n v old new out out' Unformatted is long fenced last keeps = absurd is
 refused_store honest i n v old new out out' AlreadyFormatted is long fenced last keeps = absurd is
-refused_store honest i n v old new out out' DeviceFailed is long fenced last keeps = ((λ _. tt), keeps)
+refused_store honest i n v old new out out' DeviceFailed is long fenced last keeps =
+    ((λ _. tt), keeps)
 refused_store honest i n v old new out out' WrongFile is long fenced last keeps = absurd is
 refused_store honest i n v old new out out' TooLarge is long fenced last keeps = absurd is
 refused_store honest i n v old new out out' NotNow is long fenced last keeps = absurd is
 refused_store honest i n v old new out out' Worn is long fenced last keeps = absurd is
 
-pub refused_open : (honest : Type 0) (i n : ℕ) (v : List ℕ) (old new : Device) (out out' : Option (List ℕ)) (why : Refusal) → IsOpenRefusal why → (honest → IsNoOpening i n old.bytes why) → Keeps out out' → EndsStore honest i n v old new out out' (Err (Refused why))
+pub refused_open : (honest : Type 0) (i n : ℕ) (v : List ℕ) (old new : Device)
+    (out out' : Option (List ℕ)) (why : Refusal) → IsOpenRefusal why
+    → (honest → IsNoOpening i n old.bytes why) → Keeps out out'
+    → EndsStore honest i n v old new out out' (Err (Refused why))
 refused_open honest i n v old new out out' Malformed is not_open keeps = absurd is
 refused_open honest i n v old new out out' NoSegment is not_open keeps = absurd is
 refused_open honest i n v old new out out' TooLong is not_open keeps = absurd is

@@ -1,5 +1,27 @@
 -- What each command does to its device and its streams, by how it ends.
-use Rattle.std.specs.Prelude.{◌≡◌, ◌≢◌, ◌⊎◌, ℕ, ◌+◌, ◌<◌, List, [], ◌++◌, length, Option, Result, Ok, Err, IfSome, is_some, codes, if◌then◌else◌, Bool, true, false}
+use Rattle.std.specs.Prelude.{
+  ◌≡◌,
+  ◌≢◌,
+  ◌⊎◌,
+  ℕ,
+  ◌+◌,
+  ◌<◌,
+  List,
+  [],
+  ◌++◌,
+  length,
+  Option,
+  Result,
+  Ok,
+  Err,
+  IfSome,
+  is_some,
+  codes,
+  if◌then◌else◌,
+  Bool,
+  true,
+  false,
+}
 use Rattle.std.specs.Fmt.{decimal}
 use Rattle.std.specs.Io.KnownBytes.{Appends, Keeps}
 use Rattle.snap_disk.specs.Device.{Device, IsSettled, MayLeave}
@@ -7,7 +29,7 @@ use Rattle.snap_disk.specs.declared.refusal.Refusal.{Refusal}
 use Rattle.snap_disk.specs.declared.refusal.Refusal.TheVariants as refusal
 use Rattle.snap_disk.specs.declared.file.TheConstants.{FILE_LEN}
 use Rattle.snap_slot.specs.declared.layout.TheConstants.{MAX_VALUE_LEN, LAST_NUMBER}
-use Rattle.snap_slot.specs.Layout.{Head, Holds, Bare, IsFormatted, IsFileOf}
+use Rattle.snap_slot.specs.Layout.{Head, Holds, IsUnformatted, IsFormatted, IsFileOf}
 use Rattle.snap_slot.specs.States.{IsAtRest, IsEither}
 use Rattle.snap_slot.specs.Findings.{AreFindings, IsNoOpening}
 use Rattle.snap_slot.specs.Text.{findings_text}
@@ -42,7 +64,8 @@ CountsEnd end old new = new ≡ old
 
 -- what is printed
 abbrev pub formatted_line : ℕ → ℕ → List ℕ
-formatted_line i n = codes "formatted " ++ (decimal i ++ (codes " of " ++ (decimal n ++ codes "\n")))
+formatted_line i n = codes "formatted "
+    ++ (decimal i ++ (codes " of " ++ (decimal n ++ codes "\n")))
 
 abbrev pub stored_line : ℕ → List ℕ
 stored_line k = codes "stored " ++ (decimal k ++ codes "\n")
@@ -51,7 +74,7 @@ stored_line k = codes "stored " ++ (decimal k ++ codes "\n")
 
 -- the file was unformatted, and is that of segment i of n with number 0 and the empty value
 abbrev pub IsNewlyFormatted : ℕ → ℕ → Device → Device → Type 0
-IsNewlyFormatted i n old new = Bare old.bytes × IsAtRest i n 0 [] false new
+IsNewlyFormatted i n old new = IsUnformatted old.bytes × IsAtRest i n 0 [] false new
 
 -- why a file was not formatted, where its bytes are the reason
 abbrev pub IsNoFormat : List ℕ → Refusal → Type 0
@@ -61,12 +84,15 @@ IsNoFormat b refusal.DeviceFailed = Unit {0}
 IsNoFormat b refusal.NoMemory = Unit {0}
 IsNoFormat b why = ⊥
 
-abbrev pub EndsFormat : (honest : Type 0) (i n : ℕ) (old new : Device) (out out' : Option (List ℕ)) → End → Type 0
+abbrev pub EndsFormat : (honest : Type 0) (i n : ℕ) (old new : Device) (out out' : Option (List ℕ))
+    → End → Type 0
 EndsFormat honest i n old new out out' (Ok s) =
-    (s ≡ status.Done) × (honest → IsNewlyFormatted i n old new) × Appends out out' (formatted_line i n)
+    (s ≡ status.Done) × (honest → IsNewlyFormatted i n old new)
+    × Appends out out' (formatted_line i n)
 EndsFormat honest i n old new out out' (Err (Output error)) =
     (honest → IsNewlyFormatted i n old new) × AppendsBeginning out out' (formatted_line i n)
-EndsFormat honest i n old new out out' (Err (Refused why)) = (honest → IsNoFormat old.bytes why) × Keeps out out'
+EndsFormat honest i n old new out out' (Err (Refused why)) = (honest → IsNoFormat old.bytes why)
+    × Keeps out out'
 EndsFormat honest i n old new out out' end = ⊥
 
 -- ---- put
@@ -88,7 +114,8 @@ IsNoStore i n v b why = IsNoOpening i n b why
 abbrev pub EndsStore : (honest : Type 0) (i n : ℕ) (v : List ℕ) (old new : Device)
     (out out' : Option (List ℕ)) → End → Type 0
 EndsStore honest i n v old new out out' (Ok s) =
-    (c : ℕ) × (s ≡ status.Done) × (honest → IsStored i n c v old new) × Appends out out' (stored_line (c + 1))
+    (c : ℕ) × (s ≡ status.Done) × (honest → IsStored i n c v old new)
+    × Appends out out' (stored_line (c + 1))
 EndsStore honest i n v old new out out' (Err (Unsaid number error)) =
     (c : ℕ) × (number ≡ c + 1) × (honest → IsStored i n c v old new)
     × AppendsBeginning out out' (stored_line (c + 1))
@@ -97,9 +124,10 @@ EndsStore honest i n v old new out out' (Err (Refused why)) =
     (honest → IsNoStore i n v old.bytes why) × Keeps out out'
 EndsStore honest i n v old new out out' end = ⊥
 
--- a crash at some moment of a store of v may leave what the file held, or v with the next number
+-- a crash during a store of v may leave what the file held, or v with the next number
 abbrev pub LeavesEither : (i n : ℕ) (v : List ℕ) (old : Device) → List ℕ → Type 0
-LeavesEither i n v old b = (c : ℕ) × (u : List ℕ) × Head old.bytes i n × Holds old.bytes c u × IsEither i n c u v b
+LeavesEither i n v old b = (c : ℕ) × (u : List ℕ) × Head old.bytes i n × Holds old.bytes c u
+    × IsEither i n c u v b
 
 -- and before the file is read, what a crash before could leave
 abbrev pub StoreLeaves : (i n : ℕ) (v : List ℕ) (old : Device) → List ℕ → Type 0
@@ -123,12 +151,14 @@ PutLeaves i n known old b = MayLeave old b ⊎ ((v : List ℕ) × Had known v ×
 abbrev pub HoldsValue : (i n : ℕ) (v : List ℕ) → Device → Type 0
 HoldsValue i n v device = Head device.bytes i n × ((k : ℕ) × Holds device.bytes k v)
 
-abbrev pub EndsGet : (honest : Type 0) (i n : ℕ) (old : Device) (out out' : Option (List ℕ)) → End → Type 0
+abbrev pub EndsGet : (honest : Type 0) (i n : ℕ) (old : Device) (out out' : Option (List ℕ)) → End
+    → Type 0
 EndsGet honest i n old out out' (Ok s) =
     (v : List ℕ) × (s ≡ status.Done) × (honest → HoldsValue i n v old) × Appends out out' v
 EndsGet honest i n old out out' (Err (Output error)) =
     (v : List ℕ) × (honest → HoldsValue i n v old) × AppendsBeginning out out' v
-EndsGet honest i n old out out' (Err (Refused why)) = (honest → IsNoOpening i n old.bytes why) × Keeps out out'
+EndsGet honest i n old out out' (Err (Refused why)) = (honest → IsNoOpening i n old.bytes why)
+    × Keeps out out'
 EndsGet honest i n old out out' end = ⊥
 
 -- ---- check
@@ -152,15 +182,18 @@ EndsCheck honest old out out' end = ⊥
 
 -- ---- any order
 
--- the order ended so; `known` is what the reader had, `out` and `out'` what the writer held before and after
+-- the order ended so; `known` is what the reader had, `out` and `out'` what the writer held before
+-- and after
 abbrev pub EndsOrder : FileOrder → (honest : Type 0) (known : Option (List ℕ)) (old new : Device)
     (out out' : Option (List ℕ)) → End → Type 0
-EndsOrder (Format file i n) honest known old new out out' end = EndsFormat honest i n old new out out' end
-EndsOrder (Put file i n) honest known old new out out' end = EndsPut honest i n known old new out out' end
+EndsOrder (Format file i n) honest known old new out out' end =
+    EndsFormat honest i n old new out out' end
+EndsOrder (Put file i n) honest known old new out out' end =
+    EndsPut honest i n known old new out out' end
 EndsOrder (Get file i n) honest known old new out out' end = EndsGet honest i n old out out' end
 EndsOrder (Check file) honest known old new out out' end = EndsCheck honest old out out' end
 
--- what a crash at some moment of the order may leave
+-- what a crash during the order may leave
 abbrev pub OrderLeaves : FileOrder → (known : Option (List ℕ)) (old : Device) → List ℕ → Type 0
 OrderLeaves (Format file i n) known old b = IsFresh i n old b
 OrderLeaves (Put file i n) known old b = PutLeaves i n known old b

@@ -13,11 +13,12 @@ status_of (Input error) = status.Failed
 status_of (Output error) = status.Failed
 status_of (Unsaid number error) = status.Failed
 
--- What standard error got, by whether it took the line whole: of a refusal a beginning of its line, and where it
--- took it that line. The other lines have a text of the system in them.
+-- What standard error got, by whether it took the line whole: of a refusal a beginning of its line,
+-- and where it took it that line. The other lines have a text of the system in them.
 abbrev pub Says : Failure → (is_told : Bool) (old new : Option (List ℕ)) → Type 0
 Says (Refused why) is_told old new =
-    AppendsBeginning old new (refused_line why) × (is_told ≡ true → Appends old new (refused_line why))
+    AppendsBeginning old new (refused_line why)
+    × (is_told ≡ true → Appends old new (refused_line why))
 Says (Input error) is_told old new = Unit {0}
 Says (Output error) is_told old new = Unit {0}
 Says (Unsaid number error) is_told old new = Unit {0}

@@ -6,8 +6,8 @@ use Rattle.snap_order.specs.declared.order.FileOrder.TheVariants.{Format, Put, G
 use Rattle.snap_command.specs.Commands.{End}
 use Rattle.snap_command.specs.declared.failure.Failure.TheVariants.{Refused, Input}
 
--- `same`: the device is the same, with no call made. `kept`: whatever a crash at any moment of the call leaves, and
--- one after it, a crash before it could leave.
+-- `same`: the device is the same, with no call made. `kept`: whatever a crash at any time during
+-- the call leaves, and one after it, a crash before it could leave.
 
 abbrev pub FormatKeeps : (same kept : Type 0) → End → Type 0
 FormatKeeps same kept (Err (Refused refusal.NoMemory)) = same

@@ -39,7 +39,7 @@ pub fn act<D: Disk, R: Read, W: Write, E: Write>(
     errors: &mut E,
 ) -> (D, Ended)
     requires limits { IsFileWithinLimits order.now }
-    requires room { D.failure_count disk < 2 ^ 64 - 1 }
+    requires headroom { D.failure_count disk < 2 ^ 64 - 1 }
     ensures honest { D.is_honest result.0 → D.is_honest disk }
 
     // The status is that of an end which says what happened, what standard error got, and where
@@ -47,7 +47,7 @@ pub fn act<D: Disk, R: Read, W: Write, E: Write>(
     ensures ends { (end : End) × (result.1.status ≡ status_at end)
         × EndSays end result.1.is_told (E.contents errors.old) (E.contents errors.new)
         × CountsEnd end (D.failure_count disk) (D.failure_count result.0)
-        × OrderKeeps order.now (result.0 ≡ disk) (D.is_honest result.0 → LeavesOnly D.moment
+        × OrderKeeps order.now (result.0 ≡ disk) (D.is_honest result.0 → LeavesOnly D.clock
         D.might_have_left disk result.0 (MayLeave (D.device disk))) end
         × EndsOrder order.now (D.is_honest result.0) (R.remaining reader.old) (D.device disk)
         (D.device result.0) (W.contents writer.old) (W.contents writer.new) end }
@@ -55,8 +55,8 @@ pub fn act<D: Disk, R: Read, W: Write, E: Write>(
     // A device of another length is left untouched.
     ensures wrong_length { length (D.device disk).bytes ≢ FILE_LEN → result.0 ≡ disk }
 
-    // A crash at any moment leaves what the order may leave.
-    ensures any_moment { D.is_honest result.0 → LeavesOnly D.moment D.might_have_left disk result.0
+    // A crash at any time leaves what the order may leave.
+    ensures any_time { D.is_honest result.0 → LeavesOnly D.clock D.might_have_left disk result.0
         (OrderLeaves order.now (R.remaining reader.old) (D.device disk)) }
 {
     let (disk, end) = match *order {
@@ -84,15 +84,15 @@ fn format_file<D: Disk, W: Write>(
 ) -> (D, Result<Status, Failure>)
     requires below { index < count }
     requires few { count ≤ MAX_COUNT }
-    requires room { D.failure_count disk < 2 ^ 64 - 1 }
+    requires headroom { D.failure_count disk < 2 ^ 64 - 1 }
     ensures honest { D.is_honest result.0 → D.is_honest disk }
     ensures count { CountsEnd result.1 (D.failure_count disk) (D.failure_count result.0) }
     ensures ends { EndsFormat (D.is_honest result.0) index count (D.device disk)
         (D.device result.0) (W.contents writer.old) (W.contents writer.new) result.1 }
-    ensures keeps { FormatKeeps (result.0 ≡ disk) (D.is_honest result.0 → LeavesOnly D.moment
+    ensures keeps { FormatKeeps (result.0 ≡ disk) (D.is_honest result.0 → LeavesOnly D.clock
         D.might_have_left disk result.0 (MayLeave (D.device disk))) result.1 }
     ensures wrong_length { length (D.device disk).bytes ≢ FILE_LEN → result.0 ≡ disk }
-    ensures any_moment { D.is_honest result.0 → LeavesOnly D.moment D.might_have_left disk result.0
+    ensures any_time { D.is_honest result.0 → LeavesOnly D.clock D.might_have_left disk result.0
         (IsFresh index count (D.device disk)) }
 {
     // The line is made first, so that want of memory leaves the file as it is.
@@ -120,16 +120,16 @@ fn put<D: Disk, R: Read, W: Write>(
 ) -> (D, Result<Status, Failure>)
     requires below { index < count }
     requires few { count ≤ MAX_COUNT }
-    requires room { D.failure_count disk < 2 ^ 64 - 1 }
+    requires headroom { D.failure_count disk < 2 ^ 64 - 1 }
     ensures honest { D.is_honest result.0 → D.is_honest disk }
     ensures count { CountsEnd result.1 (D.failure_count disk) (D.failure_count result.0) }
     ensures ends { EndsPut (D.is_honest result.0) index count (R.remaining reader.old)
         (D.device disk) (D.device result.0) (W.contents writer.old) (W.contents writer.new)
         result.1 }
-    ensures keeps { PutKeeps (result.0 ≡ disk) (D.is_honest result.0 → LeavesOnly D.moment
+    ensures keeps { PutKeeps (result.0 ≡ disk) (D.is_honest result.0 → LeavesOnly D.clock
         D.might_have_left disk result.0 (MayLeave (D.device disk))) result.1 }
     ensures wrong_length { length (D.device disk).bytes ≢ FILE_LEN → result.0 ≡ disk }
-    ensures any_moment { D.is_honest result.0 → LeavesOnly D.moment D.might_have_left disk result.0
+    ensures any_time { D.is_honest result.0 → LeavesOnly D.clock D.might_have_left disk result.0
         (PutLeaves index count (R.remaining reader.old) (D.device disk)) }
 {
     // One byte more than a value may have shows that the input is too long.
@@ -155,16 +155,16 @@ fn store<D: Disk, W: Write>(
 ) -> (D, Result<Status, Failure>)
     requires below { index < count }
     requires few { count ≤ MAX_COUNT }
-    requires room { D.failure_count disk < 2 ^ 64 - 1 }
+    requires headroom { D.failure_count disk < 2 ^ 64 - 1 }
     requires fits { IsShort value.now }
     ensures honest { D.is_honest result.0 → D.is_honest disk }
     ensures count { CountsEnd result.1 (D.failure_count disk) (D.failure_count result.0) }
     ensures ends { EndsStore (D.is_honest result.0) index count value.now (D.device disk)
         (D.device result.0) (W.contents writer.old) (W.contents writer.new) result.1 }
-    ensures keeps { StoreKeeps (D.is_honest result.0 → LeavesOnly D.moment
+    ensures keeps { StoreKeeps (D.is_honest result.0 → LeavesOnly D.clock
         D.might_have_left disk result.0 (MayLeave (D.device disk))) result.1 }
     ensures wrong_length { length (D.device disk).bytes ≢ FILE_LEN → result.0 ≡ disk }
-    ensures any_moment { D.is_honest result.0 → LeavesOnly D.moment D.might_have_left disk result.0
+    ensures any_time { D.is_honest result.0 → LeavesOnly D.clock D.might_have_left disk result.0
         (StoreLeaves index count value.now (D.device disk)) }
 {
     let mut segment = match Segment::open(alloc, disk, index, count) {
@@ -200,13 +200,13 @@ fn get<D: Disk, W: Write>(
 ) -> (D, Result<Status, Failure>)
     requires below { index < count }
     requires few { count ≤ MAX_COUNT }
-    requires room { D.failure_count disk < 2 ^ 64 - 1 }
+    requires headroom { D.failure_count disk < 2 ^ 64 - 1 }
     ensures honest { D.is_honest result.0 → D.is_honest disk }
     ensures count { CountsEnd result.1 (D.failure_count disk) (D.failure_count result.0) }
     ensures ends { EndsGet (D.is_honest result.0) index count (D.device disk)
         (W.contents writer.old) (W.contents writer.new) result.1 }
     ensures wrong_length { length (D.device disk).bytes ≢ FILE_LEN → result.0 ≡ disk }
-    ensures any_moment { D.is_honest result.0 → LeavesOnly D.moment D.might_have_left disk result.0
+    ensures any_time { D.is_honest result.0 → LeavesOnly D.clock D.might_have_left disk result.0
         (MayLeave (D.device disk)) }
 {
     let segment = match Segment::open(alloc, disk, index, count) {
@@ -225,13 +225,13 @@ fn check_file<D: Disk, W: Write>(
     mut disk: D,
     writer: &mut W,
 ) -> (D, Result<Status, Failure>)
-    requires room { D.failure_count disk < 2 ^ 64 - 1 }
+    requires headroom { D.failure_count disk < 2 ^ 64 - 1 }
     ensures honest { D.is_honest result.0 → D.is_honest disk }
     ensures count { CountsEnd result.1 (D.failure_count disk) (D.failure_count result.0) }
     ensures ends { EndsCheck (D.is_honest result.0) (D.device disk) (W.contents writer.old)
         (W.contents writer.new) result.1 }
     ensures wrong_length { length (D.device disk).bytes ≢ FILE_LEN → result.0 ≡ disk }
-    ensures any_moment { D.is_honest result.0 → LeavesOnly D.moment D.might_have_left disk result.0
+    ensures any_time { D.is_honest result.0 → LeavesOnly D.clock D.might_have_left disk result.0
         (MayLeave (D.device disk)) }
 {
     let findings = match check(&mut disk) {

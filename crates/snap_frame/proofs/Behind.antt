@@ -1,5 +1,35 @@
 -- Entries that stand one behind the other, and what may stand behind those that were read.
-use Rattle.std.proofs.Common.{◌≡◌, ℕ, ◌+◌, ◌*◌, ◌<◌, ◌≤◌, ◌^◌, Bool, true, false, List, [], ◌∷◌, ◌++◌, length, drop, take, flat_map, All, refl, sym, ◌∙◌, ap, ap₂, subst, arith, append_assoc, append-nil, length-append}
+use Rattle.std.proofs.Common.{
+  ◌≡◌,
+  ℕ,
+  ◌+◌,
+  ◌*◌,
+  ◌<◌,
+  ◌≤◌,
+  ◌^◌,
+  Bool,
+  true,
+  false,
+  List,
+  [],
+  ◌∷◌,
+  ◌++◌,
+  length,
+  drop,
+  take,
+  flat_map,
+  All,
+  refl,
+  sym,
+  ◌∙◌,
+  ap,
+  ap₂,
+  subst,
+  arith,
+  append_assoc,
+  append-nil,
+  length-append,
+}
 use Rattle.std.specs.Int.{w32, w64, to_be_bytes, from_be_bytes}
 use Rattle.std.proofs.lemmas.List.Elements.{All-nil, All-cons, All-tail, All-append}
 use Rattle.std.proofs.lemmas.List.Concat.{flat_map-append}
@@ -12,25 +42,36 @@ use Rattle.snap_frame.proofs.Exact.{append_split}
 -- no entry's bytes are a beginning of another's
 abbrev pub Separate : {E : Type 0} → (E → List ℕ) → (E → Type 0) → Type 0
 Separate {E} bytes MayStand =
-    (d e : E) (a b : List ℕ) → MayStand d → MayStand e → bytes d ++ a ≡ bytes e ++ b → (d ≡ e) × (a ≡ b)
+    (d e : E) (a b : List ℕ) → MayStand d → MayStand e → bytes d ++ a ≡ bytes e ++ b → (d ≡ e)
+    × (a ≡ b)
 
 -- the entries that were read are the first of any that the bytes may be
-pub record Behind {E : Type 0} (bytes : E → List ℕ) (MayStand : E → Type 0) (es fs : List E) (rest : List ℕ) : Type 0 where
+pub record Behind {E : Type 0} (bytes : E → List ℕ) (MayStand : E
+    → Type 0) (es fs : List E) (rest : List ℕ) : Type 0 where
   pub more : List E
   pub each : All MayStand more
   pub count : length fs ≡ length es + length more
   pub is : rest ≡ flat_map bytes more
 
-pub behind : {E : Type 0} (bytes : E → List ℕ) (MayStand : E → Type 0) (es fs : List E) (rest : List ℕ) → Separate bytes MayStand → All MayStand es → All MayStand fs → length es ≤ length fs → flat_map bytes es ++ rest ≡ flat_map bytes fs → Behind bytes MayStand es fs rest
-behind bytes MayStand [] fs rest apart read any few e = record { more = fs; each = any; count = omega arith; is = e }
+pub behind : {E : Type 0} (bytes : E → List ℕ) (MayStand : E
+    → Type 0) (es fs : List E) (rest : List ℕ) → Separate bytes MayStand → All MayStand es
+    → All MayStand fs → length es ≤ length fs → flat_map bytes es ++ rest ≡ flat_map bytes fs
+    → Behind bytes MayStand es fs rest
+behind bytes MayStand [] fs rest apart read any few e =
+    record { more = fs; each = any; count = omega arith; is = e }
 behind bytes MayStand (d ∷ es) [] rest apart read any few e = absurd (omega (arith, few))
 behind bytes MayStand (d ∷ es) (f ∷ fs) rest apart read any few e =
-    let both = apart d f (flat_map bytes es ++ rest) (flat_map bytes fs) (read 0 d (omega arith)) (any 0 f (omega arith)) (sym (append_assoc (bytes d) (flat_map bytes es) rest) ∙ e) in
-    let rec = behind bytes MayStand es fs rest apart (All-tail MayStand d es read) (All-tail MayStand f fs any) (omega (arith, few)) both.1 in
+    let both = apart d f (flat_map bytes es ++ rest) (flat_map bytes fs) (read 0 d (omega arith))
+    (any 0 f (omega arith)) (sym (append_assoc (bytes d) (flat_map bytes es) rest) ∙ e) in
+    let rec = behind bytes MayStand es fs rest apart (All-tail MayStand d es read)
+    (All-tail MayStand f fs any) (omega (arith, few)) both.1 in
     record { more = rec.more; each = rec.each; count = omega (arith, rec.count); is = rec.is }
 
 -- one more entry was read
-pub read_on : {E : Type 0} (bytes : E → List ℕ) (MayStand : E → Type 0) (es : List E) (e : E) (all rest tail : List ℕ) → All MayStand es → MayStand e → all ≡ flat_map bytes es ++ rest → rest ≡ bytes e ++ tail → All MayStand (es ++ e ∷ []) × (all ≡ flat_map bytes (es ++ e ∷ []) ++ tail)
+pub read_on : {E : Type 0} (bytes : E → List ℕ) (MayStand : E
+    → Type 0) (es : List E) (e : E) (all rest tail : List ℕ) → All MayStand es → MayStand e
+    → all ≡ flat_map bytes es ++ rest → rest ≡ bytes e ++ tail → All MayStand (es ++ e ∷ [])
+    × (all ≡ flat_map bytes (es ++ e ∷ []) ++ tail)
 read_on {E} bytes MayStand es e all rest tail read may is one = (
   All-append MayStand es (e ∷ []) read (All-cons MayStand e [] may (All-nil MayStand)),
   is ∙ ap (λ xs. flat_map bytes es ++ xs) (one ∙ ap (λ xs. xs ++ tail) (sym (append-nil (bytes e))))
@@ -39,34 +80,51 @@ read_on {E} bytes MayStand es e all rest tail read may is one = (
 )
 
 -- where no entry stands behind those that were read, the bytes aren't more entries
-pub no_more : {E : Type 0} (bytes : E → List ℕ) (MayStand : E → Type 0) (es fs : List E) (rest : List ℕ) → Separate bytes MayStand → All MayStand es → All MayStand fs → length es < length fs → ((e : E) → (tail : List ℕ) → MayStand e → rest ≡ bytes e ++ tail → ⊥) → flat_map bytes es ++ rest ≡ flat_map bytes fs → ⊥
+pub no_more : {E : Type 0} (bytes : E → List ℕ) (MayStand : E
+    → Type 0) (es fs : List E) (rest : List ℕ) → Separate bytes MayStand → All MayStand es
+    → All MayStand fs → length es < length fs
+    → ((e : E) → (tail : List ℕ) → MayStand e → rest ≡ bytes e ++ tail → ⊥)
+    → flat_map bytes es ++ rest ≡ flat_map bytes fs → ⊥
 no_more {E} bytes MayStand es fs rest apart read any few none e =
     let left = behind bytes MayStand es fs rest apart read any (omega (arith, few)) e in
-    elim left.more as (λ (more : List E). All MayStand more → length fs ≡ length es + length more → rest ≡ flat_map bytes more → ⊥) [
+    elim left.more as (λ (more : List E). All MayStand more → length fs ≡ length es + length more
+    → rest ≡ flat_map bytes more → ⊥) [
       | [] ↦ λ each count is. absurd (omega (arith, count, few))
       | d ∷ more ↦ λ each count is. none d (flat_map bytes more) (each 0 d (omega arith)) is
     ] left.each left.count left.is
 
 -- nothing stands behind the last of them
-pub no_rest : {E : Type 0} (bytes : E → List ℕ) (MayStand : E → Type 0) (es fs : List E) (rest : List ℕ) → Separate bytes MayStand → All MayStand es → All MayStand fs → length es ≡ length fs → flat_map bytes es ++ rest ≡ flat_map bytes fs → rest ≡ []
+pub no_rest : {E : Type 0} (bytes : E → List ℕ) (MayStand : E
+    → Type 0) (es fs : List E) (rest : List ℕ) → Separate bytes MayStand → All MayStand es
+    → All MayStand fs → length es ≡ length fs → flat_map bytes es ++ rest ≡ flat_map bytes fs
+    → rest ≡ []
 no_rest {E} bytes MayStand es fs rest apart read any same e =
     let left = behind bytes MayStand es fs rest apart read any (omega (arith, same)) e in
-    elim left.more as (λ (more : List E). length fs ≡ length es + length more → rest ≡ flat_map bytes more → rest ≡ []) [
+    elim left.more as (λ (more : List E). length fs ≡ length es + length more
+    → rest ≡ flat_map bytes more → rest ≡ []) [
       | [] ↦ λ count is. is
       | d ∷ more ↦ λ count is. absurd (omega (arith, count, same))
     ] left.count left.is
 
 -- eight bytes stand for one number
-pub same_number : (m n : ℕ) (xs ys : List ℕ) → m < 2 ^ 64 → n < 2 ^ 64 → to_be_bytes w64 m ++ xs ≡ to_be_bytes w64 n ++ ys → (m ≡ n) × (xs ≡ ys)
+pub same_number : (m n : ℕ) (xs ys : List ℕ) → m < 2 ^ 64 → n < 2 ^ 64
+    → to_be_bytes w64 m ++ xs ≡ to_be_bytes w64 n ++ ys → (m ≡ n) × (xs ≡ ys)
 same_number m n xs ys m_fits n_fits e =
-    let heads : to_be_bytes w64 m ≡ to_be_bytes w64 n = ap (take 8) e in
-    (sym (from_be_bytes-to_be_bytes_8 m m_fits) ∙ ap (from_be_bytes w64) heads ∙ from_be_bytes-to_be_bytes_8 n n_fits, ap (drop 8) e)
+    let heads : to_be_bytes w64 m ≡ to_be_bytes w64 n = ap (take 8) e in (
+      sym (from_be_bytes-to_be_bytes_8 m m_fits) ∙ ap (from_be_bytes w64) heads
+          ∙ from_be_bytes-to_be_bytes_8 n n_fits,
+      ap (drop 8) e,
+    )
 
 -- four bytes stand for one length
-pub same_length : (m n : ℕ) (xs ys : List ℕ) → m < 2 ^ 32 → n < 2 ^ 32 → to_be_bytes w32 m ++ xs ≡ to_be_bytes w32 n ++ ys → (m ≡ n) × (xs ≡ ys)
+pub same_length : (m n : ℕ) (xs ys : List ℕ) → m < 2 ^ 32 → n < 2 ^ 32
+    → to_be_bytes w32 m ++ xs ≡ to_be_bytes w32 n ++ ys → (m ≡ n) × (xs ≡ ys)
 same_length m n xs ys m_fits n_fits e =
-    let heads : to_be_bytes w32 m ≡ to_be_bytes w32 n = ap (take 4) e in
-    (sym (from_be_bytes-to_be_bytes_4 m m_fits) ∙ ap (from_be_bytes w32) heads ∙ from_be_bytes-to_be_bytes_4 n n_fits, ap (drop 4) e)
+    let heads : to_be_bytes w32 m ≡ to_be_bytes w32 n = ap (take 4) e in (
+      sym (from_be_bytes-to_be_bytes_4 m m_fits) ∙ ap (from_be_bytes w32) heads
+          ∙ from_be_bytes-to_be_bytes_4 n n_fits,
+      ap (drop 4) e,
+    )
 
 abbrev value_of : ℕ → List ℕ → SegmentValue
 value_of n v = record { number = n; value = v }
@@ -76,8 +134,11 @@ status_of n f = record { number = n; is_fenced = f }
 
 pub values_apart : Separate value_bytes IsValue
 values_apart d e a b fits_d fits_e same =
-    let numbers = same_number d.number e.number ((to_be_bytes w32 (length d.value) ++ d.value) ++ a) ((to_be_bytes w32 (length e.value) ++ e.value) ++ b) (omega (arith, fits_d.0)) (omega (arith, fits_e.0)) same in
-    let lengths = same_length (length d.value) (length e.value) (d.value ++ a) (e.value ++ b) (omega (arith, fits_d.1)) (omega (arith, fits_e.1)) numbers.1 in
+    let numbers = same_number d.number e.number ((to_be_bytes w32 (length d.value) ++ d.value)
+    ++ a) ((to_be_bytes w32 (length e.value) ++ e.value)
+    ++ b) (omega (arith, fits_d.0)) (omega (arith, fits_e.0)) same in
+    let lengths = same_length (length d.value) (length e.value) (d.value ++ a) (e.value
+    ++ b) (omega (arith, fits_d.1)) (omega (arith, fits_e.1)) numbers.1 in
     let values = append_split d.value e.value a b lengths.0 lengths.1 in
     (ap₂ value_of numbers.0 values.0, values.1)
 
@@ -89,12 +150,15 @@ same_fence false true e = absurd (omega (arith, e))
 
 pub statuses_apart : Separate status_bytes IsStatus
 statuses_apart d e a b fits_d fits_e same =
-    let numbers = same_number d.number e.number (fence_byte d.is_fenced ∷ a) (fence_byte e.is_fenced ∷ b) (omega (arith, fits_d)) (omega (arith, fits_e)) same in
+    let numbers = same_number d.number e.number (fence_byte d.is_fenced ∷ a) (fence_byte e.is_fenced
+    ∷ b) (omega (arith, fits_d)) (omega (arith, fits_e)) same in
     let fences : fence_byte d.is_fenced ≡ fence_byte e.is_fenced = cc in
     let tails : a ≡ b = ap (drop 1) numbers.1 in
     (ap₂ status_of numbers.0 (same_fence d.is_fenced e.is_fenced fences), tails)
 
 -- three pieces were appended, one behind the other
-pub appended : (old a b c one two three : List ℕ) → one ≡ old ++ a → two ≡ one ++ b → three ≡ two ++ c → three ≡ old ++ (a ++ (b ++ c))
+pub appended : (old a b c one two three : List ℕ) → one ≡ old ++ a → two ≡ one ++ b
+    → three ≡ two ++ c → three ≡ old ++ (a ++ (b ++ c))
 appended old a b c one two three is_one is_two is_three =
-    is_three ∙ ap (λ xs. xs ++ c) (is_two ∙ ap (λ xs. xs ++ b) is_one ∙ append_assoc old a b) ∙ append_assoc old (a ++ b) c ∙ ap (λ xs. old ++ xs) (append_assoc a b c)
+    is_three ∙ ap (λ xs. xs ++ c) (is_two ∙ ap (λ xs. xs ++ b) is_one ∙ append_assoc old a b)
+    ∙ append_assoc old (a ++ b) c ∙ ap (λ xs. old ++ xs) (append_assoc a b c)

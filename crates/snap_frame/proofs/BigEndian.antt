@@ -1,5 +1,32 @@
 -- Numbers at the front of bytes, and their bytes again.
-use Rattle.std.proofs.Common.{◌≡◌, ℕ, suc, ◌+◌, ◌<◌, ◌≤◌, ◌^◌, List, ◌∷◌, ◌++◌, [], length, take, drop, get_or, slice_index, inl, inr, refl, sym, ◌∙◌, ap, arith, length-take, length-drop, ◌-◌}
+use Rattle.std.proofs.Common.{
+  ◌≡◌,
+  ℕ,
+  suc,
+  ◌+◌,
+  ◌<◌,
+  ◌≤◌,
+  ◌^◌,
+  List,
+  ◌∷◌,
+  ◌++◌,
+  [],
+  length,
+  take,
+  drop,
+  get_or,
+  slice_index,
+  inl,
+  inr,
+  refl,
+  sym,
+  ◌∙◌,
+  ap,
+  arith,
+  length-take,
+  length-drop,
+  ◌-◌,
+}
 use Rattle.std.specs.Int.{w32, w64, to_be_bytes, from_be_bytes}
 use Rattle.std.proofs.lemmas.List.{get_or-take, get_or_past, take-append-drop}
 use Rattle.std.proofs.lemmas.Bool.{cases_lt}
@@ -15,17 +42,37 @@ bytes-take n xs bytes i =
       | inr past ↦ rw (get_or_past (take n xs) i 0 (omega (arith, length-take n xs))) (omega arith)
     ]
 
-pub eight_again : (xs : List ℕ) → IsBytes xs → 8 ≤ length xs → to_be_bytes w64 (big_number 8 xs) ≡ take 8 xs
+pub eight_again : (xs : List ℕ) → IsBytes xs → 8 ≤ length xs
+    → to_be_bytes w64 (big_number 8 xs) ≡ take 8 xs
 eight_again xs bytes long =
     let same = λ (i : ℕ) (below : i < 8). get_or-take 8 xs i 0 below in
-    be_bytes_8 (take 8 xs) (big_number 8 xs) (omega (arith, length-take 8 xs)) (bytes-take 8 xs bytes)
-    (omega (arith, same 0 (omega arith), same 1 (omega arith), same 2 (omega arith), same 3 (omega arith), same 4 (omega arith), same 5 (omega arith), same 6 (omega arith), same 7 (omega arith)))
+    be_bytes_8 (take 8 xs) (big_number 8 xs) (omega (arith, length-take 8 xs))
+    (bytes-take 8 xs bytes)
+    (omega (
+      arith,
+      same 0 (omega arith),
+      same 1 (omega arith),
+      same 2 (omega arith),
+      same 3 (omega arith),
+      same 4 (omega arith),
+      same 5 (omega arith),
+      same 6 (omega arith),
+      same 7 (omega arith),
+    ))
 
-pub four_again : (xs : List ℕ) → IsBytes xs → 4 ≤ length xs → to_be_bytes w32 (big_number 4 xs) ≡ take 4 xs
+pub four_again : (xs : List ℕ) → IsBytes xs → 4 ≤ length xs
+    → to_be_bytes w32 (big_number 4 xs) ≡ take 4 xs
 four_again xs bytes long =
     let same = λ (i : ℕ) (below : i < 4). get_or-take 4 xs i 0 below in
-    be_bytes_4 (take 4 xs) (big_number 4 xs) (omega (arith, length-take 4 xs)) (bytes-take 4 xs bytes)
-    (omega (arith, same 0 (omega arith), same 1 (omega arith), same 2 (omega arith), same 3 (omega arith)))
+    be_bytes_4 (take 4 xs) (big_number 4 xs) (omega (arith, length-take 4 xs))
+    (bytes-take 4 xs bytes)
+    (omega (
+      arith,
+      same 0 (omega arith),
+      same 1 (omega arith),
+      same 2 (omega arith),
+      same 3 (omega arith),
+    ))
 
 -- the first n bytes are those of a number, and the rest stands behind them
 pub front_is : (n : ℕ) (xs number : List ℕ) → number ≡ take n xs → xs ≡ number ++ drop n xs

@@ -1,22 +1,90 @@
 -- What the codec's cuts mean for the bytes held.
-use Rattle.std.proofs.Common.{◌≡◌, ℕ, ◌+◌, ◌<◌, ◌≤◌, ◌^◌, List, ◌∷◌, ◌++◌, [], length, take, drop, get_or, slice_index, Option, Some, None, inl, inr, refl, sym, ◌∙◌, ap, ap₂, subst, arith, append_assoc, length-append, length-take, length-drop, take_at, drop_at, pos}
+use Rattle.std.proofs.Common.{
+  ◌≡◌,
+  ℕ,
+  ◌+◌,
+  ◌<◌,
+  ◌≤◌,
+  ◌^◌,
+  List,
+  ◌∷◌,
+  ◌++◌,
+  [],
+  length,
+  take,
+  drop,
+  get_or,
+  slice_index,
+  Option,
+  Some,
+  None,
+  inl,
+  inr,
+  refl,
+  sym,
+  ◌∙◌,
+  ap,
+  ap₂,
+  subst,
+  arith,
+  append_assoc,
+  length-append,
+  length-take,
+  length-drop,
+  take_at,
+  drop_at,
+  pos,
+}
 use Rattle.std.specs.Int.{w32, to_be_bytes, from_be_bytes}
 use Rattle.std.proofs.lemmas.List.{get_or-take, take-append-drop, append_cancel_left}
 use Rattle.std.proofs.lemmas.Bool.{cases_lt, cond-true, lt-ltb}
 use Rattle.std.proofs.lemmas.Nat.{be_bytes_4, from_be_bytes-to_be_bytes_4}
 use Rattle.tokio_util.specs.declared.codec.length_delimited.DecodeState.TheVariants.{Head, Data}
-use Rattle.tokio_util.specs.Codec.LengthField.{Layout, field_value, add_adjustment, head_len, skip_len}
-use Rattle.tokio_util.specs.Codec.LengthDelimited.{Cut, frame, too_big, overflows, unfinished, cut_payload, cut_adjusted, cut_frame}
-use Rattle.tokio_util.specs.Codec.LengthDelimitedLaws.{cut_payload_whole, cut_payload_short, cut_frame_short, cut_frame_big, cut_frame_head}
+use Rattle.tokio_util.specs.Codec.LengthField.{
+  Layout,
+  field_value,
+  add_adjustment,
+  head_len,
+  skip_len,
+}
+use Rattle.tokio_util.specs.Codec.LengthDelimited.{
+  Cut,
+  frame,
+  too_big,
+  overflows,
+  unfinished,
+  cut_payload,
+  cut_adjusted,
+  cut_frame,
+}
+use Rattle.tokio_util.specs.Codec.LengthDelimitedLaws.{
+  cut_payload_whole,
+  cut_payload_short,
+  cut_frame_short,
+  cut_frame_big,
+  cut_frame_head,
+}
 use Rattle.snap_frame.specs.Messages as messages
-use Rattle.snap_frame.specs.Stream.{HasFrame, HasLongLength, IsPartial, pending_in, StateFits, feed_layout, IsBytes}
+use Rattle.snap_frame.specs.Stream.{
+  HasFrame,
+  HasLongLength,
+  IsPartial,
+  pending_in,
+  StateFits,
+  feed_layout,
+  IsBytes,
+}
 use Rattle.snap_frame.proofs.BigEndian.{bytes-take}
 
 -- four bytes stand for one length
-pub same_length : (m n : ℕ) (xs ys : List ℕ) → m < 2 ^ 32 → n < 2 ^ 32 → to_be_bytes w32 m ++ xs ≡ to_be_bytes w32 n ++ ys → (m ≡ n) × (xs ≡ ys)
+pub same_length : (m n : ℕ) (xs ys : List ℕ) → m < 2 ^ 32 → n < 2 ^ 32
+    → to_be_bytes w32 m ++ xs ≡ to_be_bytes w32 n ++ ys → (m ≡ n) × (xs ≡ ys)
 same_length m n xs ys m_fits n_fits e =
-    let heads : to_be_bytes w32 m ≡ to_be_bytes w32 n = ap (take 4) e in
-    (sym (from_be_bytes-to_be_bytes_4 m m_fits) ∙ ap (from_be_bytes w32) heads ∙ from_be_bytes-to_be_bytes_4 n n_fits, ap (drop 4) e)
+    let heads : to_be_bytes w32 m ≡ to_be_bytes w32 n = ap (take 4) e in (
+      sym (from_be_bytes-to_be_bytes_4 m m_fits) ∙ ap (from_be_bytes w32) heads
+          ∙ from_be_bytes-to_be_bytes_4 n n_fits,
+      ap (drop 4) e,
+    )
 
 -- what a cut says of the bytes held
 abbrev pub Means : List ℕ → Cut → Type 0
@@ -27,22 +95,29 @@ Means held (unfinished state kept) =
     (pending_in state kept ≡ held) × StateFits state × IsPartial held
 
 -- no whole frame behind a length
-short_is_partial : (n : ℕ) (ys : List ℕ) → n ≤ 66000 → length ys < n → IsPartial (to_be_bytes w32 n ++ ys)
+short_is_partial : (n : ℕ) (ys : List ℕ) → n ≤ 66000 → length ys < n
+    → IsPartial (to_be_bytes w32 n ++ ys)
 short_is_partial n ys fits short =
     record {
       no_frame = λ x rest has.
-          let same = same_length n (length x) ys (x ++ rest) (omega arith) (omega (arith, has.fits)) (has.split ∙ append_assoc (to_be_bytes w32 (length x)) x rest) in
+          let same = same_length n (length x) ys (x ++ rest) (omega arith) (omega (arith, has.fits))
+          (has.split ∙ append_assoc (to_be_bytes w32 (length x)) x rest) in
           absurd (omega (arith, same.0, ap length same.1, length-append x rest));
       no_long = λ long.
           let same = same_length n long.0 ys long.1 (omega arith) long.3 long.4 in
           absurd (omega (arith, same.0, long.2));
     }
 
-pub payload_means : (n : ℕ) (ys : List ℕ) → n ≤ 66000 → Means (to_be_bytes w32 n ++ ys) (cut_payload n ys)
+pub payload_means : (n : ℕ) (ys : List ℕ) → n ≤ 66000
+    → Means (to_be_bytes w32 n ++ ys) (cut_payload n ys)
 payload_means n ys fits =
     let held = to_be_bytes w32 n ++ ys in
     elim (cases_lt (length ys) n) [
-      | inl short ↦ subst (Means held) (sym (cut_payload_short n ys short)) (refl, fits, short_is_partial n ys fits short)
+      | inl short ↦ subst (Means held) (sym (cut_payload_short n ys short)) (
+        refl,
+        fits,
+        short_is_partial n ys fits short,
+      )
       | inr whole ↦
           let len : length (take n ys) ≡ n = omega (arith, length-take n ys) in
           subst (Means held) (sym (cut_payload_whole n ys whole)) record {
@@ -56,12 +131,24 @@ payload_means n ys fits =
 tiny_is_partial : (xs : List ℕ) → length xs < 4 → IsPartial xs
 tiny_is_partial xs tiny =
     record {
-      no_frame = λ x rest has. absurd (omega (arith, ap length has.split, length-append (messages.frame x) rest, length-append (to_be_bytes w32 (length x)) x));
-      no_long = λ long. absurd (omega (arith, ap length long.4, length-append (to_be_bytes w32 long.0) long.1));
+      no_frame = λ x rest has.
+          absurd (omega (
+            arith,
+            ap length has.split,
+            length-append (messages.frame x) rest,
+            length-append (to_be_bytes w32 (length x)) x,
+          ));
+      no_long = λ long. absurd (omega (
+        arith,
+        ap length long.4,
+        length-append (to_be_bytes w32 long.0) long.1,
+      ));
     }
 
 -- the length in the first four bytes
-pub four_again : (xs : List ℕ) → IsBytes xs → 4 ≤ length xs → (to_be_bytes w32 (field_value feed_layout xs) ≡ take 4 xs) × (field_value feed_layout xs < 2 ^ 32)
+pub four_again : (xs : List ℕ) → IsBytes xs → 4 ≤ length xs
+    → (to_be_bytes w32 (field_value feed_layout xs) ≡ take 4 xs)
+    × (field_value feed_layout xs < 2 ^ 32)
 four_again [] bytes long = absurd (omega arith)
 four_again (a ∷ []) bytes long = absurd (omega arith)
 four_again (a ∷ b ∷ []) bytes long = absurd (omega arith)
@@ -74,17 +161,32 @@ four_again (a ∷ b ∷ c ∷ d ∷ xs) bytes long =
 pub head_means : (xs : List ℕ) → IsBytes xs → Means xs (cut_frame feed_layout xs)
 head_means xs bytes =
     elim (cases_lt (length xs) 4) [
-      | inl tiny ↦ subst (Means xs) (sym (cut_frame_short feed_layout xs tiny)) (refl, tt, tiny_is_partial xs tiny)
+      | inl tiny ↦ subst (Means xs) (sym (cut_frame_short feed_layout xs tiny)) (
+        refl,
+        tt,
+        tiny_is_partial xs tiny,
+      )
       | inr long ↦
           let v = field_value feed_layout xs in
           let split : to_be_bytes w32 v ++ drop 4 xs ≡ xs =
           ap (λ zs. zs ++ drop 4 xs) (four_again xs bytes long).0 ∙ take-append-drop 4 xs in
           elim (cases_lt 66000 v) [
-            | inl big ↦ subst (Means xs) (sym (cut_frame_big feed_layout xs long big)) (v, drop 4 xs, big, (four_again xs bytes long).1, sym split)
+            | inl big ↦ subst (Means xs) (sym (cut_frame_big feed_layout xs long big)) (
+              v,
+              drop 4 xs,
+              big,
+              (four_again xs bytes long).1,
+              sym split,
+            )
             | inr small ↦
-                let fits : add_adjustment v (pos 0) ≡ Some v = cond-true _ _ _ (lt-ltb (v + 0) (2 ^ 64) (omega arith)) ∙ ap Some (omega arith) in
+                let fits : add_adjustment v (pos 0) ≡ Some v =
+                cond-true _ _ _ (lt-ltb (v + 0) (2 ^ 64) (omega arith))
+                ∙ ap Some (omega arith) in
                 let is : cut_frame feed_layout xs ≡ cut_payload v (drop 4 xs) =
-                cut_frame_head feed_layout xs long small ∙ ap (λ o. cut_adjusted o (drop 4 xs)) fits in
-                subst (Means xs) (sym is) (subst (λ held. Means held (cut_payload v (drop 4 xs))) split (payload_means v (drop 4 xs) small))
+                cut_frame_head feed_layout xs long small
+                ∙ ap (λ o. cut_adjusted o (drop 4 xs)) fits in
+                subst (Means xs) (sym is)
+                (subst (λ held. Means held (cut_payload v (drop 4 xs))) split
+                (payload_means v (drop 4 xs) small))
           ]
     ]

@@ -1,5 +1,22 @@
 -- How long the payloads of replies are.
-use Rattle.std.proofs.Common.{◌≡◌, ℕ, ◌+◌, ◌*◌, ◌<◌, ◌≤◌, List, [], ◌∷◌, ◌++◌, length, flat_map, All, refl, arith, length-append}
+use Rattle.std.proofs.Common.{
+  ◌≡◌,
+  ℕ,
+  ◌+◌,
+  ◌*◌,
+  ◌<◌,
+  ◌≤◌,
+  List,
+  [],
+  ◌∷◌,
+  ◌++◌,
+  length,
+  flat_map,
+  All,
+  refl,
+  arith,
+  length-append,
+}
 use Rattle.std.specs.Int.{w32, w64, to_be_bytes}
 use Rattle.std.proofs.lemmas.List.Elements.{All-tail}
 use Rattle.snap_disk.specs.Refusal.{code_of}
@@ -7,18 +24,32 @@ use Rattle.snap_frame.specs.declared.entries.SegmentValue.{SegmentValue}
 use Rattle.snap_frame.specs.declared.entries.SegmentStatus.{SegmentStatus}
 use Rattle.snap_frame.specs.declared.reply.Reply.{Reply}
 use Rattle.snap_frame.specs.declared.reply.Reply.TheVariants.{Stored, Snapshot, Status, Refused}
-use Rattle.snap_frame.specs.Messages.{max_payload, value_bytes, status_bytes, IsValue, says, IsInLimits}
+use Rattle.snap_frame.specs.Messages.{
+  max_payload,
+  value_bytes,
+  status_bytes,
+  IsValue,
+  says,
+  IsInLimits,
+}
 
 -- each status has nine bytes
 pub length-statuses : (es : List SegmentStatus) → length (flat_map status_bytes es) ≡ 9 * length es
 length-statuses [] = refl
-length-statuses (e ∷ es) = omega (arith, length-append (status_bytes e) (flat_map status_bytes es), length-statuses es)
+length-statuses (e ∷ es) =
+    omega (arith, length-append (status_bytes e) (flat_map status_bytes es), length-statuses es)
 
 -- each value has at most 4,092 bytes with its head
-values_fit : (vs : List SegmentValue) → All IsValue vs → length (flat_map value_bytes vs) ≤ 4092 * length vs
+values_fit : (vs : List SegmentValue) → All IsValue vs
+    → length (flat_map value_bytes vs) ≤ 4092 * length vs
 values_fit [] each = omega arith
 values_fit (v ∷ vs) each =
-    omega (arith, length-append (value_bytes v) (flat_map value_bytes vs), (each 0 v (omega arith)).1, values_fit vs (All-tail IsValue v vs each))
+    omega (
+      arith,
+      length-append (value_bytes v) (flat_map value_bytes vs),
+      (each 0 v (omega arith)).1,
+      values_fit vs (All-tail IsValue v vs each),
+    )
 
 -- the payload of a reply fits a frame
 pub says_fits : (r : Reply) → IsInLimits r → length (says r) ≤ max_payload

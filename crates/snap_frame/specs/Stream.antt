@@ -1,9 +1,30 @@
 -- What a feed holds, and what it answers.
 use Rattle.bytes.specs.Filled.{Filled}
 use Rattle.tokio_util.specs.Codec.LengthDelimited.{codec_layout}
-use Rattle.std.specs.Prelude.{◌≡◌, ℕ, get_or, ◌≤◌, ◌<◌, ◌^◌, ◌⊎◌, List, [], ◌∷◌, ◌++◌, length, Option, Some, None, Result, Ok, Err}
+use Rattle.std.specs.Prelude.{
+  ◌≡◌,
+  ℕ,
+  get_or,
+  ◌≤◌,
+  ◌<◌,
+  ◌^◌,
+  ◌⊎◌,
+  List,
+  [],
+  ◌∷◌,
+  ◌++◌,
+  length,
+  Option,
+  Some,
+  None,
+  Result,
+  Ok,
+  Err,
+}
 use Rattle.std.specs.Int.{w32, to_be_bytes}
-use Rattle.tokio_util.specs.declared.codec.length_delimited.LengthDelimitedCodec.{LengthDelimitedCodec}
+use Rattle.tokio_util.specs.declared.codec.length_delimited.LengthDelimitedCodec.{
+  LengthDelimitedCodec,
+}
 use Rattle.tokio_util.specs.declared.codec.length_delimited.DecodeState.{DecodeState}
 use Rattle.tokio_util.specs.declared.codec.length_delimited.DecodeState.TheVariants.{Head, Data}
 use Rattle.tokio_util.specs.Codec.LengthField.{Layout, default_layout}
@@ -39,7 +60,8 @@ pub record HasFrame (bytes x rest : List ℕ) : Type 0 where
 -- a length above the limit stands first in the bytes
 abbrev pub HasLongLength : List ℕ → Type 0
 HasLongLength bytes =
-    (n : ℕ) × (rest : List ℕ) × (max_payload < n) × (n < 2 ^ 32) × (bytes ≡ to_be_bytes w32 n ++ rest)
+    (n : ℕ) × (rest : List ℕ) × (max_payload < n) × (n < 2 ^ 32)
+    × (bytes ≡ to_be_bytes w32 n ++ rest)
 
 -- neither stands first: more bytes are needed
 pub record IsPartial (bytes : List ℕ) : Type 0 where
@@ -92,24 +114,26 @@ TakesOff held (Ok None) new = IsPartial held × (new ≡ record { bytes = held; 
 TakesOff held (Err failure) new = Fails held failure new
 
 -- What `next` of a feed answers over the bytes held, and what it leaves.
-abbrev pub Next : List ℕ → Result (Option Request) Refusal → Held → Type 0
-Next held (Ok (Some r)) new =
+abbrev pub IsNextRequest : List ℕ → Result (Option Request) Refusal → Held → Type 0
+IsNextRequest held (Ok (Some r)) new =
     (x : List ℕ) × HasFrame held x new.bytes × Asks x r × (new.failure ≡ None)
-Next held (Ok None) new = IsPartial held × (new ≡ record { bytes = held; failure = None })
-Next held (Err why) new =
-    ((why ≡ refusals.Malformed) × (x : List ℕ) × HasFrame held x new.bytes × Malformed x × (new.failure ≡ None))
+IsNextRequest held (Ok None) new = IsPartial held × (new ≡ record { bytes = held; failure = None })
+IsNextRequest held (Err why) new =
+    ((why ≡ refusals.Malformed) × (x : List ℕ) × HasFrame held x new.bytes × Malformed x
+    × (new.failure ≡ None))
     ⊎ ((failure : Failure) × (why ≡ refusal_of failure) × Fails held failure new)
 
 -- What `next` of a reply feed answers over the bytes held, and what it leaves.
-abbrev pub NextReply : List ℕ → Result (Option Reply) ReplyFault → Held → Type 0
-NextReply held (Ok (Some r)) new =
+abbrev pub IsNextReply : List ℕ → Result (Option Reply) ReplyFault → Held → Type 0
+IsNextReply held (Ok (Some r)) new =
     (x : List ℕ) × HasFrame held x new.bytes × Says x r × (new.failure ≡ None)
-NextReply held (Ok None) new = IsPartial held × (new ≡ record { bytes = held; failure = None })
-NextReply held (Err BadReply) new =
+IsNextReply held (Ok None) new = IsPartial held × (new ≡ record { bytes = held; failure = None })
+IsNextReply held (Err BadReply) new =
     (x : List ℕ) × HasFrame held x new.bytes × SaysNothing x × (new.failure ≡ None)
-NextReply held (Err (Failed failure)) new = Fails held failure new
+IsNextReply held (Err (Failed failure)) new = Fails held failure new
 
 -- no frame is a beginning of another frame
 abbrev pub NoFrameBeginsAnother : Type 0
 NoFrameBeginsAnother =
-    (x y rest : List ℕ) → length x ≤ max_payload → length y ≤ max_payload → frame x ++ rest ≡ frame y → x ≡ y
+    (x y rest : List ℕ) → length x ≤ max_payload → length y ≤ max_payload
+    → frame x ++ rest ≡ frame y → x ≡ y

@@ -1,5 +1,24 @@
 //! The entries of a snapshot and of a status: one for each segment, in order of segment.
-ghost use Rattle.std.specs.Prelude.{◌≡◌, ◌+◌, ◌<◌, ◌≤◌, ◌^◌, ℕ, List, [], ◌∷◌, ◌++◌, length, drop, flat_map, All, OnOk, IfOk, IfSome, IfNone};
+ghost use Rattle.std.specs.Prelude.{
+  ◌≡◌,
+  ◌+◌,
+  ◌<◌,
+  ◌≤◌,
+  ◌^◌,
+  ℕ,
+  List,
+  [],
+  ◌∷◌,
+  ◌++◌,
+  length,
+  drop,
+  flat_map,
+  All,
+  OnOk,
+  IfOk,
+  IfSome,
+  IfNone,
+};
 ghost use Rattle.std.specs.Int.{w32, w64, to_be_bytes};
 ghost use Rattle.snap_frame.specs.Messages.{value_bytes, status_bytes, IsValue, IsStatus};
 

@@ -1,7 +1,32 @@
 //! Requests out of a stream that comes in pieces.
-ghost use Rattle.std.specs.Prelude.{◌≡◌, ◌++◌, ◌↔◌, ◌⊎◌, ℕ, IsTrue, List, Some, None, Ok, Err, OnOk, OnErr, IfSome, IfErr};
+ghost use Rattle.std.specs.Prelude.{
+  ◌≡◌,
+  ◌++◌,
+  ◌↔◌,
+  ◌⊎◌,
+  ℕ,
+  IsTrue,
+  List,
+  Some,
+  None,
+  Ok,
+  Err,
+  OnOk,
+  OnErr,
+  IfSome,
+  IfErr,
+};
 ghost use Rattle.snap_frame.specs.Messages.{Malformed};
-ghost use Rattle.snap_frame.specs.Stream.{Held, empty, Next, refusal_of, HasFrame, HasLongLength, IsPartial, NoFrameBeginsAnother};
+ghost use Rattle.snap_frame.specs.Stream.{
+  Held,
+  empty,
+  IsNextRequest,
+  refusal_of,
+  HasFrame,
+  HasLongLength,
+  IsPartial,
+  NoFrameBeginsAnother,
+};
 
 use crate::frame_buffer::{Failure, FrameBuffer};
 use crate::request::{Request, read_request};
@@ -53,8 +78,8 @@ impl Feed {
         }
     }
 
-    /// Takes the first whole frame off and gives its request, or answers `None` where more bytes are
-    /// needed.
+    /// Takes the first whole frame off and gives its request, or answers `None` where more bytes
+    /// are needed.
     ///
     /// - `Malformed` where its payload is no request: the frame is taken off, and the feed goes on.
     /// - `TooLarge` where a length above [`MAX_PAYLOAD`](crate::MAX_PAYLOAD) stands first: the feed
@@ -65,7 +90,7 @@ impl Feed {
         ensures failed { IfSome self.old.failure (λ f. (result ≡ Err (refusal_of f))
             × (self.new ≡ self.old)) }
         // What it answers, and what it leaves.
-        ensures next { self.old.failure ≡ None → Next self.old.bytes result self.new }
+        ensures next { self.old.failure ≡ None → IsNextRequest self.old.bytes result self.new }
         // None comes exactly where no whole frame and no length above the limit stands first.
         ensures none { self.old.failure ≡ None
             → (result ≡ Ok None ↔ IsPartial self.old.bytes) }
@@ -93,7 +118,8 @@ impl Feed {
         }
     }
 
-    /// Whether it hasn't failed and no byte of an unfinished frame is held: here the stream may end.
+    /// Whether it hasn't failed and no byte of an unfinished frame is held: here the stream may
+    /// end.
     pub fn is_between(&self) -> bool
         ensures { IsTrue result ↔ (self.now ≡ empty) }
     {

@@ -1,5 +1,27 @@
 //! Frames cut out of a stream that comes in pieces.
-ghost use Rattle.std.specs.Prelude.{◌≡◌, ◌≤◌, ◌<◌, ℕ, ◌++◌, ◌↔◌, IsTrue, List, [], get_or, length, Some, None, Ok, Err, OnOk, OnErr, IfOk, IfSome, IfErr, IfNone};
+ghost use Rattle.std.specs.Prelude.{
+  ◌≡◌,
+  ◌≤◌,
+  ◌<◌,
+  ℕ,
+  ◌++◌,
+  ◌↔◌,
+  IsTrue,
+  List,
+  [],
+  get_or,
+  length,
+  Some,
+  None,
+  Ok,
+  Err,
+  OnOk,
+  OnErr,
+  IfOk,
+  IfSome,
+  IfErr,
+  IfNone,
+};
 ghost use Rattle.snap_frame.specs.Stream.{Held, empty, TakesOff, Found, IsBytes, Ready, pending};
 
 use crate::frame::MAX_PAYLOAD;
@@ -116,7 +138,8 @@ fn next_payload(
     bytes: &mut BytesMut,
 ) -> Result<Option<BytesMut>, Failure>
     requires { Ready codec.old }
-    ensures found { Found (pending codec.old bytes.old.items) result (pending codec.new bytes.new.items) }
+    ensures found { Found (pending codec.old bytes.old.items) result
+        (pending codec.new bytes.new.items) }
     ensures ready { OnOk result (Ready codec.new) }
 {
     let _ = all_bytes(bytes);

@@ -3,7 +3,8 @@
 //!
 //! Nothing above this crate knows the grammar. A [`Feed`] takes the pieces of a stream as they come
 //! and gives the requests of its frames, in order; a [`ReplyFeed`] gives the replies. However the
-//! bytes were cut, the answers are the same. [`write_request`] and [`write_reply`] append one frame.
+//! bytes were cut, the answers are the same. [`write_request`] and [`write_reply`] append one
+//! frame.
 //!
 //! The words of the contracts stand in `specs/Messages.antt` (payloads and frames) and
 //! `specs/Stream.antt` (what stands first among the bytes that are held).

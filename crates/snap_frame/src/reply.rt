@@ -1,7 +1,32 @@
 //! Replies: what the server answers, and its payload.
-ghost use Rattle.std.specs.Prelude.{◌≡◌, ◌≤◌, ◌<◌, ◌^◌, ℕ, List, ◌++◌, ◌∷◌, length, drop, slice_index, OnOk, OnErr, IfOk, IfErr, IfSome, IfNone};
+ghost use Rattle.std.specs.Prelude.{
+  ◌≡◌,
+  ◌≤◌,
+  ◌<◌,
+  ◌^◌,
+  ℕ,
+  List,
+  ◌++◌,
+  ◌∷◌,
+  length,
+  drop,
+  slice_index,
+  OnOk,
+  OnErr,
+  IfOk,
+  IfErr,
+  IfSome,
+  IfNone,
+};
 ghost use Rattle.std.specs.Int.{w64, to_be_bytes};
-ghost use Rattle.snap_frame.specs.Messages.{max_payload, frame, says, Says, SaysNothing, IsInLimits};
+ghost use Rattle.snap_frame.specs.Messages.{
+  max_payload,
+  frame,
+  says,
+  Says,
+  SaysNothing,
+  IsInLimits,
+};
 
 use crate::code::refusal_of;
 use crate::entries::{

@@ -1,7 +1,30 @@
 //! Replies out of a stream that comes in pieces: the client's half.
-ghost use Rattle.std.specs.Prelude.{◌≡◌, ◌++◌, ◌↔◌, ◌⊎◌, ℕ, IsTrue, List, Some, None, Ok, Err, OnOk, OnErr, IfSome, IfErr};
+ghost use Rattle.std.specs.Prelude.{
+  ◌≡◌,
+  ◌++◌,
+  ◌↔◌,
+  ◌⊎◌,
+  ℕ,
+  IsTrue,
+  List,
+  Some,
+  None,
+  Ok,
+  Err,
+  OnOk,
+  OnErr,
+  IfSome,
+  IfErr,
+};
 ghost use Rattle.snap_frame.specs.Messages.{SaysNothing};
-ghost use Rattle.snap_frame.specs.Stream.{Held, empty, NextReply, HasFrame, HasLongLength, IsPartial};
+ghost use Rattle.snap_frame.specs.Stream.{
+  Held,
+  empty,
+  IsNextReply,
+  HasFrame,
+  HasLongLength,
+  IsPartial,
+};
 
 use crate::frame_buffer::{Failure, FrameBuffer};
 use crate::reply::{Reply, read_reply};
@@ -68,7 +91,7 @@ impl ReplyFeed {
         ensures failed { IfSome self.old.failure (λ f. (result ≡ Err (ReplyFault.Failed f))
             × (self.new ≡ self.old)) }
         // What it answers, and what it leaves.
-        ensures next { self.old.failure ≡ None → NextReply self.old.bytes result self.new }
+        ensures next { self.old.failure ≡ None → IsNextReply self.old.bytes result self.new }
         // None comes exactly where no whole frame and no length above the limit stands first.
         ensures none { self.old.failure ≡ None
             → (result ≡ Ok None ↔ IsPartial self.old.bytes) }

@@ -1,5 +1,22 @@
 //! Requests: what a client asks, and its payload.
-ghost use Rattle.std.specs.Prelude.{◌≡◌, ◌<◌, ◌≤◌, ℕ, ◌++◌, ◌∷◌, List, length, drop, slice_index, OnOk, OnErr, IfOk, IfErr, IfSome, IfNone};
+ghost use Rattle.std.specs.Prelude.{
+  ◌≡◌,
+  ◌<◌,
+  ◌≤◌,
+  ℕ,
+  ◌++◌,
+  ◌∷◌,
+  List,
+  length,
+  drop,
+  slice_index,
+  OnOk,
+  OnErr,
+  IfOk,
+  IfErr,
+  IfSome,
+  IfNone,
+};
 ghost use Rattle.std.specs.Int.{w64, to_be_bytes};
 ghost use Rattle.snap_frame.specs.Messages.{max_payload, Asks, Malformed, payload, frame};
 

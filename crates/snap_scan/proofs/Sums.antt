@@ -1,5 +1,22 @@
 -- Sums of a function over the numbers below one.
-use Rattle.std.proofs.Common.{◌≡◌, ◌≢◌, ℕ, zero, suc, ◌+◌, ◌<◌, ◌≤◌, ◌⊎◌, inl, inr, ap, sym, ◌∙◌, subst, arith}
+use Rattle.std.proofs.Common.{
+  ◌≡◌,
+  ◌≢◌,
+  ℕ,
+  zero,
+  suc,
+  ◌+◌,
+  ◌<◌,
+  ◌≤◌,
+  ◌⊎◌,
+  inl,
+  inr,
+  ap,
+  sym,
+  ◌∙◌,
+  subst,
+  arith,
+}
 use Rattle.std.proofs.lemmas.Bool.{cases_lt, cases_eq}
 
 abbrev pub sum_below : (ℕ → ℕ) → ℕ → ℕ
@@ -13,7 +30,8 @@ sum_le f g (suc k) h =
     let rest : sum_below f k ≤ sum_below g k = sum_le f g k (λ i l. h i (omega arith)) in
     omega arith
 
-pub sum_cap : (f g : ℕ → ℕ) (k : ℕ) → ((i : ℕ) → i < k → f i ≤ g i + 1) → sum_below f k ≤ sum_below g k + k
+pub sum_cap : (f g : ℕ → ℕ) (k : ℕ) → ((i : ℕ) → i < k → f i ≤ g i + 1)
+    → sum_below f k ≤ sum_below g k + k
 sum_cap f g zero h = omega arith
 sum_cap f g (suc k) h =
     let here : f k ≤ g k + 1 = h k (omega arith) in
@@ -21,7 +39,8 @@ sum_cap f g (suc k) h =
     omega arith
 
 -- all are the same, or one differs
-pub same_or : (f g : ℕ → ℕ) (k : ℕ) → ((i : ℕ) → i < k → f i ≡ g i) ⊎ ((i : ℕ) × (i < k) × (f i ≢ g i))
+pub same_or : (f g : ℕ → ℕ) (k : ℕ) → ((i : ℕ) → i < k → f i ≡ g i)
+    ⊎ ((i : ℕ) × (i < k) × (f i ≢ g i))
 same_or f g zero = inl (λ i l. absurd (omega arith))
 same_or f g (suc k) =
     elim (same_or f g k) [
@@ -35,12 +54,14 @@ same_or f g (suc k) =
       | inr one ↦ inr (one.0, omega arith, one.2)
     ]
 
-pub sum_lt : (f g : ℕ → ℕ) (k at : ℕ) → at < k → f at < g at → ((i : ℕ) → i < k → f i ≤ g i) → sum_below f k < sum_below g k
+pub sum_lt : (f g : ℕ → ℕ) (k at : ℕ) → at < k → f at < g at → ((i : ℕ) → i < k → f i ≤ g i)
+    → sum_below f k < sum_below g k
 sum_lt f g zero at l d h = absurd (omega arith)
 sum_lt f g (suc k) at l d h =
     let here : f k ≤ g k = h k (omega arith) in
     elim (cases_lt at k) [
-      | inl lt ↦ (let rest : sum_below f k < sum_below g k = sum_lt f g k at lt d (λ i b. h i (omega arith)) in omega arith)
+      | inl lt ↦ (let rest : sum_below f k < sum_below g k =
+          sum_lt f g k at lt d (λ i b. h i (omega arith)) in omega arith)
       | inr ge ↦ (
           let e : at ≡ k = omega arith in
           let dk : f k < g k = subst (λ x. f x < g x) e d in

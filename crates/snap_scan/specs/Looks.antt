@@ -2,7 +2,8 @@
 -- the look at segment i of collect m is look m * n + i.
 use Rattle.std.specs.Prelude.{◌≡◌, ℕ, ◌+◌, ◌-◌, ◌*◌, ◌<◌, ◌≤◌, ◌⊎◌, List, length, slice_index}
 
--- the most looks that a scan makes: one collect, n more whose comparison fails, and one whose doesn't
+-- the most looks that a scan makes: one collect, n more whose comparison fails, and one whose
+-- doesn't
 abbrev pub most_looks : ℕ → ℕ
 most_looks n = n * (n + 2)
 

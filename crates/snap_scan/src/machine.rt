@@ -1,5 +1,29 @@
 //! What a scan keeps of the numbers that it was told: its first looks and its latest ones.
-ghost use Rattle.std.specs.Prelude.{◌≡◌, ℕ, ◌+◌, ◌*◌, ◌^◌, ◌<◌, ◌≤◌, ◌↔◌, ◌==◌, ◌||◌, List, [], ◌∷◌, ◌++◌, length, not, slice_index, slice_set, nat_lt, IsTrue, MatchBool, false, if◌then◌else◌};
+ghost use Rattle.std.specs.Prelude.{
+  ◌≡◌,
+  ℕ,
+  ◌+◌,
+  ◌*◌,
+  ◌^◌,
+  ◌<◌,
+  ◌≤◌,
+  ◌↔◌,
+  ◌==◌,
+  ◌||◌,
+  List,
+  [],
+  ◌∷◌,
+  ◌++◌,
+  length,
+  not,
+  slice_index,
+  slice_set,
+  nat_lt,
+  IsTrue,
+  MatchBool,
+  false,
+  if◌then◌else◌,
+};
 
 use crate::limits::MAX_SEGMENTS;
 use crate::next::Next;
@@ -88,7 +112,7 @@ impl Machine {
     /// Takes in a number that decides nothing by itself.
     fn keep(&mut self, segment: usize, number: u64)
         requires place { segment < MAX_SEGMENTS }
-        requires room { self.old.looks + 1 < 2 ^ 64 }
+        requires headroom { self.old.looks + 1 < 2 ^ 64 }
         ensures { self.new ≡ record self.old {
           looks = self.old.looks + 1;
           changed = self.old.changed || not (slice_index self.old.latest segment == number);

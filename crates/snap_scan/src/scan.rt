@@ -82,6 +82,3 @@ impl Scan {
         self.told = self.told.then(&number);
     }
 }
-
-#[cfg(test)]
-mod tests;

@@ -5,10 +5,10 @@ use Rattle.snap_script.specs.Player.{Played}
 use Rattle.snap_script.specs.Script.{Plays, AreEvents}
 use Rattle.snap_script.specs.Text.{world_text, line_text, reply_text, replies_text}
 use Rattle.snap_world.specs.NodePhases.{WorldPhases}
-use Rattle.snap_world.specs.Runs.{Moment}
+use Rattle.snap_world.specs.Runs.{Configuration}
 use Rattle.snap_world.proofs.Runs.{Run-append}
 use Rattle.snap_world.specs.Start.{start_state, start_world_phases, AreFormatted}
-use Rattle.snap_world.specs.Surface.{StandsFor, IsRun, moment, segments_of, phases_of, devices_of}
+use Rattle.snap_world.specs.Surface.{StandsFor, IsRun, configuration, segments_of, phases_of, devices_of}
 use Rattle.snap_world.specs.declared.event.Event.{Event}
 use Rattle.snap_world.specs.declared.event.Reply.{Reply}
 use Rattle.snap_world.specs.declared.world.World.{World}
@@ -31,7 +31,7 @@ played_on old new [] text line e reply out h is run printed = absurd h
 played_on old new (first ∷ lines) text line e reply out (x, stands, plays) is run printed =
     let step = run.run x stands in
     let n = segments_of old in
-    let more : Plays first (lines ++ line ∷ []) (text ++ out) n (moment new step.0) = record {
+    let more : Plays first (lines ++ line ∷ []) (text ++ out) n (configuration new step.0) = record {
       s = plays.s;
       is_world = plays.is_world;
       devices = plays.devices;
@@ -39,16 +39,16 @@ played_on old new (first ∷ lines) text line e reply out (x, stands, plays) is 
       events = plays.events ++ e ∷ [];
       are_events = AreEvents-push lines plays.events line e plays.are_events is;
       replies = plays.replies ++ reply ∷ [];
-      run = Run-append n _ plays.events plays.replies (moment old x) (e ∷ []) (reply ∷ []) (moment new step.0) plays.run step.1;
+      run = Run-append n _ plays.events plays.replies (configuration old x) (e ∷ []) (reply ∷ []) (configuration new step.0) plays.run step.1;
       printed = ap (λ t. t ++ out) plays.printed ∙ append_assoc (line_text (world_text n plays.s)) (replies_text plays.replies) out
           ∙ ap (λ t. line_text (world_text n plays.s) ++ t) (ap (λ o. replies_text plays.replies ++ o) printed ∙ sym (replies_text-push plays.replies reply));
     } in
-    (step.0, step.2, subst (λ m. Plays first (lines ++ line ∷ []) (text ++ out) m (moment new step.0)) (sym run.segments) more)
+    (step.0, step.2, subst (λ m. Plays first (lines ++ line ∷ []) (text ++ out) m (configuration new step.0)) (sym run.segments) more)
 
 pub played_first : (w : World) (line out : List ℕ) (n s : ℕ) → IsWorldLine line n s → segments_of w ≡ n → phases_of w ≡ start_world_phases n s → AreFormatted n (devices_of w) → StandsFor w (start_state n s)
     → out ≡ line_text (world_text n s) → Played (line ∷ []) out (Some w)
 played_first w line out n s is segments phases formatted stands printed =
-    let begun : Moment = record { state = start_state n s; phases = phases_of w; devices = devices_of w } in
+    let begun : Configuration = record { state = start_state n s; phases = phases_of w; devices = devices_of w } in
     let plays : Plays line [] out n begun = record {
       s = s;
       is_world = is;
@@ -57,7 +57,7 @@ played_first w line out n s is segments phases formatted stands printed =
       events = [];
       are_events = tt;
       replies = [];
-      run = ap (λ (q : WorldPhases). let m : Moment = record { state = start_state n s; phases = q; devices = devices_of w } in m) phases;
+      run = ap (λ (q : WorldPhases). let m : Configuration = record { state = start_state n s; phases = q; devices = devices_of w } in m) phases;
       printed = printed ∙ sym (append-nil (line_text (world_text n s)));
     } in
     (start_state n s, stands, subst (λ m. Plays line [] out m begun) (sym segments) plays)

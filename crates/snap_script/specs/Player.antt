@@ -7,7 +7,7 @@ use Rattle.snap_script.specs.declared.fault.LineFault.TheVariants.{NoWorld}
 use Rattle.snap_script.specs.declared.player.Halt.{Halt}
 use Rattle.snap_script.specs.declared.player.Halt.TheVariants.{Fault, NoMemory}
 use Rattle.snap_world.specs.Machine.{State}
-use Rattle.snap_world.specs.Surface.{StandsFor, moment, segments_of}
+use Rattle.snap_world.specs.Surface.{StandsFor, configuration, segments_of}
 use Rattle.snap_world.specs.declared.event.Event.{Event}
 use Rattle.snap_world.specs.declared.world.World.{World}
 
@@ -15,7 +15,7 @@ use Rattle.snap_world.specs.declared.world.World.{World}
 abbrev pub Played : List (List ℕ) → List ℕ → Option World → Type 0
 Played [] text None = text ≡ []
 Played (first ∷ lines) text (Some w) =
-    (y : State) × StandsFor w y × Plays first lines text (segments_of w) (moment w y)
+    (y : State) × StandsFor w y × Plays first lines text (segments_of w) (configuration w y)
 Played [] text (Some w) = ⊥
 Played (first ∷ lines) text None = ⊥
 

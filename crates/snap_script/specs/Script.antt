@@ -8,7 +8,7 @@ use Rattle.snap_script.specs.Fault.{IsUnreadable}
 use Rattle.snap_script.specs.declared.run.ScriptEnd.{ScriptEnd}
 use Rattle.snap_script.specs.declared.run.ScriptEnd.TheVariants.{Done, BadLine, NoMemory, WriteFailed}
 use Rattle.snap_disk.specs.Device.{Device}
-use Rattle.snap_world.specs.Runs.{Moment, Run}
+use Rattle.snap_world.specs.Runs.{Configuration, Run}
 use Rattle.snap_world.specs.Start.{start_state, start_world_phases, AreFormatted}
 use Rattle.snap_world.specs.declared.event.Event.{Event}
 use Rattle.snap_world.specs.declared.event.Reply.{Reply}
@@ -27,12 +27,12 @@ AreEvents [] (e ∷ events) = ⊥
 AreEvents (line ∷ lines) [] = ⊥
 
 -- a new world of n segments and s scanners, with these devices
-abbrev pub start_moment : ℕ → ℕ → List Device → Moment
-start_moment n s devices = record { state = start_state n s; phases = start_world_phases n s; devices = devices }
+abbrev pub start_configuration : ℕ → ℕ → List Device → Configuration
+start_configuration n s devices = record { state = start_state n s; phases = start_world_phases n s; devices = devices }
 
 -- the first line makes a world of n segments and s scanners, and the others are events that may get replies, from a new such
--- world to moment b, which are printed as this text
-pub record Plays (first : List ℕ) (lines : List (List ℕ)) (text : List ℕ) (n : ℕ) (b : Moment) : Type 0 where
+-- world to configuration b, which are printed as this text
+pub record Plays (first : List ℕ) (lines : List (List ℕ)) (text : List ℕ) (n : ℕ) (b : Configuration) : Type 0 where
   pub s : ℕ
   pub is_world : IsWorldLine first n s
   pub devices : List Device
@@ -40,13 +40,13 @@ pub record Plays (first : List ℕ) (lines : List (List ℕ)) (text : List ℕ) 
   pub events : List Event
   pub are_events : AreEvents lines events
   pub replies : List Reply
-  pub run : Run n (start_moment n s devices) events replies b
+  pub run : Run n (start_configuration n s devices) events replies b
   pub printed : text ≡ line_text (world_text n s) ++ replies_text replies
 
 -- what a world may print for these lines
 abbrev pub MayPrint : List (List ℕ) → List ℕ → Type 0
 MayPrint [] text = text ≡ []
-MayPrint (first ∷ lines) text = (n : ℕ) × (b : Moment) × Plays first lines text n b
+MayPrint (first ∷ lines) text = (n : ℕ) × (b : Configuration) × Plays first lines text n b
 
 -- the writer holds more than before by what a world may print for these lines
 abbrev pub Prints : Option (List ℕ) → Option (List ℕ) → List (List ℕ) → Type 0

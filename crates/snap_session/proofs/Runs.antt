@@ -8,7 +8,8 @@ use Rattle.snap_session.specs.Talk.{frames, Answer, Run, Stays, Moves}
 pub frames-append : (xs ys : List (List ℕ)) → frames (xs ++ ys) ≡ frames xs ++ frames ys
 frames-append [] ys = refl
 frames-append (x ∷ xs) ys =
-    ap (λ zs. frame x ++ zs) (frames-append xs ys) ∙ sym (append_assoc (frame x) (frames xs) (frames ys))
+    ap (λ zs. frame x ++ zs) (frames-append xs ys)
+    ∙ sym (append_assoc (frame x) (frames xs) (frames ys))
 
 -- `between` joins
 abbrev pub Joins : {S : Type 0} → (S → S → Type 0) → Type 0
@@ -18,26 +19,37 @@ pub stays_joins : {S : Type 0} (a b c : S) → Stays a b → Stays b c → Stays
 stays_joins a b c one two = two ∙ one
 
 -- what moves before a run joins it
-pub run_after : {S : Type 0} (between : S → S → Type 0) (joins : Joins between) (gives : S → Request → Reply → S → Type 0) (a b c : S) (xs ys : List (List ℕ)) → between a b → Run between gives b xs ys c → Run between gives a xs ys c
+pub run_after : {S : Type 0} (between : S → S → Type 0) (joins : Joins between) (gives : S → Request
+    → Reply → S → Type 0) (a b c : S) (xs ys : List (List ℕ)) → between a b
+    → Run between gives b xs ys c → Run between gives a xs ys c
 run_after between joins gives a b c [] [] one two = joins a b c one two
 run_after between joins gives a b c [] (y ∷ ys) one two = absurd two
 run_after between joins gives a b c (x ∷ xs) [] one two = absurd two
 run_after between joins gives a b c (x ∷ xs) (y ∷ ys) one two =
     (two.0, two.1, joins a b two.0 one two.2, two.3, two.4)
 
-pub run_on : {S : Type 0} (between : S → S → Type 0) (joins : Joins between) (gives : S → Request → Reply → S → Type 0) (a b c : S) (xs ys vs ws : List (List ℕ)) → Run between gives a xs ys b → Run between gives b vs ws c → Run between gives a (xs ++ vs) (ys ++ ws) c
-run_on between joins gives a b c [] [] vs ws one two = run_after between joins gives a b c vs ws one two
+pub run_on : {S : Type 0} (between : S → S → Type 0) (joins : Joins between) (gives : S → Request
+    → Reply → S → Type 0) (a b c : S) (xs ys vs ws : List (List ℕ)) → Run between gives a xs ys b
+    → Run between gives b vs ws c → Run between gives a (xs ++ vs) (ys ++ ws) c
+run_on between joins gives a b c [] [] vs ws one two =
+    run_after between joins gives a b c vs ws one two
 run_on between joins gives a b c [] (y ∷ ys) vs ws one two = absurd one
 run_on between joins gives a b c (x ∷ xs) [] vs ws one two = absurd one
 run_on between joins gives a b c (x ∷ xs) (y ∷ ys) vs ws one two =
     (one.0, one.1, one.2, one.3, run_on between joins gives one.1 b c xs ys vs ws one.4 two)
 
-pub moves_joins : {S : Type 0} (gives : S → Request → Reply → S → Type 0) (a b c : S) → Moves gives a b → Moves gives b c → Moves gives a c
-moves_joins gives a b c one two =
-    (one.0 ++ two.0, one.1 ++ two.1, run_on Stays stays_joins gives a b c one.0 one.1 two.0 two.1 one.2 two.2)
+pub moves_joins : {S : Type 0} (gives : S → Request → Reply → S → Type 0) (a b c : S)
+    → Moves gives a b → Moves gives b c → Moves gives a c
+moves_joins gives a b c one two = (
+  one.0 ++ two.0,
+  one.1 ++ two.1,
+  run_on Stays stays_joins gives a b c one.0 one.1 two.0 two.1 one.2 two.2,
+)
 
 -- a run that nobody disturbs is one that others may disturb
-pub loosen : {S : Type 0} (gives : S → Request → Reply → S → Type 0) (a b : S) (xs ys : List (List ℕ)) → Run Stays gives a xs ys b → Run (Moves gives) gives a xs ys b
+pub loosen : {S : Type 0} (gives : S → Request → Reply → S
+    → Type 0) (a b : S) (xs ys : List (List ℕ)) → Run Stays gives a xs ys b
+    → Run (Moves gives) gives a xs ys b
 loosen gives a b [] [] one = ([], [], one)
 loosen gives a b [] (y ∷ ys) one = absurd one
 loosen gives a b (x ∷ xs) [] one = absurd one
@@ -45,7 +57,9 @@ loosen gives a b (x ∷ xs) (y ∷ ys) one =
     (one.0, one.1, ([], [], one.2), one.3, loosen gives one.1 b xs ys one.4)
 
 -- what moves behind a run joins it
-pub run_then : {S : Type 0} (between : S → S → Type 0) (joins : Joins between) (gives : S → Request → Reply → S → Type 0) (a b c : S) (xs ys : List (List ℕ)) → Run between gives a xs ys b → between b c → Run between gives a xs ys c
+pub run_then : {S : Type 0} (between : S → S → Type 0) (joins : Joins between) (gives : S → Request
+    → Reply → S → Type 0) (a b c : S) (xs ys : List (List ℕ)) → Run between gives a xs ys b
+    → between b c → Run between gives a xs ys c
 run_then between joins gives a b c [] [] one two = joins a b c one two
 run_then between joins gives a b c [] (y ∷ ys) one two = absurd one
 run_then between joins gives a b c (x ∷ xs) [] one two = absurd one

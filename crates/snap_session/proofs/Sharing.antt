@@ -9,21 +9,38 @@ use Rattle.snap_session.proofs.Going.{loosen}
 use Rattle.snap_session.proofs.Steps.{rests}
 use Rattle.snap_session.proofs.Turning.{turns_on, begins}
 
-pub turns_loosen : {S : Type 0} (gives : S → Request → Reply → S → Type 0) (s t : S) (old : Talk) (r0 r1 w0 w1 : Option (List ℕ)) (new : Talk) → Turns Stays gives s t old r0 r1 w0 w1 new → Turns (Moves gives) gives s t old r0 r1 w0 w1 new
+pub turns_loosen : {S : Type 0} (gives : S → Request → Reply → S
+    → Type 0) (s t : S) (old : Talk) (r0 r1 w0 w1 : Option (List ℕ)) (new : Talk)
+    → Turns Stays gives s t old r0 r1 w0 w1 new → Turns (Moves gives) gives s t old r0 r1 w0 w1 new
 turns_loosen gives s t old r0 r1 w0 w1 new one =
-    record { taken = one.taken; given = one.given; read = one.read; writes = one.writes; goes = loosen gives s t old one.taken one.given new one.goes }
+    record {
+      taken = one.taken;
+      given = one.given;
+      read = one.read;
+      writes = one.writes;
+      goes =
+          loosen gives s t old one.taken one.given new one.goes;
+    }
 
 -- a session begins on a shared service
-pub shares : {S : Type 0} (gives : S → Request → Reply → S → Type 0) (s : S) (t : Talk) (r w : Option (List ℕ)) → Turns (Moves gives) gives s s t r r w w t
+pub shares : {S : Type 0} (gives : S → Request → Reply → S
+    → Type 0) (s : S) (t : Talk) (r w : Option (List ℕ)) → Turns (Moves gives) gives s s t r r w w t
 shares gives s t r w = turns_loosen gives s s t r r w w t (begins gives s t r w)
 
 -- it has a turn
-pub has_turn : {S : Type 0} (gives : S → Request → Reply → S → Type 0) (s t u : S) (t0 t1 t2 : Talk) (r0 r1 r2 w0 w1 w2 : Option (List ℕ)) → Turns (Moves gives) gives s t t0 r0 r1 w0 w1 t1 → Turns Stays gives t u t1 r1 r2 w1 w2 t2 → Turns (Moves gives) gives s u t0 r0 r2 w0 w2 t2
+pub has_turn : {S : Type 0} (gives : S → Request → Reply → S
+    → Type 0) (s t u : S) (t0 t1 t2 : Talk) (r0 r1 r2 w0 w1 w2 : Option (List ℕ))
+    → Turns (Moves gives) gives s t t0 r0 r1 w0 w1 t1 → Turns Stays gives t u t1 r1 r2 w1 w2 t2
+    → Turns (Moves gives) gives s u t0 r0 r2 w0 w2 t2
 has_turn gives s t u t0 t1 t2 r0 r1 r2 w0 w1 w2 one two =
-    turns_on (Moves gives) (moves_joins gives) gives s t u t0 t1 t2 r0 r1 r2 w0 w1 w2 one (turns_loosen gives t u t1 r1 r2 w1 w2 t2 two)
+    turns_on (Moves gives) (moves_joins gives) gives s t u t0 t1 t2 r0 r1 r2 w0 w1 w2 one
+    (turns_loosen gives t u t1 r1 r2 w1 w2 t2 two)
 
 -- another one has a turn
-pub lets_turn : {S : Type 0} (gives : S → Request → Reply → S → Type 0) (s t u : S) (t0 t1 v0 v1 : Talk) (r0 r1 w0 w1 q0 q1 x0 x1 : Option (List ℕ)) → Turns (Moves gives) gives s t t0 r0 r1 w0 w1 t1 → Turns Stays gives t u v0 q0 q1 x0 x1 v1 → Turns (Moves gives) gives s u t0 r0 r1 w0 w1 t1
+pub lets_turn : {S : Type 0} (gives : S → Request → Reply → S
+    → Type 0) (s t u : S) (t0 t1 v0 v1 : Talk) (r0 r1 w0 w1 q0 q1 x0 x1 : Option (List ℕ))
+    → Turns (Moves gives) gives s t t0 r0 r1 w0 w1 t1 → Turns Stays gives t u v0 q0 q1 x0 x1 v1
+    → Turns (Moves gives) gives s u t0 r0 r1 w0 w1 t1
 lets_turn gives s t u t0 t1 v0 v1 r0 r1 w0 w1 q0 q1 x0 x1 one two =
     let o = one.goes in
     let w = two.goes in
@@ -39,7 +56,8 @@ lets_turn gives s t u t0 t1 v0 v1 r0 r1 w0 w1 q0 q1 x0 x1 one two =
             unsaid = o.unsaid;
             rest = o.rest;
             tail = o.tail;
-            run = run_then (Moves gives) (moves_joins gives) gives s t u o.payloads (o.replies ++ o.unsaid) o.run (w.payloads, w.replies ++ w.unsaid, w.run);
+            run = run_then (Moves gives) (moves_joins gives) gives s t u o.payloads (o.replies
+                ++ o.unsaid) o.run (w.payloads, w.replies ++ w.unsaid, w.run);
             cut = o.cut;
             said = o.said;
             phase = o.phase;

@@ -1,5 +1,27 @@
 -- Turns one after another.
-use Rattle.std.proofs.Common.{◌≡◌, ℕ, List, [], ◌++◌, Option, Some, None, refl, sym, ◌∙◌, ap, subst, append-nil, append_assoc, take, drop, length, length-append, arith, ◌≤◌}
+use Rattle.std.proofs.Common.{
+  ◌≡◌,
+  ℕ,
+  List,
+  [],
+  ◌++◌,
+  Option,
+  Some,
+  None,
+  refl,
+  sym,
+  ◌∙◌,
+  ap,
+  subst,
+  append-nil,
+  append_assoc,
+  take,
+  drop,
+  length,
+  length-append,
+  arith,
+  ◌≤◌,
+}
 use Rattle.std.specs.Io.KnownBytes.{Appends, Consumes, Keeps}
 use Rattle.snap_frame.specs.declared.request.Request.{Request}
 use Rattle.snap_frame.specs.declared.reply.Reply.{Reply}
@@ -11,71 +33,151 @@ use Rattle.snap_session.specs.Turns.{Turns, Sends}
 use Rattle.snap_session.proofs.Runs.{Joins, stays_joins}
 use Rattle.snap_session.proofs.Going.{goes_on}
 use Rattle.snap_session.proofs.Steps.{rests, takes, sends}
-use Rattle.snap_session.proofs.Known.{appends_none, appends_more, consumes_none, consumes_more, consumes_kept}
+use Rattle.snap_session.proofs.Known.{
+  appends_none,
+  appends_more,
+  consumes_none,
+  consumes_more,
+  consumes_kept,
+}
 
-pub begins : {S : Type 0} (gives : S → Request → Reply → S → Type 0) (s : S) (t : Talk) (r w : Option (List ℕ)) → Turns Stays gives s s t r r w w t
+pub begins : {S : Type 0} (gives : S → Request → Reply → S
+    → Type 0) (s : S) (t : Talk) (r w : Option (List ℕ)) → Turns Stays gives s s t r r w w t
 begins gives s t r w =
-    record { taken = []; given = []; read = consumes_none r; writes = appends_none w; goes = rests gives s t }
+    record {
+      taken = [];
+      given = [];
+      read = consumes_none r;
+      writes = appends_none w;
+      goes =
+          rests gives s t;
+    }
 
-pub turns_on : {S : Type 0} (between : S → S → Type 0) (joins : Joins between) (gives : S → Request → Reply → S → Type 0) (s t u : S) (t0 t1 t2 : Talk) (r0 r1 r2 w0 w1 w2 : Option (List ℕ)) → Turns between gives s t t0 r0 r1 w0 w1 t1 → Turns between gives t u t1 r1 r2 w1 w2 t2 → Turns between gives s u t0 r0 r2 w0 w2 t2
+pub turns_on : {S : Type 0} (between : S → S → Type 0) (joins : Joins between) (gives : S → Request
+    → Reply → S → Type 0) (s t u : S) (t0 t1 t2 : Talk) (r0 r1 r2 w0 w1 w2 : Option (List ℕ))
+    → Turns between gives s t t0 r0 r1 w0 w1 t1 → Turns between gives t u t1 r1 r2 w1 w2 t2
+    → Turns between gives s u t0 r0 r2 w0 w2 t2
 turns_on between joins gives s t u t0 t1 t2 r0 r1 r2 w0 w1 w2 one two =
     record {
       taken = one.taken ++ two.taken;
       given = one.given ++ two.given;
-      read = consumes_more r0 r1 r2 one.taken two.taken (one.taken ++ two.taken) one.read two.read refl;
-      writes = appends_more w0 w1 w2 one.given two.given (one.given ++ two.given) one.writes two.writes refl;
-      goes = goes_on between joins gives s t u t0 t1 t2 one.taken two.taken one.given two.given one.goes two.goes;
+      read = consumes_more r0 r1 r2 one.taken two.taken (one.taken
+          ++ two.taken) one.read two.read refl;
+      writes = appends_more w0 w1 w2 one.given two.given (one.given
+          ++ two.given) one.writes two.writes refl;
+      goes = goes_on between joins gives s t u t0 t1 t2 one.taken two.taken one.given two.given
+          one.goes two.goes;
     }
 
-pub then_turns : {S : Type 0} (gives : S → Request → Reply → S → Type 0) (s t u : S) (t0 t1 t2 : Talk) (r0 r1 r2 w0 w1 w2 : Option (List ℕ)) → Turns Stays gives s t t0 r0 r1 w0 w1 t1 → Turns Stays gives t u t1 r1 r2 w1 w2 t2 → Turns Stays gives s u t0 r0 r2 w0 w2 t2
+pub then_turns : {S : Type 0} (gives : S → Request → Reply → S
+    → Type 0) (s t u : S) (t0 t1 t2 : Talk) (r0 r1 r2 w0 w1 w2 : Option (List ℕ))
+    → Turns Stays gives s t t0 r0 r1 w0 w1 t1 → Turns Stays gives t u t1 r1 r2 w1 w2 t2
+    → Turns Stays gives s u t0 r0 r2 w0 w2 t2
 then_turns gives s t u t0 t1 t2 r0 r1 r2 w0 w1 w2 one two =
     turns_on Stays stays_joins gives s t u t0 t1 t2 r0 r1 r2 w0 w1 w2 one two
 
 same_came : (a b : Talk) → b.asked ≡ a.asked → b.held ≡ a.held → came b ≡ came a
 same_came a b one two =
-    ap (λ (q : Option Request). asked_bytes q ++ b.held) one ∙ ap (λ zs. asked_bytes a.asked ++ zs) two
+    ap (λ (q : Option Request). asked_bytes q ++ b.held) one
+    ∙ ap (λ zs. asked_bytes a.asked ++ zs) two
 
 -- then bytes that are owed are written
-pub then_sends : {S : Type 0} (gives : S → Request → Reply → S → Type 0) (s t : S) (t0 t1 t2 : Talk) (r0 r1 w0 w1 w2 : Option (List ℕ)) (sent : Sent) → Turns Stays gives s t t0 r0 r1 w0 w1 t1 → Sends t1 t2 w1 w2 sent → Turns Stays gives s t t0 r0 r1 w0 w2 t2
+pub then_sends : {S : Type 0} (gives : S → Request → Reply → S
+    → Type 0) (s t : S) (t0 t1 t2 : Talk) (r0 r1 w0 w1 w2 : Option (List ℕ)) (sent : Sent)
+    → Turns Stays gives s t t0 r0 r1 w0 w1 t1 → Sends t1 t2 w1 w2 sent
+    → Turns Stays gives s t t0 r0 r1 w0 w2 t2
 then_sends gives s t t0 t1 t2 r0 r1 w0 w1 w2 sent one two =
     then_turns gives s t t t0 t1 t2 r0 r1 r1 w0 w1 w2 one
-    (record { taken = []; given = two.given; read = consumes_none r1; writes = two.writes; goes = sends gives t t1 two.given t2 two.owed (same_came t1 t2 two.asked two.held) two.over })
+    (record {
+      taken = [];
+      given = two.given;
+      read = consumes_none r1;
+      writes = two.writes;
+      goes =
+          sends gives t t1 two.given t2 two.owed (same_came t1 t2 two.asked two.held) two.over;
+    })
 
 -- then frames are answered
-pub then_answers : {S : Type 0} (gives : S → Request → Reply → S → Type 0) (s t u : S) (t0 t1 t2 : Talk) (r0 r1 w0 w1 : Option (List ℕ)) → Turns Stays gives s t t0 r0 r1 w0 w1 t1 → Goes Stays gives t u t1 [] [] t2 → Turns Stays gives s u t0 r0 r1 w0 w1 t2
+pub then_answers : {S : Type 0} (gives : S → Request → Reply → S
+    → Type 0) (s t u : S) (t0 t1 t2 : Talk) (r0 r1 w0 w1 : Option (List ℕ))
+    → Turns Stays gives s t t0 r0 r1 w0 w1 t1 → Goes Stays gives t u t1 [] [] t2
+    → Turns Stays gives s u t0 r0 r1 w0 w1 t2
 then_answers gives s t u t0 t1 t2 r0 r1 w0 w1 one two =
     then_turns gives s t u t0 t1 t2 r0 r1 r1 w0 w1 w1 one
-    (record { taken = []; given = []; read = consumes_none r1; writes = appends_none w1; goes = two })
+    (record {
+      taken = [];
+      given = [];
+      read = consumes_none r1;
+      writes = appends_none w1;
+      goes =
+          two;
+    })
 
 -- then a piece is read and taken in
-pub then_takes : {S : Type 0} (gives : S → Request → Reply → S → Type 0) (s t : S) (t0 t1 t2 : Talk) (r0 r1 r2 w0 w1 : Option (List ℕ)) (piece : List ℕ) → Turns Stays gives s t t0 r0 r1 w0 w1 t1 → t1.over ≡ None → Consumes r1 r2 piece → HasTaken t1 piece t2 → Turns Stays gives s t t0 r0 r2 w0 w1 t2
+pub then_takes : {S : Type 0} (gives : S → Request → Reply → S
+    → Type 0) (s t : S) (t0 t1 t2 : Talk) (r0 r1 r2 w0 w1 : Option (List ℕ)) (piece : List ℕ)
+    → Turns Stays gives s t t0 r0 r1 w0 w1 t1 → t1.over ≡ None → Consumes r1 r2 piece
+    → HasTaken t1 piece t2 → Turns Stays gives s t t0 r0 r2 w0 w1 t2
 then_takes gives s t t0 t1 t2 r0 r1 r2 w0 w1 piece one going read taken =
     then_turns gives s t t t0 t1 t2 r0 r1 r2 w0 w1 w1 one
-    (record { taken = piece; given = []; read = read; writes = appends_none w1; goes = takes gives t t1 piece t2 going taken })
+    (record {
+      taken = piece;
+      given = [];
+      read = read;
+      writes = appends_none w1;
+      goes =
+          takes gives t t1 piece t2 going taken;
+    })
 
 -- then a read gives nothing
-pub then_keeps : {S : Type 0} (gives : S → Request → Reply → S → Type 0) (s t : S) (t0 t1 : Talk) (r0 r1 r2 w0 w1 : Option (List ℕ)) → Turns Stays gives s t t0 r0 r1 w0 w1 t1 → Keeps r1 r2 → Turns Stays gives s t t0 r0 r2 w0 w1 t1
+pub then_keeps : {S : Type 0} (gives : S → Request → Reply → S
+    → Type 0) (s t : S) (t0 t1 : Talk) (r0 r1 r2 w0 w1 : Option (List ℕ))
+    → Turns Stays gives s t t0 r0 r1 w0 w1 t1 → Keeps r1 r2
+    → Turns Stays gives s t t0 r0 r2 w0 w1 t1
 then_keeps gives s t t0 t1 r0 r1 r2 w0 w1 one kept =
-    record { taken = one.taken; given = one.given; read = consumes_kept r0 r1 r2 one.taken one.read kept; writes = one.writes; goes = one.goes }
+    record {
+      taken = one.taken;
+      given = one.given;
+      read =
+          consumes_kept r0 r1 r2 one.taken one.read kept;
+      writes = one.writes;
+      goes = one.goes;
+    }
 
-pub then_ends : {S : Type 0} (gives : S → Request → Reply → S → Type 0) (s t : S) (t0 t1 : Talk) (r0 r1 r2 w0 w1 : Option (List ℕ)) (piece : List ℕ) → Turns Stays gives s t t0 r0 r1 w0 w1 t1 → Consumes r1 r2 piece → piece ≡ [] → Turns Stays gives s t t0 r0 r2 w0 w1 t1
+pub then_ends : {S : Type 0} (gives : S → Request → Reply → S
+    → Type 0) (s t : S) (t0 t1 : Talk) (r0 r1 r2 w0 w1 : Option (List ℕ)) (piece : List ℕ)
+    → Turns Stays gives s t t0 r0 r1 w0 w1 t1 → Consumes r1 r2 piece → piece ≡ []
+    → Turns Stays gives s t t0 r0 r2 w0 w1 t1
 then_ends gives s t t0 t1 r0 r1 r2 w0 w1 piece one read none =
-    record { taken = one.taken; given = one.given; read = consumes_more r0 r1 r2 one.taken piece one.taken one.read read (sym (append-nil one.taken) ∙ ap (λ zs. one.taken ++ zs) (sym none)); writes = one.writes; goes = one.goes }
+    record {
+      taken = one.taken;
+      given = one.given;
+      read =
+          consumes_more r0 r1 r2 one.taken piece one.taken one.read read (sym (append-nil one.taken)
+          ∙ ap (λ zs. one.taken ++ zs) (sym none));
+      writes = one.writes;
+      goes = one.goes;
+    }
 
 -- one more write
-pub sends_more : (old mid new : Talk) (w0 w1 w2 : Option (List ℕ)) (n : ℕ) (buf : List ℕ) → Sends old mid w0 w1 Blocked → buf ≡ mid.owed → Appends w1 w2 (take n buf) → new ≡ record mid { owed = drop n mid.owed } → Sends old new w0 w2 Blocked
+pub sends_more : (old mid new : Talk) (w0 w1 w2 : Option (List ℕ)) (n : ℕ) (buf : List ℕ)
+    → Sends old mid w0 w1 Blocked → buf ≡ mid.owed → Appends w1 w2 (take n buf)
+    → new ≡ record mid { owed = drop n mid.owed } → Sends old new w0 w2 Blocked
 sends_more old mid new w0 w1 w2 n buf one same wrote is =
     record {
       given = one.given ++ take n mid.owed;
       owed =
-          one.owed ∙ ap (λ zs. one.given ++ zs) (sym (take-append-drop n mid.owed)) ∙ sym (append_assoc one.given (take n mid.owed) (drop n mid.owed))
+          one.owed ∙ ap (λ zs. one.given ++ zs) (sym (take-append-drop n mid.owed))
+          ∙ sym (append_assoc one.given (take n mid.owed) (drop n mid.owed))
           ∙ ap (λ zs. (one.given ++ take n mid.owed) ++ zs) (sym (ap (λ (z : Talk). z.owed) is));
       asked = ap (λ (z : Talk). z.asked) is ∙ one.asked;
       held = ap (λ (z : Talk). z.held) is ∙ one.held;
       over = ap (λ (z : Talk). z.over) is ∙ one.over;
-      writes = appends_more w0 w1 w2 one.given (take n mid.owed) (one.given ++ take n mid.owed) one.writes (subst (λ zs. Appends w1 w2 (take n zs)) same wrote) refl;
+      writes = appends_more w0 w1 w2 one.given (take n mid.owed) (one.given
+          ++ take n mid.owed) one.writes (subst (λ zs. Appends w1 w2 (take n zs)) same wrote) refl;
       all = λ wrong. absurd cc;
     }
 
-pub few_left : (old given new : List ℕ) → old ≡ given ++ new → length old ≤ 131540 → length new ≤ 131540
+pub few_left : (old given new : List ℕ) → old ≡ given ++ new → length old ≤ 131540
+    → length new ≤ 131540
 few_left old given new is few = omega (arith, ap length is, length-append given new)

@@ -4,14 +4,24 @@ use Rattle.snap_frame.specs.Messages as messages
 use Rattle.snap_frame.specs.Stream.{IsPartial, HasFrame, HasLongLength}
 use Rattle.snap_frame.specs.declared.frame_buffer.Failure.TheVariants as failures
 use Rattle.snap_session.specs.declared.session.Heard.{Heard}
-use Rattle.snap_session.specs.declared.session.Heard.TheVariants.{Nothing, Asked, Malformed, TooLarge, NoMemory}
+use Rattle.snap_session.specs.declared.session.Heard.TheVariants.{
+  Nothing,
+  Asked,
+  Malformed,
+  TooLarge,
+  NoMemory,
+}
 use Rattle.snap_session.specs.Talk.{Talk}
 
 abbrev pub Hears : Talk → Heard → Talk → Type 0
 Hears old Nothing new = IsPartial old.held × (new ≡ old)
 Hears old (Asked q) new =
-    (x : List ℕ) × HasFrame old.held x new.held × messages.Asks x q × (new.owed ≡ old.owed) × (new.over ≡ None) × (new.asked ≡ old.asked)
+    (x : List ℕ) × HasFrame old.held x new.held × messages.Asks x q × (new.owed ≡ old.owed)
+    × (new.over ≡ None) × (new.asked ≡ old.asked)
 Hears old Malformed new =
-    (x : List ℕ) × HasFrame old.held x new.held × messages.Malformed x × (new.owed ≡ old.owed) × (new.over ≡ None) × (new.asked ≡ old.asked)
-Hears old TooLarge new = HasLongLength old.held × (new ≡ record old { over = Some failures.TooLarge })
-Hears old NoMemory new = (new.owed ≡ old.owed) × (new.over ≡ Some failures.NoMemory) × (new.asked ≡ old.asked)
+    (x : List ℕ) × HasFrame old.held x new.held × messages.Malformed x × (new.owed ≡ old.owed)
+    × (new.over ≡ None) × (new.asked ≡ old.asked)
+Hears old TooLarge new = HasLongLength old.held
+    × (new ≡ record old { over = Some failures.TooLarge })
+Hears old NoMemory new = (new.owed ≡ old.owed) × (new.over ≡ Some failures.NoMemory)
+    × (new.asked ≡ old.asked)

@@ -1,5 +1,21 @@
 -- What a session reads, answers and owes.
-use Rattle.std.specs.Prelude.{◌≡◌, ℕ, ◌≤◌, ◌⊎◌, List, [], ◌∷◌, ◌++◌, length, Option, Some, None, Bool, true, false}
+use Rattle.std.specs.Prelude.{
+  ◌≡◌,
+  ℕ,
+  ◌≤◌,
+  ◌⊎◌,
+  List,
+  [],
+  ◌∷◌,
+  ◌++◌,
+  length,
+  Option,
+  Some,
+  None,
+  Bool,
+  true,
+  false,
+}
 use Rattle.snap_frame.specs.declared.request.Request.{Request}
 use Rattle.snap_frame.specs.Messages.{max_payload, payload, frame, Asks, Malformed, says}
 use Rattle.snap_frame.specs.Stream.{HasLongLength}
@@ -9,8 +25,8 @@ use Rattle.snap_frame.specs.declared.frame_buffer.Failure.{Failure}
 use Rattle.snap_frame.specs.declared.frame_buffer.Failure.TheVariants.{TooLarge, NoMemory}
 use Rattle.snap_disk.specs.declared.refusal.Refusal.TheVariants as refusals
 
--- a request that was handed over, the bytes that came behind it, the bytes that are owed, and why no
--- more are taken
+-- a request that was handed over, the bytes that came behind it, the bytes that are owed, and why
+-- no more are taken
 pub record Talk : Type 0 where
   pub asked : Option Request
   pub held : List ℕ
@@ -41,15 +57,18 @@ abbrev pub frames : List (List ℕ) → List ℕ
 frames [] = []
 frames (x ∷ xs) = frame x ++ frames xs
 
--- a service in this state answers the payload so: a request by a reply of its own, any other one is refused
--- as malformed
-abbrev pub Answer : {S : Type 0} → (S → Request → Reply → S → Type 0) → S → List ℕ → List ℕ → S → Type 0
+-- a service in this state answers the payload so: a request by a reply of its own, any other one is
+-- refused as malformed
+abbrev pub Answer : {S : Type 0} → (S → Request → Reply → S → Type 0) → S → List ℕ → List ℕ → S
+    → Type 0
 Answer {S} gives old x y new =
-    ((q : Request) × (r : Reply) × Asks x q × gives old q r new × (y ≡ says r)) ⊎ (Malformed x × (new ≡ old) × (y ≡ refused_malformed))
+    ((q : Request) × (r : Reply) × Asks x q × gives old q r new × (y ≡ says r))
+    ⊎ (Malformed x × (new ≡ old) × (y ≡ refused_malformed))
 
 -- The payloads are answered so, one after another. Between two of them, and before and behind all,
 -- the service may move by `between`.
-abbrev pub Run : {S : Type 0} → (S → S → Type 0) → (S → Request → Reply → S → Type 0) → S → List (List ℕ) → List (List ℕ) → S → Type 0
+abbrev pub Run : {S : Type 0} → (S → S → Type 0) → (S → Request → Reply → S → Type 0) → S
+    → List (List ℕ) → List (List ℕ) → S → Type 0
 Run between gives old [] [] new = between old new
 Run {S} between gives old (x ∷ xs) (y ∷ ys) new =
     (a : S) × (b : S) × between old a × Answer gives a x y b × Run between gives b xs ys new
@@ -64,19 +83,23 @@ Stays old new = new ≡ old
 abbrev pub Moves : {S : Type 0} → (S → Request → Reply → S → Type 0) → S → S → Type 0
 Moves gives old new = (xs : List (List ℕ)) × (ys : List (List ℕ)) × Run Stays gives old xs ys new
 
--- How it may go on: the bytes that are left of those that came, and the bytes that are owed behind all
--- replies. Once it is over nothing more is taken or answered.
-abbrev pub Phase : Option Failure → Option Failure → List ℕ → List (List ℕ) → List (List ℕ) → List (List ℕ) → List ℕ → List ℕ → List ℕ → Type 0
-Phase None None taken payloads replies unsaid rest held tail = (unsaid ≡ []) × (tail ≡ []) × (held ≡ rest)
+-- How it may go on: the bytes that are left of those that came, and the bytes that are owed behind
+-- all replies. Once it is over nothing more is taken or answered.
+abbrev pub Phase : Option Failure → Option Failure → List ℕ → List (List ℕ) → List (List ℕ)
+    → List (List ℕ) → List ℕ → List ℕ → List ℕ → Type 0
+Phase None None taken payloads replies unsaid rest held tail = (unsaid ≡ []) × (tail ≡ [])
+    × (held ≡ rest)
 Phase None (Some TooLarge) taken payloads replies unsaid rest held tail =
     (unsaid ≡ []) × (tail ≡ frame refused_too_large) × HasLongLength rest
-Phase None (Some NoMemory) taken payloads replies unsaid rest held tail = (length unsaid ≤ 1) × (tail ≡ [])
+Phase None (Some NoMemory) taken payloads replies unsaid rest held tail = (length unsaid ≤ 1)
+    × (tail ≡ [])
 Phase (Some a) new taken payloads replies unsaid rest held tail =
     (new ≡ Some a) × (taken ≡ []) × (payloads ≡ []) × (replies ≡ []) × (unsaid ≡ []) × (tail ≡ [])
 
 -- From one talk to another, with these bytes taken in and these given out: what came is cut into
 -- frames, which the service answers in order, and the replies' frames are owed.
-pub record Goes {S : Type 0} (between : S → S → Type 0) (gives : S → Request → Reply → S → Type 0) (s t : S) (old : Talk) (taken given : List ℕ) (new : Talk) : Type 0 where
+pub record Goes {S : Type 0} (between : S → S → Type 0) (gives : S → Request → Reply → S
+    → Type 0) (s t : S) (old : Talk) (taken given : List ℕ) (new : Talk) : Type 0 where
   pub payloads : List (List ℕ)
   pub replies : List (List ℕ)
   -- replies that no memory was left for
@@ -91,7 +114,8 @@ pub record Goes {S : Type 0} (between : S → S → Type 0) (gives : S → Reque
 -- a piece was taken in, or no memory was left
 abbrev pub HasTaken : Talk → List ℕ → Talk → Type 0
 HasTaken old piece new =
-    (new.owed ≡ old.owed) × (new.asked ≡ old.asked) × (((new.over ≡ None) × (new.held ≡ old.held ++ piece)) ⊎ (new.over ≡ Some NoMemory))
+    (new.owed ≡ old.owed) × (new.asked ≡ old.asked)
+    × (((new.over ≡ None) × (new.held ≡ old.held ++ piece)) ⊎ (new.over ≡ Some NoMemory))
 
 -- the frame of a payload is owed behind the rest, or no memory was left
 abbrev pub Owes : Talk → List ℕ → Talk → Bool → Type 0

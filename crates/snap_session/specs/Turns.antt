@@ -8,13 +8,21 @@ use Rattle.snap_session.specs.declared.turns.End.{End}
 use Rattle.snap_session.specs.declared.turns.End.TheVariants as ends
 use Rattle.snap_frame.specs.declared.frame_buffer.Failure.TheVariants as failures
 use Rattle.snap_session.specs.declared.turns.Turn.{Turn}
-use Rattle.snap_session.specs.declared.turns.Turn.TheVariants.{Again, NeedsInput, NeedsRoom, NeedsOutcome, Over}
+use Rattle.snap_session.specs.declared.turns.Turn.TheVariants.{
+  Again,
+  NeedsInput,
+  NeedsRoom,
+  NeedsOutcome,
+  Over,
+}
 use Rattle.snap_session.specs.declared.turns.Sent.{Sent}
 use Rattle.snap_session.specs.declared.turns.Sent.TheVariants.{All, Blocked, Failed}
 use Rattle.snap_session.specs.Talk.{Talk, Goes, Stays, start}
 
 -- Bytes that were read were taken in, and bytes that were given out were written.
-pub record Turns {S : Type 0} (between : S → S → Type 0) (gives : S → Request → Reply → S → Type 0) (s t : S) (old : Talk) (read_old read_new written_old written_new : Option (List ℕ)) (new : Talk) : Type 0 where
+pub record Turns {S : Type 0} (between : S → S → Type 0) (gives : S → Request → Reply → S
+    → Type 0) (s t : S) (old : Talk) (read_old read_new written_old written_new : Option (List ℕ))
+    (new : Talk) : Type 0 where
   pub taken : List ℕ
   pub given : List ℕ
   pub read : Consumes read_old read_new taken
@@ -22,7 +30,8 @@ pub record Turns {S : Type 0} (between : S → S → Type 0) (gives : S → Requ
   pub goes : Goes between gives s t old taken given new
 
 -- some bytes that were owed are written, all of them where nothing blocked or failed
-pub record Sends (old new : Talk) (written_old written_new : Option (List ℕ)) (sent : Sent) : Type 0 where
+pub record Sends (old new : Talk) (written_old written_new : Option (List ℕ))
+    (sent : Sent) : Type 0 where
   pub given : List ℕ
   pub owed : old.owed ≡ given ++ new.owed
   pub asked : new.asked ≡ old.asked
@@ -37,7 +46,8 @@ AllSaid t = (t.over ≡ None) × (t.owed ≡ []) × (t.asked ≡ None) × IsPart
 
 -- where a session stands at its end
 abbrev pub EndsAt : End → Talk → Option (List ℕ) → Type 0
-EndsAt ends.Closed t left = (t.over ≡ None) × (t.owed ≡ []) × (t.asked ≡ None) × (t.held ≡ []) × IsAtEnd left
+EndsAt ends.Closed t left = (t.over ≡ None) × (t.owed ≡ []) × (t.asked ≡ None) × (t.held ≡ [])
+    × IsAtEnd left
 EndsAt ends.Truncated t left = AllSaid t × (t.held ≡ [] → ⊥) × IsAtEnd left
 EndsAt ends.TooLarge t left = (t.over ≡ Some failures.TooLarge) × (t.owed ≡ [])
 EndsAt ends.ReadFailed t left = AllSaid t
@@ -53,7 +63,9 @@ StandsAt NeedsOutcome t left = (t.over ≡ None) × (t.owed ≡ []) × (t.asked 
 StandsAt (Over end) t left = EndsAt end t left
 
 -- A session from its start to its end, over a reader and a writer.
-pub record Serves {S : Type 0} (gives : S → Request → Reply → S → Type 0) (s t : S) (read_old read_new written_old written_new : Option (List ℕ)) (end : End) : Type 0 where
+pub record Serves {S : Type 0} (gives : S → Request → Reply → S
+    → Type 0) (s t : S) (read_old read_new written_old written_new : Option (List ℕ))
+    (end : End) : Type 0 where
   pub last : Talk
   pub turns : Turns Stays gives s t start read_old read_new written_old written_new last
   pub ends : EndsAt end last read_new

@@ -5,8 +5,8 @@ use Rattle.snap_session.specs.declared.session.Wants.{Wants}
 use Rattle.snap_session.specs.declared.session.Wants.TheVariants.{Bytes, Turn, Outcome}
 use Rattle.snap_session.specs.Talk.{Talk}
 
--- With no whole frame held it wants bytes. It wants an outcome only where it may, with a request handed
--- over; else none is.
+-- With no whole frame held it wants bytes. It wants an outcome only where it may, with a request
+-- handed over; else none is.
 abbrev pub WantsAt : Type 0 → Wants → Talk → Type 0
 WantsAt may Bytes t = (t.over ≡ None) × (t.asked ≡ None) × IsPartial t.held
 WantsAt may Turn t = t.asked ≡ None

@@ -1,5 +1,27 @@
 -- What was read and written, part by part.
-use Rattle.std.proofs.Common.{◌≡◌, ℕ, ◌+◌, ◌-◌, ◌≤◌, List, ◌++◌, length, take, drop, sym, ◌∙◌, ap, length-drop, drop_at, length-take-le, le_refl, append-nil, Option, Some, None}
+use Rattle.std.proofs.Common.{
+  ◌≡◌,
+  ℕ,
+  ◌+◌,
+  ◌-◌,
+  ◌≤◌,
+  List,
+  ◌++◌,
+  length,
+  take,
+  drop,
+  sym,
+  ◌∙◌,
+  ap,
+  length-drop,
+  drop_at,
+  length-take-le,
+  le_refl,
+  append-nil,
+  Option,
+  Some,
+  None,
+}
 use Rattle.std.proofs.Math.Seq.{take-length, take-add}
 use Rattle.std.proofs.lemmas.Slice.{take-put_mid_below}
 use Rattle.std.specs.Io.KnownBytes.{Consumes, IsAtEnd}
@@ -13,15 +35,21 @@ rest_is i xs =
     ap (λ k. take k (drop i xs)) (sym (length-drop i xs)) ∙ take-length (drop i xs)
 
 -- the first i bytes, and then n of `&xs[i..]`
-pub take_on : (i n : ℕ) (xs : List ℕ) → take i xs ++ take n (take (length xs - i) (drop i xs)) ≡ take (i + n) xs
+pub take_on : (i n : ℕ) (xs : List ℕ)
+    → take i xs ++ take n (take (length xs - i) (drop i xs)) ≡ take (i + n) xs
 take_on i n xs = ap (λ ys. take i xs ++ take n ys) (rest_is i xs) ∙ sym (take-add i n xs)
 
 -- the first i bytes, and then n that were put behind them
-pub take_put : (i k n : ℕ) (xs ys : List ℕ) → i ≤ length xs → n ≤ length ys → take i xs ++ take n ys ≡ take (i + n) (put_mid i k xs ys)
+pub take_put : (i k n : ℕ) (xs ys : List ℕ) → i ≤ length xs → n ≤ length ys
+    → take i xs ++ take n ys ≡ take (i + n) (put_mid i k xs ys)
 take_put i k n xs ys within fits =
-    let front : take i (put_mid i k xs ys) ≡ take i xs = take-put_mid_below i k xs ys i (le_refl i) within in
-    let behind : take n (drop i (put_mid i k xs ys)) ≡ take n ys = ap (take n) (drop_at (take i xs) (ys ++ post_of i k xs) i (length-take-le i xs within)) ∙ take-append-le n ys (post_of i k xs) fits in
-    sym (take-add i n (put_mid i k xs ys) ∙ ap (λ l. l ++ take n (drop i (put_mid i k xs ys))) front ∙ ap (λ l. take i xs ++ l) behind)
+    let front : take i (put_mid i k xs ys) ≡ take i xs =
+    take-put_mid_below i k xs ys i (le_refl i) within in
+    let behind : take n (drop i (put_mid i k xs ys)) ≡ take n ys =
+    ap (take n) (drop_at (take i xs) (ys ++ post_of i k xs) i (length-take-le i xs within))
+    ∙ take-append-le n ys (post_of i k xs) fits in
+    sym (take-add i n (put_mid i k xs ys) ∙ ap (λ l. l ++ take n (drop i (put_mid i k xs ys))) front
+    ∙ ap (λ l. take i xs ++ l) behind)
 
 -- a reader at its end had what it gave
 pub had : (old new : Option (List ℕ)) (v : List ℕ) → Consumes old new v → IsAtEnd new → Had old v

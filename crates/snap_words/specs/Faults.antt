@@ -1,11 +1,31 @@
 -- Which order and which fault goes with the words of a command.
-use Rattle.std.specs.Prelude.{◌≡◌, ◌⊎◌, ℕ, ◌<◌, ◌≤◌, ◌^◌, List, [], ◌∷◌, Option, Some, None, codes, option_and_then}
+use Rattle.std.specs.Prelude.{
+  ◌≡◌,
+  ◌≢◌,
+  ◌⊎◌,
+  ℕ,
+  ◌<◌,
+  ◌≤◌,
+  ◌^◌,
+  List,
+  [],
+  ◌∷◌,
+  Option,
+  Some,
+  None,
+  codes,
+  option_and_then,
+}
 use Rattle.std.specs.Str.Parse.{IsNumeral, digits_value, without_leading_plus}
 use Rattle.snap_slot.specs.declared.layout.TheConstants.{MAX_COUNT}
 use Rattle.clap.specs.Words.{IsAmong, Row, Text, fault_of, first_of, kind_of, subcommand_of}
 use Rattle.clap.specs.declared.error.Error.{Error}
 use Rattle.clap.specs.declared.error.kind.ErrorKind.{ErrorKind}
-use Rattle.clap.specs.declared.error.kind.ErrorKind.TheVariants.{DisplayHelp, DisplayVersion, OutOfMemory}
+use Rattle.clap.specs.declared.error.kind.ErrorKind.TheVariants.{
+  DisplayHelp,
+  DisplayVersion,
+  OutOfMemory,
+}
 use Rattle.snap_order.specs.declared.order.Order.{Order}
 use Rattle.snap_order.specs.declared.order.Order.TheVariants as order
 use Rattle.snap_order.specs.declared.order.FileOrder.{FileOrder}
@@ -16,7 +36,8 @@ use Rattle.snap_words.specs.declared.fault.WordFault.TheVariants as fault
 
 -- the word that the command has for this
 abbrev pub word_of : List Text → Text → Option Text
-word_of words what = option_and_then (λ (found : Text × List Row). first_of what found.1) (subcommand_of grammar_of words)
+word_of words what = option_and_then (λ (found : Text × List Row). first_of what found.1)
+    (subcommand_of grammar_of words)
 
 -- the word is a decimal number, with or without a plus sign, and n is its value
 abbrev pub IsNumberOf : Option Text → ℕ → Type 0
@@ -28,7 +49,8 @@ IsNumberOf (Some word) n =
 abbrev pub IsNoNumber : Option Text → Type 0
 IsNoNumber None = ⊥
 IsNoNumber (Some word) =
-    IsNumeral 10 (without_leading_plus word) × (digits_value 10 (without_leading_plus word) < 2 ^ 8) → ⊥
+    IsNumeral 10 (without_leading_plus word) × (digits_value 10 (without_leading_plus word) < 2 ^ 8)
+    → ⊥
 
 -- what is wrong with this word for a number
 abbrev pub IsNumberFault : Option Text → Text → WordFault → Type 0
@@ -39,8 +61,10 @@ IsNumberFault word what why = ⊥
 -- what is wrong with these words for an index and a count
 abbrev pub IsPlaceFault : (index count : Option Text) → WordFault → Type 0
 IsPlaceFault index count (fault.Count n) = IsNumberOf count n × ((n ≡ 0) ⊎ (MAX_COUNT < n))
-IsPlaceFault index count (fault.Index i n) = IsNumberOf index i × IsNumberOf count n × (n ≤ i) × (n ≤ MAX_COUNT)
-IsPlaceFault index count why = IsNumberFault index (codes "index") why ⊎ IsNumberFault count (codes "count") why
+IsPlaceFault index count (fault.Index i n) = IsNumberOf index i × IsNumberOf count n × (n ≤ i)
+    × (n ≤ MAX_COUNT)
+IsPlaceFault index count why = IsNumberFault index (codes "index") why
+    ⊎ IsNumberFault count (codes "count") why
 
 -- the kinds of what is asked for in place of an order
 abbrev pub IsRequest : ErrorKind → Type 0
@@ -59,26 +83,44 @@ IsCommandName name =
     (name ≡ codes "format") ⊎ ((name ≡ codes "put") ⊎ ((name ≡ codes "get")
     ⊎ ((name ≡ codes "check") ⊎ (name ≡ codes "script"))))
 
--- What is wrong with the words: what the grammar answers in place of a command, and of a command's place what is
--- wrong with it.
+-- the command takes this word behind its name
+abbrev pub HasWord : Text → Text → Type 0
+HasWord command what = (command ≢ codes "script") × ((what ≡ codes "file")
+    ⊎ ((command ≢ codes "check") × ((what ≡ codes "index") ⊎ (what ≡ codes "count"))))
+
+-- the command takes this word, and none was found
+abbrev pub IsMissing : List Text → Text → Type 0
+IsMissing words what = (command : Text) × (rows : List Row)
+    × (subcommand_of grammar_of words ≡ Some (command, rows)) × HasWord command what
+    × (word_of words what ≡ None)
+
+-- What is wrong with the words: what the grammar answers in place of a command, and of a command's
+-- place what is wrong with it.
 abbrev pub IsFaultOf : List Text → WordFault → Type 0
-IsFaultOf words (fault.Help error) = IsAmong (kind_of error) (fault_of grammar_of words) × IsRequest (kind_of error)
+IsFaultOf words (fault.Help error) = IsAmong (kind_of error) (fault_of grammar_of words)
+    × IsRequest (kind_of error)
 IsFaultOf words (fault.Words error) =
     IsAmong (kind_of error) (fault_of grammar_of words) × (IsRequest (kind_of error) → ⊥)
-IsFaultOf words (fault.Count n) = IsPlaceFault (word_of words (codes "index")) (word_of words (codes "count")) (fault.Count n)
-IsFaultOf words (fault.Index i n) = IsPlaceFault (word_of words (codes "index")) (word_of words (codes "count")) (fault.Index i n)
+IsFaultOf words (fault.Count n) =
+    IsPlaceFault (word_of words (codes "index")) (word_of words (codes "count")) (fault.Count n)
+IsFaultOf words (fault.Index i n) =
+    IsPlaceFault (word_of words (codes "index")) (word_of words (codes "count")) (fault.Index i n)
 IsFaultOf words (fault.Number name) = IsNoNumber (word_of words name.now)
-IsFaultOf words (fault.Missing name) = word_of words name.now ≡ None
+IsFaultOf words (fault.Missing name) = IsMissing words name.now
 IsFaultOf words fault.NoCommand =
-    (name : Text) (rows : List Row) → subcommand_of grammar_of words ≡ Some (name, rows) → IsCommandName name → ⊥
+    (name : Text) (rows : List Row) → subcommand_of grammar_of words ≡ Some (name, rows)
+    → IsCommandName name → ⊥
 IsFaultOf words fault.NotText = ⊥
 IsFaultOf words fault.Memory = Unit {0}
 
 -- an index and a count are those of their words
 abbrev pub AreFileNumbersOf : List Text → FileOrder → Type 0
-AreFileNumbersOf words (Format file i n) = IsNumberOf (word_of words (codes "index")) i × IsNumberOf (word_of words (codes "count")) n
-AreFileNumbersOf words (Put file i n) = IsNumberOf (word_of words (codes "index")) i × IsNumberOf (word_of words (codes "count")) n
-AreFileNumbersOf words (Get file i n) = IsNumberOf (word_of words (codes "index")) i × IsNumberOf (word_of words (codes "count")) n
+AreFileNumbersOf words (Format file i n) = IsNumberOf (word_of words (codes "index")) i
+    × IsNumberOf (word_of words (codes "count")) n
+AreFileNumbersOf words (Put file i n) = IsNumberOf (word_of words (codes "index")) i
+    × IsNumberOf (word_of words (codes "count")) n
+AreFileNumbersOf words (Get file i n) = IsNumberOf (word_of words (codes "index")) i
+    × IsNumberOf (word_of words (codes "count")) n
 AreFileNumbersOf words (Check file) = Unit {0}
 
 abbrev pub AreNumbersOf : List Text → Order → Type 0

@@ -82,7 +82,8 @@ fn place(matches: &ArgMatches<'_>) -> Result<(u8, u8), WordFault>
 /// The number that stands for this, from 0 to 255.
 fn number_of(matches: &ArgMatches<'_>, what: &'static str) -> Result<u8, WordFault>
     ensures number { IfOk result (IsNumberOf (first_value (found_of matches.now) what.now)) }
-    ensures fault { IfErr result (IsNumberFault (first_value (found_of matches.now) what.now) what.now) }
+    ensures fault { IfErr result
+        (IsNumberFault (first_value (found_of matches.now) what.now) what.now) }
 {
     let Some(word) = matches.get_str(what) else {
         return Err(WordFault::Missing { what });

@@ -1,5 +1,28 @@
 -- A fill for each device, whatever a crash left of them.
-use Rattle.std.proofs.Common.{◌≡◌, ℕ, zero, suc, ◌^◌, ◌<◌, inl, inr, List, [], ◌∷◌, length, map, Some, slice_get, slice_set, refl, sym, ◌∙◌, ap, subst, arith}
+use Rattle.std.proofs.Common.{
+  ◌≡◌,
+  ℕ,
+  zero,
+  suc,
+  ◌^◌,
+  ◌<◌,
+  inl,
+  inr,
+  List,
+  [],
+  ◌∷◌,
+  length,
+  map,
+  Some,
+  slice_get,
+  slice_set,
+  refl,
+  sym,
+  ◌∙◌,
+  ap,
+  subst,
+  arith,
+}
 use Rattle.std.specs.Prelude.{◌||◌, false}
 use Rattle.std.specs.Global.{Vec}
 use Rattle.std.proofs.lemmas.List.{length-set, length-map}
@@ -11,9 +34,15 @@ use Rattle.snap_disk.specs.declared.fill.Fill.{Fill}
 use Rattle.snap_disk.specs.declared.fill.Fill.TheVariants.{At}
 use Rattle.snap_disk.proofs.Filling.{vec_of, any_crash, any_failed_write}
 use Rattle.snap_history.proofs.Lists.{get-set_same, get-set_other}
-use Rattle.snap_world.specs.Crashes.{CrashMayLeave, SomeCrashLeaves, AnyCrash, CrashInsideAnyWrite, AnyFault}
+use Rattle.snap_world.specs.Crashes.{
+  CrashMayLeave,
+  SomeCrashLeaves,
+  AnyCrash,
+  CrashInsideAnyWrite,
+  AnyFault,
+}
 use Rattle.snap_world.specs.Devices.{AreRefilled, Changes, IsRefilled}
-use Rattle.snap_world.specs.Drives.{device_of}
+use Rattle.snap_world.specs.inside.Drives.{device_of}
 use Rattle.snap_world.specs.Surface.{devices_of}
 use Rattle.snap_world.specs.declared.drive.Drive.{Drive}
 use Rattle.snap_world.specs.declared.world.World.{World}
@@ -23,72 +52,103 @@ use Rattle.snap_world.proofs.Sweeping.{map_element}
 abbrev pub AllSmall : List Device → Type 0
 AllSmall devices = (i : ℕ) (d : Device) → slice_get devices i ≡ Some d → length d.bytes < 2 ^ 63
 
-refilled : (old new : Device) → length old.bytes < 2 ^ 63 → IsUnsynced old new → (fill : Fill) × IsRefilled fill old new
+refilled : (old new : Device) → length old.bytes < 2 ^ 63 → IsUnsynced old new → (fill : Fill)
+    × IsRefilled fill old new
 refilled old new small is =
     let f : SomeFill old.is_open old.bytes new.bytes = any_crash old new.bytes small is.left in
     (At 0 f.bytes, record { left = is; filled = f.filled })
 
-cons_refilled : (fill : Fill) (fills : List Fill) (d e : Device) (old left : List Device) → IsRefilled fill d e → AreRefilled fills old left
-    → (i : ℕ) (a b : Device) → slice_get (d ∷ old) i ≡ Some a → slice_get (e ∷ left) i ≡ Some b → (f : Fill) → slice_get (fill ∷ fills) i ≡ Some f → IsRefilled f a b
+cons_refilled : (fill : Fill) (fills : List Fill) (d e : Device) (old left : List Device)
+    → IsRefilled fill d e → AreRefilled fills old left
+    → (i : ℕ) (a b : Device) → slice_get (d ∷ old) i ≡ Some a → slice_get (e ∷ left) i ≡ Some b
+    → (f : Fill) → slice_get (fill ∷ fills) i ≡ Some f → IsRefilled f a b
 cons_refilled fill fills d e old left here rest zero a b ea eb f ef =
     let da : d ≡ a = same_Some _ _ ea in
     let eb2 : e ≡ b = same_Some _ _ eb in
     let ff : fill ≡ f = same_Some _ _ ef in
-    subst (λ x. IsRefilled x a b) ff (subst (λ x. IsRefilled fill a x) eb2 (subst (λ x. IsRefilled fill x e) da here))
+    subst (λ x. IsRefilled x a b) ff
+    (subst (λ x. IsRefilled fill a x) eb2 (subst (λ x. IsRefilled fill x e) da here))
 cons_refilled fill fills d e old left here rest (suc i) a b ea eb f ef = rest.each i a b ea eb f ef
 
 -- the fills, one for each device
-fills_for : (old left : List Device) → AllSmall old → CrashMayLeave old left → (fills : List Fill) × (length fills ≡ length old) × AreRefilled fills old left
-fills_for [] left small may = ([], refl, record { size = may.size; each = λ i a b ea eb fill ef. cc })
+fills_for : (old left : List Device) → AllSmall old → CrashMayLeave old left → (fills : List Fill)
+    × (length fills ≡ length old) × AreRefilled fills old left
+fills_for [] left small may =
+    ([], refl, record { size = may.size; each = λ i a b ea eb fill ef. cc })
 fills_for (d ∷ old) [] small may = absurd (omega (arith, may.size))
 fills_for (d ∷ old) (e ∷ left) small may =
     let here = refilled d e (small 0 d refl) (may.each 0 d e refl refl) in
     let same : length (d ∷ old) ≡ length (e ∷ left) = may.size in
-    let rest = fills_for old left (λ i. small (suc i)) (record { size = omega (arith, same); each = λ i. may.each (suc i) }) in
-    (here.0 ∷ rest.0, ap suc rest.1, record { size = may.size; each = cons_refilled here.0 rest.0 d e old left here.1 rest.2 })
+    let rest = fills_for old left (λ i. small (suc i)) (record {
+      size = omega (arith, same);
+      each =
+          λ i. may.each (suc i);
+    }) in (
+      here.0 ∷ rest.0,
+      ap suc rest.1,
+      record {
+        size = may.size;
+        each =
+            cons_refilled here.0 rest.0 d e old left here.1 rest.2;
+      },
+    )
 
-crash_of : (devices : List Device) → length devices < 2 ^ 63 → AllSmall devices → (left : List Device) → CrashMayLeave devices left → SomeCrashLeaves devices left
+crash_of : (devices : List Device) → length devices < 2 ^ 63 → AllSmall devices
+    → (left : List Device) → CrashMayLeave devices left → SomeCrashLeaves devices left
 crash_of devices few small left may =
     let f = fills_for devices left small may in
     let size : length f.0 ≡ length devices = f.1 in
     record { fills = vec_of f.0 (omega (arith, size, few)); one_each = f.1; filled = f.2 }
 
 -- of a device that is written, what a crash inside the write leaves is left by one right after it
-inside : (at n : ℕ) (old new left : Device) → IsTouched at n old new → IsUnsynced (opened at n old) left → IsUnsynced new left
+inside : (at n : ℕ) (old new left : Device) → IsTouched at n old new
+    → IsUnsynced (opened at n old) left → IsUnsynced new left
 inside at n old new left touched is = record {
   left = record {
     size = is.left.size ∙ sym touched.bytes_elsewhere.size;
-    elsewhere = λ p shut. (
-        let before : (in_range at n p || old.is_open p) ≡ false = sym (touched.opened p) ∙ shut in
-        is.left.elsewhere p before ∙ sym (touched.bytes_elsewhere.elsewhere p (or_parts (in_range at n p) (old.is_open p) before).0));
+    elsewhere = λ p closed. (
+        let before : (in_range at n p || old.is_open p) ≡ false = sym (touched.opened p) ∙ closed in
+        is.left.elsewhere p before
+        ∙ sym (touched.bytes_elsewhere.elsewhere p
+        (or_parts (in_range at n p) (old.is_open p) before).0));
   };
   places = λ p. is.places p ∙ sym (touched.opened p);
 }
 
-module _ (devices : List Device) (w at n : ℕ) (device : Device) (there : slice_get devices w ≡ Some device) where
+module _ (devices : List Device) (w at n : ℕ) (device : Device) (there : slice_get devices w
+    ≡ Some device) where
   -- one device is written
-  after_write : (new : Device) (left : List Device) → IsTouched at n device new → CrashMayLeave (slice_set devices w (opened at n device)) left → CrashMayLeave (slice_set devices w new) left
+  after_write : (new : Device) (left : List Device) → IsTouched at n device new
+      → CrashMayLeave (slice_set devices w (opened at n device)) left
+      → CrashMayLeave (slice_set devices w new) left
   after_write new left touched may =
       let within : w < length devices = slice_get_within devices w device there in
       record {
-        size = length-set devices w new ∙ sym (length-set devices w (opened at n device)) ∙ may.size;
+        size = length-set devices w new ∙ sym (length-set devices w (opened at n device))
+            ∙ may.size;
         each = λ i a b ea eb. elim (cases_eq i w) [
           | inl e ↦ (
-              let ea2 : slice_get (slice_set devices w new) w ≡ Some a = subst (λ k. slice_get (slice_set devices w new) k ≡ Some a) e ea in
+              let ea2 : slice_get (slice_set devices w new) w ≡ Some a =
+              subst (λ k. slice_get (slice_set devices w new) k ≡ Some a) e ea in
               let eb2 : slice_get left w ≡ Some b = subst (λ k. slice_get left k ≡ Some b) e eb in
               let same : new ≡ a = same_Some _ _ (sym (get-set_same devices w new within) ∙ ea2) in
-              let is : IsUnsynced (opened at n device) b = may.each w (opened at n device) b (get-set_same devices w (opened at n device) within) eb2 in
+              let is : IsUnsynced (opened at n device) b =
+              may.each w (opened at n device) b
+              (get-set_same devices w (opened at n device) within) eb2 in
               subst (λ x. IsUnsynced x b) same (inside at n device new b touched is))
-          | inr ne ↦ may.each i a b (get-set_other devices w i (opened at n device) ne ∙ sym (get-set_other devices w i new ne) ∙ ea) eb
+          | inr ne ↦ may.each i a b (get-set_other devices w i (opened at n device) ne
+              ∙ sym (get-set_other devices w i new ne) ∙ ea) eb
         ];
       }
 
-  small_after : (new : Device) → IsTouched at n device new → AllSmall devices → AllSmall (slice_set devices w new)
+  small_after : (new : Device) → IsTouched at n device new → AllSmall devices
+      → AllSmall (slice_set devices w new)
   small_after new touched small i a ea =
       let within : w < length devices = slice_get_within devices w device there in
       elim (cases_eq i w) [
         | inl e ↦ (
-            let ea2 : slice_get (slice_set devices w new) w ≡ Some a = subst (λ k. slice_get (slice_set devices w new) k ≡ Some a) e ea in
+            let ea2 : slice_get (slice_set devices w new) w ≡ Some a =
+            subst (λ k. slice_get (slice_set devices w new) k ≡ Some a) e ea in
             let same : new ≡ a = same_Some _ _ (sym (get-set_same devices w new within) ∙ ea2) in
             let size : length new.bytes ≡ length device.bytes = touched.bytes_elsewhere.size in
             let here : length device.bytes < 2 ^ 63 = small w device there in
@@ -96,20 +156,26 @@ module _ (devices : List Device) (w at n : ℕ) (device : Device) (there : slice
         | inr ne ↦ small i a (sym (get-set_other devices w i new ne) ∙ ea)
       ]
 
-crash_inside_of : (devices : List Device) → length devices < 2 ^ 63 → AllSmall devices → (w at n : ℕ) (device : Device) (after left : List Device) → slice_get devices w ≡ Some device
-    → Changes w (IsTouched at n) devices after → CrashMayLeave (slice_set devices w (opened at n device)) left → SomeCrashLeaves after left
+crash_inside_of : (devices : List Device) → length devices < 2 ^ 63 → AllSmall devices
+    → (w at n : ℕ) (device : Device) (after left : List Device) → slice_get devices w ≡ Some device
+    → Changes w (IsTouched at n) devices after
+    → CrashMayLeave (slice_set devices w (opened at n device)) left → SomeCrashLeaves after left
 crash_inside_of devices few small w at n device after left there change may =
     let same : change.before ≡ device = same_Some _ _ (sym change.there ∙ there) in
-    let touched : IsTouched at n device change.after = subst (λ d. IsTouched at n d change.after) same change.change in
-    let size : length (slice_set devices w change.after) ≡ length devices = length-set devices w change.after in
+    let touched : IsTouched at n device change.after =
+    subst (λ d. IsTouched at n d change.after) same change.change in
+    let size : length (slice_set devices w change.after) ≡ length devices =
+    length-set devices w change.after in
     subst (λ l. SomeCrashLeaves l left) (sym change.others)
-    (crash_of (slice_set devices w change.after) (omega (arith, size, few)) (small_after devices w at n device there change.after touched small) left
+    (crash_of (slice_set devices w change.after) (omega (arith, size, few))
+    (small_after devices w at n device there change.after touched small) left
     (after_write devices w at n device there change.after left touched may))
 
 fault_of : (devices : List Device) → AllSmall devices → AnyFault devices
 fault_of devices small = record {
   write = λ w at n old new there is. (
-      let f : SomeFill (in_range at n) old.bytes new.bytes = any_failed_write at n old.bytes new.bytes (small w old there) is.bytes_elsewhere in
+      let f : SomeFill (in_range at n) old.bytes new.bytes =
+      any_failed_write at n old.bytes new.bytes (small w old there) is.bytes_elsewhere in
       (At 0 f.bytes, record { touched = is; filled = f.filled }));
   sync = λ w old new there is. refilled old new (small w old there) is;
 }
@@ -120,17 +186,31 @@ small_of : (drives : List Drive) → AllSmall (map device_of drives)
 small_of drives i device there =
     let d = map_element device_of drives i device there in
     let bytes : Vec ℕ = d.0.image.bytes in
-    let here : length (device_of d.0).bytes < 2 ^ 63 = omega (arith, bytes.ok.0, bytes.ok.1, bytes.small) in
+    let here : length (device_of d.0).bytes < 2 ^ 63 =
+    omega (arith, bytes.ok.0, bytes.ok.1, bytes.small) in
     subst (λ x. length x.bytes < 2 ^ 63) d.2 here
 
 few_of : (drives : Vec Drive) → length (map device_of drives.items) < 2 ^ 63
-few_of drives = omega (arith, length-map drives.items device_of, drives.ok.0, drives.ok.1, drives.small)
+few_of drives = omega (
+  arith,
+  length-map drives.items device_of,
+  drives.ok.0,
+  drives.ok.1,
+  drives.small,
+)
 
 pub any_crash_of : (w : World) → AnyCrash (devices_of w)
-any_crash_of w = record { leaves = crash_of (devices_of w) (few_of w.node.drives) (small_of w.node.drives.items) }
+any_crash_of w = record {
+  leaves =
+      crash_of (devices_of w) (few_of w.node.drives) (small_of w.node.drives.items);
+}
 
 pub crash_inside_any_write_of : (w : World) → CrashInsideAnyWrite (devices_of w)
-crash_inside_any_write_of w = record { leaves = crash_inside_of (devices_of w) (few_of w.node.drives) (small_of w.node.drives.items) }
+crash_inside_any_write_of w =
+    record {
+      leaves = crash_inside_of (devices_of w) (few_of w.node.drives)
+          (small_of w.node.drives.items);
+    }
 
 pub any_fault_of : (w : World) → AnyFault (devices_of w)
 any_fault_of w = fault_of (devices_of w) (small_of w.node.drives.items)

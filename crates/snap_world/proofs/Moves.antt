@@ -1,20 +1,77 @@
 -- What stays of a world when one writer, one scanner or the history moves on.
-use Rattle.std.proofs.Common.{◌≡◌, ◌≢◌, ℕ, ◌+◌, ◌^◌, ◌<◌, ◌≤◌, inl, inr, List, [], ◌∷◌, ◌++◌, length, take, get_or, Option, Some, slice_get, slice_set, refl, ap, sym, ◌∙◌, subst, arith}
+use Rattle.std.proofs.Common.{
+  ◌≡◌,
+  ◌≢◌,
+  ℕ,
+  ◌+◌,
+  ◌^◌,
+  ◌<◌,
+  ◌≤◌,
+  inl,
+  inr,
+  List,
+  [],
+  ◌∷◌,
+  ◌++◌,
+  length,
+  take,
+  get_or,
+  Option,
+  Some,
+  slice_get,
+  slice_set,
+  refl,
+  ap,
+  sym,
+  ◌∙◌,
+  subst,
+  arith,
+}
 use Rattle.std.specs.Vec.{with_item}
 use Rattle.std.proofs.lemmas.List.{length-set, length_push}
 use Rattle.std.proofs.lemmas.Option.{slice_get_read, same_Some}
 use Rattle.std.proofs.lemmas.Bool.{cases_eq}
 use Rattle.snap_history.specs.History.{Update, from_nothing, number_after, value_after, IsMemory}
-use Rattle.snap_history.proofs.Moments.{number-push, number-push_other, value-push, value-push_other, take-push, number-le}
+use Rattle.snap_history.proofs.Moments.{
+  number-push,
+  number-push_other,
+  value-push,
+  value-push_other,
+  take-push,
+  number-le,
+}
 use Rattle.snap_scan.specs.Course.{IsNext}
 use Rattle.snap_scan.specs.declared.next.Next.{Next}
 use Rattle.snap_scan.specs.declared.next.Next.TheVariants.{Look, Clean, Borrow}
 use Rattle.snap_scan.specs.Looks.{IsDecided}
 use Rattle.snap_collect.proofs.Collecting.{Collects-none, Collects-same, IsMoment-same}
 use Rattle.snap_world.specs.Answers.{ScanState, scan_from, IsAnswer, number_at, value_at}
-use Rattle.snap_world.specs.Gathers.{Gathers, Gathered, IsUnderWay, RegisterStands, IsView, ViewStands, RegistersStand}
-use Rattle.snap_world.specs.Machine.{State, WriterState, ScannerState, with_writer, with_scanner, with_update}
-use Rattle.snap_world.specs.Stands.{HasBegun, HasAnswer, WriterStands, ScannerStands, PartsStand, IsAtPhase, IsScannerAt}
+use Rattle.snap_world.specs.inside.Gathers.{
+  Gathers,
+  Gathered,
+  IsUnderWay,
+  RegisterStands,
+  IsView,
+  ViewStands,
+  RegistersStand,
+}
+use Rattle.snap_world.specs.Machine.{
+  State,
+  WriterState,
+  ScannerState,
+  with_writer,
+  with_scanner,
+  with_update,
+}
+use Rattle.snap_world.specs.inside.Stands.{
+  HasBegun,
+  HasAnswer,
+  WriterStands,
+  ScannerStands,
+  PartsStand,
+  IsAtPhase,
+  IsScannerAt,
+}
 use Rattle.snap_world.specs.declared.register.Register.{Register}
 use Rattle.snap_world.specs.declared.collector.Collector.{Collector}
 use Rattle.snap_world.specs.declared.parts.Parts.{Parts}
@@ -29,46 +86,79 @@ use Rattle.snap_history.proofs.Pairing.{partner, Pairs-set, Pairs-left, Pairs-ri
 use Rattle.snap_world.proofs.Looking.{register_at, number_now}
 
 -- a scan that was told nothing
-pub Gathers-none : (n : ℕ) (h : List Update) (c : Collector) → c.scan.segments ≡ n → c.scan.told ≡ [] → c.scan.next ≡ Look 0 → IsNext c.scan.segments c.scan.told c.scan.next → length c.memory.items ≡ n → Gathers n h (scan_from (length h)) c
+pub Gathers-none : (n : ℕ) (h : List Update) (c : Collector) → c.scan.segments ≡ n
+    → c.scan.told ≡ [] → c.scan.next ≡ Look 0 → IsNext c.scan.segments c.scan.told c.scan.next
+    → length c.memory.items ≡ n → Gathers n h (scan_from (length h)) c
 Gathers-none n h c segments told first next size = record {
   segments = segments;
   told = told;
-  next = subst (λ L. IsNext n L c.scan.next) told (subst (λ m. IsNext m c.scan.told c.scan.next) segments next);
+  next = subst (λ L. IsNext n L c.scan.next) told
+      (subst (λ m. IsNext m c.scan.told c.scan.next) segments next);
   size = size;
   start = omega arith;
   end = omega arith;
-  gathered = subst (Gathered n h (scan_from (length h)) c.memory.items) (sym first) (Collects-none (List ℕ) n (number_at h) (value_at h) (length h) (length h) c.memory.items, refl);
+  gathered = subst (Gathered n h (scan_from (length h)) c.memory.items) (sym first) (
+    Collects-none (List ℕ) n (number_at h) (value_at h) (length h) (length h) c.memory.items,
+    refl,
+  );
 }
 
 module _ (w : Parts) (x : State) (stands : PartsStand w x) where
   -- the writer of segment i, with what it stands for
-  pub the_writer : (i : ℕ) (a : Writer) → i < w.segments → a ≡ get_or w.writers.items i a → (s : WriterState) × (slice_get x.writers i ≡ Some s) × WriterStands w.segments x.history stands.since i a s
-  the_writer i a l e = partner (WriterStands w.segments x.history stands.since) w.writers.items x.writers i a stands.writers (slice_get_read w.writers.items w.segments i a (sym stands.writers_n) l e)
+  pub the_writer : (i : ℕ) (a : Writer) → i < w.segments → a ≡ get_or w.writers.items i a
+      → (s : WriterState) × (slice_get x.writers i ≡ Some s)
+      × WriterStands w.segments x.history stands.since i a s
+  the_writer i a l e = partner
+      (WriterStands w.segments x.history stands.since) w.writers.items x.writers i a stands.writers
+      (slice_get_read w.writers.items w.segments i a (sym stands.writers_n) l e)
 
-  pub the_register : (i : ℕ) (r : Register) → i < w.segments → r ≡ get_or w.registers.items i r → RegisterStands w.segments x.history i r
-  the_register i r l e = register_at w.segments x stands.since w.registers.items i r stands.registers l e
+  pub the_register : (i : ℕ) (r : Register) → i < w.segments → r ≡ get_or w.registers.items i r
+      → RegisterStands w.segments x.history i r
+  the_register i r l e = register_at w.segments x stands.since w.registers.items i r
+      stands.registers l e
 
-  pub the_scanner : (i : ℕ) (a : Scanner) → i < length w.scanners.items → a ≡ get_or w.scanners.items i a → (s : ScannerState) × (slice_get x.scanners i ≡ Some s) × ScannerStands w.segments x.history stands.since i a s
-  the_scanner i a l e = partner (ScannerStands w.segments x.history stands.since) w.scanners.items x.scanners i a stands.scanners (slice_get_read w.scanners.items (length w.scanners.items) i a refl l e)
+  pub the_scanner : (i : ℕ) (a : Scanner) → i < length w.scanners.items
+      → a ≡ get_or w.scanners.items i a → (s : ScannerState) × (slice_get x.scanners i ≡ Some s)
+      × ScannerStands w.segments x.history stands.since i a s
+  the_scanner i a l e = partner (ScannerStands w.segments x.history stands.since) w.scanners.items
+      x.scanners i a stands.scanners
+      (slice_get_read w.scanners.items (length w.scanners.items) i a refl l e)
 
   -- the register of segment i, with the moment of its view
-  pub the_view : (i : ℕ) (r : Register) → i < w.segments → r ≡ get_or w.registers.items i r → (s : WriterState) → slice_get x.writers i ≡ Some s → ViewStands w.segments x.history stands.since i r s.view
-  the_view i r l e s there = stands.registers.views.each i r s (slice_get_read w.registers.items w.segments i r (sym stands.registers.size) l e) there
+  pub the_view : (i : ℕ) (r : Register) → i < w.segments → r ≡ get_or w.registers.items i r
+      → (s : WriterState) → slice_get x.writers i ≡ Some s
+      → ViewStands w.segments x.history stands.since i r s.view
+  the_view i r l e s there =
+      stands.registers.views.each i r s
+      (slice_get_read w.registers.items w.segments i r (sym stands.registers.size) l e) there
 
   -- the registers after a writer whose view stayed
-  registers_stay : (i : ℕ) (old s : WriterState) → i < w.segments → slice_get x.writers i ≡ Some old → s.view ≡ old.view → RegistersStand w.segments (with_writer x i s) stands.since w.registers.items
+  registers_stay : (i : ℕ) (old s : WriterState) → i < w.segments → slice_get x.writers i ≡ Some old
+      → s.view ≡ old.view → RegistersStand w.segments
+      (with_writer x i s) stands.since w.registers.items
   registers_stay i old s l there same =
       let size : length w.writers.items ≡ w.segments = stands.writers_n in
       let long : length w.writers.items ≡ length x.writers = stands.writers.size in
       record {
         size = stands.registers.size;
         each = stands.registers.each;
-        views = Pairs-right (λ j r (z : WriterState). ViewStands w.segments x.history stands.since j r z.view) w.registers.items x.writers i s (omega arith)
-            (λ r er. subst (ViewStands w.segments x.history stands.since i r) (sym same) (stands.registers.views.each i r old er there)) stands.registers.views;
+        views = Pairs-right (λ j r (z : WriterState).
+            ViewStands w.segments x.history stands.since j r z.view) w.registers.items x.writers i s
+            (omega arith)
+            (λ r er. subst (ViewStands w.segments x.history stands.since i r) (sym same)
+            (stands.registers.views.each i r old er there)) stands.registers.views;
       }
 
-  pub writer_moves : (i : ℕ) (a : Writer) (old s : WriterState) → i < w.segments → slice_get x.writers i ≡ Some old → s.view ≡ old.view → WriterStands w.segments x.history stands.since i a s
-      → PartsStand (record { segments = w.segments; registers = w.registers; writers = with_item w.writers i a; scanners = w.scanners }) (with_writer x i s)
+  pub writer_moves : (i : ℕ) (a : Writer) (old s : WriterState) → i < w.segments
+      → slice_get x.writers i ≡ Some old → s.view ≡ old.view
+      → WriterStands w.segments x.history stands.since i a s
+      → PartsStand (record {
+        segments = w.segments;
+        registers = w.registers;
+        writers =
+            with_item w.writers i a;
+        scanners = w.scanners;
+      }) (with_writer x i s)
   writer_moves i a old s l there same here =
       let size : length w.writers.items ≡ w.segments = stands.writers_n in
       record {
@@ -78,13 +168,22 @@ module _ (w : Parts) (x : State) (stands : PartsStand w x) where
         within = stands.within;
         registers = registers_stay i old s l there same;
         writers_n = length-set w.writers.items i a ∙ size;
-        writers = Pairs-set (WriterStands w.segments x.history stands.since) (WriterStands w.segments x.history stands.since) w.writers.items x.writers i a s (omega arith) (λ j c d ne r. r) here stands.writers;
+        writers = Pairs-set (WriterStands w.segments x.history stands.since)
+            (WriterStands w.segments x.history stands.since) w.writers.items x.writers i a s
+            (omega arith) (λ j c d ne r. r) here stands.writers;
         scanners = stands.scanners;
       }
 
   -- one that stands for the same state
-  pub writer_stays : (i : ℕ) (a : Writer) → i < w.segments → (s : WriterState) → slice_get x.writers i ≡ Some s → WriterStands w.segments x.history stands.since i a s
-      → PartsStand (record { segments = w.segments; registers = w.registers; writers = with_item w.writers i a; scanners = w.scanners }) x
+  pub writer_stays : (i : ℕ) (a : Writer) → i < w.segments → (s : WriterState)
+      → slice_get x.writers i ≡ Some s → WriterStands w.segments x.history stands.since i a s
+      → PartsStand (record {
+        segments = w.segments;
+        registers = w.registers;
+        writers =
+            with_item w.writers i a;
+        scanners = w.scanners;
+      }) x
   writer_stays i a l s e here =
       let size : length w.writers.items ≡ w.segments = stands.writers_n in
       record {
@@ -94,54 +193,82 @@ module _ (w : Parts) (x : State) (stands : PartsStand w x) where
         within = stands.within;
         registers = stands.registers;
         writers_n = length-set w.writers.items i a ∙ size;
-        writers = Pairs-left (WriterStands w.segments x.history stands.since) w.writers.items x.writers i a s (omega arith) e here stands.writers;
+        writers = Pairs-left (WriterStands w.segments x.history stands.since) w.writers.items
+            x.writers i a s (omega arith) e here stands.writers;
         scanners = stands.scanners;
       }
 
-  pub scanner_moves : (i : ℕ) (a : Scanner) (s : ScannerState) → i < length w.scanners.items → ScannerStands w.segments x.history stands.since i a s
-      → PartsStand (record { segments = w.segments; registers = w.registers; writers = w.writers; scanners = with_item w.scanners i a }) (with_scanner x i s)
+  pub scanner_moves : (i : ℕ) (a : Scanner) (s : ScannerState) → i < length w.scanners.items
+      → ScannerStands w.segments x.history stands.since i a s
+      → PartsStand (record {
+        segments = w.segments;
+        registers = w.registers;
+        writers = w.writers;
+        scanners = with_item w.scanners i a;
+      }) (with_scanner x i s)
   scanner_moves i a s l here = record {
     least = stands.least;
     most = stands.most;
     since = stands.since;
     within = stands.within;
-    registers = record { size = stands.registers.size; each = stands.registers.each; views = stands.registers.views };
+    registers = record {
+      size = stands.registers.size;
+      each = stands.registers.each;
+      views =
+          stands.registers.views;
+    };
     writers_n = stands.writers_n;
     writers = stands.writers;
-    scanners = Pairs-set (ScannerStands w.segments x.history stands.since) (ScannerStands w.segments x.history stands.since) w.scanners.items x.scanners i a s l (λ j c d ne r. r) here stands.scanners;
+    scanners = Pairs-set (ScannerStands w.segments x.history stands.since)
+        (ScannerStands w.segments x.history stands.since) w.scanners.items x.scanners i a s l
+        (λ j c d ne r. r) here stands.scanners;
   }
 
 -- the history grows by one update of segment u.segment
 
-numbers_stay : (h : List Update) (u : Update) (e : ℕ) → e ≤ length h → (t i : ℕ) → t ≤ e → number_at (h ++ u ∷ []) t i ≡ number_at h t i
-numbers_stay h u e end t i l = ap (λ g. number_after from_nothing g i) (take-push h u t (omega arith))
+numbers_stay : (h : List Update) (u : Update) (e : ℕ) → e ≤ length h → (t i : ℕ) → t ≤ e
+    → number_at (h ++ u ∷ []) t i ≡ number_at h t i
+numbers_stay h u e end t i l =
+    ap (λ g. number_after from_nothing g i) (take-push h u t (omega arith))
 
-values_stay : (h : List Update) (u : Update) (e : ℕ) → e ≤ length h → (t i : ℕ) → t ≤ e → value_at (h ++ u ∷ []) t i ≡ value_at h t i
+values_stay : (h : List Update) (u : Update) (e : ℕ) → e ≤ length h → (t i : ℕ) → t ≤ e
+    → value_at (h ++ u ∷ []) t i ≡ value_at h t i
 values_stay h u e end t i l = ap (λ g. value_after from_nothing g i) (take-push h u t (omega arith))
 
-IsAnswer-grow : (n : ℕ) (h : List Update) (s : ScanState) (memory : List (List ℕ)) (u : Update) → s.last ≤ length h → IsAnswer n h s memory → IsAnswer n (h ++ u ∷ []) s memory
+IsAnswer-grow : (n : ℕ) (h : List Update) (s : ScanState) (memory : List (List ℕ)) (u : Update)
+    → s.last ≤ length h → IsAnswer n h s memory → IsAnswer n (h ++ u ∷ []) s memory
 IsAnswer-grow n h s memory u end a =
     let until : a.p ≤ s.last = a.is_moment.until in
     record {
       p = a.p;
       moment = a.moment;
-      is_moment = IsMoment-same n (number_at h) (number_at (h ++ u ∷ [])) s.start s.last s.told a.p (numbers_stay h u s.last end) a.is_moment;
-      is_memory = subst (λ g. IsMemory n from_nothing g memory) (sym (take-push h u a.p (omega arith))) a.is_memory;
+      is_moment = IsMoment-same n (number_at h) (number_at (h ++ u ∷ [])) s.start s.last s.told a.p
+          (numbers_stay h u s.last end) a.is_moment;
+      is_memory = subst (λ g. IsMemory n from_nothing g memory)
+          (sym (take-push h u a.p (omega arith))) a.is_memory;
     }
 
-HasAnswer-grow : (n : ℕ) (h : List Update) (s : ScanState) (c : Collector) (u : Update) → s.last ≤ length h → HasAnswer n h s c → HasAnswer n (h ++ u ∷ []) s c
-HasAnswer-grow n h s c u end a = record { decided = a.decided; answer = IsAnswer-grow n h s c.memory.items u end a.answer }
+HasAnswer-grow : (n : ℕ) (h : List Update) (s : ScanState) (c : Collector) (u : Update)
+    → s.last ≤ length h → HasAnswer n h s c → HasAnswer n (h ++ u ∷ []) s c
+HasAnswer-grow n h s c u end a =
+    record { decided = a.decided; answer = IsAnswer-grow n h s c.memory.items u end a.answer }
 
-Gathered-grow : (n : ℕ) (h : List Update) (s : ScanState) (memory : List (List ℕ)) (u : Update) (v : Next) → s.last ≤ length h → Gathered n h s memory v → Gathered n (h ++ u ∷ []) s memory v
-Gathered-grow n h s memory u (Look j) end g =
-    (Collects-same (List ℕ) n (number_at h) (value_at h) s.start s.last s.told memory g.0 (number_at (h ++ u ∷ [])) (value_at (h ++ u ∷ [])) (numbers_stay h u s.last end) (values_stay h u s.last end), g.1)
+Gathered-grow : (n : ℕ) (h : List Update) (s : ScanState) (memory : List (List ℕ)) (u : Update)
+    (v : Next) → s.last ≤ length h → Gathered n h s memory v → Gathered n (h ++ u ∷ []) s memory v
+Gathered-grow n h s memory u (Look j) end g = (
+  Collects-same (List ℕ) n (number_at h) (value_at h) s.start s.last s.told memory g.0
+      (number_at (h ++ u ∷ [])) (value_at (h ++ u ∷ [])) (numbers_stay h u s.last end)
+      (values_stay h u s.last end),
+  g.1,
+)
 Gathered-grow n h s memory u Clean end g = IsAnswer-grow n h s memory u end g
 Gathered-grow n h s memory u (Borrow j) end g = IsAnswer-grow n h s memory u end g
 
 later : (h : List Update) (u : Update) (e : ℕ) → e ≤ length h → e ≤ length (h ++ u ∷ [])
 later h u e l = let y : length (h ++ u ∷ []) ≡ length h + 1 = length_push h u in omega arith
 
-pub Gathers-grow : (n : ℕ) (h : List Update) (s : ScanState) (c : Collector) (u : Update) → Gathers n h s c → Gathers n (h ++ u ∷ []) s c
+pub Gathers-grow : (n : ℕ) (h : List Update) (s : ScanState) (c : Collector) (u : Update)
+    → Gathers n h s c → Gathers n (h ++ u ∷ []) s c
 Gathers-grow n h s c u g = record {
   segments = g.segments;
   told = g.told;
@@ -152,9 +279,11 @@ Gathers-grow n h s c u g = record {
   gathered = Gathered-grow n h s c.memory.items u c.scan.next g.end g.gathered;
 }
 
-pub HasBegun-grow : (n : ℕ) (h : List Update) (since i : ℕ) (w : Writer) (s : WriterState) (u : Update) → u.segment ≢ i → HasBegun n h since i w s → HasBegun n (h ++ u ∷ []) since i w s
+pub HasBegun-grow : (n : ℕ) (h : List Update) (since i : ℕ) (w : Writer) (s : WriterState)
+    (u : Update) → u.segment ≢ i → HasBegun n h since i w s → HasBegun n (h ++ u ∷ []) since i w s
 HasBegun-grow n h since i w s u ne g =
-    let same : number_after from_nothing (h ++ u ∷ []) i ≡ number_after from_nothing h i = number-push_other from_nothing h u i ne in
+    let same : number_after from_nothing (h ++ u ∷ []) i ≡ number_after from_nothing h i =
+    number-push_other from_nothing h u i ne in
     let start : s.scan.start ≤ s.scan.last = g.gathers.start in
     let end : s.scan.last ≤ length h = g.gathers.end in
     let room : number_after from_nothing h i + 1 < 2 ^ 63 = g.room in
@@ -167,47 +296,77 @@ HasBegun-grow n h since i w s u ne g =
       gathers = Gathers-grow n h s.scan w.collector u g.gathers;
     }
 
-phase-grow : (n : ℕ) (h : List Update) (since i : ℕ) (w : Writer) (s : WriterState) (u : Update) (p : WriterPhase) → u.segment ≢ i → IsAtPhase n h since i w s p → IsAtPhase n (h ++ u ∷ []) since i w s p
+phase-grow : (n : ℕ) (h : List Update) (since i : ℕ) (w : Writer) (s : WriterState) (u : Update)
+    (p : WriterPhase) → u.segment ≢ i → IsAtPhase n h since i w s p
+    → IsAtPhase n (h ++ u ∷ []) since i w s p
 phase-grow n h since i w s u writer.Idle ne g = g
 phase-grow n h since i w s u writer.Scanning ne g = (HasBegun-grow n h since i w s u ne g.0, g.1)
-phase-grow n h since i w s u writer.Storing ne g = (HasBegun-grow n h since i w s u ne g.0, HasAnswer-grow n h s.scan w.collector u g.0.gathers.end g.1)
-phase-grow n h since i w s u writer.Stored ne g = (HasBegun-grow n h since i w s u ne g.0, HasAnswer-grow n h s.scan w.collector u g.0.gathers.end g.1)
+phase-grow n h since i w s u writer.Storing ne g = (
+  HasBegun-grow n h since i w s u ne g.0,
+  HasAnswer-grow n h s.scan w.collector u g.0.gathers.end g.1,
+)
+phase-grow n h since i w s u writer.Stored ne g = (
+  HasBegun-grow n h since i w s u ne g.0,
+  HasAnswer-grow n h s.scan w.collector u g.0.gathers.end g.1,
+)
 phase-grow n h since i w s u writer.Shown ne g = g
 phase-grow n h since i w s u writer.Fenced ne g = g
 
-scanner_phase-grow : (n : ℕ) (h : List Update) (since : ℕ) (c : Scanner) (s : ScannerState) (u : Update) (p : ScannerPhase) → IsScannerAt n h since c s p → IsScannerAt n (h ++ u ∷ []) since c s p
+scanner_phase-grow : (n : ℕ) (h : List Update) (since : ℕ) (c : Scanner) (s : ScannerState)
+    (u : Update) (p : ScannerPhase) → IsScannerAt n h since c s p
+    → IsScannerAt n (h ++ u ∷ []) since c s p
 scanner_phase-grow n h since c s u scanner.Idle g = g
-scanner_phase-grow n h since c s u scanner.Scanning g = (g.0, g.1, g.2, Gathers-grow n h g.0 c.collector u g.3, g.4)
-scanner_phase-grow n h since c s u scanner.Ready g = (g.0, g.1, later h u g.0.last g.2, HasAnswer-grow n h g.0 c.collector u g.2 g.3)
+scanner_phase-grow n h since c s u scanner.Scanning g =
+    (g.0, g.1, g.2, Gathers-grow n h g.0 c.collector u g.3, g.4)
+scanner_phase-grow n h since c s u scanner.Ready g =
+    (g.0, g.1, later h u g.0.last g.2, HasAnswer-grow n h g.0 c.collector u g.2 g.3)
 
-pub WriterStands-grow : (n : ℕ) (h : List Update) (since i : ℕ) (w : Writer) (s : WriterState) (u : Update) → u.segment ≢ i → WriterStands n h since i w s → WriterStands n (h ++ u ∷ []) since i w s
-WriterStands-grow n h since i w s u ne g = record { size = g.size; fenced = g.fenced; phase = phase-grow n h since i w s u w.phase ne g.phase }
+pub WriterStands-grow : (n : ℕ) (h : List Update) (since i : ℕ) (w : Writer) (s : WriterState)
+    (u : Update) → u.segment ≢ i → WriterStands n h since i w s
+    → WriterStands n (h ++ u ∷ []) since i w s
+WriterStands-grow n h since i w s u ne g =
+    record {
+      size = g.size;
+      fenced = g.fenced;
+      phase =
+          phase-grow n h since i w s u w.phase ne g.phase;
+    }
 
-pub ScannerStands-grow : (n : ℕ) (h : List Update) (since i : ℕ) (c : Scanner) (s : ScannerState) (u : Update) → ScannerStands n h since i c s → ScannerStands n (h ++ u ∷ []) since i c s
-ScannerStands-grow n h since i c s u g = record { size = g.size; phase = scanner_phase-grow n h since c s u c.phase g.phase }
+pub ScannerStands-grow : (n : ℕ) (h : List Update) (since i : ℕ) (c : Scanner) (s : ScannerState)
+    (u : Update) → ScannerStands n h since i c s → ScannerStands n (h ++ u ∷ []) since i c s
+ScannerStands-grow n h since i c s u g =
+    record { size = g.size; phase = scanner_phase-grow n h since c s u c.phase g.phase }
 
-RegisterStands-grow : (n : ℕ) (h : List Update) (i : ℕ) (r : Register) (u : Update) → u.segment ≢ i → RegisterStands n h i r → RegisterStands n (h ++ u ∷ []) i r
+RegisterStands-grow : (n : ℕ) (h : List Update) (i : ℕ) (r : Register) (u : Update) → u.segment ≢ i
+    → RegisterStands n h i r → RegisterStands n (h ++ u ∷ []) i r
 RegisterStands-grow n h i r u ne g = record {
   number = g.number ∙ sym (number-push_other from_nothing h u i ne);
   value = g.value ∙ sym (value-push_other from_nothing h u i ne);
   size = g.size;
 }
 
-IsView-grow : (n : ℕ) (h : List Update) (i : ℕ) (r : Register) (p : ℕ) (u : Update) → IsView n h i r p → IsView n (h ++ u ∷ []) i r p
+IsView-grow : (n : ℕ) (h : List Update) (i : ℕ) (r : Register) (p : ℕ) (u : Update)
+    → IsView n h i r p → IsView n (h ++ u ∷ []) i r p
 IsView-grow n h i r p u v = record {
   until = later h u p v.until;
   before = ap (λ k. k + 1) (numbers_stay h u p v.until p i (omega arith)) ∙ v.before;
-  is_memory = subst (λ g. IsMemory n from_nothing g r.view.items) (sym (take-push h u p v.until)) v.is_memory;
+  is_memory = subst (λ g. IsMemory n from_nothing g r.view.items)
+      (sym (take-push h u p v.until)) v.is_memory;
 }
 
-ViewStands-grow : (n : ℕ) (h : List Update) (since i : ℕ) (r : Register) (view : Option ℕ) (u : Update) → since ≤ length h → ViewStands n h since i r view → ViewStands n (h ++ u ∷ []) since i r view
+ViewStands-grow : (n : ℕ) (h : List Update) (since i : ℕ) (r : Register) (view : Option ℕ)
+    (u : Update) → since ≤ length h → ViewStands n h since i r view
+    → ViewStands n (h ++ u ∷ []) since i r view
 ViewStands-grow n h since i r view u old g = record {
-  kept = λ above. (let base : number_at (h ++ u ∷ []) since i ≡ number_at h since i = numbers_stay h u since old since i (omega arith) in g.kept (omega arith));
+  kept = λ above. (let base : number_at (h ++ u ∷ []) since i ≡ number_at h since i =
+      numbers_stay h u since old since i (omega arith) in g.kept (omega arith));
   is_view = λ p e. IsView-grow n h i r p u (g.is_view p e);
 }
 
--- a writer shows its update: its register has the next number, its value, and the view of its scan's moment
-pub shown_register : (n : ℕ) (h : List Update) (i : ℕ) (v : List ℕ) (r : Register) → r.number ≡ number_after from_nothing h i + 1 → r.value ≡ v → length r.view.items ≡ n
+-- a writer shows its update: its register has the next number, its value, and the view of its
+-- scan's moment
+pub shown_register : (n : ℕ) (h : List Update) (i : ℕ) (v : List ℕ) (r : Register)
+    → r.number ≡ number_after from_nothing h i + 1 → r.value ≡ v → length r.view.items ≡ n
     → RegisterStands n (h ++ record { segment = i; value = v } ∷ []) i r
 shown_register n h i v r number value size =
     let u : Update = record { segment = i; value = v } in
@@ -217,7 +376,9 @@ shown_register n h i v r number value size =
       size = size;
     }
 
-pub shown_view : (n : ℕ) (h : List Update) (since i : ℕ) (u : Update) (r : Register) (s : WriterState) (p : ℕ) → s.view ≡ Some p → p ≤ length h → number_at h p i + 1 ≡ r.number → IsMemory n from_nothing (take p h) r.view.items
+pub shown_view : (n : ℕ) (h : List Update) (since i : ℕ) (u : Update) (r : Register)
+    (s : WriterState) (p : ℕ) → s.view ≡ Some p → p ≤ length h → number_at h p i + 1 ≡ r.number
+    → IsMemory n from_nothing (take p h) r.view.items
     → ViewStands n (h ++ u ∷ []) since i r s.view
 shown_view n h since i u r s p is pl before memory = record {
   kept = λ above. (p, is);
@@ -227,27 +388,50 @@ shown_view n h since i u r s p is pl before memory = record {
       subst (IsView n (h ++ u ∷ []) i r) same (IsView-grow n h i r p u here));
 }
 
-each_show : (n : ℕ) (h : List Update) (rs : List Register) (i : ℕ) (v : List ℕ) (r : Register) → i < length rs → ((j : ℕ) (c : Register) → slice_get rs j ≡ Some c → RegisterStands n h j c)
-    → RegisterStands n (h ++ record { segment = i; value = v } ∷ []) i r → (j : ℕ) (c : Register) → slice_get (slice_set rs i r) j ≡ Some c → RegisterStands n (h ++ record { segment = i; value = v } ∷ []) j c
+each_show : (n : ℕ) (h : List Update) (rs : List Register) (i : ℕ) (v : List ℕ) (r : Register)
+    → i < length rs → ((j : ℕ) (c : Register) → slice_get rs j ≡ Some c → RegisterStands n h j c)
+    → RegisterStands n (h ++ record { segment = i; value = v } ∷ []) i r → (j : ℕ) (c : Register)
+    → slice_get (slice_set rs i r) j ≡ Some c
+    → RegisterStands n (h ++ record { segment = i; value = v } ∷ []) j c
 each_show n h rs i v r l stand here j c ec =
     let u : Update = record { segment = i; value = v } in
     elim (cases_eq j i) [
       | inl e ↦ (
-          let ec2 : slice_get (slice_set rs i r) i ≡ Some c = subst (λ k. slice_get (slice_set rs i r) k ≡ Some c) e ec in
+          let ec2 : slice_get (slice_set rs i r) i ≡ Some c =
+          subst (λ k. slice_get (slice_set rs i r) k ≡ Some c) e ec in
           let rc : r ≡ c = same_Some _ _ (sym (get-set_same rs i r l) ∙ ec2) in
-          subst (λ k. RegisterStands n (h ++ u ∷ []) k c) (sym e) (subst (RegisterStands n (h ++ u ∷ []) i) rc here))
-      | inr ne ↦ RegisterStands-grow n h j c u (λ f. ne (sym f)) (stand j c (sym (get-set_other rs i j r ne) ∙ ec))
+          subst (λ k. RegisterStands n (h ++ u ∷ []) k c) (sym e)
+          (subst (RegisterStands n (h ++ u ∷ []) i) rc here))
+      | inr ne ↦ RegisterStands-grow n h j c u (λ f.
+          ne (sym f)) (stand j c (sym (get-set_other rs i j r ne) ∙ ec))
     ]
 
-pub world_shows : (w : Parts) (x : State) (stands : PartsStand w x) (i : ℕ) (v : List ℕ) (r : Register) (a : Writer) (s : WriterState) → i < w.segments
-    → RegisterStands w.segments (x.history ++ record { segment = i; value = v } ∷ []) i r → ViewStands w.segments (x.history ++ record { segment = i; value = v } ∷ []) stands.since i r s.view
-    → WriterStands w.segments (x.history ++ record { segment = i; value = v } ∷ []) stands.since i a s
-    → PartsStand (record { segments = w.segments; registers = with_item w.registers i r; writers = with_item w.writers i a; scanners = w.scanners }) (with_update x i v s)
+pub world_shows : (w : Parts) (x : State) (stands : PartsStand w x) (i : ℕ) (v : List ℕ)
+    (r : Register) (a : Writer) (s : WriterState) → i < w.segments
+    → RegisterStands w.segments (x.history ++ record { segment = i; value = v } ∷ []) i r
+    → ViewStands w.segments (x.history ++ record {
+      segment = i;
+      value =
+          v;
+    } ∷ []) stands.since i r s.view
+    → WriterStands w.segments (x.history ++ record {
+      segment = i;
+      value =
+          v;
+    } ∷ []) stands.since i a s
+    → PartsStand (record {
+      segments = w.segments;
+      registers = with_item w.registers i r;
+      writers =
+          with_item w.writers i a;
+      scanners = w.scanners;
+    }) (with_update x i v s)
 world_shows w x stands i v r a s l here_r here_v here_a =
     let size : length w.writers.items ≡ w.segments = stands.writers_n in
     let many : length w.registers.items ≡ w.segments = stands.registers.size in
     let u : Update = record { segment = i; value = v } in
-    let View : List Update → ℕ → Register → WriterState → Type 0 = λ h j c d. ViewStands w.segments h stands.since j c d.view in
+    let View : List Update → ℕ → Register → WriterState → Type 0 =
+    λ h j c d. ViewStands w.segments h stands.since j c d.view in
     record {
       least = stands.least;
       most = stands.most;
@@ -255,36 +439,59 @@ world_shows w x stands i v r a s l here_r here_v here_a =
       within = later x.history u stands.since stands.within;
       registers = record {
         size = length-set w.registers.items i r ∙ many;
-        each = each_show w.segments x.history w.registers.items i v r (omega arith) stands.registers.each here_r;
-        views = Pairs-set (View x.history) (View (x.history ++ u ∷ [])) w.registers.items x.writers i r s (omega arith)
-            (λ j c d ne g. ViewStands-grow w.segments x.history stands.since j c d.view u stands.within g) here_v stands.registers.views;
+        each = each_show w.segments x.history w.registers.items i v r
+            (omega arith) stands.registers.each here_r;
+        views = Pairs-set (View x.history) (View (x.history
+            ++ u ∷ [])) w.registers.items x.writers i r s (omega arith)
+            (λ j c d ne g. ViewStands-grow w.segments x.history stands.since j c d.view u
+            stands.within g) here_v stands.registers.views;
       };
       writers_n = length-set w.writers.items i a ∙ size;
-      writers = Pairs-set (WriterStands w.segments x.history stands.since) (WriterStands w.segments (x.history ++ u ∷ []) stands.since) w.writers.items x.writers i a s (omega arith)
-          (λ j c d ne g. WriterStands-grow w.segments x.history stands.since j c d u (λ f. ne (sym f)) g) here_a stands.writers;
-      scanners = Pairs-map (ScannerStands w.segments x.history stands.since) (ScannerStands w.segments (x.history ++ u ∷ []) stands.since) w.scanners.items x.scanners
-          (λ j c d g. ScannerStands-grow w.segments x.history stands.since j c d u g) stands.scanners;
+      writers = Pairs-set (WriterStands w.segments x.history stands.since)
+          (WriterStands w.segments (x.history ++ u ∷ []) stands.since) w.writers.items x.writers i a
+          s (omega arith)
+          (λ j c d ne g. WriterStands-grow w.segments x.history stands.since j c d u (λ f.
+          ne (sym f)) g) here_a stands.writers;
+      scanners = Pairs-map (ScannerStands w.segments x.history stands.since)
+          (ScannerStands w.segments (x.history ++ u ∷ []) stands.since) w.scanners.items x.scanners
+          (λ j c d g. ScannerStands-grow w.segments x.history stands.since j c d u g)
+          stands.scanners;
     }
 
 -- a scan whose machine has no look to make has its answer
-answered : (n : ℕ) (h : List Update) (s : ScanState) (memory : List (List ℕ)) (v : Next) → ((j : ℕ) → v ≡ Look j → ⊥) → Gathered n h s memory v → IsAnswer n h s memory
+answered : (n : ℕ) (h : List Update) (s : ScanState) (memory : List (List ℕ)) (v : Next)
+    → ((j : ℕ) → v ≡ Look j → ⊥) → Gathered n h s memory v → IsAnswer n h s memory
 answered n h s memory (Look j) done g = absurd (done j refl)
 answered n h s memory Clean done g = g
 answered n h s memory (Borrow j) done g = g
 
-pub has_answer : (n : ℕ) (h : List Update) (s : ScanState) (c : Collector) → Gathers n h s c → IsDecided n s.told → (IsUnderWay c → ⊥) → HasAnswer n h s c
-has_answer n h s c g decided done = record { decided = decided; answer = answered n h s c.memory.items c.scan.next (λ j e. done (j, e)) g.gathered }
+pub has_answer : (n : ℕ) (h : List Update) (s : ScanState) (c : Collector) → Gathers n h s c
+    → IsDecided n s.told → (IsUnderWay c → ⊥) → HasAnswer n h s c
+has_answer n h s c g decided done =
+    record {
+      decided = decided;
+      answer =
+          answered n h s c.memory.items c.scan.next (λ j e. done (j, e)) g.gathered;
+    }
 
--- the moment of the answer comes after the writer's update before, and no update of its own came since
-pub own_moment : (n : ℕ) (h : List Update) (since i : ℕ) (a : Writer) (s : WriterState) (begun : HasBegun n h since i a s) (p : ℕ) → s.scan.start ≤ p → p ≤ s.scan.last → number_at h p i ≡ number_after from_nothing h i
+-- the moment of the answer comes after the writer's update before, and no update of its own came
+-- since
+pub own_moment : (n : ℕ) (h : List Update) (since i : ℕ) (a : Writer) (s : WriterState)
+    (begun : HasBegun n h since i a s) (p : ℕ) → s.scan.start ≤ p → p ≤ s.scan.last
+    → number_at h p i ≡ number_after from_nothing h i
 own_moment n h since i a s begun p lo hi =
-    let x : number_at h s.scan.start i ≤ number_at h p i = number-le from_nothing h i s.scan.start p lo in
+    let x : number_at h s.scan.start i ≤ number_at h p i =
+    number-le from_nothing h i s.scan.start p lo in
     let end : s.scan.last ≤ length h = begun.gathers.end in
-    let y : number_at h p i ≤ number_at h (length h) i = number-le from_nothing h i p (length h) (omega arith) in
+    let y : number_at h p i ≤ number_at h (length h) i =
+    number-le from_nothing h i p (length h) (omega arith) in
     let z : number_at h (length h) i ≡ number_after from_nothing h i = number_now h i in
     let v : number_at h s.scan.start i ≡ number_after from_nothing h i = begun.own in
     omega arith
 
 -- two reads of one place of a list
-pub same_read : {A : Type 0} (xs : List A) (i : ℕ) (a b : A) → i < length xs → a ≡ get_or xs i a → b ≡ get_or xs i b → a ≡ b
-same_read xs i a b l ea eb = same_Some a b (sym (slice_get_read xs (length xs) i a refl l ea) ∙ slice_get_read xs (length xs) i b refl l eb)
+pub same_read : {A : Type 0} (xs : List A) (i : ℕ) (a b : A) → i < length xs → a ≡ get_or xs i a
+    → b ≡ get_or xs i b → a ≡ b
+same_read xs i a b l ea eb =
+    same_Some a b (sym (slice_get_read xs (length xs) i a refl l ea)
+    ∙ slice_get_read xs (length xs) i b refl l eb)

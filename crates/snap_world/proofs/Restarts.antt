@@ -1,5 +1,28 @@
 -- The calls of a restart, as steps of the node.
-use Rattle.std.proofs.Common.{◌≡◌, ◌≢◌, ℕ, ◌+◌, ◌<◌, inl, inr, true, false, List, length, map, get_or, Some, slice_get, slice_set, refl, ap, sym, ◌∙◌, subst, arith}
+use Rattle.std.proofs.Common.{
+  ◌≡◌,
+  ◌≢◌,
+  ℕ,
+  ◌+◌,
+  ◌<◌,
+  inl,
+  inr,
+  true,
+  false,
+  List,
+  length,
+  map,
+  get_or,
+  Some,
+  slice_get,
+  slice_set,
+  refl,
+  ap,
+  sym,
+  ◌∙◌,
+  subst,
+  arith,
+}
 use Rattle.std.specs.Prelude.{option_map, nat_lt, if◌then◌else◌}
 use Rattle.std.specs.Vec.{with_item}
 use Rattle.std.proofs.Math.Seq.{map-set_same}
@@ -17,13 +40,25 @@ use Rattle.snap_slot.specs.Layout.{IsFileOf}
 use Rattle.snap_history.proofs.Lists.{get-set_other}
 use Rattle.snap_history.proofs.Pairing.{element}
 use Rattle.snap_history.specs.History.{from_nothing, number_after, value_after}
-use Rattle.snap_persist.specs.Stage.{Order, calls_left}
+use Rattle.snap_persist.specs.Stage.{PersistState, calls_left}
 use Rattle.snap_world.specs.Devices.{Changes, IsRefilled}
-use Rattle.snap_world.specs.Drives.{device_of}
+use Rattle.snap_world.specs.inside.Drives.{device_of}
 use Rattle.snap_world.specs.Machine.{State}
 use Rattle.snap_world.specs.NodePhases.{node_to, after_opening_call}
-use Rattle.snap_world.specs.NodeStands.{NodeStands, NodeStand, IsDown, IsRecovering, IsRestarting, IsNodeAt}
-use Rattle.snap_world.specs.NodeSteps.{IsNodeStep, store_left, phases_of_node, devices_of_node}
+use Rattle.snap_world.specs.inside.NodeStands.{
+  NodeStands,
+  NodeStand,
+  IsDown,
+  IsRecovering,
+  IsRestarting,
+  IsNodeAt,
+}
+use Rattle.snap_world.specs.inside.NodeSteps.{
+  IsNodeStep,
+  store_left,
+  phases_of_node,
+  devices_of_node,
+}
 use Rattle.snap_world.specs.declared.drive.Drive.{Drive}
 use Rattle.snap_world.specs.declared.event.Event.TheVariants.{RestartCall, RestartFail}
 use Rattle.snap_world.specs.declared.event.Kind.TheVariants as kind
@@ -38,27 +73,34 @@ use Rattle.snap_world.proofs.Acting.{same_phases}
 use Rattle.snap_world.proofs.Following.{set_is}
 
 -- one device changes, after which a crash leaves no more than before
-down_set : (parts : Parts) (ds : List Drive) (x : State) (i : ℕ) (d e : Drive) → slice_get ds i ≡ Some d → ((b : List ℕ) → MayLeave (device_of e) b → MayLeave (device_of d) b)
+down_set : (parts : Parts) (ds : List Drive) (x : State) (i : ℕ) (d e : Drive)
+    → slice_get ds i ≡ Some d → ((b : List ℕ) → MayLeave (device_of e) b → MayLeave (device_of d) b)
     → IsDown parts ds x → IsDown parts (slice_set ds i e) x
 down_set parts ds x i d e there less down = record {
   parts_rest = down.parts_rest;
   drives_down = λ j f s ef es b may. elim (cases_eq j i) [
     | inl same ↦ (
-        let ef2 : slice_get (slice_set ds i e) i ≡ Some f = subst (λ k. slice_get (slice_set ds i e) k ≡ Some f) same ef in
+        let ef2 : slice_get (slice_set ds i e) i ≡ Some f =
+        subst (λ k. slice_get (slice_set ds i e) k ≡ Some f) same ef in
         let is : e ≡ f = set_is ds i e f ef2 in
-        let may2 : MayLeave (device_of e) b = subst (λ (z : Drive). MayLeave (device_of z) b) (sym is) may in
-        down.drives_down j d s (subst (λ k. slice_get ds k ≡ Some d) (sym same) there) es b (less b may2))
+        let may2 : MayLeave (device_of e) b =
+        subst (λ (z : Drive). MayLeave (device_of z) b) (sym is) may in
+        down.drives_down j d s (subst (λ k. slice_get ds k ≡ Some d) (sym same) there) es b
+        (less b may2))
     | inr ne ↦ down.drives_down j f s (sym (get-set_other ds i j e ne) ∙ ef) es b may
   ];
 }
 
-module _ (parts : Parts) (ds : List Drive) (x : State) (i : ℕ) (d e : Drive) (there : slice_get ds i ≡ Some d) where
-  sync_goes : IsRecovering parts ds x i i → IsSynced (device_of d) (device_of e) → IsRecovering parts (slice_set ds i e) x (i + 1) i
+module _ (parts : Parts) (ds : List Drive) (x : State) (i : ℕ) (d e : Drive) (there : slice_get ds i
+    ≡ Some d) where
+  sync_goes : IsRecovering parts ds x i i → IsSynced (device_of d) (device_of e)
+      → IsRecovering parts (slice_set ds i e) x (i + 1) i
   sync_goes at synced = record {
     down = down_set parts ds x i d e there (λ b may. synced_leaves synced b may) at.down;
     settled = λ j f ef below. elim (cases_eq j i) [
       | inl same ↦ (
-          let is : e ≡ f = set_is ds i e f (subst (λ k. slice_get (slice_set ds i e) k ≡ Some f) same ef) in
+          let is : e ≡ f = set_is ds i e f (subst (λ k. slice_get (slice_set ds i e) k
+          ≡ Some f) same ef) in
           subst (λ (z : Drive). IsSettled (device_of z)) is synced.settled)
       | inr ne ↦ at.settled j f (sym (get-set_other ds i j e ne) ∙ ef) (omega arith)
     ];
@@ -67,51 +109,70 @@ module _ (parts : Parts) (ds : List Drive) (x : State) (i : ℕ) (d e : Drive) (
         at.found j f (sym (get-set_other ds i j e ne) ∙ ef) below);
   }
 
-  read_goes : IsRecovering parts ds x (i + 1) i → device_of e ≡ device_of d → IsFound i parts.segments (device_of d).bytes e.found → IsRecovering parts (slice_set ds i e) x (i + 1) (i + 1)
+  read_goes : IsRecovering parts ds x (i + 1) i → device_of e ≡ device_of d
+      → IsFound i parts.segments (device_of d).bytes e.found
+      → IsRecovering parts (slice_set ds i e) x (i + 1) (i + 1)
   read_goes at same_device found = record {
-    down = down_set parts ds x i d e there (λ b may. subst (λ z. MayLeave z b) same_device may) at.down;
+    down = down_set parts ds x i d e there (λ b may.
+        subst (λ z. MayLeave z b) same_device may) at.down;
     settled = λ j f ef below. elim (cases_eq j i) [
       | inl same ↦ (
-          let is : e ≡ f = set_is ds i e f (subst (λ k. slice_get (slice_set ds i e) k ≡ Some f) same ef) in
-          subst (λ (z : Drive). IsSettled (device_of z)) is (subst IsSettled (sym same_device) (at.settled i d there (omega arith))))
+          let is : e ≡ f = set_is ds i e f (subst (λ k. slice_get (slice_set ds i e) k
+          ≡ Some f) same ef) in
+          subst (λ (z : Drive). IsSettled (device_of z)) is
+          (subst IsSettled (sym same_device) (at.settled i d there (omega arith))))
       | inr ne ↦ at.settled j f (sym (get-set_other ds i j e ne) ∙ ef) below
     ];
     found = λ j f ef below. elim (cases_eq j i) [
       | inl same ↦ (
-          let is : e ≡ f = set_is ds i e f (subst (λ k. slice_get (slice_set ds i e) k ≡ Some f) same ef) in
-          let here : IsFound i parts.segments (device_of e).bytes e.found = subst (λ (z : Device). IsFound i parts.segments z.bytes e.found) (sym same_device) found in
-          subst (λ k. IsFound k parts.segments (device_of f).bytes f.found) (sym same) (subst (λ (z : Drive). IsFound i parts.segments (device_of z).bytes z.found) is here))
+          let is : e ≡ f = set_is ds i e f (subst (λ k. slice_get (slice_set ds i e) k
+          ≡ Some f) same ef) in
+          let here : IsFound i parts.segments (device_of e).bytes e.found =
+          subst (λ (z : Device). IsFound i parts.segments z.bytes e.found)
+          (sym same_device) found in
+          subst (λ k. IsFound k parts.segments (device_of f).bytes f.found) (sym same)
+          (subst (λ (z : Drive). IsFound i parts.segments (device_of z).bytes z.found) is here))
       | inr ne ↦ at.found j f (sym (get-set_other ds i j e ne) ∙ ef) (omega arith)
     ];
   }
 
 -- the next segment is opened, or all are
-after_read : (parts : Parts) (ds : List Drive) (x : State) (n i : ℕ) → n ≡ parts.segments → i < n → IsRecovering parts ds x (i + 1) (i + 1) → IsNodeAt parts ds x (after_opening_call n i opening.Read)
-after_read parts ds x n i size low at = elim (nat_lt (i + 1) n) as (λ b. nat_lt (i + 1) n ≡ b → IsNodeAt parts ds x (if b then Restarting (i + 1) opening.Sync else Ready)) [
-  | true ↦ λ test. (let more : i + 1 < n = grind (arith, nat_tests) in (omega arith, at))
-  | false ↦ λ test. (let last : i + 1 ≡ parts.segments = grind (arith, nat_tests) in subst (λ k. IsRecovering parts ds x k k) last at)
-] refl
+after_read : (parts : Parts) (ds : List Drive) (x : State) (n i : ℕ) → n ≡ parts.segments → i < n
+    → IsRecovering parts ds x (i + 1) (i + 1)
+    → IsNodeAt parts ds x (after_opening_call n i opening.Read)
+after_read parts ds x n i size low at = elim (nat_lt (i + 1) n) as (λ b. nat_lt (i + 1) n ≡ b
+    → IsNodeAt parts ds x (if b then Restarting (i + 1) opening.Sync else Ready)) [
+      | true ↦ λ test. (let more : i + 1 < n = grind (arith, nat_tests) in (omega arith, at))
+      | false ↦ λ test. (let last : i + 1 ≡ parts.segments = grind (arith, nat_tests) in
+          subst (λ k. IsRecovering parts ds x k k) last at)
+    ] refl
 
 -- the segment whose call comes next is there
-pub opening_within : (w : Node) (i : ℕ) (call : OpeningCall) → w.phase ≡ Restarting i call → NodeStand w → i < length w.drives.items
+pub opening_within : (w : Node) (i : ℕ) (call : OpeningCall) → w.phase ≡ Restarting i call
+    → NodeStand w → i < length w.drives.items
 opening_within w i call restarting stand = ∥∥₁_elim stand (hlevel props) (λ q. (
     let size : length w.drives.items ≡ w.parts.segments = q.1.drives_n in
-    let at : (i < w.parts.segments) × IsRestarting w.parts w.drives.items q.0 i call = subst (IsNodeAt w.parts w.drives.items q.0) restarting q.1.at in
+    let at : (i < w.parts.segments) × IsRestarting w.parts w.drives.items q.0 i call =
+    subst (IsNodeAt w.parts w.drives.items q.0) restarting q.1.at in
     let low : i < w.parts.segments = at.0 in
     omega arith))
 
-module _ (w : Node) (i : ℕ) (d : Drive) (within : i < length w.drives.items) (read : d ≡ get_or w.drives.items i d) where
+module _ (w : Node) (i : ℕ) (d : Drive) (within : i < length w.drives.items) (read : d
+    ≡ get_or w.drives.items i d) where
   there : slice_get w.drives.items i ≡ Some d
   there = slice_get_read w.drives.items (length w.drives.items) i d refl within read
 
-  at_call : (call : OpeningCall) → w.phase ≡ Restarting i call → (x : State) → NodeStands w x → (i < w.parts.segments) × IsRestarting w.parts w.drives.items x i call
+  at_call : (call : OpeningCall) → w.phase ≡ Restarting i call → (x : State) → NodeStands w x
+      → (i < w.parts.segments) × IsRestarting w.parts w.drives.items x i call
   at_call call restarting x stands = subst (IsNodeAt w.parts w.drives.items x) restarting stands.at
 
-  module _ (e : Drive) (order : e.order ≡ d.order) where
+  module _ (e : Drive) (persist : e.persist ≡ d.persist) where
     same_calls : map store_left (slice_set w.drives.items i e) ≡ map store_left w.drives.items
-    same_calls = map-set_same store_left w.drives.items i e d (ap (λ (o : Order). calls_left o.stage) order ∙ ap store_left read)
+    same_calls = map-set_same store_left w.drives.items i e d
+        (ap (λ (o : PersistState). calls_left o.stage) persist ∙ ap store_left read)
 
-    changed : (R : Device → Device → Type 0) → R (device_of d) (device_of e) → Changes i R (devices_of_node w) (map device_of (slice_set w.drives.items i e))
+    changed : (R : Device → Device → Type 0) → R (device_of d) (device_of e)
+        → Changes i R (devices_of_node w) (map device_of (slice_set w.drives.items i e))
     changed R change = record {
       before = device_of d;
       after = device_of e;
@@ -121,7 +182,11 @@ module _ (w : Node) (i : ℕ) (d : Drive) (within : i < length w.drives.items) (
     }
 
     pub sync_step : w.phase ≡ Restarting i opening.Sync → IsSynced (device_of d) (device_of e)
-        → IsNodeStep w RestartCall (Called kind.Sync) (record { phase = Restarting i opening.Read; parts = w.parts; drives = with_item w.drives i e })
+        → IsNodeStep w RestartCall (Called kind.Sync) (record {
+          phase = Restarting i opening.Read;
+          parts = w.parts;
+          drives = with_item w.drives i e;
+        })
     sync_step restarting synced = record {
       segments = refl;
       step = λ x stands. (
@@ -129,23 +194,45 @@ module _ (w : Node) (i : ℕ) (d : Drive) (within : i < length w.drives.items) (
             x,
             refl,
             (i, opening.Sync, restarting, changed IsSynced synced),
-            record { drives_n = length-set w.drives.items i e ∙ stands.drives_n; at = (at.0, sync_goes w.parts w.drives.items x i d e there at.1 synced) },
+            record {
+              drives_n = length-set w.drives.items i e ∙ stands.drives_n;
+              at =
+                  (at.0, sync_goes w.parts w.drives.items x i d e there at.1 synced);
+            },
           ));
       comes = λ x stands. record { refused = λ f. cc; came = λ _. (i, opening.Sync, restarting) };
-      phases = λ x stands. (i, opening.Sync, restarting, refl, same_phases (node_to (phases_of_node w) (Restarting i opening.Read)) _ refl refl same_calls);
+      phases = λ x stands. (
+        i,
+        opening.Sync,
+        restarting,
+        refl,
+        same_phases (node_to (phases_of_node w) (Restarting i opening.Read)) _ refl refl
+            same_calls,
+      );
       gates = λ x stands. tt;
       unchanged = λ f. cc;
     }
 
-    pub sync_fail_step : (fill : Fill) → w.phase ≡ Restarting i opening.Sync → IsRefilled fill (device_of d) (device_of e)
-        → IsNodeStep w (RestartFail fill) DeviceFailed (record { phase = Down; parts = w.parts; drives = with_item w.drives i e })
+    pub sync_fail_step : (fill : Fill) → w.phase ≡ Restarting i opening.Sync
+        → IsRefilled fill (device_of d) (device_of e)
+        → IsNodeStep w (RestartFail fill) DeviceFailed (record {
+          phase = Down;
+          parts = w.parts;
+          drives = with_item w.drives i e;
+        })
     sync_fail_step fill restarting refilled = record {
       segments = refl;
       step = λ x stands. (
         x,
         refl,
         (i, opening.Sync, restarting, changed (IsRefilled fill) refilled),
-        record { drives_n = length-set w.drives.items i e ∙ stands.drives_n; at = down_set w.parts w.drives.items x i d e there (λ b may. unsynced_leaves refilled.left b may) (at_call opening.Sync restarting x stands).1.down },
+        record {
+          drives_n = length-set w.drives.items i e ∙ stands.drives_n;
+          at =
+              down_set w.parts w.drives.items x i d e there (λ b may.
+              unsynced_leaves refilled.left b may)
+              (at_call opening.Sync restarting x stands).1.down;
+        },
       );
       comes = λ x stands. record { refused = λ f. cc; came = λ _. (i, opening.Sync, restarting) };
       phases = λ x stands. same_phases (node_to (phases_of_node w) Down) _ refl refl same_calls;
@@ -153,20 +240,36 @@ module _ (w : Node) (i : ℕ) (d : Drive) (within : i < length w.drives.items) (
       unchanged = λ f. cc;
     }
 
-    pub read_step : (phase : NodePhase) → phase ≡ after_opening_call (length w.drives.items) i opening.Read → w.phase ≡ Restarting i opening.Read → device_of e ≡ device_of d
+    pub read_step : (phase : NodePhase)
+        → phase ≡ after_opening_call (length w.drives.items) i opening.Read
+        → w.phase ≡ Restarting i opening.Read → device_of e ≡ device_of d
         → ((n : ℕ) → n ≡ length w.drives.items → IsFound i n (device_of d).bytes e.found)
-        → IsNodeStep w RestartCall (Called kind.Read) (record { phase = phase; parts = w.parts; drives = with_item w.drives i e })
+        → IsNodeStep w RestartCall (Called kind.Read) (record {
+          phase = phase;
+          parts = w.parts;
+          drives = with_item w.drives i e;
+        })
     read_step phase next restarting same_device found = record {
       segments = refl;
       step = λ x stands. (
           let at = at_call opening.Read restarting x stands in
-          let goes : IsRecovering w.parts (slice_set w.drives.items i e) x (i + 1) (i + 1) = read_goes w.parts w.drives.items x i d e there at.1 same_device (found w.parts.segments (sym stands.drives_n)) in (
+          let goes : IsRecovering w.parts (slice_set w.drives.items i e) x (i + 1) (i + 1) =
+          read_goes w.parts w.drives.items x i d e there at.1 same_device
+          (found w.parts.segments (sym stands.drives_n)) in (
             x,
             refl,
-            (i, opening.Read, restarting, map-set_same device_of w.drives.items i e d (same_device ∙ ap device_of read)),
+            (
+              i,
+              opening.Read,
+              restarting,
+              map-set_same device_of w.drives.items i e d (same_device
+                  ∙ ap device_of read),
+            ),
             record {
               drives_n = length-set w.drives.items i e ∙ stands.drives_n;
-              at = subst (IsNodeAt w.parts (slice_set w.drives.items i e) x) (sym next) (after_read w.parts (slice_set w.drives.items i e) x (length w.drives.items) i stands.drives_n within goes);
+              at = subst (IsNodeAt w.parts (slice_set w.drives.items i e) x) (sym next)
+                  (after_read w.parts (slice_set w.drives.items i e) x
+                  (length w.drives.items) i stands.drives_n within goes);
             },
           ));
       comes = λ x stands. record { refused = λ f. cc; came = λ _. (i, opening.Read, restarting) };
@@ -175,23 +278,38 @@ module _ (w : Node) (i : ℕ) (d : Drive) (within : i < length w.drives.items) (
         opening.Read,
         restarting,
         refl,
-        same_phases (node_to (phases_of_node w) (after_opening_call w.parts.segments i opening.Read)) _ (next ∙ ap (λ n. after_opening_call n i opening.Read) stands.drives_n) refl same_calls,
+        same_phases (node_to (phases_of_node w)
+            (after_opening_call w.parts.segments i opening.Read)) _ (next
+            ∙ ap (λ n. after_opening_call n i opening.Read) stands.drives_n) refl same_calls,
       );
       gates = λ x stands. tt;
       unchanged = λ f. cc;
     }
 
   -- what a restart reads is the file of its segment
-  pub a_file : w.phase ≡ Restarting i opening.Read → (x : State) → NodeStands w x → (k : ℕ) × (v : List ℕ) × IsFileOf i (length w.drives.items) k v (device_of d).bytes
+  pub a_file : w.phase ≡ Restarting i opening.Read → (x : State) → NodeStands w x → (k : ℕ)
+      × (v : List ℕ) × IsFileOf i (length w.drives.items) k v (device_of d).bytes
   a_file restarting x stands =
       let down = (at_call opening.Read restarting x stands).1.down in
       let size : length w.drives.items ≡ w.parts.segments = stands.drives_n in
       let long : length w.parts.writers.items ≡ length x.writers = down.parts_rest.writers.size in
       let all : length w.parts.writers.items ≡ w.parts.segments = down.parts_rest.writers_n in
       let s = element x.writers i (omega arith) in
-      let either = down.drives_down i d s.0 there s.1 (device_of d).bytes (record { size = refl; elsewhere = λ p shut. refl }) in
+      let either = down.drives_down i d s.0 there s.1 (device_of d).bytes (record {
+        size = refl;
+        elsewhere = λ p closed. refl;
+      }) in
       let File : ℕ → ℕ → List ℕ → Type 0 = λ n k v. IsFileOf i n k v (device_of d).bytes in
       elim either [
-        | inl old ↦ (number_after from_nothing x.history i, value_after from_nothing x.history i, subst (λ n. File n (number_after from_nothing x.history i) (value_after from_nothing x.history i)) (sym size) old)
-        | inr new ↦ (number_after from_nothing x.history i + 1, new.0, subst (λ n. File n (number_after from_nothing x.history i + 1) new.0) (sym size) new.2)
+        | inl old ↦ (
+          number_after from_nothing x.history i,
+          value_after from_nothing x.history i,
+          subst (λ n. File n (number_after from_nothing x.history i)
+              (value_after from_nothing x.history i)) (sym size) old,
+        )
+        | inr new ↦ (
+          number_after from_nothing x.history i + 1,
+          new.0,
+          subst (λ n. File n (number_after from_nothing x.history i + 1) new.0) (sym size) new.2,
+        )
       ]

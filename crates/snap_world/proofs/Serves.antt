@@ -1,5 +1,29 @@
 -- The end of a restart, as a step of the node.
-use Rattle.std.proofs.Common.{◌≡◌, ℕ, ◌+◌, ◌%◌, ◌<◌, ◌≤◌, ◌⊎◌, inl, inr, Bool, List, length, map, replicate, Some, None, slice_get, refl, ap, sym, ◌∙◌, subst, arith}
+use Rattle.std.proofs.Common.{
+  ◌≡◌,
+  ℕ,
+  ◌+◌,
+  ◌%◌,
+  ◌<◌,
+  ◌≤◌,
+  ◌⊎◌,
+  inl,
+  inr,
+  Bool,
+  List,
+  length,
+  map,
+  replicate,
+  Some,
+  None,
+  slice_get,
+  refl,
+  ap,
+  sym,
+  ◌∙◌,
+  subst,
+  arith,
+}
 use Rattle.std.specs.Prelude.{option_map}
 use Rattle.std.proofs.lemmas.List.{length-map}
 use Rattle.std.proofs.lemmas.Option.{slice_get-map, slice_get_within, same_Some}
@@ -16,18 +40,52 @@ use Rattle.snap_history.proofs.Pairing.{element, partner}
 use Rattle.snap_world.specs.Answers.{number_at}
 use Rattle.snap_persist.specs.Stage.{store_calls}
 use Rattle.snap_world.specs.Devices.{IsServed, AreServed}
-use Rattle.snap_world.specs.Drives.{IsReady, DriveStands, DrivesStand, HoldsEither, device_of}
-use Rattle.snap_world.specs.Gathers.{RegisterStands, ViewStands}
-use Rattle.snap_world.specs.Machine.{State, WriterState, ScannerState, Begun, Closed, resting, history_with, served}
+use Rattle.snap_world.specs.inside.Drives.{
+  IsReady,
+  DriveStands,
+  DrivesStand,
+  HoldsEither,
+  device_of,
+}
+use Rattle.snap_world.specs.inside.Gathers.{RegisterStands, ViewStands}
+use Rattle.snap_world.specs.Machine.{
+  State,
+  WriterState,
+  ScannerState,
+  Begun,
+  Closed,
+  resting,
+  history_with,
+  served,
+}
 use Rattle.snap_world.specs.NodePhases.{all_idle}
-use Rattle.snap_world.specs.NodeStands.{NodeStands, WriterRests, ScannerRests, IsRecovering, IsNodeAt}
-use Rattle.snap_world.specs.NodeSteps.{store_left}
+use Rattle.snap_world.specs.inside.NodeStands.{
+  NodeStands,
+  WriterRests,
+  ScannerRests,
+  IsRecovering,
+  IsNodeAt,
+}
+use Rattle.snap_world.specs.inside.NodeSteps.{store_left}
 use Rattle.snap_world.specs.Phases.{Phases}
-use Rattle.snap_world.specs.Serving.{found_value, IsReadable, IsResumed, IsRecovered, AreRecovered}
-use Rattle.snap_world.specs.Stands.{PartsStand, WriterStands, ScannerStands, IsAtPhase, IsScannerAt, is_fenced}
-use Rattle.snap_world.specs.Steps.{phases_of_parts}
+use Rattle.snap_world.specs.inside.Serving.{
+  found_value,
+  IsReadable,
+  IsResumed,
+  IsRecovered,
+  AreRecovered,
+}
+use Rattle.snap_world.specs.inside.Stands.{
+  PartsStand,
+  WriterStands,
+  ScannerStands,
+  IsAtPhase,
+  IsScannerAt,
+  is_fenced,
+}
+use Rattle.snap_world.specs.inside.Steps.{phases_of_parts}
 use Rattle.snap_world.specs.declared.drive.Drive.{Drive}
-use Rattle.snap_persist.specs.declared.persist.Next.{Next}
+use Rattle.snap_persist.specs.declared.persist.NextCall.{NextCall}
 use Rattle.snap_world.specs.declared.node.Node.{Node}
 use Rattle.snap_world.specs.declared.node.NodePhase.TheVariants.{Ready}
 use Rattle.snap_world.specs.declared.parts.Parts.{Parts}
@@ -77,8 +135,13 @@ module _ (w : Node) (x : State) (stands : NodeStands w x) (is_ready : w.phase �
         let b : length w.parts.writers.items ≡ n = at.down.parts_rest.writers_n in
         element x.writers i (omega arith)
 
-    pub either : (s : WriterState) → slice_get x.writers i ≡ Some s → HoldsEither i n (number_after from_nothing x.history i) (value_after from_nothing x.history i) s.pending (device_of d).bytes
-    either s es = at.down.drives_down i d s there es (device_of d).bytes (record { size = refl; elsewhere = λ p shut. refl })
+    pub either : (s : WriterState) → slice_get x.writers i ≡ Some s
+        → HoldsEither i n (number_after from_nothing x.history i)
+        (value_after from_nothing x.history i) s.pending (device_of d).bytes
+    either s es = at.down.drives_down i d s there es (device_of d).bytes (record {
+      size = refl;
+      elsewhere = λ p closed. refl;
+    })
 
     pub long : length (device_of d).bytes ≡ 20480
     long = elim (either state.0 state.1) [ inl file ↦ file.size | inr new ↦ new.2.size ]
@@ -95,12 +158,16 @@ module _ (w : Node) (x : State) (stands : NodeStands w x) (is_ready : w.phase �
 
   -- what a device holds is the number and value of the history, or those of the begun update
   abbrev Kept : ℕ → Type 0
-  Kept i = (d : Drive) → slice_get ds i ≡ Some d → (d.found.number ≡ number_after from_nothing x.history i) × (found_value d ≡ value_after from_nothing x.history i)
+  Kept i = (d : Drive) → slice_get ds i ≡ Some d
+      → (d.found.number ≡ number_after from_nothing x.history i)
+      × (found_value d ≡ value_after from_nothing x.history i)
 
   abbrev Taken : ℕ → List ℕ → Type 0
-  Taken i v = (d : Drive) → slice_get ds i ≡ Some d → (d.found.number ≡ number_after from_nothing x.history i + 1) × (found_value d ≡ v)
+  Taken i v = (d : Drive) → slice_get ds i ≡ Some d
+      → (d.found.number ≡ number_after from_nothing x.history i + 1) × (found_value d ≡ v)
 
-  given : (i : ℕ) (s : WriterState) → slice_get x.writers i ≡ Some s → Kept i ⊎ ((v : List ℕ) × (s.pending ≡ Begun v) × Taken i v)
+  given : (i : ℕ) (s : WriterState) → slice_get x.writers i ≡ Some s → Kept i
+      ⊎ ((v : List ℕ) × (s.pending ≡ Begun v) × Taken i v)
   given i s es =
       let l : i < length x.writers = slice_get_within x.writers i s es in
       let a : length w.parts.writers.items ≡ length x.writers = at.down.parts_rest.writers.size in
@@ -110,19 +177,25 @@ module _ (w : Node) (x : State) (stands : NodeStands w x) (is_ready : w.phase �
       elim (either i d.0 d.1 s es) [
         | inl file ↦ inl (λ e there. (
             let same : d.0 ≡ e = same_Some _ _ (sym d.1 ∙ there) in
-            subst (λ (z : Drive). (z.found.number ≡ number_after from_nothing x.history i) × (found_value z ≡ value_after from_nothing x.history i)) same
-            (found_is i n (number_after from_nothing x.history i) (value_after from_nothing x.history i) (device_of d.0).bytes d.0.found (found i d.0 d.1) file.holds)))
+            subst (λ (z : Drive). (z.found.number ≡ number_after from_nothing x.history i)
+            × (found_value z ≡ value_after from_nothing x.history i)) same
+            (found_is i n (number_after from_nothing x.history i)
+            (value_after from_nothing x.history i) (device_of d.0).bytes d.0.found
+            (found i d.0 d.1) file.holds)))
         | inr new ↦ inr (
           new.0,
           new.1,
           λ e there. (
               let same : d.0 ≡ e = same_Some _ _ (sym d.1 ∙ there) in
-              subst (λ (z : Drive). (z.found.number ≡ number_after from_nothing x.history i + 1) × (found_value z ≡ new.0)) same
-              (found_is i n (number_after from_nothing x.history i + 1) new.0 (device_of d.0).bytes d.0.found (found i d.0 d.1) new.2.holds)),
+              subst (λ (z : Drive). (z.found.number ≡ number_after from_nothing x.history i + 1)
+              × (found_value z ≡ new.0)) same
+              (found_is i n (number_after from_nothing x.history i + 1) new.0
+              (device_of d.0).bytes d.0.found (found i d.0 d.1) new.2.holds)),
         )
       ]
 
-  chose : (marks : List Bool) × ((i : ℕ) (s : WriterState) → slice_get x.writers i ≡ Some s → Given Kept Taken x.writers marks i)
+  chose : (marks : List Bool) × ((i : ℕ) (s : WriterState) → slice_get x.writers i ≡ Some s
+      → Given Kept Taken x.writers marks i)
   chose = marks-exist Kept Taken x.writers given
 
   pub marks : List Bool
@@ -132,7 +205,9 @@ module _ (w : Node) (x : State) (stands : NodeStands w x) (is_ready : w.phase �
   h = history_with x marks
 
   -- what was found is what the history with these updates leaves
-  pub is_after : (i : ℕ) (d : Drive) → slice_get ds i ≡ Some d → (d.found.number ≡ number_after from_nothing h i) × (found_value d ≡ value_after from_nothing h i)
+  pub is_after : (i : ℕ) (d : Drive) → slice_get ds i ≡ Some d
+      → (d.found.number ≡ number_after from_nothing h i)
+      × (found_value d ≡ value_after from_nothing h i)
   unfolding marks
   is_after i d there =
       let s = state i d there in
@@ -153,25 +228,31 @@ module _ (w : Node) (x : State) (stands : NodeStands w x) (is_ready : w.phase �
     values = λ i l. (
         let c : length ds ≡ n = size in
         let d = element ds i (omega arith) in
-        slice_get-map found_value ds i ∙ ap (option_map found_value) d.1 ∙ ap (λ v. Some v) (is_after i d.0 d.1).1);
+        slice_get-map found_value ds i ∙ ap (option_map found_value) d.1
+        ∙ ap (λ v. Some v) (is_after i d.0 d.1).1);
   }
 
-  module _ (parts : Parts) (es : List Drive) (segments : parts.segments ≡ w.parts.segments) (writers : parts.writers ≡ w.parts.writers) (scanners : parts.scanners ≡ w.parts.scanners)
-      (recovered : AreRecovered ds w.parts.registers.items parts.registers.items) (resumed : Pairs (λ i. IsResumed) ds es) where
+  module _ (parts : Parts) (es : List Drive) (segments : parts.segments ≡ w.parts.segments)
+      (writers : parts.writers ≡ w.parts.writers) (scanners : parts.scanners ≡ w.parts.scanners)
+      (recovered : AreRecovered ds w.parts.registers.items parts.registers.items)
+      (resumed : Pairs (λ i. IsResumed) ds es) where
     abbrev pub y : State
     y = served x marks
 
-    was : (i : ℕ) (e : Drive) → slice_get es i ≡ Some e → (d : Drive) × (slice_get ds i ≡ Some d) × IsResumed d e
+    was : (i : ℕ) (e : Drive) → slice_get es i ≡ Some e → (d : Drive) × (slice_get ds i ≡ Some d)
+        × IsResumed d e
     was i e ee =
         let l : i < length es = slice_get_within es i e ee in
         let s : length es ≡ length ds = sym resumed.size in
         let d = element ds i (omega arith) in
         (d.0, d.1, resumed.each i d.0 e d.1 ee)
 
-    register_stands : (i : ℕ) (r : Register) → slice_get parts.registers.items i ≡ Some r → RegisterStands n h i r
+    register_stands : (i : ℕ) (r : Register) → slice_get parts.registers.items i ≡ Some r
+        → RegisterStands n h i r
     register_stands i r er =
         let l : i < length parts.registers.items = slice_get_within parts.registers.items i r er in
-        let s : length parts.registers.items ≡ length w.parts.registers.items = sym recovered.size in
+        let s : length parts.registers.items ≡ length w.parts.registers.items =
+        sym recovered.size in
         let t : length w.parts.registers.items ≡ n = at.down.parts_rest.registers_n in
         let c : length ds ≡ n = size in
         let d = element ds i (omega arith) in
@@ -188,7 +269,10 @@ module _ (w : Node) (x : State) (stands : NodeStands w x) (is_ready : w.phase �
     free = resting
 
     -- nothing was shown yet since the restart
-    view_stands : (i : ℕ) (r : Register) (s : WriterState) → slice_get parts.registers.items i ≡ Some r → slice_get (map (λ (z : WriterState). free) x.writers) i ≡ Some s → ViewStands n h (length h) i r s.view
+    view_stands : (i : ℕ) (r : Register) (s : WriterState)
+        → slice_get parts.registers.items i ≡ Some r
+        → slice_get (map (λ (z : WriterState). free) x.writers) i ≡ Some s
+        → ViewStands n h (length h) i r s.view
     view_stands i r s er es =
         let old = map_element (λ (z : WriterState). free) x.writers i s es in
         let none : s.view ≡ None = ap (λ (z : WriterState). z.view) (sym old.2) in
@@ -196,20 +280,31 @@ module _ (w : Node) (x : State) (stands : NodeStands w x) (is_ready : w.phase �
         let now : number_at h (length h) i ≡ number_after from_nothing h i = number_now h i in
         record { kept = λ above. absurd (omega arith); is_view = λ p e. cc }
 
-    writer_stands : (i : ℕ) (a : Writer) (s : WriterState) → slice_get parts.writers.items i ≡ Some a → slice_get (map (λ (z : WriterState). free) x.writers) i ≡ Some s → WriterStands n h (length h) i a s
+    writer_stands : (i : ℕ) (a : Writer) (s : WriterState)
+        → slice_get parts.writers.items i ≡ Some a
+        → slice_get (map (λ (z : WriterState). free) x.writers) i ≡ Some s
+        → WriterStands n h (length h) i a s
     writer_stands i a s ea es =
         let old = map_element (λ (z : WriterState). free) x.writers i s es in
-        let rest : WriterRests n a old.0 = at.down.parts_rest.writers.each i a old.0 (ap (λ v. slice_get v.items i) (sym writers) ∙ ea) old.1 in
+        let rest : WriterRests n a old.0 =
+        at.down.parts_rest.writers.each i a old.0 (ap (λ v. slice_get v.items i) (sym writers)
+        ∙ ea) old.1 in
         record {
           size = rest.size;
           fenced = ap (λ (z : WriterState). z.fenced) (sym old.2) ∙ ap is_fenced (sym rest.idle);
-          phase = subst (IsAtPhase n h (length h) i a s) (sym rest.idle) (ap (λ (z : WriterState). z.pending) (sym old.2));
+          phase = subst (IsAtPhase n h (length h) i a s) (sym rest.idle)
+              (ap (λ (z : WriterState). z.pending) (sym old.2));
         }
 
-    scanner_stands : (i : ℕ) (a : Scanner) (s : ScannerState) → slice_get parts.scanners.items i ≡ Some a → slice_get (map (λ (z : ScannerState). Closed) x.scanners) i ≡ Some s → ScannerStands n h (length h) i a s
+    scanner_stands : (i : ℕ) (a : Scanner) (s : ScannerState)
+        → slice_get parts.scanners.items i ≡ Some a
+        → slice_get (map (λ (z : ScannerState). Closed) x.scanners) i ≡ Some s
+        → ScannerStands n h (length h) i a s
     scanner_stands i a s ea es =
         let old = map_element (λ (z : ScannerState). Closed) x.scanners i s es in
-        let rest : ScannerRests n a old.0 = at.down.parts_rest.scanners.each i a old.0 (ap (λ v. slice_get v.items i) (sym scanners) ∙ ea) old.1 in
+        let rest : ScannerRests n a old.0 =
+        at.down.parts_rest.scanners.each i a old.0 (ap (λ v. slice_get v.items i) (sym scanners)
+        ∙ ea) old.1 in
         record {
           size = rest.size;
           phase = subst (IsScannerAt n h (length h) a s) (sym rest.idle) (sym old.2);
@@ -223,53 +318,73 @@ module _ (w : Node) (x : State) (stands : NodeStands w x) (is_ready : w.phase �
       within = omega arith;
       registers = record {
         size = sym recovered.size ∙ at.down.parts_rest.registers_n ∙ sym segments;
-        each = λ i r er. subst (λ m. RegisterStands m h i r) (sym segments) (register_stands i r er);
+        each = λ i r er. subst (λ m. RegisterStands m h i r) (sym segments)
+            (register_stands i r er);
         views = record {
           size = (
               let a : length w.parts.registers.items ≡ n = at.down.parts_rest.registers_n in
               let b : length w.parts.writers.items ≡ n = at.down.parts_rest.writers_n in
-              let c : length w.parts.writers.items ≡ length x.writers = at.down.parts_rest.writers.size in
-              let d : length w.parts.registers.items ≡ length parts.registers.items = recovered.size in
-              let e : length (map (λ (z : WriterState). free) x.writers) ≡ length x.writers = length-map x.writers (λ (z : WriterState). free) in
+              let c : length w.parts.writers.items ≡ length x.writers =
+              at.down.parts_rest.writers.size in
+              let d : length w.parts.registers.items ≡ length parts.registers.items =
+              recovered.size in
+              let e : length (map (λ (z : WriterState). free) x.writers) ≡ length x.writers =
+              length-map x.writers (λ (z : WriterState). free) in
               omega arith);
-          each = λ i r s er es. subst (λ m. ViewStands m h (length h) i r s.view) (sym segments) (view_stands i r s er es);
+          each = λ i r s er es. subst (λ m. ViewStands m h (length h) i r s.view) (sym segments)
+              (view_stands i r s er es);
         };
       };
       writers_n = ap (λ v. length v.items) writers ∙ at.down.parts_rest.writers_n ∙ sym segments;
       writers = record {
-        size = ap (λ v. length v.items) writers ∙ at.down.parts_rest.writers.size ∙ sym (length-map x.writers (λ (z : WriterState). free));
-        each = λ i a s ea es. subst (λ m. WriterStands m h (length h) i a s) (sym segments) (writer_stands i a s ea es);
+        size = ap (λ v. length v.items) writers ∙ at.down.parts_rest.writers.size
+            ∙ sym (length-map x.writers (λ (z : WriterState). free));
+        each = λ i a s ea es. subst (λ m. WriterStands m h (length h) i a s) (sym segments)
+            (writer_stands i a s ea es);
       };
       scanners = record {
-        size = ap (λ v. length v.items) scanners ∙ at.down.parts_rest.scanners.size ∙ sym (length-map x.scanners (λ (z : ScannerState). Closed));
-        each = λ i a s ea es. subst (λ m. ScannerStands m h (length h) i a s) (sym segments) (scanner_stands i a s ea es);
+        size = ap (λ v. length v.items) scanners ∙ at.down.parts_rest.scanners.size
+            ∙ sym (length-map x.scanners (λ (z : ScannerState). Closed));
+        each = λ i a s ea es. subst (λ m. ScannerStands m h (length h) i a s) (sym segments)
+            (scanner_stands i a s ea es);
       };
     }
 
-    ready : (i : ℕ) (e : Drive) → slice_get es i ≡ Some e → IsReady i n (number_after from_nothing h i) (value_after from_nothing h i) (device_of e) e.order
+    ready : (i : ℕ) (e : Drive) → slice_get es i ≡ Some e
+        → IsReady i n (number_after from_nothing h i) (value_after from_nothing h i)
+        (device_of e) e.persist
     ready i e ee =
         let d = was i e ee in
         let after = is_after i d.0 d.1 in
-        let rest : IsAtRest i n d.0.found.number (found_value d.0) d.0.found.spare_open (device_of d.0) =
-        found_rests i n (device_of d.0).bytes d.0.found (device_of d.0) (found i d.0 d.1) (settled i d.0 d.1) refl (long i d.0 d.1) in
+        let rest : IsAtRest i n d.0.found.number (found_value d.0) d.0.found.spare_open
+        (device_of d.0) =
+        found_rests i n (device_of d.0).bytes d.0.found (device_of d.0) (found i d.0 d.1)
+        (settled i d.0 d.1) refl (long i d.0 d.1) in
         let At : ℕ → List ℕ → Device → Type 0 = λ k v z. IsAtRest i n k v d.0.found.spare_open z in
         record {
           spare_open = d.0.found.spare_open;
-          rest = subst (At (number_after from_nothing h i) (value_after from_nothing h i)) (ap image_device (sym d.2.image))
-              (subst (λ v. At (number_after from_nothing h i) v (device_of d.0)) after.1 (subst (λ k. At k (found_value d.0) (device_of d.0)) after.0 rest));
+          rest = subst (At (number_after from_nothing h i) (value_after from_nothing h i))
+              (ap image_device (sym d.2.image))
+              (subst (λ v. At (number_after from_nothing h i) v (device_of d.0)) after.1
+              (subst (λ k. At k (found_value d.0) (device_of d.0)) after.0 rest));
           slot = d.2.slot ∙ ap (λ k. (k + 1) % 2) after.0;
           stage = d.2.stage;
         }
 
-    pub drives_stand : DrivesStand parts.segments y.history y.writers (phases_of_parts parts).writers es
+    pub drives_stand : DrivesStand parts.segments y.history y.writers
+        (phases_of_parts parts).writers es
     drives_stand i e s phase ee es_ ep =
         let a = map_element (λ (z : Writer). z.phase) parts.writers.items i phase ep in
         let old = map_element (λ (z : WriterState). free) x.writers i s es_ in
-        let rest : WriterRests n a.0 old.0 = at.down.parts_rest.writers.each i a.0 old.0 (ap (λ v. slice_get v.items i) (sym writers) ∙ a.1) old.1 in
-        subst (λ m. DriveStands m h i phase s.pending e) (sym segments) (subst (λ z. DriveStands n h i z s.pending e) (sym rest.idle ∙ a.2) (ready i e ee))
+        let rest : WriterRests n a.0 old.0 =
+        at.down.parts_rest.writers.each i a.0 old.0 (ap (λ v. slice_get v.items i) (sym writers)
+        ∙ a.1) old.1 in
+        subst (λ m. DriveStands m h i phase s.pending e) (sym segments)
+        (subst (λ z. DriveStands n h i z s.pending e) (sym rest.idle ∙ a.2) (ready i e ee))
 
     pub same_devices : map device_of es ≡ map device_of ds
-    same_devices = map_same device_of es ds (sym resumed.size) (λ i e d ee ed. ap image_device (resumed.each i d e ed ee).image)
+    same_devices = map_same device_of es ds (sym resumed.size) (λ i e d ee ed.
+        ap image_device (resumed.each i d e ed ee).image)
 
     pub device_served : AreServed n y (map device_of es)
     device_served i device there =
@@ -277,15 +392,20 @@ module _ (w : Node) (x : State) (stands : NodeStands w x) (is_ready : w.phase �
         let d = was i e.0 e.1 in
         let after = is_after i d.0 d.1 in
         let same : device_of d.0 ≡ device = ap image_device (sym d.2.image) ∙ e.2 in
-        let holds : Holds (device_of d.0).bytes d.0.found.number (found_value d.0) = found_holds i n (device_of d.0).bytes d.0.found (found i d.0 d.1) in
+        let holds : Holds (device_of d.0).bytes d.0.found.number (found_value d.0) =
+        found_holds i n (device_of d.0).bytes d.0.found (found i d.0 d.1) in
         let here : IsServed i n y (device_of d.0) = record {
           head = (found i d.0 d.1).head;
-          holds = subst (λ v. Holds (device_of d.0).bytes (number_after from_nothing h i) v) after.1 (subst (λ k. Holds (device_of d.0).bytes k (found_value d.0)) after.0 holds);
+          holds = subst (λ v. Holds (device_of d.0).bytes (number_after from_nothing h i) v) after.1
+              (subst (λ k. Holds (device_of d.0).bytes k (found_value d.0)) after.0 holds);
         } in
         subst (IsServed i n y) same here
 
-    pub gates : (i : ℕ) (device : Device) (calls : List Next) → slice_get (map device_of es) i ≡ Some device → slice_get (map store_left es) i ≡ Some calls
-        → (spare_open : Bool) × (calls ≡ store_calls spare_open) × ((k : ℕ) (v : List ℕ) → Holds device.bytes k v → IsSpare spare_open device.bytes k)
+    pub gates : (i : ℕ) (device : Device) (calls : List NextCall)
+        → slice_get (map device_of es) i ≡ Some device
+        → slice_get (map store_left es) i ≡ Some calls
+        → (spare_open : Bool) × (calls ≡ store_calls spare_open)
+        × ((k : ℕ) (v : List ℕ) → Holds device.bytes k v → IsSpare spare_open device.bytes k)
     gates i device calls there called =
         let e = map_element device_of es i device there in
         let f = map_element store_left es i calls called in
@@ -293,22 +413,34 @@ module _ (w : Node) (x : State) (stands : NodeStands w x) (is_ready : w.phase �
         let same : device_of d.0 ≡ device = ap image_device (sym d.2.image) ∙ e.2 in
         let one : f.0 ≡ e.0 = same_Some _ _ (sym f.1 ∙ e.1) in
         let is = found i d.0 d.1 in
-        let Spare : Device → Type 0 = λ z. (k : ℕ) (v : List ℕ) → Holds z.bytes k v → IsSpare d.0.found.spare_open z.bytes k in
-        let spare : Spare (device_of d.0) = λ k v holds. subst (IsSpare d.0.found.spare_open (device_of d.0).bytes)
-        (holds_same (device_of d.0).bytes d.0.found.number k (found_value d.0) v (found_holds i n (device_of d.0).bytes d.0.found is) holds).0 is.held.spare in
+        let Spare : Device → Type 0 = λ z. (k : ℕ) (v : List ℕ) → Holds z.bytes k v
+        → IsSpare d.0.found.spare_open z.bytes k in
+        let spare : Spare (device_of d.0) =
+        λ k v holds. subst (IsSpare d.0.found.spare_open (device_of d.0).bytes)
+        (holds_same (device_of d.0).bytes d.0.found.number k (found_value d.0) v
+        (found_holds i n (device_of d.0).bytes d.0.found is) holds).0 is.held.spare in
         (d.0.found.spare_open, sym f.2 ∙ ap store_left one ∙ d.2.calls, subst Spare same spare)
 
     pub idle_phases : phases_of_parts parts ≡ all_idle (phases_of_parts w.parts)
     idle_phases =
         let phase : Writer → WriterPhase = λ v. v.phase in
         let scanner_phase : Scanner → ScannerPhase = λ v. v.phase in
-        let a : map phase parts.writers.items ≡ replicate (length (map phase w.parts.writers.items)) writer.Idle =
+        let a : map phase parts.writers.items
+        ≡ replicate (length (map phase w.parts.writers.items)) writer.Idle =
         ap (λ v. map phase v.items) writers
-        ∙ all_same phase writer.Idle w.parts.writers.items (λ i z e. (partner (λ j. WriterRests n) w.parts.writers.items x.writers i z at.down.parts_rest.writers e).2.idle)
+        ∙ all_same phase writer.Idle w.parts.writers.items (λ i z e.
+        (partner (λ j. WriterRests n) w.parts.writers.items x.writers i z at.down.parts_rest.writers
+        e).2.idle)
         ∙ ap (λ m. replicate m writer.Idle) (sym (length-map w.parts.writers.items phase)) in
-        let b : map scanner_phase parts.scanners.items ≡ replicate (length (map scanner_phase w.parts.scanners.items)) scanner.Idle =
+        let b : map scanner_phase parts.scanners.items
+        ≡ replicate (length (map scanner_phase w.parts.scanners.items)) scanner.Idle =
         ap (λ v. map scanner_phase v.items) scanners
-        ∙ all_same scanner_phase scanner.Idle w.parts.scanners.items (λ i z e. (partner (λ j. ScannerRests n) w.parts.scanners.items x.scanners i z at.down.parts_rest.scanners e).2.idle)
-        ∙ ap (λ m. replicate m scanner.Idle) (sym (length-map w.parts.scanners.items scanner_phase)) in
-        let Made : List WriterPhase → List ScannerPhase → Phases = λ p q. record { writers = p; scanners = q } in
-        ap (λ p. Made p (map scanner_phase parts.scanners.items)) a ∙ ap (λ q. Made (replicate (length (map phase w.parts.writers.items)) writer.Idle) q) b
+        ∙ all_same scanner_phase scanner.Idle w.parts.scanners.items (λ i z e.
+        (partner (λ j. ScannerRests n) w.parts.scanners.items x.scanners i z
+        at.down.parts_rest.scanners e).2.idle)
+        ∙ ap (λ m. replicate m scanner.Idle)
+        (sym (length-map w.parts.scanners.items scanner_phase)) in
+        let Made : List WriterPhase → List ScannerPhase → Phases =
+        λ p q. record { writers = p; scanners = q } in
+        ap (λ p. Made p (map scanner_phase parts.scanners.items)) a
+        ∙ ap (λ q. Made (replicate (length (map phase w.parts.writers.items)) writer.Idle) q) b

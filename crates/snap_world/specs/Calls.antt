@@ -1,13 +1,13 @@
 -- The device calls of a store and of a restart, as a reply names them.
-use Rattle.snap_persist.specs.declared.persist.Next.{Next}
-use Rattle.snap_persist.specs.declared.persist.Next.TheVariants.{Write, Sync, Done}
+use Rattle.snap_persist.specs.declared.persist.NextCall.{NextCall}
+use Rattle.snap_persist.specs.declared.persist.NextCall.TheVariants.{Write, Sync, Done}
 use Rattle.snap_world.specs.declared.event.Kind.{Kind}
 use Rattle.snap_world.specs.declared.event.Kind.TheVariants as kind
 use Rattle.snap_world.specs.declared.node.OpeningCall.{OpeningCall}
 use Rattle.snap_world.specs.declared.node.OpeningCall.TheVariants as opening
 
 -- the call of a store that is of this kind; a store makes no read
-abbrev pub store_call : Kind → Next
+abbrev pub store_call : Kind → NextCall
 store_call (kind.Write w) = Write w
 store_call kind.Sync = Sync
 store_call kind.Read = Done

@@ -7,23 +7,37 @@ use Rattle.snap_slot.specs.Layout.{slot_of, body_block, Head, Holds, IsSpare}
 use Rattle.snap_persist.specs.Device.{IsJustWritten, write_at, write_bytes, write_len}
 use Rattle.snap_history.specs.Pairs.{Pairs}
 use Rattle.snap_history.specs.History.{from_nothing, number_after, value_after}
-use Rattle.snap_persist.specs.declared.persist.Next.{Next}
-use Rattle.snap_persist.specs.declared.persist.Next.TheVariants as next
+use Rattle.snap_persist.specs.declared.persist.NextCall.{NextCall}
+use Rattle.snap_persist.specs.declared.persist.NextCall.TheVariants as next
 use Rattle.snap_persist.specs.Stage.{store_calls}
 use Rattle.snap_world.specs.Calls.{store_call}
 use Rattle.snap_world.specs.Machine.{State, WriterState, Begun}
 use Rattle.snap_world.specs.NodePhases.{WorldPhases}
 use Rattle.snap_world.specs.declared.node.NodePhase.TheVariants.{Restarting}
 use Rattle.snap_world.specs.declared.event.Event.{Event}
-use Rattle.snap_world.specs.declared.event.Event.TheVariants.{Call, Fail, Crash, RestartCall, RestartFail, Serve}
+use Rattle.snap_world.specs.declared.event.Event.TheVariants.{
+  Call,
+  Fail,
+  Crash,
+  RestartCall,
+  RestartFail,
+  Serve,
+}
 use Rattle.snap_world.specs.declared.node.OpeningCall.{OpeningCall}
 use Rattle.snap_world.specs.declared.node.OpeningCall.TheVariants as opening
 use Rattle.snap_world.specs.declared.event.Reply.{Reply}
-use Rattle.snap_world.specs.declared.event.Reply.TheVariants.{Called, DeviceFailed, Crashed, Memory, NotNow}
+use Rattle.snap_world.specs.declared.event.Reply.TheVariants.{
+  Called,
+  DeviceFailed,
+  Crashed,
+  Memory,
+  NotNow,
+}
 
 -- this call of a store of this body block into this slot succeeded
-abbrev pub IsMade : ℕ → List ℕ → Next → Device → Device → Type 0
-IsMade slot body (next.Write w) old new = IsJustWritten (write_at slot w) (write_bytes body w) old new
+abbrev pub IsMade : ℕ → List ℕ → NextCall → Device → Device → Type 0
+IsMade slot body (next.Write w) old new =
+    IsJustWritten (write_at slot w) (write_bytes body w) old new
 IsMade slot body next.Sync old new = IsSynced old new
 IsMade slot body next.Done old new = ⊥
 
@@ -38,8 +52,9 @@ pub record IsRefilled (fill : Fill) (old new : Device) : Type 0 where
   pub filled : IsFilled fill old.is_open old.bytes new.bytes
 
 -- this call of a store into this slot failed
-abbrev pub IsMissed : ℕ → Fill → Next → Device → Device → Type 0
-IsMissed slot fill (next.Write w) old new = IsWriteFailed (write_at slot w) (write_len w) fill old new
+abbrev pub IsMissed : ℕ → Fill → NextCall → Device → Device → Type 0
+IsMissed slot fill (next.Write w) old new =
+    IsWriteFailed (write_at slot w) (write_len w) fill old new
 IsMissed slot fill next.Sync old new = IsRefilled fill old new
 IsMissed slot fill next.Done old new = ⊥
 
@@ -54,7 +69,8 @@ pub record Changes (i : ℕ) (R : Device → Device → Type 0) (old new : List 
 -- each device gets its fill at its open places
 abbrev pub AreRefilled : List Fill → List Device → List Device → Type 0
 AreRefilled fills old new =
-    Pairs (λ i before after. (fill : Fill) → slice_get fills i ≡ Some fill → IsRefilled fill before after) old new
+    Pairs (λ i before after. (fill : Fill) → slice_get fills i ≡ Some fill
+    → IsRefilled fill before after) old new
 
 -- this call of a restart at segment i succeeded, or failed
 abbrev pub RestartMakes : ℕ → OpeningCall → List Device → List Device → Type 0
@@ -68,7 +84,8 @@ RestartMisses i fill opening.Read old new = new ≡ old
 -- the device of segment i holds the number and value that the segment has after the history
 pub record IsServed (i n : ℕ) (x : State) (device : Device) : Type 0 where
   pub head : Head device.bytes i n
-  pub holds : Holds device.bytes (number_after from_nothing x.history i) (value_after from_nothing x.history i)
+  pub holds : Holds device.bytes (number_after from_nothing x.history i)
+      (value_after from_nothing x.history i)
 
 abbrev pub AreServed : ℕ → State → List Device → Type 0
 AreServed n x devices =
@@ -77,7 +94,7 @@ AreServed n x devices =
 -- after a restart the calls of a segment's next store are those for its spare gate
 abbrev pub GatesTold : Event → Reply → WorldPhases → List Device → Type 0
 GatesTold Serve (Memory m) q devices =
-    (i : ℕ) (device : Device) (calls : List Next)
+    (i : ℕ) (device : Device) (calls : List NextCall)
     → slice_get devices i ≡ Some device → slice_get q.calls i ≡ Some calls
     → (spare_open : Bool) × (calls ≡ store_calls spare_open)
     × ((k : ℕ) (v : List ℕ) → Holds device.bytes k v → IsSpare spare_open device.bytes k)
@@ -99,13 +116,14 @@ DevicesMove n x p old (Call w) (Called kind) y new =
     (s : WriterState) × (v : List ℕ) × (slice_get x.writers w ≡ Some s) × (s.pending ≡ Begun v)
     × Changes w (IsMade (next_slot x w) (body_block (next_number x w) v) (store_call kind)) old new
 DevicesMove n x p old (Fail w fill) DeviceFailed y new =
-    (call : Next) × (rest : List Next) × (slice_get p.calls w ≡ Some (call ∷ rest))
+    (call : NextCall) × (rest : List NextCall) × (slice_get p.calls w ≡ Some (call ∷ rest))
     × Changes w (IsMissed (next_slot x w) fill call) old new
 DevicesMove n x p old (Crash fills) Crashed y new = AreRefilled fills.items old new
 DevicesMove n x p old RestartCall (Called kind) y new =
     (i : ℕ) × (call : OpeningCall) × (p.node ≡ Restarting i call) × RestartMakes i call old new
 DevicesMove n x p old (RestartFail fill) DeviceFailed y new =
-    (i : ℕ) × (call : OpeningCall) × (p.node ≡ Restarting i call) × RestartMisses i fill call old new
+    (i : ℕ) × (call : OpeningCall) × (p.node ≡ Restarting i call)
+    × RestartMisses i fill call old new
 -- a restart answers what the devices hold
 DevicesMove n x p old Serve (Memory m) y new = (new ≡ old) × AreServed n y new
 -- no other event changes a device

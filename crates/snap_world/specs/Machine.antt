@@ -1,16 +1,59 @@
--- The abstract machine: a history of updates, what each writer has begun or shown, where each scan began
--- and looked last, and which moment it answers.
+-- The abstract machine: a history of updates, what each writer has begun or shown, where each scan
+-- began and looked last, and which moment it answers.
 use Rattle.std.proofs.Common.{suc}
-use Rattle.std.specs.Prelude.{◌≡◌, ℕ, Bool, true, false, List, [], ◌∷◌, ◌++◌, length, map, Option, Some, None, slice_get, slice_set}
+use Rattle.std.specs.Prelude.{
+  ◌≡◌,
+  ℕ,
+  Bool,
+  true,
+  false,
+  List,
+  [],
+  ◌∷◌,
+  ◌++◌,
+  length,
+  map,
+  Option,
+  Some,
+  None,
+  slice_get,
+  slice_set,
+}
 use Rattle.snap_history.specs.History.{Update, from_nothing, number_after, IsMemory}
 use Rattle.snap_scan.specs.Looks.{IsTurn, IsBorrow, IsDecided}
 use Rattle.snap_collect.specs.Collects.{IsMoment}
 use Rattle.snap_world.specs.Answers.{ScanState, scan_from, IsAnswer, number_at}
 use Rattle.snap_world.specs.declared.event.Actor.TheVariants.{Writer, Scanner}
 use Rattle.snap_world.specs.declared.event.Event.{Event}
-use Rattle.snap_world.specs.declared.event.Event.TheVariants.{Begin, Look, Call, Fail, Show, Acknowledge, Scan, Answer, Crash, Restart, RestartCall, RestartFail, Serve}
+use Rattle.snap_world.specs.declared.event.Event.TheVariants.{
+  Begin,
+  Look,
+  Call,
+  Fail,
+  Show,
+  Acknowledge,
+  Scan,
+  Answer,
+  Crash,
+  Restart,
+  RestartCall,
+  RestartFail,
+  Serve,
+}
 use Rattle.snap_world.specs.declared.event.Reply.{Reply}
-use Rattle.snap_world.specs.declared.event.Reply.TheVariants.{Begun as Begun_reply, Number, Called, DeviceFailed, Shown as Shown_reply, Stored, ScanBegun, Memory, Crashed, Restarting, NotNow}
+use Rattle.snap_world.specs.declared.event.Reply.TheVariants.{
+  Begun as Begun_reply,
+  Number,
+  Called,
+  DeviceFailed,
+  Shown as Shown_reply,
+  Stored,
+  ScanBegun,
+  Memory,
+  Crashed,
+  Restarting,
+  NotNow,
+}
 
 -- what a writer has under way
 pub data Pending : Type 0 where
@@ -18,8 +61,9 @@ pub data Pending : Type 0 where
   Begun : (v : List ℕ) → Pending
   Shown : (v : List ℕ) → Pending
 
--- a segment: its update under way, whether it is fenced, the scan that is embedded in the update, and the
--- moment with which its last update was shown, where it has shown one since the node began to serve
+-- a segment: its update under way, whether it is fenced, the scan that is embedded in the update,
+-- and the moment with which its last update was shown, where it has shown one since the node began
+-- to serve
 pub record WriterState : Type 0 where
   pub pending : Pending
   pub fenced : Bool
@@ -67,9 +111,9 @@ with_update x w v s = record {
 abbrev pub ShownWith : State → ℕ → ℕ → Type 0
 ShownWith x j p = (s : WriterState) × (slice_get x.writers j ≡ Some s) × (s.view ≡ Some p)
 
--- in state x the moment of a scan that looked just now: none where the numbers told decide nothing, else
--- one from its beginning to now that they tell; and where they borrow from segment j, the very moment with
--- which its last update was shown
+-- in state x the moment of a scan that looked just now: none where the numbers told decide nothing,
+-- else one from its beginning to now that they tell; and where they borrow from segment j, the very
+-- moment with which its last update was shown
 abbrev pub Decides : ℕ → State → ScanState → Option ℕ → Type 0
 Decides n x s None = IsDecided n s.told → ⊥
 Decides n x s (Some p) =
@@ -145,7 +189,11 @@ abbrev pub Step : ℕ → State → Event → Reply → State → Type 0
 Step n x event NotNow y = y ≡ x
 Step n x (Begin w v) Begun_reply y =
     (s : WriterState) × (slice_get x.writers w ≡ Some s) × (s.pending ≡ Free) × (s.fenced ≡ false)
-    × (y ≡ with_writer x w (record s { pending = Begun v.items; scan = scan_from (length x.history) }))
+    × (y ≡ with_writer x w (record s {
+      pending = Begun v.items;
+      scan =
+          scan_from (length x.history);
+    }))
 -- a look tells the number of the segment whose turn it is
 Step n x (Look (Writer w)) (Number k) y =
     (s : WriterState) × (slice_get x.writers w ≡ Some s)
@@ -182,7 +230,8 @@ Step n x RestartCall (Called kind) y = y ≡ x
 Step n x (RestartFail fill) DeviceFailed y = y ≡ x
 -- a restart answers the memory after the history and some of the begun updates
 Step n x Serve (Memory m) y =
-    (marks : List Bool) × IsMemory n from_nothing (history_with x marks) (map (λ v. v.items) m.items)
+    (marks : List Bool) × IsMemory n from_nothing (history_with x marks)
+    (map (λ v. v.items) m.items)
     × (y ≡ served x marks)
 -- no other reply is given
 Step n x event reply y = ⊥

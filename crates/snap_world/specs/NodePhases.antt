@@ -1,5 +1,24 @@
--- The phases of a world: of its node, of its writers and scanners, and of the stores on its devices.
-use Rattle.std.specs.Prelude.{◌≡◌, ◌⊎◌, ℕ, ◌+◌, ◌<◌, nat_lt, true, if◌then◌else◌, List, [], ◌∷◌, ◌++◌, length, replicate, Some, slice_get, slice_set}
+-- The phases of a world: of its node, of its writers and scanners, and of the stores on its
+-- devices.
+use Rattle.std.specs.Prelude.{
+  ◌≡◌,
+  ◌⊎◌,
+  ℕ,
+  ◌+◌,
+  ◌<◌,
+  nat_lt,
+  true,
+  if◌then◌else◌,
+  List,
+  [],
+  ◌∷◌,
+  ◌++◌,
+  length,
+  replicate,
+  Some,
+  slice_get,
+  slice_set,
+}
 use Rattle.snap_scan.specs.Looks.{IsDecided}
 use Rattle.snap_history.specs.History.{from_nothing, number_after}
 use Rattle.snap_world.specs.Machine.{State, WriterState, Opened}
@@ -7,14 +26,40 @@ use Rattle.snap_world.specs.Answers.{ScanState}
 use Rattle.snap_world.specs.Phases.{Phases, WriterIs, ScannerIs, writer_to, scanner_to}
 use Rattle.snap_slot.specs.declared.layout.TheConstants.{LAST_NUMBER}
 use Rattle.snap_slot.specs.Layout.{IsShort}
-use Rattle.snap_persist.specs.declared.persist.Next.{Next}
+use Rattle.snap_persist.specs.declared.persist.NextCall.{NextCall}
 use Rattle.snap_persist.specs.Stage.{store_calls}
 use Rattle.snap_world.specs.Calls.{store_call, opening_kind}
 use Rattle.snap_world.specs.declared.event.Actor.TheVariants as actor
 use Rattle.snap_world.specs.declared.event.Event.{Event}
-use Rattle.snap_world.specs.declared.event.Event.TheVariants.{Begin, Look, Show, Acknowledge, Scan, Answer, Call, Fail, Crash, Restart, RestartCall, RestartFail, Serve}
+use Rattle.snap_world.specs.declared.event.Event.TheVariants.{
+  Begin,
+  Look,
+  Show,
+  Acknowledge,
+  Scan,
+  Answer,
+  Call,
+  Fail,
+  Crash,
+  Restart,
+  RestartCall,
+  RestartFail,
+  Serve,
+}
 use Rattle.snap_world.specs.declared.event.Reply.{Reply}
-use Rattle.snap_world.specs.declared.event.Reply.TheVariants.{Begun, Number, Shown, Stored, ScanBegun, Called, DeviceFailed, Crashed, Restarting as Restarting_reply, Memory, NotNow}
+use Rattle.snap_world.specs.declared.event.Reply.TheVariants.{
+  Begun,
+  Number,
+  Shown,
+  Stored,
+  ScanBegun,
+  Called,
+  DeviceFailed,
+  Crashed,
+  Restarting as Restarting_reply,
+  Memory,
+  NotNow,
+}
 use Rattle.snap_world.specs.declared.node.NodePhase.{NodePhase}
 use Rattle.snap_world.specs.declared.node.NodePhase.TheVariants.{Up, Down, Restarting, Ready}
 use Rattle.snap_world.specs.declared.node.OpeningCall.{OpeningCall}
@@ -22,12 +67,12 @@ use Rattle.snap_world.specs.declared.node.OpeningCall.TheVariants as opening
 use Rattle.snap_world.specs.declared.writer.WriterPhase.TheVariants as writer
 use Rattle.snap_world.specs.declared.scanner.ScannerPhase.TheVariants as scanner
 
--- `calls` has for each segment the device calls that are left of the store under way, or of the next
--- one
+-- `calls` has for each segment the device calls that are left of the store under way, or of the
+-- next one
 pub record WorldPhases : Type 0 where
   pub node : NodePhase
   pub actors : Phases
-  pub calls : List (List Next)
+  pub calls : List (List NextCall)
 
 -- a node that is up, with these writers and scanners and no device
 abbrev pub up : Phases → WorldPhases
@@ -77,9 +122,9 @@ pub record LooksOn {P : Type 0} (n : ℕ) (told : List ℕ) (p r q : P) : Type 0
   pub goes_on : (IsDecided n told → ⊥) → q ≡ p
   pub either : (q ≡ r) ⊎ (q ≡ p)
 
--- after a call with these ones left; once none is left the update is stored, and the next store finds
--- its spare gate open
-abbrev pub AfterCall : WorldPhases → ℕ → List Next → WorldPhases → Type 0
+-- after a call with these ones left; once none is left the update is stored, and the next store
+-- finds its spare gate open
+abbrev pub AfterCall : WorldPhases → ℕ → List NextCall → WorldPhases → Type 0
 AfterCall p w [] q = q ≡ record {
   node = p.node;
   actors = writer_to p.actors w writer.Stored;
@@ -115,7 +160,8 @@ PhasesMove n x p (Look (actor.Scanner i)) (Number k) q =
     (s : ScanState) → slice_get x.scanners i ≡ Some (Opened s)
     → LooksOn n (s.told ++ k ∷ []) p (actors_to p (scanner_to p.actors i scanner.Ready)) q
 PhasesMove n x p (Call w) (Called kind) q =
-    (rest : List Next) × (slice_get p.calls w ≡ Some (store_call kind ∷ rest)) × AfterCall p w rest q
+    (rest : List NextCall) × (slice_get p.calls w ≡ Some (store_call kind ∷ rest))
+    × AfterCall p w rest q
 PhasesMove n x p (Fail w fill) DeviceFailed q = q ≡ record {
   node = p.node;
   actors = writer_to p.actors w writer.Fenced;
@@ -147,8 +193,8 @@ NeedsMemory p event =
     ((i : ℕ) × (event ≡ Answer i) × (p.node ≡ Up) × ScannerIs p.actors i scanner.Ready)
     ⊎ ((event ≡ Serve) × (p.node ≡ Ready))
 
--- with these phases memory can have run out before this one of the events: the first, where the list
--- of replies was to be made, or one whose reply holds values
+-- with these phases memory can have run out before this one of the events: the first, where the
+-- list of replies was to be made, or one whose reply holds values
 abbrev pub StopsAt : WorldPhases → List Event → ℕ → Type 0
 StopsAt p events done =
     (done ≡ 0) ⊎ ((event : Event) × (slice_get events done ≡ Some event) × NeedsMemory p event)

@@ -8,24 +8,25 @@ use Rattle.snap_world.specs.declared.event.Event.{Event}
 use Rattle.snap_world.specs.declared.event.Reply.{Reply}
 
 -- a state of the abstract machine, with the phases of a world and its devices
-pub record Moment : Type 0 where
+pub record Configuration : Type 0 where
   pub state : State
   pub phases : WorldPhases
   pub devices : List Device
 
--- over n segments, the event with this reply leads from moment a to moment b: it is a step of the
--- machine, comes exactly where it may, and moves the phases and the devices
-pub record Passes (n : ℕ) (a : Moment) (event : Event) (reply : Reply) (b : Moment) : Type 0 where
+-- over n segments, the event with this reply leads from configuration a to configuration b: it is a
+-- step of the machine, comes exactly where it may, and moves the phases and the devices
+pub record Passes (n : ℕ) (a : Configuration) (event : Event) (reply : Reply)
+    (b : Configuration) : Type 0 where
   pub step : Step n a.state event reply b.state
   pub comes : TellsWhether a.state a.phases event reply
   pub phases : PhasesMove n a.state a.phases event reply b.phases
   pub devices : DevicesMove n a.state a.phases a.devices event reply b.state b.devices
   pub gates : GatesTold event reply b.phases b.devices
 
--- these events with these replies lead from moment a to moment b
-abbrev pub Run : ℕ → Moment → List Event → List Reply → Moment → Type 0
+-- these events with these replies lead from configuration a to configuration b
+abbrev pub Run : ℕ → Configuration → List Event → List Reply → Configuration → Type 0
 Run n a [] [] b = b ≡ a
 Run n a (event ∷ events) (reply ∷ replies) b =
-    (c : Moment) × Passes n a event reply c × Run n c events replies b
+    (c : Configuration) × Passes n a event reply c × Run n c events replies b
 Run n a [] (reply ∷ replies) b = ⊥
 Run n a (event ∷ events) [] b = ⊥

@@ -4,9 +4,9 @@ use Rattle.snap_disk.specs.Device.{Device}
 use Rattle.snap_history.specs.History.{IsBeginning}
 use Rattle.snap_world.specs.Machine.{State}
 use Rattle.snap_world.specs.NodePhases.{WorldPhases}
-use Rattle.snap_world.specs.NodeStands.{NodeStands}
-use Rattle.snap_world.specs.NodeSteps.{phases_of_node, devices_of_node}
-use Rattle.snap_world.specs.Runs.{Moment, Run}
+use Rattle.snap_world.specs.inside.NodeStands.{NodeStands}
+use Rattle.snap_world.specs.inside.NodeSteps.{phases_of_node, devices_of_node}
+use Rattle.snap_world.specs.Runs.{Configuration, Run}
 use Rattle.snap_world.specs.declared.event.Event.{Event}
 use Rattle.snap_world.specs.declared.event.Reply.{Reply}
 use Rattle.snap_world.specs.declared.world.World.{World}
@@ -28,14 +28,16 @@ abbrev pub StandsFor : World → State → Type 0
 StandsFor w x = NodeStands w.node x
 
 -- this state, with the phases and the devices that the world shows
-abbrev pub moment : World → State → Moment
-moment w x = record { state = x; phases = phases_of w; devices = devices_of w }
+abbrev pub configuration : World → State → Configuration
+configuration w x = record { state = x; phases = phases_of w; devices = devices_of w }
 
--- from each state that the old world stood for, the events with these replies are a run of the abstract
--- machine, with the phases and devices of the old world and the new one, to a state that the new one
--- stands for, whose history only grew at its end
-pub record IsRun (old : World) (events : List Event) (replies : List Reply) (new : World) : Type 0 where
+-- from each state that the old world stood for, the events with these replies are a run of the
+-- abstract machine, with the phases and devices of the old world and the new one, to a state that
+-- the new one stands for, whose history only grew at its end
+pub record IsRun (old : World) (events : List Event) (replies : List Reply)
+    (new : World) : Type 0 where
   pub segments : segments_of new ≡ segments_of old
   pub run : (x : State) → StandsFor old x
-      → (y : State) × Run (segments_of old) (moment old x) events replies (moment new y)
+      → (y : State) × Run (segments_of old) (configuration old x) events replies
+      (configuration new y)
       × StandsFor new y × IsBeginning x.history y.history

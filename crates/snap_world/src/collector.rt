@@ -1,7 +1,7 @@
 //! One scan in progress: its double collects, and the values that it saw last.
 ghost use Rattle.std.specs.Prelude.{◌≡◌, ◌↔◌, length, map, IfOk, IsTrue, MatchBool};
 ghost use Rattle.snap_scan.specs.Looks.{IsDecided};
-ghost use Rattle.snap_world.specs.Gathers.{IsLookOf, IsUnderWay, MayLook};
+ghost use Rattle.snap_world.specs.inside.Gathers.{IsLookOf, IsUnderWay, MayLook};
 
 use crate::register::Register;
 use crate::value::Value;

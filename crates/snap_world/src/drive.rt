@@ -11,14 +11,20 @@ ghost use Rattle.snap_persist.specs.Device.{IsJustWritten, write_at, write_bytes
 ghost use Rattle.snap_persist.specs.Stage.{calls_left, after_call, first_call};
 ghost use Rattle.snap_world.specs.Calls.{store_call};
 ghost use Rattle.snap_world.specs.Devices.{IsMade, IsMissed, IsWriteFailed};
-ghost use Rattle.snap_world.specs.Drives.{device_of, IsFormatted, AllReady, IsCrashed, AreCrashed};
+ghost use Rattle.snap_world.specs.inside.Drives.{
+  device_of,
+  IsFormatted,
+  AllReady,
+  IsCrashed,
+  AreCrashed,
+};
 ghost use Rattle.snap_history.specs.Pairs.{Pairs};
-ghost use Rattle.snap_world.specs.Serving.{found_value, AllReadable, IsResumed};
-ghost use Rattle.snap_persist.specs.declared.persist.Next.{Next};
+ghost use Rattle.snap_world.specs.inside.Serving.{found_value, AllReadable, IsResumed};
+ghost use Rattle.snap_persist.specs.declared.persist.NextCall.{NextCall};
 
 use crate::event::Kind;
 use snap_disk::{Fill, Image};
-use snap_persist::{Answer, Next, Persist, Stage, Write};
+use snap_persist::{Answer, NextCall, Persist, Stage, Write};
 use snap_slot::{BLOCK_LEN, FILE_LEN, Found, encode_body, encode_fresh_file, recover, slot_of};
 use std::alloc::{AllocError, Global};
 
@@ -30,7 +36,7 @@ static NO_BODY: [u8; BLOCK_LEN] = [0; BLOCK_LEN];
 #[derive(Drop)]
 pub struct Drive {
     pub image: Image,
-    pub order: Persist,
+    pub persist: Persist,
     /// What the last restart found on it.
     pub found: Found,
 }
@@ -49,7 +55,7 @@ impl Drive {
         image.settle();
         Ok(Drive {
             image,
-            order: Persist::begin(false, slot_of(1)),
+            persist: Persist::begin(false, slot_of(1)),
             found: Found {
                 number: 0,
                 length: 0,
@@ -61,44 +67,45 @@ impl Drive {
     /// The next call of the store of this number and value, which succeeds: its kind.
     pub fn call(&mut self, number: u64, value: &[u8]) -> Kind
         requires size { length (device_of self.old).bytes ≡ FILE_LEN }
-        requires slot { self.old.order.slot < SLOT_COUNT }
+        requires slot { self.old.persist.slot < SLOT_COUNT }
         requires number { IsNumber number }
         requires fits { IsShort value.now }
-        requires going { calls_left self.old.order.stage ≢ [] }
-        ensures slot { self.new.order.slot ≡ self.old.order.slot }
-        ensures stage { self.new.order.stage ≡ after_call self.old.order.stage }
-        ensures kind { calls_left self.old.order.stage
-            ≡ store_call result ∷ calls_left self.new.order.stage }
-        ensures made { IsMade self.old.order.slot (body_block number value.now) (store_call result)
+        requires going { calls_left self.old.persist.stage ≢ [] }
+        ensures slot { self.new.persist.slot ≡ self.old.persist.slot }
+        ensures stage { self.new.persist.stage ≡ after_call self.old.persist.stage }
+        ensures kind { calls_left self.old.persist.stage
+            ≡ store_call result ∷ calls_left self.new.persist.stage }
+        ensures made { IsMade self.old.persist.slot (body_block number value.now)
+            (store_call result)
             (device_of self.old) (device_of self.new) }
     {
-        let kind = match self.order.next() {
-            Next::Write(write) => {
+        let kind = match self.persist.next() {
+            NextCall::Write(write) => {
                 self.put(write, number, value);
                 Kind::Write(write)
             }
-            Next::Sync => {
+            NextCall::Sync => {
                 self.image.settle();
                 Kind::Sync
             }
-            Next::Done => unreachable!(),
+            NextCall::Done => unreachable!(),
         };
-        self.order.told(Answer::Ok);
+        self.persist.told(Answer::Ok);
         kind
     }
 
     /// A write of the store of this number and value.
     fn put(&mut self, write: Write, number: u64, value: &[u8])
         requires size { length (device_of self.old).bytes ≡ FILE_LEN }
-        requires slot { self.old.order.slot < SLOT_COUNT }
+        requires slot { self.old.persist.slot < SLOT_COUNT }
         requires number { IsNumber number }
         requires fits { IsShort value.now }
-        ensures order { self.new.order ≡ self.old.order }
-        ensures written { IsJustWritten (write_at self.old.order.slot write)
+        ensures persist { self.new.persist ≡ self.old.persist }
+        ensures written { IsJustWritten (write_at self.old.persist.slot write)
             (write_bytes (body_block number value.now) write)
             (device_of self.old) (device_of self.new) }
     {
-        let place = write.place(self.order.slot()) as usize;
+        let place = write.place(self.persist.slot()) as usize;
         match write {
             Write::Body => {
                 let mut block = [0u8; BLOCK_LEN];
@@ -114,30 +121,31 @@ impl Drive {
     /// over.
     pub fn fail(&mut self, fill: &Fill)
         requires size { length (device_of self.old).bytes ≡ FILE_LEN }
-        requires slot { self.old.order.slot < SLOT_COUNT }
-        requires going { calls_left self.old.order.stage ≢ [] }
-        ensures stage { self.new.order.stage ≡ Stage.Fenced }
-        ensures missed { (call : Next) × (rest : List Next)
-            × (calls_left self.old.order.stage ≡ call ∷ rest)
-            × IsMissed self.old.order.slot fill.now call (device_of self.old) (device_of self.new) }
+        requires slot { self.old.persist.slot < SLOT_COUNT }
+        requires going { calls_left self.old.persist.stage ≢ [] }
+        ensures stage { self.new.persist.stage ≡ Stage.Fenced }
+        ensures missed { (call : NextCall) × (rest : List NextCall)
+            × (calls_left self.old.persist.stage ≡ call ∷ rest)
+            × IsMissed self.old.persist.slot fill.now call (device_of self.old)
+            (device_of self.new) }
     {
-        match self.order.next() {
-            Next::Write(write) => self.put_failed(write, fill),
-            Next::Sync => self.image.settle_failed(fill),
-            Next::Done => unreachable!(),
+        match self.persist.next() {
+            NextCall::Write(write) => self.put_failed(write, fill),
+            NextCall::Sync => self.image.settle_failed(fill),
+            NextCall::Done => unreachable!(),
         }
-        self.order.told(Answer::Fault);
+        self.persist.told(Answer::Fault);
     }
 
     /// A write of the store that fails.
     fn put_failed(&mut self, write: Write, fill: &Fill)
         requires size { length (device_of self.old).bytes ≡ FILE_LEN }
-        requires slot { self.old.order.slot < SLOT_COUNT }
-        ensures order { self.new.order ≡ self.old.order }
-        ensures failed { IsWriteFailed (write_at self.old.order.slot write) (write_len write)
+        requires slot { self.old.persist.slot < SLOT_COUNT }
+        ensures persist { self.new.persist ≡ self.old.persist }
+        ensures failed { IsWriteFailed (write_at self.old.persist.slot write) (write_len write)
             fill.now (device_of self.old) (device_of self.new) }
     {
-        let place = write.place(self.order.slot());
+        let place = write.place(self.persist.slot());
         self.image.put_failed(place as usize, write.len(), fill);
     }
 }
@@ -155,7 +163,7 @@ impl Drive {
         requires { ∥ ((k : ℕ) × (v : List ℕ)
             × IsFileOf index count k v (device_of self.old).bytes) ∥₁ }
         ensures image { self.new.image ≡ self.old.image }
-        ensures order { self.new.order ≡ self.old.order }
+        ensures persist { self.new.persist ≡ self.old.persist }
         ensures found { IsFound index count (device_of self.old).bytes self.new.found }
     {
         match recover(self.image.bytes(), index, count) {
@@ -191,7 +199,7 @@ impl Drive {
         requires limit { IsNumber self.old.found.number }
         ensures { IsResumed self.old self.new }
     {
-        self.order = Persist::begin(self.found.spare_open, slot_of(self.found.number + 1));
+        self.persist = Persist::begin(self.found.spare_open, slot_of(self.found.number + 1));
     }
 }
 

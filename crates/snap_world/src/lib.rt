@@ -15,20 +15,16 @@
 //! The world stores no history. Its contracts speak of an abstract machine that keeps one
 //! (specs/Machine.antt), of the phases that each event needs and leaves (specs/NodePhases.antt), of
 //! what each event does to the devices (specs/Devices.antt), and of the states of that machine that
-//! a world stands for (specs/NodeStands.antt).
+//! a world stands for (specs/inside/NodeStands.antt).
 #![tactic(auto)]
 
 mod collector;
 mod drive;
 mod event;
-#[cfg(test)]
-mod generated_tests;
 mod node;
 mod parts;
 mod register;
 mod restart;
-#[cfg(test)]
-mod restart_tests;
 mod scanner;
 mod start;
 mod store;

@@ -3,9 +3,9 @@ ghost use Rattle.std.specs.Prelude.{◌≡◌, ℕ, ◌<◌, ◌≤◌, IfOk, On
 ghost use Rattle.snap_slot.specs.declared.layout.TheConstants.{MAX_COUNT};
 ghost use Rattle.snap_world.specs.Start.{start_state, start_world_phases, AreFormatted};
 ghost use Rattle.snap_world.specs.NodePhases.{NeedsMemory};
-ghost use Rattle.snap_world.specs.NodeStands.{NodeStands, NodeStand};
-ghost use Rattle.snap_world.specs.NodeSteps.{IsNodeStep, phases_of_node, devices_of_node};
-ghost use Rattle.snap_world.specs.Steps.{IsActors};
+ghost use Rattle.snap_world.specs.inside.NodeStands.{NodeStands, NodeStand};
+ghost use Rattle.snap_world.specs.inside.NodeSteps.{IsNodeStep, phases_of_node, devices_of_node};
+ghost use Rattle.snap_world.specs.inside.Steps.{IsActors};
 
 use crate::drive::{Drive, new_drives};
 use crate::event::{Event, Reply};

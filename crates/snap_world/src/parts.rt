@@ -3,10 +3,10 @@ ghost use Rattle.std.specs.Prelude.{◌≡◌, ℕ, ◌<◌, ◌≤◌, IfOk, On
 ghost use Rattle.snap_slot.specs.declared.layout.TheConstants.{MAX_COUNT};
 ghost use Rattle.snap_world.specs.Start.{start_state, start_phases};
 ghost use Rattle.snap_world.specs.NodePhases.{NeedsMemory, up};
-ghost use Rattle.snap_world.specs.Stands.{PartsStand, Stand};
-ghost use Rattle.snap_world.specs.Halting.{IsHalted, IsScannerHalted};
+ghost use Rattle.snap_world.specs.inside.Stands.{PartsStand, Stand};
+ghost use Rattle.snap_world.specs.inside.Halting.{IsHalted, IsScannerHalted};
 ghost use Rattle.snap_history.specs.Pairs.{Pairs};
-ghost use Rattle.snap_world.specs.Steps.{IsActors, IsPartsStep, phases_of_parts};
+ghost use Rattle.snap_world.specs.inside.Steps.{IsActors, IsPartsStep, phases_of_parts};
 
 use crate::event::{Actor, Event, Reply};
 use crate::register::Register;
@@ -85,7 +85,8 @@ impl Parts {
         ensures segments { self.new.segments ≡ self.old.segments }
         ensures registers { self.new.registers ≡ self.old.registers }
         ensures writers { Pairs (λ i. IsHalted) self.old.writers.items self.new.writers.items }
-        ensures scanners { Pairs (λ i. IsScannerHalted) self.old.scanners.items self.new.scanners.items }
+        ensures scanners { Pairs (λ i.
+            IsScannerHalted) self.old.scanners.items self.new.scanners.items }
     {
         halt_writers(&mut self.writers);
         halt_scanners(&mut self.scanners);

@@ -1,8 +1,8 @@
 //! The scanners: what each event of a scanner does.
 ghost use Rattle.std.specs.Prelude.{◌≡◌, ◌≤◌, ◌<◌, IfOk, OnErr};
-ghost use Rattle.snap_world.specs.Stands.{Stand};
+ghost use Rattle.snap_world.specs.inside.Stands.{Stand};
 ghost use Rattle.snap_world.specs.Phases.{ScannerIs};
-ghost use Rattle.snap_world.specs.Steps.{IsPartsStep, phases_of_parts};
+ghost use Rattle.snap_world.specs.inside.Steps.{IsPartsStep, phases_of_parts};
 ghost use Rattle.snap_world.specs.declared.event.Actor.{Actor};
 ghost use Rattle.snap_world.specs.declared.event.Event.{Event};
 
@@ -74,7 +74,8 @@ impl Parts {
     /// A scan gives its answer. Where memory runs out it keeps it.
     pub fn answer(&mut self, alloc: Global, at: usize) -> Result<Reply, AllocError>
         requires stands { Stand self.old }
-        ensures step { IfOk result (λ reply. IsPartsStep self.old (Event.Answer at) reply self.new) }
+        ensures step { IfOk result (λ reply.
+            IsPartsStep self.old (Event.Answer at) reply self.new) }
         ensures memory { OnErr result (ScannerIs (phases_of_parts self.old) at ScannerPhase.Ready) }
         ensures err { OnErr result (self.new ≡ self.old) }
     {

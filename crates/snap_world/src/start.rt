@@ -1,7 +1,12 @@
 //! The parts of a new world: nothing was shown, nobody is at work.
 ghost use Rattle.std.specs.Prelude.{◌≡◌, ℕ, ◌<◌, ◌≤◌, length, IfOk};
 ghost use Rattle.snap_slot.specs.declared.layout.TheConstants.{MAX_COUNT};
-ghost use Rattle.snap_world.specs.Fresh.{IsFreshRegister, IsFreshWriter, IsFreshScanner, Each};
+ghost use Rattle.snap_world.specs.inside.Fresh.{
+  IsFreshRegister,
+  IsFreshWriter,
+  IsFreshScanner,
+  Each,
+};
 
 use crate::collector::Collector;
 use crate::register::Register;
@@ -36,7 +41,8 @@ fn new_collector(alloc: Global, segments: usize) -> Result<Collector, AllocError
 
 /// The register of each segment.
 pub fn new_registers(alloc: Global, segments: usize) -> Result<Vec<Register>, AllocError>
-    ensures { IfOk result (λ v. (length v.items ≡ segments) × Each (IsFreshRegister segments) v.items) }
+    ensures { IfOk result (λ v. (length v.items ≡ segments)
+        × Each (IsFreshRegister segments) v.items) }
 {
     let mut registers = Vec::new(alloc);
     for i in 0..segments {
@@ -54,7 +60,8 @@ pub fn new_registers(alloc: Global, segments: usize) -> Result<Vec<Register>, Al
 pub fn new_writers(alloc: Global, segments: usize) -> Result<Vec<Writer>, AllocError>
     requires least { 0 < segments }
     requires most { segments ≤ MAX_COUNT }
-    ensures { IfOk result (λ v. (length v.items ≡ segments) × Each (IsFreshWriter segments) v.items) }
+    ensures { IfOk result (λ v. (length v.items ≡ segments)
+        × Each (IsFreshWriter segments) v.items) }
 {
     let mut writers = Vec::new(alloc);
     for i in 0..segments {

@@ -1,15 +1,15 @@
 //! The device calls of a store.
 ghost use Rattle.std.specs.Prelude.{◌≡◌, ◌<◌, IsTrue, ◌↔◌};
 ghost use Rattle.snap_disk.specs.declared.fill.Fill.{Fill};
-ghost use Rattle.snap_world.specs.NodeStands.{NodeStand};
-ghost use Rattle.snap_world.specs.NodeSteps.{IsNodeStep, MayStore};
+ghost use Rattle.snap_world.specs.inside.NodeStands.{NodeStand};
+ghost use Rattle.snap_world.specs.inside.NodeSteps.{IsNodeStep, MayStore};
 ghost use Rattle.snap_world.specs.declared.event.Event.{Event};
 
 use crate::event::Reply;
 use crate::node::{Node, NodePhase};
 use crate::writer::WriterPhase;
 use snap_disk::Fill;
-use snap_persist::{Next, Persist};
+use snap_persist::{NextCall, Persist};
 use snap_slot::slot_of;
 
 impl Node {
@@ -25,9 +25,9 @@ impl Node {
         let number = self.parts.registers[segment].number + 1;
         let drive = &mut self.drives[segment];
         let kind = drive.call(number, self.parts.writers[segment].value.as_slice());
-        match drive.order.next() {
-            Next::Done => {
-                drive.order = Persist::begin(true, slot_of(number + 1));
+        match drive.persist.next() {
+            NextCall::Done => {
+                drive.persist = Persist::begin(true, slot_of(number + 1));
                 self.parts.end_store(segment);
                 Reply::Called(kind)
             }

@@ -1,4 +1,6 @@
 //! Worked runs of scans and updates.
+mod generated;
+mod restarts;
 
 use crate::event::{Actor, Event, Kind, Reply};
 use crate::world::World;

@@ -6,7 +6,7 @@ ghost use Rattle.snap_history.specs.History.{IsBeginning};
 ghost use Rattle.snap_world.specs.Machine.{State};
 ghost use Rattle.snap_world.specs.NodePhases.{TellsWhether, PhasesMove, NeedsMemory, StopsAt};
 ghost use Rattle.snap_world.specs.Start.{start_state, start_world_phases, AreFormatted};
-ghost use Rattle.snap_world.specs.NodeStands.{NodeStands};
+ghost use Rattle.snap_world.specs.inside.NodeStands.{NodeStands};
 ghost use Rattle.snap_world.specs.declared.event.Reply.{Reply};
 
 use crate::event::{Event, Reply};

@@ -2,8 +2,8 @@
 ghost use Rattle.std.specs.Prelude.{◌≡◌, ◌≤◌, ◌<◌, ℕ, true, List, slice_get};
 ghost use Rattle.snap_world.specs.Machine.{State, WriterState, Begun, with_writer};
 ghost use Rattle.snap_world.specs.Phases.{WriterIs, writer_to};
-ghost use Rattle.snap_world.specs.Stands.{Stand, PartsStand};
-ghost use Rattle.snap_world.specs.Steps.{IsPartsStep, phases_of_parts};
+ghost use Rattle.snap_world.specs.inside.Stands.{Stand, PartsStand};
+ghost use Rattle.snap_world.specs.inside.Steps.{IsPartsStep, phases_of_parts};
 ghost use Rattle.snap_world.specs.declared.event.Actor.{Actor};
 ghost use Rattle.snap_world.specs.declared.event.Event.{Event};
 
@@ -131,7 +131,8 @@ impl Parts {
         ensures segments { self.new.segments ≡ self.old.segments }
         ensures registers { self.new.registers ≡ self.old.registers }
         ensures stands { (x : State) → PartsStand self.old x
-            → WriterIs (phases_of_parts self.old) segment WriterPhase.Storing → PartsStand self.new x }
+            → WriterIs (phases_of_parts self.old) segment WriterPhase.Storing
+            → PartsStand self.new x }
         ensures phases { phases_of_parts self.new
             ≡ writer_to (phases_of_parts self.old) segment WriterPhase.Stored }
     {
@@ -144,7 +145,8 @@ impl Parts {
         requires within { segment < self.old.segments }
         ensures segments { self.new.segments ≡ self.old.segments }
         ensures stands { (x : State) → PartsStand self.old x
-            → (s : WriterState) (v : List ℕ) → slice_get x.writers segment ≡ Some s → s.pending ≡ Begun v
+            → (s : WriterState) (v : List ℕ) → slice_get x.writers segment ≡ Some s
+            → s.pending ≡ Begun v
             → PartsStand self.new
             (with_writer x segment (record s { fenced = true })) }
         ensures phases { phases_of_parts self.new

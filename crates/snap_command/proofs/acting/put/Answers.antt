@@ -6,7 +6,8 @@ use Rattle.snap_command.proofs.acting.put.Goals as goal
 pub returns-clause-ends : goal.returns-clause-ends
 returns-clause-ends g c =
     let came = c.in-Ok.ensures in
-    store_ends_put _ _ _ _ _ _ _ _ _ _ (had _ _ _ came.came (came.ended (search rules))) c.store.ensures.ends
+    store_ends_put _ _ _ _ _ _ _ _ _ _
+    (had _ _ _ came.came (came.ended (search rules))) c.store.ensures.ends
 
 pub returns-clause-wrong_length : goal.returns-clause-wrong_length
 returns-clause-wrong_length g c = c.store.ensures.wrong_length

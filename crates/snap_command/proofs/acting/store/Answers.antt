@@ -13,7 +13,9 @@ pub returns-in-Err-clause-ends : goal.returns-in-Err-clause-ends
 returns-in-Err-clause-ends g c =
     let device = g.D.Disk.device in
     let out = g.W.Write.contents c.args.writer.now in
-    refused_open (g.D.Disk.is_honest c.in-Err.disk) c.args.index c.args.count c.args.value.now (device c.args.disk) (device c.in-Err.disk) out out c.in-Err.why c.in-Err.ensures.refusals c.in-Err.ensures.refused (Keeps-refl out)
+    refused_open (g.D.Disk.is_honest c.in-Err.disk) c.args.index c.args.count c.args.value.now
+    (device c.args.disk) (device c.in-Err.disk) out out c.in-Err.why c.in-Err.ensures.refusals
+    c.in-Err.ensures.refused (Keeps-refl out)
 
 pub returns-in-Err-store-clause-ends : goal.returns-in-Err-store-clause-ends
 returns-in-Err-store-clause-ends g c =
@@ -23,12 +25,19 @@ returns-in-Err-store-clause-ends g c =
     let opened = c.in-Ok.ensures in
     let answer = c.in-Err-store.ensures in
     let back = c.into_device-in-Err-store in
-    refused_store (g.D.Disk.is_honest back.result) c.args.index c.args.count c.args.value.now (device c.args.disk) (device back.result) out out c.in-Err-store.why answer.refusals
+    refused_store (g.D.Disk.is_honest back.result) c.args.index c.args.count c.args.value.now
+    (device c.args.disk) (device back.result) out out c.in-Err-store.why answer.refusals
     (λ e. let long = answer.too_long.0 (ap Err e) in omega (arith, long, c.requires.fits))
     (λ e. not_fenced segment.begun opened.opened.2 (answer.fenced.0 (ap Err e)).1)
     (λ e honest.
-    let holds = opened.holds (answer.honest (subst g.D.Disk.is_honest back.ensures honest)) in
-    (holds.0, (segment.value, subst (λ (k : ℕ). Holds (device c.args.disk).bytes k segment.value) (answer.exhausted.0 (ap Err e)).2 holds.1)))
+    let holds = opened.holds (answer.honest (subst g.D.Disk.is_honest back.ensures honest)) in (
+      holds.0,
+      (
+        segment.value,
+        subst (λ (k : ℕ). Holds (device c.args.disk).bytes k segment.value)
+            (answer.exhausted.0 (ap Err e)).2 holds.1,
+      ),
+    ))
     (Keeps-refl out)
 
 pub returns-in-Ok-write_whole-clause-ends : goal.returns-in-Ok-write_whole-clause-ends
@@ -43,9 +52,16 @@ returns-in-Ok-write_whole-clause-ends g c =
       (λ honest.
           let is_honest = subst g.D.Disk.is_honest back.ensures honest in
           let holds = opened.holds (answer.honest is_honest) in
-          subst (λ (d : g.row.D.Denot). IsStored c.args.index c.args.count segment.number c.args.value.now (device c.args.disk) (device d)) (sym back.ensures)
-          (stored c.args.index c.args.count segment.index segment.count segment.number segment.value c.args.value.now (device c.args.disk) (device c.store.new.self.device) opened.opened.0 opened.opened.1 holds.0 holds.1 (answer.last is_honest))),
-      subst (λ (k : ℕ). Appends (g.W.Write.contents c.args.writer.now) (g.W.Write.contents c.write_whole.new.writer) (stored_line (k + 1))) c.number.ensures (search rules),
+          subst (λ (d : g.row.D.Denot).
+          IsStored c.args.index c.args.count segment.number c.args.value.now
+          (device c.args.disk) (device d)) (sym back.ensures)
+          (stored c.args.index c.args.count segment.index segment.count segment.number segment.value
+          c.args.value.now (device c.args.disk)
+          (device c.store.new.self.device) opened.opened.0 opened.opened.1 holds.0 holds.1
+          (answer.last is_honest))),
+      subst (λ (k : ℕ). Appends (g.W.Write.contents c.args.writer.now)
+          (g.W.Write.contents c.write_whole.new.writer) (stored_line (k + 1))) c.number.ensures
+          (search rules),
     )
 
 pub returns-clause-ends : goal.returns-clause-ends
@@ -60,9 +76,16 @@ returns-clause-ends g c =
       (λ honest.
           let is_honest = subst g.D.Disk.is_honest back.ensures honest in
           let holds = opened.holds (answer.honest is_honest) in
-          subst (λ (d : g.row.D.Denot). IsStored c.args.index c.args.count segment.number c.args.value.now (device c.args.disk) (device d)) (sym back.ensures)
-          (stored c.args.index c.args.count segment.index segment.count segment.number segment.value c.args.value.now (device c.args.disk) (device c.store.new.self.device) opened.opened.0 opened.opened.1 holds.0 holds.1 (answer.last is_honest))),
-      subst (λ (k : ℕ). AppendsBeginning (g.W.Write.contents c.args.writer.now) (g.W.Write.contents c.write_whole.new.writer) (stored_line (k + 1))) c.number.ensures (search rules),
+          subst (λ (d : g.row.D.Denot).
+          IsStored c.args.index c.args.count segment.number c.args.value.now
+          (device c.args.disk) (device d)) (sym back.ensures)
+          (stored c.args.index c.args.count segment.index segment.count segment.number segment.value
+          c.args.value.now (device c.args.disk)
+          (device c.store.new.self.device) opened.opened.0 opened.opened.1 holds.0 holds.1
+          (answer.last is_honest))),
+      subst (λ (k : ℕ). AppendsBeginning (g.W.Write.contents c.args.writer.now)
+          (g.W.Write.contents c.write_whole.new.writer) (stored_line (k + 1))) c.number.ensures
+          (search rules),
     )
 
 pub returns-in_default-clause-wrong_length : goal.returns-in_default-clause-wrong_length
@@ -71,11 +94,13 @@ returns-in_default-clause-wrong_length g c = λ other. absurd (other c.in-Ok.ens
 pub returns-in-Err-store-clause-wrong_length : goal.returns-in-Err-store-clause-wrong_length
 returns-in-Err-store-clause-wrong_length g c = λ other. absurd (other c.in-Ok.ensures.file_length)
 
-pub returns-in-Ok-write_whole-clause-wrong_length : goal.returns-in-Ok-write_whole-clause-wrong_length
-returns-in-Ok-write_whole-clause-wrong_length g c = λ other. absurd (other c.in-Ok.ensures.file_length)
+pub returns-in-Ok-write_whole-clause-wrong_length :
+    goal.returns-in-Ok-write_whole-clause-wrong_length
+returns-in-Ok-write_whole-clause-wrong_length g c =
+    λ other. absurd (other c.in-Ok.ensures.file_length)
 
-pub returns-in-Ok-write_whole-clause-any_moment : goal.returns-in-Ok-write_whole-clause-any_moment
-returns-in-Ok-write_whole-clause-any_moment g c = λ honest.
+pub returns-in-Ok-write_whole-clause-any_time : goal.returns-in-Ok-write_whole-clause-any_time
+returns-in-Ok-write_whole-clause-any_time g c = λ honest.
     let device = g.D.Disk.device in
     let segment = c.in-Ok.segment in
     let opened = c.in-Ok.ensures in
@@ -84,12 +109,17 @@ returns-in-Ok-write_whole-clause-any_moment g c = λ honest.
     let is_honest = subst g.D.Disk.is_honest back.ensures honest in
     let was_honest = answer.honest is_honest in
     let holds = opened.holds was_honest in
-    subst (λ (d : g.row.D.Denot). LeavesOnly g.D.Disk.moment g.D.Disk.might_have_left c.args.disk d (StoreLeaves c.args.index c.args.count c.args.value.now (device c.args.disk))) (sym back.ensures)
-    (store_leaves g.D.Disk.moment g.D.Disk.might_have_left c.args.disk segment.device c.store.new.self.device (device c.args.disk) c.args.index c.args.count segment.index segment.count segment.number segment.value c.args.value.now
-    opened.opened.0 opened.opened.1 holds.0 holds.1 (opened.any_moment_ok was_honest) (answer.any_moment is_honest opened.opened.2))
+    subst (λ (d : g.row.D.Denot). LeavesOnly g.D.Disk.clock g.D.Disk.might_have_left c.args.disk d
+    (StoreLeaves c.args.index c.args.count c.args.value.now (device c.args.disk)))
+    (sym back.ensures)
+    (store_leaves g.D.Disk.clock g.D.Disk.might_have_left c.args.disk segment.device
+    c.store.new.self.device (device c.args.disk) c.args.index c.args.count segment.index
+    segment.count segment.number segment.value c.args.value.now
+    opened.opened.0 opened.opened.1 holds.0 holds.1 (opened.any_time_ok was_honest)
+    (answer.any_time is_honest opened.opened.2))
 
-pub returns-clause-any_moment : goal.returns-clause-any_moment
-returns-clause-any_moment g c = λ honest.
+pub returns-clause-any_time : goal.returns-clause-any_time
+returns-clause-any_time g c = λ honest.
     let device = g.D.Disk.device in
     let segment = c.in-Ok.segment in
     let opened = c.in-Ok.ensures in
@@ -98,6 +128,11 @@ returns-clause-any_moment g c = λ honest.
     let is_honest = subst g.D.Disk.is_honest back.ensures honest in
     let was_honest = answer.honest is_honest in
     let holds = opened.holds was_honest in
-    subst (λ (d : g.row.D.Denot). LeavesOnly g.D.Disk.moment g.D.Disk.might_have_left c.args.disk d (StoreLeaves c.args.index c.args.count c.args.value.now (device c.args.disk))) (sym back.ensures)
-    (store_leaves g.D.Disk.moment g.D.Disk.might_have_left c.args.disk segment.device c.store.new.self.device (device c.args.disk) c.args.index c.args.count segment.index segment.count segment.number segment.value c.args.value.now
-    opened.opened.0 opened.opened.1 holds.0 holds.1 (opened.any_moment_ok was_honest) (answer.any_moment is_honest opened.opened.2))
+    subst (λ (d : g.row.D.Denot). LeavesOnly g.D.Disk.clock g.D.Disk.might_have_left c.args.disk d
+    (StoreLeaves c.args.index c.args.count c.args.value.now (device c.args.disk)))
+    (sym back.ensures)
+    (store_leaves g.D.Disk.clock g.D.Disk.might_have_left c.args.disk segment.device
+    c.store.new.self.device (device c.args.disk) c.args.index c.args.count segment.index
+    segment.count segment.number segment.value c.args.value.now
+    opened.opened.0 opened.opened.1 holds.0 holds.1 (opened.any_time_ok was_honest)
+    (answer.any_time is_honest opened.opened.2))

@@ -6,16 +6,29 @@ use Rattle.snap_frame.proofs.entries.read_values.Goals as goal
 pub returns-in-None-clause-none : goal.returns-in-None-clause-none
 returns-in-None-clause-none c vs count each is =
     let none = rw c.in-None.is at c.in_ok-value.ensures.none in
-    no_more value_bytes IsValue c.loop.values.items vs c.loop.rest values_apart c.loop.invariant.1 each (omega (arith, count, c.loop.invariant.0, c.loop-test.true)) none (sym c.loop.invariant.2 ∙ is)
+    no_more value_bytes IsValue c.loop.values.items vs c.loop.rest values_apart c.loop.invariant.1
+    each (omega (arith, count, c.loop.invariant.0, c.loop-test.true)) none
+    (sym c.loop.invariant.2 ∙ is)
 
 pub loop-preserved : goal.loop-preserved
 loop-preserved c =
     let one = rw c.in-Some.is at c.in_ok-value.ensures.some in
-    let more = read_on value_bytes IsValue c.loop.values.items c.in-Some.value c.args.rest c.loop.rest c.take_value.new.rest c.loop.invariant.1 one.0 c.loop.invariant.2 one.1 in
-    rw c.in_ok-push-in-Some.ensures.items (omega (arith, length-append c.loop.values.items (c.in-Some.value ∷ []), c.loop.invariant.0), more.0, more.1)
+    let more = read_on value_bytes IsValue c.loop.values.items c.in-Some.value c.args.rest
+    c.loop.rest c.take_value.new.rest c.loop.invariant.1 one.0 c.loop.invariant.2 one.1 in
+    rw c.in_ok-push-in-Some.ensures.items (
+      omega (
+        arith,
+        length-append c.loop.values.items (c.in-Some.value ∷ []),
+        c.loop.invariant.0,
+      ),
+      more.0,
+      more.1,
+    )
 
 pub returns-then-not-is_empty-clause-none : goal.returns-then-not-is_empty-clause-none
 returns-then-not-is_empty-clause-none c es count each is =
-    let none = no_rest value_bytes IsValue c.loop.values.items es c.loop.rest values_apart c.loop.invariant.1 each (omega (arith, count, c.loop.invariant.0, c.loop-test.false)) (sym c.loop.invariant.2 ∙ is) in
+    let none = no_rest value_bytes IsValue c.loop.values.items es c.loop.rest values_apart
+    c.loop.invariant.1 each (omega (arith, count, c.loop.invariant.0, c.loop-test.false))
+    (sym c.loop.invariant.2 ∙ is) in
     let empty = c.is_empty.ensures ∙ ap (λ (xs : List ℕ). length xs == 0) none in
     cc

@@ -4,4 +4,5 @@ use Rattle.snap_frame.proofs.entries.values_len.Given as goal
 
 abbrev pub invariant-loop-entry : goal.invariant-loop-entry
 invariant-loop-entry l =
-    (l.len ≡ length (flat_map value_bytes (take l.entry-index l.values))) × (l.len ≤ 4092 * l.entry-index)
+    (l.len ≡ length (flat_map value_bytes (take l.entry-index l.values)))
+    × (l.len ≤ 4092 * l.entry-index)

@@ -5,7 +5,9 @@ use Rattle.snap_session.proofs.turns.proceed.Given as goal
 
 abbrev pub invariant-loop : goal.invariant-loop
 invariant-loop g l = record {
-  turns : Turns Stays g.S.Service.gives l.fn.service l.service l.fn.session (g.R.Read.remaining l.fn.reader) (g.R.Read.remaining l.reader) (g.W.Write.contents l.fn.writer) (g.W.Write.contents l.writer) l.session;
+  turns : Turns Stays g.S.Service.gives l.fn.service l.service l.fn.session
+      (g.R.Read.remaining l.fn.reader) (g.R.Read.remaining l.reader)
+      (g.W.Write.contents l.fn.writer) (g.W.Write.contents l.writer) l.session;
   free : (g.S.Service.hands_over → ⊥) → l.fn.session.asked ≡ None → l.session.asked ≡ None;
   bounded : length l.fn.session.owed ≤ 131540 → length l.session.owed ≤ 131540;
 }

@@ -8,6 +8,13 @@ pub loop-at-preserved : goal.loop-at-preserved
 loop-at-preserved g c =
     let at = c.loop-at.at in
     let bytes = c.args.bytes.now in (
-      omega (arith, c.in-Ok.ensures.bound, c.loop-at-test.true, length-take (length bytes - at) (drop at bytes), length-drop at bytes),
-      subst (Appends _ _) (take_on at c.in-Ok.n bytes) (Appends-trans _ _ _ _ _ c.loop-at.invariant.1 c.in-Ok.ensures.bytes),
+      omega (
+        arith,
+        c.in-Ok.ensures.bound,
+        c.loop-at-test.true,
+        length-take (length bytes - at) (drop at bytes),
+        length-drop at bytes,
+      ),
+      subst (Appends _ _) (take_on at c.in-Ok.n bytes)
+          (Appends-trans _ _ _ _ _ c.loop-at.invariant.1 c.in-Ok.ensures.bytes),
     )

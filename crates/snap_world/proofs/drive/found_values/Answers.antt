@@ -1,8 +1,25 @@
 use Rattle.std.proofs.Math.Logic.{∥∥₁_elim}
 use Rattle.std.proofs.Props.{props}
-use Rattle.std.proofs.Common.{◌≡◌, ℕ, ◌+◌, ◌<◌, List, [], ◌∷◌, ◌++◌, length, map, take, refl, ap, sym, ◌∙◌, arith}
+use Rattle.std.proofs.Common.{
+  ◌≡◌,
+  ℕ,
+  ◌+◌,
+  ◌<◌,
+  List,
+  [],
+  ◌∷◌,
+  ◌++◌,
+  length,
+  map,
+  take,
+  refl,
+  ap,
+  sym,
+  ◌∙◌,
+  arith,
+}
 use Rattle.std.proofs.lemmas.List.{map-append, take_more, take-map}
-use Rattle.snap_world.specs.Serving.{found_value}
+use Rattle.snap_world.specs.inside.Serving.{found_value}
 use Rattle.std.proofs.lemmas.Option.{slice_get_read}
 use Rattle.snap_world.proofs.drive.found_values.Goals as goal
 
@@ -10,13 +27,17 @@ pub found_bytes-requires-clause-size : goal.found_bytes-requires-clause-size
 found_bytes-requires-clause-size c = ∥∥₁_elim c.requires (hlevel props) (λ r. (
     let ds = c.args.drives.now.items in
     let low : c.loop-i.i < length ds = omega (arith, c.args.drives.now.ok.0) in
-    (r c.loop-i.i c.index.result.now (slice_get_read ds (length ds) c.loop-i.i c.index.result.now refl low c.index.ensures)).size))
+    (r c.loop-i.i c.index.result.now
+    (slice_get_read ds (length ds) c.loop-i.i c.index.result.now refl low
+    c.index.ensures)).size))
 
 pub found_bytes-requires-clause-limit : goal.found_bytes-requires-clause-limit
 found_bytes-requires-clause-limit c = ∥∥₁_elim c.requires (hlevel props) (λ r. (
     let ds = c.args.drives.now.items in
     let low : c.loop-i.i < length ds = omega (arith, c.args.drives.now.ok.0) in
-    (r c.loop-i.i c.index.result.now (slice_get_read ds (length ds) c.loop-i.i c.index.result.now refl low c.index.ensures)).fits))
+    (r c.loop-i.i c.index.result.now
+    (slice_get_read ds (length ds) c.loop-i.i c.index.result.now refl low
+    c.index.ensures)).fits))
 
 pub loop-i-preserved : goal.loop-i-preserved
 loop-i-preserved c =
@@ -27,7 +48,8 @@ loop-i-preserved c =
     let x = c.in_ok-found_bytes.field-0 in
     let low : i < length ds = omega (arith, c.args.drives.now.ok.0) in
     let value : x.items ≡ found_value d = c.in_ok-found_bytes.ensures in
-    let more : take i ds ++ d ∷ [] ≡ take (i + 1) ds = ap (λ z. take i ds ++ z ∷ []) c.index.ensures ∙ sym (take_more ds i d low) in
+    let more : take i ds ++ d ∷ [] ≡ take (i + 1) ds = ap (λ z. take i ds ++ z ∷ []) c.index.ensures
+    ∙ sym (take_more ds i d low) in
     ap (map (λ v. v.items)) c.in_ok-push.ensures.items
     ∙ map-append (λ v. v.items) all (x ∷ [])
     ∙ ap (λ (l : List (List ℕ)). l ++ x.items ∷ []) (c.loop-i.invariant ∙ take-map found_value i ds)

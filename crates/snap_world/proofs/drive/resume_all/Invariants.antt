@@ -1,4 +1,4 @@
-use Rattle.snap_world.specs.Serving.{IsResumed}
+use Rattle.snap_world.specs.inside.Serving.{IsResumed}
 use Rattle.snap_world.proofs.Sweeping.{Swept}
 use Rattle.snap_world.proofs.drive.resume_all.Given as goal
 

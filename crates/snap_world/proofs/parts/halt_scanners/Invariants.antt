@@ -1,4 +1,4 @@
-use Rattle.snap_world.specs.Halting.{IsScannerHalted}
+use Rattle.snap_world.specs.inside.Halting.{IsScannerHalted}
 use Rattle.snap_world.proofs.Sweeping.{Swept}
 use Rattle.snap_world.proofs.parts.halt_scanners.Given as goal
 

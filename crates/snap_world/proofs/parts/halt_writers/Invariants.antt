@@ -1,4 +1,4 @@
-use Rattle.snap_world.specs.Halting.{IsHalted}
+use Rattle.snap_world.specs.inside.Halting.{IsHalted}
 use Rattle.snap_world.proofs.Sweeping.{Swept}
 use Rattle.snap_world.proofs.parts.halt_writers.Given as goal
 

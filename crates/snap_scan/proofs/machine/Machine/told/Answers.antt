@@ -1,13 +1,25 @@
 use Rattle.std.proofs.Common.{[], ◌∷◌, ◌++◌, arith}
 use Rattle.snap_scan.specs.Stands.{StandsFor}
-use Rattle.snap_scan.proofs.Kept.{close, borrow, StandsFor-next_segment, StandsFor-end_collect, of_picked, turn_fits, firsts_fit}
+use Rattle.snap_scan.proofs.Kept.{
+  close,
+  borrow,
+  StandsFor-next_segment,
+  StandsFor-end_collect,
+  of_picked,
+  turn_fits,
+  firsts_fit,
+}
 use Rattle.snap_scan.proofs.machine.Machine.told.Goals as goal
 
 pub has_moved_twice-requires : goal.has_moved_twice-requires
-has_moved_twice-requires c = firsts_fit c.args.self.now c.args.segment c.args.number c.requires.turn c.requires.stands
+has_moved_twice-requires c =
+    firsts_fit c.args.self.now c.args.segment c.args.number c.requires.turn c.requires.stands
 
 pub overflow_add-self : goal.overflow_add-self
-overflow_add-self c = omega (arith, (turn_fits c.args.self.now c.args.segment c.args.number c.requires.turn c.requires.stands).1)
+overflow_add-self c = omega (
+  arith,
+  (turn_fits c.args.self.now c.args.segment c.args.number c.requires.turn c.requires.stands).1,
+)
 
 pub returns-then-has_moved_twice-clause-told : goal.returns-then-has_moved_twice-clause-told
 returns-then-has_moved_twice-clause-told c = λ told st.
@@ -15,23 +27,37 @@ returns-then-has_moved_twice-clause-told c = λ told st.
     borrow c.args.self.now told c.args.segment c.args.number st c.requires.turn moved.0 moved.1
 
 pub keep-requires-clause-place : goal.keep-requires-clause-place
-keep-requires-clause-place c = (turn_fits c.args.self.now c.args.segment c.args.number c.requires.turn c.requires.stands).0
+keep-requires-clause-place c =
+    (turn_fits c.args.self.now c.args.segment c.args.number c.requires.turn c.requires.stands).0
 
-pub keep-requires-clause-room : goal.keep-requires-clause-room
-keep-requires-clause-room c = omega (arith, (turn_fits c.args.self.now c.args.segment c.args.number c.requires.turn c.requires.stands).1)
+pub keep-requires-clause-headroom : goal.keep-requires-clause-headroom
+keep-requires-clause-headroom c =
+    omega (
+      arith,
+      (turn_fits c.args.self.now c.args.segment c.args.number c.requires.turn
+          c.requires.stands).1,
+    )
 
 pub overflow_add-segment : goal.overflow_add-segment
-overflow_add-segment c = omega (arith, (turn_fits c.args.self.now c.args.segment c.args.number c.requires.turn c.requires.stands).0)
+overflow_add-segment c = omega (
+  arith,
+  (turn_fits c.args.self.now c.args.segment c.args.number c.requires.turn c.requires.stands).0,
+)
 
 pub returns-then-segment-self-clause-told : goal.returns-then-segment-self-clause-told
 returns-then-segment-self-clause-told c = λ told st.
     let s = c.args.self.now in
-    let near = close s c.args.segment c.args.number c.has_moved_twice.result c.if-has_moved_twice.false c.has_moved_twice.ensures in
-    rw c.keep.ensures (StandsFor-next_segment s told c.args.segment c.args.number st c.requires.turn c.requires.stands near (rw c.keep.ensures at c.if-segment-self.true))
+    let near = close s c.args.segment c.args.number c.has_moved_twice.result
+    c.if-has_moved_twice.false c.has_moved_twice.ensures in
+    rw c.keep.ensures (StandsFor-next_segment s told c.args.segment c.args.number st c.requires.turn
+    c.requires.stands near (rw c.keep.ensures at c.if-segment-self.true))
 
 pub returns-else-segment-self-clause-told : goal.returns-else-segment-self-clause-told
 returns-else-segment-self-clause-told c = λ told st.
     let s = c.args.self.now in
-    let near = close s c.args.segment c.args.number c.has_moved_twice.result c.if-has_moved_twice.false c.has_moved_twice.ensures in
-    let stands = StandsFor-end_collect s told c.args.segment c.args.number st c.requires.turn c.requires.stands near (rw c.keep.ensures at c.if-segment-self.false) in
-    of_picked _ (λ s. StandsFor s (told ++ c.args.number ∷ [])) c.end_collect.new.self _ _ stands (rw c.keep.ensures at c.end_collect.ensures)
+    let near = close s c.args.segment c.args.number c.has_moved_twice.result
+    c.if-has_moved_twice.false c.has_moved_twice.ensures in
+    let stands = StandsFor-end_collect s told c.args.segment c.args.number st c.requires.turn
+    c.requires.stands near (rw c.keep.ensures at c.if-segment-self.false) in
+    of_picked _ (λ s. StandsFor s (told ++ c.args.number ∷ [])) c.end_collect.new.self _ _ stands
+    (rw c.keep.ensures at c.end_collect.ensures)

@@ -1,7 +1,16 @@
 use Rattle.std.proofs.Common.{◌≡◌, refl, ap, subst, sym, inl, inr, ◌∙◌, []}
 use Rattle.snap_session.specs.Talk.{refused_malformed, refused_too_large, Talk, Goes, Stays}
 use Rattle.snap_frame.specs.Messages.{says}
-use Rattle.snap_session.proofs.Steps.{rests, gives_up, answers, refuses, found_first, hands, came_free, owes_free}
+use Rattle.snap_session.proofs.Steps.{
+  rests,
+  gives_up,
+  answers,
+  refuses,
+  found_first,
+  hands,
+  came_free,
+  owes_free,
+}
 use Rattle.snap_frame.specs.Stream.{HasLongLength}
 use Rattle.snap_session.proofs.session.Session.answer_one.Goals as goal
 
@@ -12,22 +21,42 @@ returns-in-Nothing-clause-goes g c =
 pub returns-in-Some-clause-goes : goal.returns-in-Some-clause-goes
 returns-in-Some-clause-goes g c =
     let h = c.in-Asked.ensures in
-    answers g.S.Service.gives _ _ c.args.self.now c.hear.new.self c.owe.new.self h.0 (says c.in-Some.reply) c.owe.result c.requires.going (found_first c.args.self.now c.hear.new.self h.0 c.requires.free h.1 h.5) h.3 h.4 (inl (c.in-Asked.request, c.in-Some.reply, h.2, c.in-Some.ensures.gives, refl)) c.owe.ensures.owes
+    answers g.S.Service.gives _ _ c.args.self.now c.hear.new.self c.owe.new.self h.0
+    (says c.in-Some.reply) c.owe.result c.requires.going
+    (found_first c.args.self.now c.hear.new.self h.0 c.requires.free h.1 h.5) h.3 h.4
+    (inl (
+      c.in-Asked.request,
+      c.in-Some.reply,
+      h.2,
+      c.in-Some.ensures.gives,
+      refl,
+    )) c.owe.ensures.owes
 
 pub returns-in-None-clause-goes : goal.returns-in-None-clause-goes
 returns-in-None-clause-goes g c =
     let h = c.in-Asked.ensures in
-    rw c.in-None.ensures.later (hands g.S.Service.gives c.args.service.now c.args.self.now c.hear.new.self c.keep.new.self h.0 c.in-Asked.request c.requires.going c.requires.free h.1 h.2 h.3 h.4 c.keep.ensures)
+    rw c.in-None.ensures.later
+    (hands g.S.Service.gives c.args.service.now c.args.self.now c.hear.new.self c.keep.new.self
+    h.0 c.in-Asked.request c.requires.going c.requires.free h.1 h.2 h.3 h.4 c.keep.ensures)
 
 pub returns-in-Malformed-clause-goes : goal.returns-in-Malformed-clause-goes
 returns-in-Malformed-clause-goes g c =
     let h = c.in-Malformed.ensures in
-    answers g.S.Service.gives _ _ c.args.self.now c.hear.new.self c.owe-in-Malformed.new.self h.0 _ c.owe-in-Malformed.result c.requires.going (found_first c.args.self.now c.hear.new.self h.0 c.requires.free h.1 h.5) h.3 h.4 (inr (h.2, refl, refl)) c.owe-in-Malformed.ensures.owes
+    answers g.S.Service.gives _ _ c.args.self.now c.hear.new.self c.owe-in-Malformed.new.self h.0 _
+    c.owe-in-Malformed.result c.requires.going
+    (found_first c.args.self.now c.hear.new.self h.0 c.requires.free h.1 h.5) h.3 h.4 (inr (
+      h.2,
+      refl,
+      refl,
+    )) c.owe-in-Malformed.ensures.owes
 
 pub returns-in-TooLarge-clause-goes : goal.returns-in-TooLarge-clause-goes
 returns-in-TooLarge-clause-goes g c =
     let h = c.in-TooLarge.ensures in
-    refuses g.S.Service.gives _ c.args.self.now c.hear.new.self c.owe-in-TooLarge.new.self c.owe-in-TooLarge.result c.requires.going (subst HasLongLength (sym (came_free c.args.self.now c.requires.free)) h.0) h.1 c.owe-in-TooLarge.ensures.owes
+    refuses g.S.Service.gives _ c.args.self.now c.hear.new.self c.owe-in-TooLarge.new.self
+    c.owe-in-TooLarge.result c.requires.going
+    (subst HasLongLength (sym (came_free c.args.self.now c.requires.free)) h.0) h.1
+    c.owe-in-TooLarge.ensures.owes
 
 pub returns-in-NoMemory-clause-goes : goal.returns-in-NoMemory-clause-goes
 returns-in-NoMemory-clause-goes g c =
@@ -36,15 +65,20 @@ returns-in-NoMemory-clause-goes g c =
 
 pub returns-in-Some-clause-wants : goal.returns-in-Some-clause-wants
 returns-in-Some-clause-wants g c =
-    owes_free c.hear.new.self (says c.in-Some.reply) c.owe.new.self c.owe.result c.owe.ensures.owes (c.in-Asked.ensures.5 ∙ c.requires.free)
+    owes_free c.hear.new.self (says c.in-Some.reply) c.owe.new.self c.owe.result c.owe.ensures.owes
+    (c.in-Asked.ensures.5 ∙ c.requires.free)
 
 pub returns-in-Malformed-clause-wants : goal.returns-in-Malformed-clause-wants
 returns-in-Malformed-clause-wants g c =
-    owes_free c.hear.new.self refused_malformed c.owe-in-Malformed.new.self c.owe-in-Malformed.result c.owe-in-Malformed.ensures.owes (c.in-Malformed.ensures.5 ∙ c.requires.free)
+    owes_free c.hear.new.self refused_malformed c.owe-in-Malformed.new.self
+    c.owe-in-Malformed.result c.owe-in-Malformed.ensures.owes (c.in-Malformed.ensures.5
+    ∙ c.requires.free)
 
 pub returns-in-TooLarge-clause-wants : goal.returns-in-TooLarge-clause-wants
 returns-in-TooLarge-clause-wants g c =
-    owes_free c.hear.new.self refused_too_large c.owe-in-TooLarge.new.self c.owe-in-TooLarge.result c.owe-in-TooLarge.ensures.owes (ap (λ (z : Talk). z.asked) c.in-TooLarge.ensures.1 ∙ c.requires.free)
+    owes_free c.hear.new.self refused_too_large c.owe-in-TooLarge.new.self c.owe-in-TooLarge.result
+    c.owe-in-TooLarge.ensures.owes (ap (λ (z : Talk). z.asked) c.in-TooLarge.ensures.1
+    ∙ c.requires.free)
 
 pub returns-in-NoMemory-clause-wants : goal.returns-in-NoMemory-clause-wants
 returns-in-NoMemory-clause-wants g c = c.in-NoMemory.ensures.2 ∙ c.requires.free

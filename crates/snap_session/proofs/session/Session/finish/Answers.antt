@@ -4,8 +4,12 @@ use Rattle.snap_session.proofs.session.Session.finish.Goals as goal
 
 pub returns-in-Some-clause-goes : goal.returns-in-Some-clause-goes
 returns-in-Some-clause-goes g c =
-    finishes g.S.Service.gives _ _ c.args.self.now c.take_asked.new.self c.owe.new.self c.in-Some.request c.finish-reply.result c.owe.result c.requires (sym c.in-Some.ensures.asked) c.take_asked.ensures.rest c.finish-reply.ensures.gives c.owe.ensures.owes
+    finishes g.S.Service.gives _ _ c.args.self.now c.take_asked.new.self c.owe.new.self
+    c.in-Some.request c.finish-reply.result c.owe.result c.requires
+    (sym c.in-Some.ensures.asked) c.take_asked.ensures.rest c.finish-reply.ensures.gives
+    c.owe.ensures.owes
 
 pub returns-in-None-clause-goes : goal.returns-in-None-clause-goes
 returns-in-None-clause-goes g c =
-    rw c.take_asked.ensures.rest (nobody g.S.Service.gives c.args.service.now c.args.self.now (sym c.in-None.ensures.asked))
+    rw c.take_asked.ensures.rest (nobody g.S.Service.gives c.args.service.now c.args.self.now
+    (sym c.in-None.ensures.asked))

@@ -12,7 +12,8 @@ pub returns-in-Clean : goal.returns-in-Clean
 returns-in-Clean c = record {
   under_way = λ u. not_look c.next.result u.0 c.in-Clean.is (c.next.ensures.same ∙ u.1);
   decided = (
-    λ yes. decided c.args.self.now.scan.segments c.args.self.now.scan.told c.next.result c.next.ensures.decides (λ j e. not_look c.next.result j c.in-Clean.is e),
+    λ yes. decided c.args.self.now.scan.segments c.args.self.now.scan.told c.next.result
+        c.next.ensures.decides (λ j e. not_look c.next.result j c.in-Clean.is e),
     λ has. refl,
   );
 }

@@ -2,9 +2,9 @@ use Rattle.std.proofs.Common.{◌≡◌, ◌∷◌, List, sym, ◌∙◌, subst}
 use Rattle.snap_disk.specs.Image.{image_device}
 use Rattle.snap_persist.specs.Stage.{calls_left}
 use Rattle.snap_world.specs.Devices.{IsMissed}
-use Rattle.snap_world.specs.Drives.{device_of}
+use Rattle.snap_world.specs.inside.Drives.{device_of}
 use Rattle.snap_world.specs.declared.drive.Drive.{Drive}
-use Rattle.snap_persist.specs.declared.persist.Next.{Next}
+use Rattle.snap_persist.specs.declared.persist.NextCall.{NextCall}
 use Rattle.snap_world.proofs.Calling.{write_missed, sync_missed}
 use Rattle.snap_world.proofs.drive.Drive.fail.Goals as goal
 use Rattle.snap_world.proofs.drive.Drive.fail.Goals.{in-Write, in-Sync}
@@ -12,9 +12,20 @@ use Rattle.snap_world.proofs.drive.Drive.fail.Goals.{in-Write, in-Sync}
 pub returns-clause-missed : goal.returns-clause-missed
 returns-clause-missed c =
     let old = c.args.self.now in
-    let Missed : Drive → Type 0 = λ d. (call : Next) × (rest : List Next) × (calls_left old.order.stage ≡ call ∷ rest) × IsMissed old.order.slot c.args.fill.now call (device_of old) (device_of d) in
+    let Missed : Drive → Type 0 = λ d. (call : NextCall) × (rest : List NextCall)
+    × (calls_left old.persist.stage ≡ call ∷ rest)
+    × IsMissed old.persist.slot c.args.fill.now call (device_of old) (device_of d) in
     elim c.match-next.branch [
-      | in-Write w ↦ subst Missed (sym w.self-is) (write_missed old.order.stage w.in-Write.write old.order.slot c.args.fill.now (device_of old) (device_of w.put_failed.new.self) (sym c.next.ensures ∙ w.in-Write.is) w.put_failed.ensures.failed)
-      | in-Sync w ↦ subst Missed (sym w.self-is) (sync_missed old.order.stage old.order.slot c.args.fill.now (device_of old) (image_device w.settle_failed.new.self) (sym c.next.ensures ∙ w.in-Sync.is)
-          (record { left = w.settle_failed.ensures.unsynced; filled = w.settle_failed.ensures.filled }))
+      | in-Write w ↦ subst Missed (sym w.self-is)
+          (write_missed old.persist.stage w.in-Write.write old.persist.slot c.args.fill.now
+          (device_of old) (device_of w.put_failed.new.self) (sym c.next.ensures
+          ∙ w.in-Write.is) w.put_failed.ensures.failed)
+      | in-Sync w ↦ subst Missed (sym w.self-is)
+          (sync_missed old.persist.stage old.persist.slot c.args.fill.now (device_of old)
+          (image_device w.settle_failed.new.self) (sym c.next.ensures ∙ w.in-Sync.is)
+          (record {
+            left = w.settle_failed.ensures.unsynced;
+            filled =
+                w.settle_failed.ensures.filled;
+          }))
     ]

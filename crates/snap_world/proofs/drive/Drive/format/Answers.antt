@@ -10,10 +10,15 @@ returns c =
     let zero_byte : ℕ = 0 in
     let written = image_device c.put.new.self in
     let file = c.encode_fresh_file.new.file in
-    let size : length written.bytes ≡ 20480 = c.put.ensures.touched.bytes_elsewhere.size ∙ ap length c.in_ok-image.ensures.bytes ∙ length-replicate 20480 zero_byte in
-    let same : written.bytes ≡ file = sym (part_whole (length file) written.bytes (size ∙ sym c.encode_fresh_file.array_long)) ∙ c.put.ensures.stands in
+    let size : length written.bytes ≡ 20480 = c.put.ensures.touched.bytes_elsewhere.size
+    ∙ ap length c.in_ok-image.ensures.bytes ∙ length-replicate 20480 zero_byte in
+    let same : written.bytes ≡ file =
+    sym (part_whole (length file) written.bytes (size ∙ sym c.encode_fresh_file.array_long))
+    ∙ c.put.ensures.stands in
     record {
-      rest = fresh_rests c.args.index c.args.count c.requires.below c.requires.few (image_device c.settle.new.self) c.settle.ensures.settled (c.settle.ensures.same ∙ same ∙ c.encode_fresh_file.ensures);
+      rest = fresh_rests c.args.index c.args.count c.requires.below c.requires.few
+          (image_device c.settle.new.self) c.settle.ensures.settled (c.settle.ensures.same ∙ same
+          ∙ c.encode_fresh_file.ensures);
       slot = c.begin.ensures.slot ∙ c.slot_of.ensures;
       stage = c.begin.ensures.stage;
     }

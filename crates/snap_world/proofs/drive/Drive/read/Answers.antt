@@ -10,4 +10,6 @@ recover-requires c = ap length c.bytes.ensures ∙ ∥∥₁_elim c.requires (hl
 
 pub unreachable-requires : goal.unreachable-requires
 unreachable-requires c = ∥∥₁_elim c.requires (hlevel props) (λ q.
-    not_refused c.args.index c.args.count q.0 q.1 c.bytes.result.now c.in-Err.field-0 (subst (IsFileOf c.args.index c.args.count q.0 q.1) (sym c.bytes.ensures) q.2) c.in-Err.ensures.refused.0 c.in-Err.ensures.refused.1)
+    not_refused c.args.index c.args.count q.0 q.1 c.bytes.result.now c.in-Err.field-0
+    (subst (IsFileOf c.args.index c.args.count q.0 q.1) (sym c.bytes.ensures) q.2)
+    c.in-Err.ensures.refused.0 c.in-Err.ensures.refused.1)

@@ -1,12 +1,27 @@
-use Rattle.std.proofs.Common.{◌≡◌, ℕ, false, [], length, map, replicate, Some, slice_get, refl, ap, sym, ◌∙◌, subst}
+use Rattle.std.proofs.Common.{
+  ◌≡◌,
+  ℕ,
+  false,
+  [],
+  length,
+  map,
+  replicate,
+  Some,
+  slice_get,
+  refl,
+  ap,
+  sym,
+  ◌∙◌,
+  subst,
+}
 use Rattle.std.proofs.lemmas.List.{length-map}
 use Rattle.snap_slot.specs.States.{IsAtRest}
 use Rattle.snap_persist.specs.Stage.{calls_left}
 use Rattle.snap_history.proofs.Lists.{get-replicate}
 use Rattle.snap_persist.specs.Stage.{store_calls}
-use Rattle.snap_world.specs.Drives.{DriveStands, IsFormatted, IsReady, device_of}
+use Rattle.snap_world.specs.inside.Drives.{DriveStands, IsFormatted, IsReady, device_of}
 use Rattle.snap_world.specs.declared.drive.Drive.{Drive}
-use Rattle.snap_world.specs.NodeSteps.{store_left, phases_of_node}
+use Rattle.snap_world.specs.inside.NodeSteps.{store_left, phases_of_node}
 use Rattle.snap_world.specs.Phases.{Phases}
 use Rattle.snap_world.specs.Start.{start_world_phases}
 use Rattle.snap_world.specs.declared.node.Node.{Node}
@@ -17,16 +32,24 @@ use Rattle.snap_world.proofs.Starting.{all_same}
 use Rattle.snap_world.proofs.Sweeping.{map_element}
 use Rattle.snap_world.proofs.node.Node.new.Goals as goal
 
-ready_of : (i n : ℕ) (d : Drive) → IsFormatted i n d → IsReady i n 0 [] (device_of d) d.order
+ready_of : (i n : ℕ) (d : Drive) → IsFormatted i n d → IsReady i n 0 [] (device_of d) d.persist
 ready_of i n d is = record { spare_open = false; rest = is.rest; slot = is.slot; stage = is.stage }
 
 pub returns-clause-phases : goal.returns-clause-phases
 returns-clause-phases c =
     let n = c.args.segments in
     let drives = c.in_ok-drives.drives.items in
-    let w : Node = record { phase = Up; parts = c.in_ok-parts.parts; drives = c.in_ok-drives.drives } in
-    let calls : map store_left drives ≡ replicate (length drives) (store_calls false) = all_same store_left (store_calls false) drives (λ i d e. ap calls_left (c.in_ok-drives.ensures.1 i d e).stage) in
-    same_phases (start_world_phases n c.args.scanners) (phases_of_node w) refl c.in_ok-parts.ensures.phases
+    let w : Node = record {
+      phase = Up;
+      parts = c.in_ok-parts.parts;
+      drives =
+          c.in_ok-drives.drives;
+    } in
+    let calls : map store_left drives ≡ replicate (length drives) (store_calls false) =
+    all_same store_left (store_calls false) drives (λ i d e.
+    ap calls_left (c.in_ok-drives.ensures.1 i d e).stage) in
+    same_phases (start_world_phases n c.args.scanners)
+    (phases_of_node w) refl c.in_ok-parts.ensures.phases
     (calls ∙ ap (λ m. replicate m (store_calls false)) c.in_ok-drives.ensures.0)
 
 pub returns-clause-stands : goal.returns-clause-stands
@@ -38,9 +61,12 @@ returns-clause-stands c =
       at = record {
         parts_stand = c.in_ok-parts.ensures.stands;
         drives_stand = λ i d s phase ed es ep. (
-            let idle : writer.Idle ≡ phase = get-replicate n i writer.Idle phase (subst (λ (p : Phases). slice_get p.writers i ≡ Some phase) c.in_ok-parts.ensures.phases ep) in
+            let idle : writer.Idle ≡ phase =
+            get-replicate n i writer.Idle phase (subst (λ (p : Phases). slice_get p.writers i
+            ≡ Some phase) c.in_ok-parts.ensures.phases ep) in
             subst (λ z. DriveStands c.in_ok-parts.parts.segments [] i z s.pending d) idle
-            (subst (λ m. DriveStands m [] i writer.Idle s.pending d) (sym same) (ready_of i n d (c.in_ok-drives.ensures.1 i d ed))));
+            (subst (λ m. DriveStands m [] i writer.Idle s.pending d) (sym same)
+            (ready_of i n d (c.in_ok-drives.ensures.1 i d ed))));
       };
     }
 
@@ -51,5 +77,6 @@ returns-clause-devices c =
       size = length-map drives device_of ∙ c.in_ok-drives.ensures.0;
       each = λ i d e. (
           let drive = map_element device_of drives i d e in
-          subst (IsAtRest i c.args.segments 0 [] false) drive.2 (c.in_ok-drives.ensures.1 i drive.0 drive.1).rest);
+          subst (IsAtRest i c.args.segments 0 [] false) drive.2
+          (c.in_ok-drives.ensures.1 i drive.0 drive.1).rest);
     }

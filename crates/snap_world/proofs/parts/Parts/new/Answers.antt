@@ -5,7 +5,12 @@ use Rattle.snap_world.proofs.parts.Parts.new.Goals as goal
 
 pub returns : goal.returns
 returns c =
-    let w : Parts = record { segments = c.args.segments; registers = c.in_ok-registers.registers; writers = c.in_ok-writers.writers; scanners = c.in_ok-scanners.scanners } in
+    let w : Parts = record {
+      segments = c.args.segments;
+      registers = c.in_ok-registers.registers;
+      writers = c.in_ok-writers.writers;
+      scanners = c.in_ok-scanners.scanners;
+    } in
     let a = c.in_ok-registers.ensures in
     let b = c.in_ok-writers.ensures in
     let d = c.in_ok-scanners.ensures in

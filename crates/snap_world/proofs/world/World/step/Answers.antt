@@ -1,7 +1,7 @@
 use Rattle.std.proofs.Common.{◌≡◌, Ok, Err, IfOk, OnErr, sym, subst}
 use Rattle.std.proofs.Math.Logic.{∥∥₁_map}
-use Rattle.snap_world.specs.NodeStands.{NodeStand}
-use Rattle.snap_world.specs.NodeSteps.{IsNodeStep}
+use Rattle.snap_world.specs.inside.NodeStands.{NodeStand}
+use Rattle.snap_world.specs.inside.NodeSteps.{IsNodeStep}
 use Rattle.snap_world.proofs.Runs.{IsRun-step}
 use Rattle.snap_world.proofs.world.World.step.Goals as goal
 
@@ -11,11 +11,14 @@ invariant_of-self c =
     let new = c.step.new.self in
     let was : NodeStand old = c.args.self.now.stands in
     record {
-      stands = elim c.step.result as (λ r. IfOk r (λ reply. IsNodeStep old c.args.event.now reply new) → OnErr r (new ≡ old) → NodeStand new) [
-        | Ok reply ↦ (λ s e. ∥∥₁_map was (λ q. (let y = s.step q.0 q.1 in (y.0, y.3))))
-        | Err error ↦ (λ s e. subst NodeStand (sym e) was)
-      ] c.step.ensures.step c.step.ensures.err;
+      stands = elim c.step.result as (λ r.
+          IfOk r (λ reply. IsNodeStep old c.args.event.now reply new) → OnErr r (new ≡ old)
+          → NodeStand new) [
+            | Ok reply ↦ (λ s e. ∥∥₁_map was (λ q. (let y = s.step q.0 q.1 in (y.0, y.3))))
+            | Err error ↦ (λ s e. subst NodeStand (sym e) was)
+          ] c.step.ensures.step c.step.ensures.err;
     }
 
 pub returns-clause-run : goal.returns-clause-run
-returns-clause-run c = IsRun-step c.args.self.now _ c.args.event.now c.step.result c.step.ensures.step
+returns-clause-run c = IsRun-step c.args.self.now _ c.args.event.now c.step.result
+    c.step.ensures.step

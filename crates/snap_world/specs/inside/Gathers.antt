@@ -1,5 +1,18 @@
 -- What a scan in progress has seen of a history, and what a register holds of it.
-use Rattle.std.specs.Prelude.{◌≡◌, ℕ, ◌+◌, ◌<◌, ◌≤◌, List, length, take, slice_get, Option, Some, None}
+use Rattle.std.specs.Prelude.{
+  ◌≡◌,
+  ℕ,
+  ◌+◌,
+  ◌<◌,
+  ◌≤◌,
+  List,
+  length,
+  take,
+  slice_get,
+  Option,
+  Some,
+  None,
+}
 use Rattle.snap_history.specs.History.{Update, from_nothing, number_after, value_after, IsMemory}
 use Rattle.snap_history.specs.Pairs.{Pairs}
 use Rattle.snap_scan.specs.Course.{IsNext}
@@ -37,16 +50,17 @@ pub record RegisterStands (n : ℕ) (h : List Update) (i : ℕ) (r : Register) :
   pub value : r.value ≡ value_after from_nothing h i
   pub size : length r.view.items ≡ n
 
--- the view beside the register's update is the memory at moment p, when that update was the next one of
--- its segment
+-- the view beside the register's update is the memory at moment p, when that update was the next
+-- one of its segment
 pub record IsView (n : ℕ) (h : List Update) (i : ℕ) (r : Register) (p : ℕ) : Type 0 where
   pub until : p ≤ length h
   pub before : number_at h p i + 1 ≡ r.number
   pub is_memory : IsMemory n from_nothing (take p h) r.view.items
 
--- the view is the memory at the very moment that the machine keeps of the update, and it keeps one of
--- each update shown since moment g, when the node last began to serve
-pub record ViewStands (n : ℕ) (h : List Update) (g i : ℕ) (r : Register) (view : Option ℕ) : Type 0 where
+-- the view is the memory at the very moment that the machine keeps of the update, and it keeps one
+-- of each update shown since moment g, when the node last began to serve
+pub record ViewStands (n : ℕ) (h : List Update) (g i : ℕ) (r : Register)
+    (view : Option ℕ) : Type 0 where
   pub kept : number_at h g i < r.number → (p : ℕ) × (view ≡ Some p)
   pub is_view : (p : ℕ) → view ≡ Some p → IsView n h i r p
 
@@ -61,8 +75,9 @@ MayLook rs c =
     ∥ ((n : ℕ) × (x : State) × (g : ℕ) × (s : ScanState)
     × (g ≤ s.start) × RegistersStand n x g rs × Gathers n x.history s c) ∥₁
 
--- the look gave this number: in whatever state and for whatever scan the registers and the collector
--- stood, it is a look of the abstract machine, to a scan that the collector stands for now
+-- the look gave this number: in whatever state and for whatever scan the registers and the
+-- collector stood, it is a look of the abstract machine, to a scan that the collector stands for
+-- now
 abbrev pub IsLookOf : List Register → Collector → ℕ → Collector → Type 0
 IsLookOf rs old number new =
     (n : ℕ) (x : State) (g : ℕ) (s : ScanState)

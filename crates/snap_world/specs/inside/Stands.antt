@@ -6,8 +6,17 @@ use Rattle.snap_slot.specs.Layout.{IsNumber, IsShort}
 use Rattle.snap_slot.specs.declared.layout.TheConstants.{MAX_COUNT}
 use Rattle.snap_scan.specs.Looks.{IsDecided}
 use Rattle.snap_world.specs.Answers.{ScanState, IsAnswer, number_at}
-use Rattle.snap_world.specs.Gathers.{Gathers, IsUnderWay, RegistersStand}
-use Rattle.snap_world.specs.Machine.{State, WriterState, ScannerState, Free, Begun, Shown, Closed, Opened}
+use Rattle.snap_world.specs.inside.Gathers.{Gathers, IsUnderWay, RegistersStand}
+use Rattle.snap_world.specs.Machine.{
+  State,
+  WriterState,
+  ScannerState,
+  Free,
+  Begun,
+  Shown,
+  Closed,
+  Opened,
+}
 use Rattle.snap_world.specs.declared.collector.Collector.{Collector}
 use Rattle.snap_world.specs.declared.parts.Parts.{Parts}
 use Rattle.snap_world.specs.declared.writer.Writer.{Writer}
@@ -18,9 +27,10 @@ use Rattle.snap_world.specs.declared.scanner.ScannerPhase.{ScannerPhase}
 use Rattle.snap_world.specs.declared.scanner.ScannerPhase.TheVariants as scanner
 
 -- the writer has begun an update of segment i with its value, and its embedded scan began after the
--- segment's update before. History h is that of the parts, and g the length that it had when the node
--- last began to serve
-pub record HasBegun (n : ℕ) (h : List Update) (g i : ℕ) (w : Writer) (s : WriterState) : Type 0 where
+-- segment's update before. History h is that of the parts, and g the length that it had when the
+-- node last began to serve
+pub record HasBegun (n : ℕ) (h : List Update) (g i : ℕ) (w : Writer)
+    (s : WriterState) : Type 0 where
   pub born : g ≤ s.scan.start
   pub pending : s.pending ≡ Begun w.value
   pub fits : IsShort w.value
@@ -45,7 +55,8 @@ abbrev pub is_fenced : WriterPhase → Bool
 is_fenced writer.Fenced = true
 is_fenced phase = false
 
-pub record WriterStands (n : ℕ) (h : List Update) (g i : ℕ) (w : Writer) (s : WriterState) : Type 0 where
+pub record WriterStands (n : ℕ) (h : List Update) (g i : ℕ) (w : Writer)
+    (s : WriterState) : Type 0 where
   pub size : length w.collector.memory.items ≡ n
   pub fenced : s.fenced ≡ is_fenced w.phase
   pub phase : IsAtPhase n h g i w s w.phase
@@ -59,7 +70,8 @@ IsScannerAt n h g c s scanner.Ready =
     (scan : ScanState) × (s ≡ Opened scan) × (scan.last ≤ length h)
     × HasAnswer n h scan c.collector
 
-pub record ScannerStands (n : ℕ) (h : List Update) (g i : ℕ) (c : Scanner) (s : ScannerState) : Type 0 where
+pub record ScannerStands (n : ℕ) (h : List Update) (g i : ℕ) (c : Scanner)
+    (s : ScannerState) : Type 0 where
   pub size : length c.collector.memory.items ≡ n
   pub phase : IsScannerAt n h g c s c.phase
 

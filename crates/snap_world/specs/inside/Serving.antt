@@ -5,7 +5,7 @@ use Rattle.snap_slot.specs.declared.layout.TheConstants.{MAX_VALUE_LEN}
 use Rattle.snap_slot.specs.Layout.{IsNumber, slot_of}
 use Rattle.snap_slot.specs.Findings.{value_in}
 use Rattle.snap_persist.specs.Stage.{calls_left, first_stage, store_calls}
-use Rattle.snap_world.specs.Drives.{device_of}
+use Rattle.snap_world.specs.inside.Drives.{device_of}
 use Rattle.snap_history.specs.Pairs.{Pairs}
 use Rattle.snap_world.specs.declared.drive.Drive.{Drive}
 use Rattle.snap_world.specs.declared.register.Register.{Register}
@@ -26,9 +26,9 @@ AllReadable drives = (i : ℕ) (d : Drive) → slice_get drives i ≡ Some d →
 -- the device is as it was, and the order is that of the store after what was found
 pub record IsResumed (d e : Drive) : Type 0 where
   pub image : e.image ≡ d.image
-  pub slot : e.order.slot ≡ slot_of (d.found.number + 1)
-  pub stage : e.order.stage ≡ first_stage d.found.spare_open
-  pub calls : calls_left e.order.stage ≡ store_calls d.found.spare_open
+  pub slot : e.persist.slot ≡ slot_of (d.found.number + 1)
+  pub stage : e.persist.stage ≡ first_stage d.found.spare_open
+  pub calls : calls_left e.persist.stage ≡ store_calls d.found.spare_open
 
 -- the register has what was found
 pub record IsRecovered (d : Drive) (r s : Register) : Type 0 where

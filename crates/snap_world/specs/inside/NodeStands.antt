@@ -4,10 +4,10 @@ use Rattle.snap_disk.specs.Device.{IsSettled}
 use Rattle.snap_slot.specs.Findings.{IsFound}
 use Rattle.snap_slot.specs.declared.layout.TheConstants.{MAX_COUNT}
 use Rattle.snap_history.specs.Pairs.{Pairs}
-use Rattle.snap_world.specs.Drives.{DrivesStand, DrivesDown, device_of}
+use Rattle.snap_world.specs.inside.Drives.{DrivesStand, DrivesDown, device_of}
 use Rattle.snap_world.specs.Machine.{State, WriterState, ScannerState, Closed}
-use Rattle.snap_world.specs.Stands.{PartsStand}
-use Rattle.snap_world.specs.Steps.{phases_of_parts}
+use Rattle.snap_world.specs.inside.Stands.{PartsStand}
+use Rattle.snap_world.specs.inside.Steps.{phases_of_parts}
 use Rattle.snap_world.specs.declared.drive.Drive.{Drive}
 use Rattle.snap_world.specs.declared.node.Node.{Node}
 use Rattle.snap_world.specs.declared.node.NodePhase.{NodePhase}
@@ -34,7 +34,8 @@ pub record ScannerRests (n : ℕ) (a : Scanner) (s : ScannerState) : Type 0 wher
 -- while it is up, its parts and each device stand for the state
 pub record IsUp (parts : Parts) (drives : List Drive) (x : State) : Type 0 where
   pub parts_stand : PartsStand parts x
-  pub drives_stand : DrivesStand parts.segments x.history x.writers (phases_of_parts parts).writers drives
+  pub drives_stand : DrivesStand parts.segments x.history x.writers
+      (phases_of_parts parts).writers drives
 
 -- nobody is at work, and the places for values and scans have their sizes
 pub record PartsRest (w : Parts) (x : State) : Type 0 where
@@ -54,7 +55,8 @@ pub record IsDown (parts : Parts) (drives : List Drive) (x : State) : Type 0 whe
 
 -- while it restarts: the first `synced` devices have no open place, and what was found in the first
 -- `read` of them is what they hold
-pub record IsRecovering (parts : Parts) (drives : List Drive) (x : State) (synced read : ℕ) : Type 0 where
+pub record IsRecovering (parts : Parts) (drives : List Drive) (x : State)
+    (synced read : ℕ) : Type 0 where
   pub down : IsDown parts drives x
   pub settled : (i : ℕ) (d : Drive) → slice_get drives i ≡ Some d → i < synced
       → IsSettled (device_of d)
@@ -68,7 +70,8 @@ IsRestarting parts drives x i opening.Read = IsRecovering parts drives x (i + 1)
 abbrev pub IsNodeAt : Parts → List Drive → State → NodePhase → Type 0
 IsNodeAt parts drives x Up = IsUp parts drives x
 IsNodeAt parts drives x Down = IsDown parts drives x
-IsNodeAt parts drives x (Restarting i call) = (i < parts.segments) × IsRestarting parts drives x i call
+IsNodeAt parts drives x (Restarting i call) = (i < parts.segments)
+    × IsRestarting parts drives x i call
 IsNodeAt parts drives x Ready = IsRecovering parts drives x parts.segments parts.segments
 
 pub record NodeStands (w : Node) (x : State) : Type 0 where

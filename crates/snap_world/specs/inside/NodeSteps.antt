@@ -3,14 +3,14 @@ use Rattle.std.specs.Prelude.{◌≡◌, ℕ, List, map}
 use Rattle.snap_disk.specs.Device.{Device}
 use Rattle.snap_persist.specs.Stage.{calls_left}
 use Rattle.snap_world.specs.Devices.{DevicesMove, GatesTold}
-use Rattle.snap_world.specs.Drives.{device_of}
+use Rattle.snap_world.specs.inside.Drives.{device_of}
 use Rattle.snap_world.specs.Machine.{State, Step}
 use Rattle.snap_world.specs.NodePhases.{WorldPhases, TellsWhether, PhasesMove}
-use Rattle.snap_world.specs.NodeStands.{NodeStands}
+use Rattle.snap_world.specs.inside.NodeStands.{NodeStands}
 use Rattle.snap_world.specs.Phases.{WriterIs}
-use Rattle.snap_world.specs.Steps.{phases_of_parts}
+use Rattle.snap_world.specs.inside.Steps.{phases_of_parts}
 use Rattle.snap_world.specs.declared.event.Event.{Event}
-use Rattle.snap_persist.specs.declared.persist.Next.{Next}
+use Rattle.snap_persist.specs.declared.persist.NextCall.{NextCall}
 use Rattle.snap_world.specs.declared.event.Reply.{Reply}
 use Rattle.snap_world.specs.declared.event.Reply.TheVariants.{NotNow}
 use Rattle.snap_world.specs.declared.drive.Drive.{Drive}
@@ -23,8 +23,8 @@ abbrev pub devices_of_node : Node → List Device
 devices_of_node w = map device_of w.drives.items
 
 -- the device calls that are left of the store under way on it, or of the next one
-abbrev pub store_left : Drive → List Next
-store_left d = calls_left d.order.stage
+abbrev pub store_left : Drive → List NextCall
+store_left d = calls_left d.persist.stage
 
 abbrev pub phases_of_node : Node → WorldPhases
 phases_of_node w = record {
@@ -37,14 +37,15 @@ phases_of_node w = record {
 abbrev pub MayStore : Node → ℕ → Type 0
 MayStore node w = (node.phase ≡ Up) × WriterIs (phases_of_parts node.parts) w writer.Storing
 
--- from each state that the node stood for, the event with its reply is a step to one that it stands for
--- now, and leaves these devices; the reply tells whether the event may come, the phases move by their
--- table, and after `NotNow` nothing has changed
+-- from each state that the node stood for, the event with its reply is a step to one that it stands
+-- for now, and leaves these devices; the reply tells whether the event may come, the phases move by
+-- their table, and after `NotNow` nothing has changed
 pub record IsNodeStep (old : Node) (event : Event) (reply : Reply) (new : Node) : Type 0 where
   pub segments : new.parts.segments ≡ old.parts.segments
   pub step : (x : State) → NodeStands old x
       → (y : State) × Step old.parts.segments x event reply y
-      × DevicesMove old.parts.segments x (phases_of_node old) (devices_of_node old) event reply y (devices_of_node new)
+      × DevicesMove old.parts.segments x (phases_of_node old) (devices_of_node old) event reply y
+      (devices_of_node new)
       × NodeStands new y
   pub comes : (x : State) → NodeStands old x → TellsWhether x (phases_of_node old) event reply
   pub phases : (x : State) → NodeStands old x
