@@ -1,5 +1,6 @@
 //! The scanners.
 ghost use Rattle.std.specs.Prelude.{◌≡◌, ℕ, ◌+◌, ◌<◌, ◌≤◌, length, take, OnOk, OnErr, IfErr};
+ghost use Rattle.snap_slot.specs.declared.layout.TheConstants.{MAX_COUNT, MAX_VALUE_LEN};
 ghost use Rattle.snap_register.specs.Rule.{segments};
 ghost use Rattle.snap_register.specs.Seat.{Grows, Meets, IsBelow, AreTogether, number_in, value_in};
 ghost use Rattle.snap_scan.specs.Looks.{most_looks};
@@ -11,6 +12,7 @@ use crate::snapshot::Snapshot;
 use snap_disk::Refusal;
 use snap_register::{Looker, ReadSeat, WriteSeat};
 use snap_scan::most_looks;
+use snap_slot::MAX_VALUE_LEN;
 use std::marker::Model;
 
 /// One scanner, on a seat of its own. It waits for nobody, and takes no memory.
@@ -38,7 +40,7 @@ impl Scanner {
     /// How many segments there are, 1 to 16.
     pub fn segments(&self) -> usize
         ensures count { result ≡ segments self.now.plan }
-        ensures some { (0 < result) × (result ≤ 16) }
+        ensures some { (0 < result) × (result ≤ MAX_COUNT) }
     {
         self.seat.segments()
     }
@@ -77,14 +79,14 @@ impl Scanner {
 
     /// One look at the segment `j`: its number, and its value at the front of `value`, with the
     /// value's length.
-    pub fn read_one(&mut self, j: usize, value: &mut [u8; 4080]) -> (u64, usize)
+    pub fn read_one(&mut self, j: usize, value: &mut [u8; MAX_VALUE_LEN]) -> (u64, usize)
         requires segment { j < segments self.old.plan }
         requires left { 0 < self.old.left }
         ensures seen { Grows self.old self.new }
         ensures below { IsBelow self.new }
         ensures number { result.0 ≡ number_in self.new self.new.seen j }
         ensures value { take result.1 value.new ≡ value_in self.new self.new.seen j }
-        ensures size { result.1 ≤ 4080 }
+        ensures size { result.1 ≤ MAX_VALUE_LEN }
         ensures left { self.new.left + 1 ≡ self.old.left }
     {
         let number = self.seat.look(j);

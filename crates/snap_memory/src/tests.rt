@@ -8,6 +8,7 @@ use crate::{Scanner, Snapshot, prepare, show};
 use snap_disk::Refusal;
 use snap_register::{Looker, Parts, Registers, WriteSeat};
 use snap_scan::most_looks;
+use snap_slot::MAX_VALUE_LEN;
 use std::alloc::{AllocError, Global};
 use std::process::Abort;
 use std::test::Fail;
@@ -16,12 +17,7 @@ mod staged;
 mod threads;
 
 /// Registers of so many segments, each at number 0 with the empty value.
-fn open(
-    alloc: Global,
-    segments: usize,
-    scanners: usize,
-    looks: u64,
-) -> Result<Parts, AllocError>
+fn open(alloc: Global, segments: usize, scanners: usize, looks: u64) -> Result<Parts, AllocError>
     requires segments { (0 < segments) × (segments ≤ 16) }
     requires scanners { scanners ≤ 16 }
     requires looks { looks ≤ 2 ^ 50 }
@@ -42,7 +38,7 @@ fn update(writer: &mut WriteSeat, value: &[u8]) -> Option<u64>
     ensures table { writer.new.table ≡ writer.old.table }
     ensures plan { writer.new.plan ≡ writer.old.plan }
 {
-    if writer.looks_left() < most_looks(writer.segments()) as u64 || value.len() > 4080 {
+    if writer.looks_left() < most_looks(writer.segments()) as u64 || value.len() > MAX_VALUE_LEN {
         return None;
     }
     let view = prepare(writer);
@@ -122,11 +118,8 @@ fn met_and_unmet_scanners(rt: HostRuntime) -> Result<(), Fail> {
         mut writers,
         mut scanners,
     } = open(rt.alloc(), 1, 2, 100)?;
-    let (Some(mut writer), Some(met), Some(unmet)) = (
-        writers.pop(),
-        scanners.pop(),
-        scanners.pop(),
-    ) else {
+    let (Some(mut writer), Some(met), Some(unmet)) = (writers.pop(), scanners.pop(), scanners.pop())
+    else {
         panic!(rt; "a seat is missing")
     };
     let mut met = Scanner::new(met);
@@ -145,7 +138,7 @@ fn met_and_unmet_scanners(rt: HostRuntime) -> Result<(), Fail> {
 #[test]
 fn reads_one(rt: HostRuntime) -> Result<(), Fail> {
     let (mut writer, mut scanner) = open_two(&rt, rt.alloc(), 10)?;
-    let mut room = [0; 4080];
+    let mut room = [0; MAX_VALUE_LEN];
     assert!(rt; update(&mut writer, &[7; 4080]) == Some(1));
     assert!(rt; scanner.looks_left() > 0 && scanner.segments() == 1);
     let (number, length) = scanner.read_one(0, &mut room);

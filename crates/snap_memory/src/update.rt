@@ -1,5 +1,6 @@
 //! The two halves of an update: the scan that it takes along, and its publication.
 ghost use Rattle.std.specs.Prelude.{◌≡◌, ℕ, ◌+◌, ◌^◌, ◌<◌, ◌≤◌, length};
+ghost use Rattle.snap_slot.specs.Layout.{IsNumber, IsShort};
 ghost use Rattle.snap_register.specs.Seat.{Grows, IsBelow, MayPublish, Shows, number_in, own_of};
 ghost use Rattle.snap_memory.specs.Scans.{IsScan, CanScan, TakesLooks};
 
@@ -29,8 +30,8 @@ pub fn prepare(seat: &mut WriteSeat) -> View
 /// Shows an update of the seat's segment to this value, with the view that [`prepare`] gave, and
 /// answers its number. The update stands at the end of what the seat has seen.
 pub fn show(seat: &mut WriteSeat, value: &[u8], view: View) -> u64
-    requires size { length value.now ≤ 4080 }
-    requires next { number_in seat.old seat.old.seen (own_of seat.old) + 1 < 2 ^ 63 }
+    requires size { IsShort value.now }
+    requires next { IsNumber (number_in seat.old seat.old.seen (own_of seat.old) + 1) }
     requires view { MayPublish seat.old view }
     ensures shown { Shows seat.old seat.new value.now }
     ensures below { IsBelow seat.new }

@@ -12,7 +12,7 @@ use Rattle.snap_register.specs.declared.plan.Entry.{Entry}
 use Rattle.snap_register.specs.declared.plan.Plan.{Plan}
 use Rattle.snap_register.specs.declared.plan.Pool.{Pool}
 use Rattle.snap_register.specs.declared.plan.SeatView.{SeatView}
-use Rattle.snap_register.specs.Rule.{Has, total, on, far, beyond, Register, Pinned, Knows, Kept, onlooker, reader, less, first_role, other_roles, joint, adopted, gathered, spent}
+use Rattle.snap_register.specs.Rule.{Has, total, on, far, beyond, Register, Pinned, Knows, Kept, messenger, reader, without_reader, first_role, without_first_role, with_received, with_seen_of, with_segments_of, spent}
 use Rattle.snap_register.specs.History.{only}
 use Rattle.snap_register.proofs.Sums.{total_set, total_push, on_not, far_none}
 use Rattle.snap_register.proofs.Keeps.{turn, turn_here, turn_else, register_stays, seats_stay}
@@ -44,9 +44,9 @@ bound f vs id other v u a b at there = let x = total_set f vs id v a at in let y
 
 module _ (S : Type 0) where
   -- a new seat that has no pin and writes nothing, from one that keeps what it writes and pins
-  parts : (p : Plan) (id : ℕ) (v a b : SeatView) → a.plan ≡ v.plan → a.spent ≡ v.spent → a.seen ≡ v.seen → a.told ≡ v.told → a.low ≡ v.low → a.high ≡ v.high → a.edge ≡ v.edge → a.pool_end ≡ v.pool_end → a.pool ≡ v.pool → a.pins ≡ v.pins → a.records ≡ v.records
-      → a.left + b.left ≤ v.left → a.share + b.share ≤ v.share → ((i : ℕ) → 0 < get_or v.pins i 0 → 0 < a.share)
-      → b.plan ≡ v.plan → b.spent ≡ v.spent → b.seen ≡ v.seen → b.told ≡ [] → b.low ≡ 0 → b.high ≡ 0 → ((i : ℕ) → get_or b.pins i 0 ≡ 0)
+  parts : (p : Plan) (id : ℕ) (v a b : SeatView) → a.plan ≡ v.plan → a.spent ≡ v.spent → a.seen ≡ v.seen → a.received ≡ v.received → a.low ≡ v.low → a.high ≡ v.high → a.seen_end ≡ v.seen_end → a.pool_end ≡ v.pool_end → a.pool ≡ v.pool → a.pins ≡ v.pins → a.records ≡ v.records
+      → a.left + b.left ≤ v.left → a.pin_quota + b.pin_quota ≤ v.pin_quota → ((i : ℕ) → 0 < get_or v.pins i 0 → 0 < a.pin_quota)
+      → b.plan ≡ v.plan → b.spent ≡ v.spent → b.seen ≡ v.seen → b.received ≡ [] → b.low ≡ 0 → b.high ≡ 0 → ((i : ℕ) → get_or b.pins i 0 ≡ 0)
       → Splits {S = S} (Kept p) id v a b
   parts p id v a b a_plan a_spent a_seen a_told a_low a_high a_edge a_pen a_pool a_pins a_marks lefts shares still b_plan b_spent b_seen b_told b_low b_high b_pins s k at =
       let K = Knows p k.history s.words k.writer k.pools in
@@ -55,7 +55,7 @@ module _ (S : Type 0) where
       let first : K id a = record {
         plan = λ e. a_plan ∙ mine.plan (sym a_spent ∙ e);
         seen = subst (λ (l : List Entry). IsPrefix l k.history) (sym a_seen) mine.seen;
-        told = subst (λ (l : List Entry). IsPrefix l k.history) (sym a_told) mine.told;
+        received = subst (λ (l : List Entry). IsPrefix l k.history) (sym a_told) mine.received;
         role = λ i has. let x = has.0 in let y = has.1 in let r = mine.role i (omega arith, omega arith) in record {
           inside = r.inside;
           own = r.own;
@@ -64,15 +64,15 @@ module _ (S : Type 0) where
           pool = λ near. r.pool (omega arith) ∙ sym a_pool;
         };
         pins = λ i c li e. subst (λ (l : List ℕ). Pinned p k.history s.words i c (get_or l i 0)) (sym a_marks) (mine.pins i c li (sym (pin i) ∙ e));
-        share = λ i some_pin. let e = pin i in still i (omega arith);
+        pin_quota = λ i some_pin. let e = pin i in still i (omega arith);
       } in
       let second : (j : ℕ) → K j b = λ j. record {
         plan = λ e. b_plan ∙ mine.plan (sym b_spent ∙ e);
         seen = subst (λ (l : List Entry). IsPrefix l k.history) (sym b_seen) mine.seen;
-        told = (k.history, ap (λ l. l ++ k.history) b_told);
+        received = (k.history, ap (λ l. l ++ k.history) b_told);
         role = λ i has. let x = has.0 in let y = has.1 in absurd (omega arith);
         pins = λ i c li e. let z = b_pins i in absurd (omega arith);
-        share = λ i some_pin. let z = b_pins i in absurd (omega arith);
+        pin_quota = λ i some_pin. let z = b_pins i in absurd (omega arith);
       } in
       record {
         history = k.history;
@@ -80,7 +80,7 @@ module _ (S : Type 0) where
         pools = k.pools;
         pinned = k.pinned;
         wide = k.wide;
-        shares = let e = cut (λ u. u.share) s.views id v a b at in let f = k.shares in omega arith;
+        shares = let e = cut (λ u. u.pin_quota) s.views id v a b at in let f = k.shares in omega arith;
         few = k.few;
         legal = k.legal;
         registers = λ i li. over p k.history s.words s.views (set s.views id a ++ b ∷ []) i (k.pools i) (k.pinned i)
@@ -94,18 +94,18 @@ module _ (S : Type 0) where
       }
 
   -- the new seat has seen as much
-  pub shares : (p : Plan) (id : ℕ) (v : SeatView) → Splits {S = S} (Kept p) id v v (onlooker v)
-  shares p id v s k at = parts p id v v (onlooker v) refl refl refl refl refl refl refl refl refl refl refl (omega arith) (omega arith) (λ i some_pin. (k.each_seat id v at).share i some_pin) refl refl refl refl refl refl (λ i. refl) s k at
+  pub shares : (p : Plan) (id : ℕ) (v : SeatView) → Splits {S = S} (Kept p) id v v (messenger v)
+  shares p id v s k at = parts p id v v (messenger v) refl refl refl refl refl refl refl refl refl refl refl (omega arith) (omega arith) (λ i some_pin. (k.each_seat id v at).pin_quota i some_pin) refl refl refl refl refl refl (λ i. refl) s k at
 
   -- the new seat has a pin a register and the looks of a seat, and writes nothing
-  pub seats_reader : (p : Plan) (id : ℕ) (v : SeatView) → v.told ≡ [] → ((i : ℕ) → get_or v.pins i 0 ≡ 0) → v.plan.looks ≤ v.left → 1 ≤ v.share → Splits {S = S} (Kept p) id v (less v) (reader v)
-  seats_reader p id v told bare some_looks some_share s k at = parts p id v (less v) (reader v) refl refl refl refl refl refl refl refl refl refl refl (omega arith) (omega arith) (λ i some_pin. let z = bare i in absurd (omega arith)) refl refl refl refl refl refl bare s k at
+  pub seats_reader : (p : Plan) (id : ℕ) (v : SeatView) → v.received ≡ [] → ((i : ℕ) → get_or v.pins i 0 ≡ 0) → v.plan.looks ≤ v.left → 1 ≤ v.pin_quota → Splits {S = S} (Kept p) id v (without_reader v) (reader v)
+  seats_reader p id v received bare some_looks some_share s k at = parts p id v (without_reader v) (reader v) refl refl refl refl refl refl refl refl refl refl refl (omega arith) (omega arith) (λ i some_pin. let z = bare i in absurd (omega arith)) refl refl refl refl refl refl bare s k at
 
   -- the new seat writes the first segment, and the other seat those behind it
-  pub gives : (p : Plan) (id : ℕ) (v : SeatView) → v.edge ≡ v.high → v.pool_end ≡ v.high → v.low < v.high → ((i : ℕ) → get_or v.pins i 0 ≡ 0) → v.plan.looks ≤ v.left → 1 ≤ v.share → Splits {S = S} (Kept p) id v (other_roles v) (first_role v)
-  gives p id v edge pool_end some_role bare some_looks some_share s k at =
+  pub gives : (p : Plan) (id : ℕ) (v : SeatView) → v.seen_end ≡ v.high → v.pool_end ≡ v.high → v.low < v.high → ((i : ℕ) → get_or v.pins i 0 ≡ 0) → v.plan.looks ≤ v.left → 1 ≤ v.pin_quota → Splits {S = S} (Kept p) id v (without_first_role v) (first_role v)
+  gives p id v seen_end pool_end some_role bare some_looks some_share s k at =
       let new : ℕ = length s.views in
-      let a : SeatView = other_roles v in
+      let a : SeatView = without_first_role v in
       let b : SeatView = first_role v in
       let writer : ℕ → ℕ = turn k.writer v.low new in
       let K = Knows p k.history s.words writer k.pools in
@@ -114,20 +114,20 @@ module _ (S : Type 0) where
       let first : K id a = record {
         plan = mine.plan;
         seen = mine.seen;
-        told = mine.told;
+        received = mine.received;
         role = λ i has. let x = has.0 in let y = has.1 in let r = mine.role i (omega arith, y) in
             record { inside = r.inside; own = turn_else k.writer v.low new i (λ e. omega arith) ∙ r.own; all = r.all; given = r.given; pool = r.pool };
         pins = mine.pins;
-        share = λ i some_pin. let z = bare i in absurd (omega arith);
+        pin_quota = λ i some_pin. let z = bare i in absurd (omega arith);
       } in
       let second : K new b = record {
         plan = mine.plan;
         seen = mine.seen;
-        told = mine.told;
+        received = mine.received;
         role = λ i has. let x = has.0 in let y = has.1 in let is : i ≡ v.low = omega arith in let r = mine.role i (x, subst (λ (z : ℕ). z < v.high) (sym is) some_role) in
             record { inside = r.inside; own = turn_here k.writer v.low new i is; all = λ _. r.all (omega arith); given = λ far. absurd (omega arith); pool = λ _. r.pool (omega arith) };
         pins = mine.pins;
-        share = λ i some_pin. let z = bare i in absurd (omega arith);
+        pin_quota = λ i some_pin. let z = bare i in absurd (omega arith);
       } in
       record {
         history = k.history;
@@ -135,7 +135,7 @@ module _ (S : Type 0) where
         pools = k.pools;
         pinned = k.pinned;
         wide = k.wide;
-        shares = let e = cut (λ u. u.share) s.views id v a b at in let f = k.shares in omega arith;
+        shares = let e = cut (λ u. u.pin_quota) s.views id v a b at in let f = k.shares in omega arith;
         few = k.few;
         legal = k.legal;
         registers = λ i li. over p k.history s.words s.views (set s.views id a ++ b ∷ []) i (k.pools i) (k.pinned i)
@@ -148,21 +148,21 @@ module _ (S : Type 0) where
             (λ i x other there. let theirs = k.each_seat i x there in record {
               plan = theirs.plan;
               seen = theirs.seen;
-              told = theirs.told;
+              received = theirs.received;
               role = λ c has. let r = theirs.role c has in
                   let apart : c ≢ v.low = λ z. other (sym r.own ∙ (ap k.writer z ∙ mine_low.own)) in
                   record { inside = r.inside; own = turn_else k.writer v.low new c apart ∙ r.own; all = r.all; given = r.given; pool = r.pool };
               pins = theirs.pins;
-              share = theirs.share;
+              pin_quota = theirs.pin_quota;
             }) j u old)
             (λ t. subst (λ (z : ℕ × SeatView). K z.0 z.1) (λ y. (sym (t.0 ∙ length-set s.views id a) y, t.1 y)) second)
             (at_end (set s.views id a) b u j e);
       }
 
   -- the seat takes in what another without a pin, that writes nothing, has seen, and the other is spent
-  takes_in : (p : Plan) (id : ℕ) (v : SeatView) (other : ℕ) (u a : SeatView) → a.plan ≡ v.plan → a.spent ≡ v.spent → a.low ≡ v.low → a.high ≡ v.high → a.pool_end ≡ v.pool_end → a.pool ≡ v.pool → a.pins ≡ v.pins → a.records ≡ v.records → a.share ≡ v.share → a.left ≡ v.left → ((i : ℕ) → get_or u.pins i 0 ≡ 0)
-      → ((h : List Entry) → IsPrefix v.seen h → IsPrefix u.seen h → IsPrefix a.seen h × IsPrefix a.told h)
-      → ((h : List Entry) (i : ℕ) → Has v i → (i < v.edge → only i v.seen ≡ only i h) → (v.edge ≤ i → only i v.told ≡ only i h) → (i < a.edge → only i a.seen ≡ only i h) × (a.edge ≤ i → only i a.told ≡ only i h))
+  takes_in : (p : Plan) (id : ℕ) (v : SeatView) (other : ℕ) (u a : SeatView) → a.plan ≡ v.plan → a.spent ≡ v.spent → a.low ≡ v.low → a.high ≡ v.high → a.pool_end ≡ v.pool_end → a.pool ≡ v.pool → a.pins ≡ v.pins → a.records ≡ v.records → a.pin_quota ≡ v.pin_quota → a.left ≡ v.left → ((i : ℕ) → get_or u.pins i 0 ≡ 0)
+      → ((h : List Entry) → IsPrefix v.seen h → IsPrefix u.seen h → IsPrefix a.seen h × IsPrefix a.received h)
+      → ((h : List Entry) (i : ℕ) → Has v i → (i < v.seen_end → only i v.seen ≡ only i h) → (v.seen_end ≤ i → only i v.received ≡ only i h) → (i < a.seen_end → only i a.seen ≡ only i h) × (a.seen_end ≤ i → only i a.received ≡ only i h))
       → Joins {S = S} (Kept p) id v other u a spent
   takes_in p id v other u a a_plan a_spent a_low a_high a_pen a_pool a_pins a_marks a_share a_left bare prefixes lines s k at apart there =
       let K = Knows p k.history s.words k.writer k.pools in
@@ -173,11 +173,11 @@ module _ (S : Type 0) where
       let both : K id a = record {
         plan = λ e. a_plan ∙ mine.plan (sym a_spent ∙ e);
         seen = known.0;
-        told = known.1;
+        received = known.1;
         role = λ i has. let x = has.0 in let y = has.1 in let has_v : Has v i = (omega arith, omega arith) in let r = mine.role i has_v in let z = lines k.history i has_v r.all r.given in
             record { inside = r.inside; own = r.own; all = z.0; given = z.1; pool = λ near. r.pool (omega arith) ∙ sym a_pool };
         pins = λ i c li e. subst (λ (l : List ℕ). Pinned p k.history s.words i c (get_or l i 0)) (sym a_marks) (mine.pins i c li (sym (pin i) ∙ e));
-        share = λ i some_pin. let e = pin i in let z = mine.share i (omega arith) in omega arith;
+        pin_quota = λ i some_pin. let e = pin i in let z = mine.pin_quota i (omega arith) in omega arith;
       } in
       let vs : List SeatView = set (set s.views id a) other spent in
       let sums = λ (f : SeatView → ℕ). bound f s.views id other v u a spent at there in
@@ -187,7 +187,7 @@ module _ (S : Type 0) where
         pools = k.pools;
         pinned = k.pinned;
         wide = k.wide;
-        shares = let e = sums (λ x. x.share) in let f = k.shares in omega arith;
+        shares = let e = sums (λ x. x.pin_quota) in let f = k.shares in omega arith;
         few = k.few;
         legal = k.legal;
         registers = λ i li. over p k.history s.words s.views vs i (k.pools i) (k.pinned i)
@@ -196,17 +196,17 @@ module _ (S : Type 0) where
             (let e = sums (λ x. x.left) in omega arith)
             (k.registers i li);
         each_seat = seats_stay S K (set s.views id a) other spent
-            record { plan = λ e. absurd cc; seen = (k.history, refl); told = (k.history, refl); role = λ i has. let h = has.1 in absurd (omega arith); pins = λ i c li e. absurd (omega arith); share = λ i some_pin. absurd (omega arith) }
+            record { plan = λ e. absurd cc; seen = (k.history, refl); received = (k.history, refl); role = λ i has. let h = has.1 in absurd (omega arith); pins = λ i c li e. absurd (omega arith); pin_quota = λ i some_pin. absurd (omega arith) }
             (λ j x _. seats_stay S K s.views id a both (λ i y _. k.each_seat i y) j x);
       }
 
   -- the seat is told of what the other has seen
-  pub tells : (p : Plan) (id : ℕ) (v : SeatView) (other : ℕ) (u : SeatView) → v.edge ≡ v.high → ((i : ℕ) → get_or u.pins i 0 ≡ 0) → Joins {S = S} (Kept p) id v other u (joint v u) spent
-  tells p id v other u edge bare = takes_in p id v other u (joint v u) refl refl refl refl refl refl refl refl refl refl bare (λ h a b. (a, b)) (λ h i has all given. (all, λ far. let z = has.1 in absurd (omega arith)))
+  pub tells : (p : Plan) (id : ℕ) (v : SeatView) (other : ℕ) (u : SeatView) → v.seen_end ≡ v.high → ((i : ℕ) → get_or u.pins i 0 ≡ 0) → Joins {S = S} (Kept p) id v other u (with_received v u) spent
+  tells p id v other u seen_end bare = takes_in p id v other u (with_received v u) refl refl refl refl refl refl refl refl refl refl bare (λ h a b. (a, b)) (λ h i has all given. (all, λ far. let z = has.1 in absurd (omega arith)))
 
   -- a seat that writes nothing has seen what the other has
-  pub adopts : (p : Plan) (id : ℕ) (v : SeatView) (other : ℕ) (u : SeatView) → v.low ≡ 0 → v.high ≡ 0 → v.told ≡ [] → ((i : ℕ) → get_or u.pins i 0 ≡ 0) → Joins {S = S} (Kept p) id v other u (adopted v u) spent
-  adopts p id v other u low high told bare = takes_in p id v other u (adopted v u) refl refl refl refl refl refl refl refl refl refl bare (λ h a b. (b, (h, ap (λ l. l ++ h) told))) (λ h i has all given. let z = has.1 in absurd (omega arith))
+  pub adopts : (p : Plan) (id : ℕ) (v : SeatView) (other : ℕ) (u : SeatView) → v.low ≡ 0 → v.high ≡ 0 → v.received ≡ [] → ((i : ℕ) → get_or u.pins i 0 ≡ 0) → Joins {S = S} (Kept p) id v other u (with_seen_of v u) spent
+  adopts p id v other u low high received bare = takes_in p id v other u (with_seen_of v u) refl refl refl refl refl refl refl refl refl refl bare (λ h a b. (b, (h, ap (λ l. l ++ h) received))) (λ h i has all given. let z = has.1 in absurd (omega arith))
 
 -- a in [low, high), else b
 pick : {low high i : ℕ} → Dec (low ≤ i) → Dec (high ≤ i) → ℕ → ℕ → ℕ
@@ -227,9 +227,9 @@ pick_out low high i a b (yes l) (yes h) p = refl
 pick_out low high i a b (no l) e p = refl
 
 -- the seat takes over the segments of another without a pin, which follow its own. It can't publish in them
-pub gathers : (S : Type 0) (p : Plan) (id : ℕ) (v : SeatView) (other : ℕ) (u : SeatView) → v.edge ≡ v.high → v.pool_end ≤ v.high → v.high ≡ u.low → u.edge ≡ u.high → ((i : ℕ) → get_or u.pins i 0 ≡ 0) → Joins {S = S} (Kept p) id v other u (gathered v u) spent
-gathers S p id v other u edge pool_end meets far_edge bare s k at apart there =
-    let a : SeatView = gathered v u in
+pub gathers : (S : Type 0) (p : Plan) (id : ℕ) (v : SeatView) (other : ℕ) (u : SeatView) → v.seen_end ≡ v.high → v.pool_end ≤ v.high → v.high ≡ u.low → u.seen_end ≡ u.high → ((i : ℕ) → get_or u.pins i 0 ≡ 0) → Joins {S = S} (Kept p) id v other u (with_segments_of v u) spent
+gathers S p id v other u seen_end pool_end meets far_edge bare s k at apart there =
+    let a : SeatView = with_segments_of v u in
     let writer : ℕ → ℕ = λ i. pick (dec_le u.low i) (dec_le u.high i) id (k.writer i) in
     let K = Knows p k.history s.words writer k.pools in
     let mine : Knows p k.history s.words k.writer k.pools id v = k.each_seat id v at in
@@ -237,7 +237,7 @@ gathers S p id v other u edge pool_end meets far_edge bare s k at apart there =
     let both : K id a = record {
       plan = mine.plan;
       seen = mine.seen;
-      told = theirs.seen;
+      received = theirs.seen;
       role = λ i has. let x = has.0 in let y = has.1 in dite (dec_le v.high i)
           (λ late. let r = theirs.role i (omega arith, y) in record {
             inside = r.inside;
@@ -254,7 +254,7 @@ gathers S p id v other u edge pool_end meets far_edge bare s k at apart there =
             pool = r.pool;
           });
       pins = mine.pins;
-      share = mine.share;
+      pin_quota = mine.pin_quota;
     } in
     let vs : List SeatView = set (set s.views id a) other spent in
     let sums = λ (f : SeatView → ℕ). bound f s.views id other v u a spent at there in
@@ -264,7 +264,7 @@ gathers S p id v other u edge pool_end meets far_edge bare s k at apart there =
       pools = k.pools;
       pinned = k.pinned;
       wide = k.wide;
-      shares = let e = sums (λ x. x.share) in let f = k.shares in omega arith;
+      shares = let e = sums (λ x. x.pin_quota) in let f = k.shares in omega arith;
       few = k.few;
       legal = k.legal;
       registers = λ i li. over p k.history s.words s.views vs i (k.pools i) (k.pinned i)
@@ -273,13 +273,13 @@ gathers S p id v other u edge pool_end meets far_edge bare s k at apart there =
           (let e = sums (λ x. x.left) in omega arith)
           (k.registers i li);
       each_seat = λ j x e. ⊎_elim (λ (t : (j ≡ other) × (spent ≡ x)). subst (λ (y : SeatView). K j y) t.1
-          (record { plan = λ e. absurd cc; seen = (k.history, refl); told = (k.history, refl); role = λ i has. let h = has.1 in absurd (omega arith); pins = λ i c li e. absurd (omega arith); share = λ i some_pin. absurd (omega arith) }))
+          (record { plan = λ e. absurd cc; seen = (k.history, refl); received = (k.history, refl); role = λ i has. let h = has.1 in absurd (omega arith); pins = λ i c li e. absurd (omega arith); pin_quota = λ i some_pin. absurd (omega arith) }))
           (λ (t : (j ≢ other) × (get_elem? (set s.views id a) j ≡ some x)). ⊎_elim
           (λ (y : (j ≡ id) × (a ≡ x)). subst (λ (z : ℕ × SeatView). K z.0 z.1) (λ w. (sym y.0 w, y.1 w)) both)
           (λ (y : (j ≢ id) × (get_elem? s.views j ≡ some x)). let old = k.each_seat j x y.1 in record {
             plan = old.plan;
             seen = old.seen;
-            told = old.told;
+            received = old.received;
             role = λ c has. let r = old.role c has in record {
               inside = r.inside;
               own = pick_out u.low u.high c id (k.writer c) (dec_le u.low c) (dec_le u.high c) (λ l h. t.0 (sym r.own ∙ (theirs.role c (l, h)).own)) ∙ r.own;
@@ -288,7 +288,7 @@ gathers S p id v other u edge pool_end meets far_edge bare s k at apart there =
               pool = r.pool;
             };
             pins = old.pins;
-            share = old.share;
+            pin_quota = old.pin_quota;
           })
           (at_set s.views id j a x t.1))
           (at_set (set s.views id a) other j spent x e);

@@ -32,11 +32,11 @@ pub turn_else : {A : Type 0} (f : ℕ → A) (j : ℕ) (y : A) (i : ℕ) → i �
 turn_else f j y i e = ap (λ t. cond t y (f i)) (ne_eqb i j e)
 
 -- pins that the current word counts, at its buffer and elsewhere
-pub pins_at : (d : Pool) (x b : ℕ) → d.at ≡ b → pins_of d x b ≡ get_or d.counted b 0 + x
-pins_at d x b e = ap (λ t. get_or d.counted b 0 + cond t x 0) (eq-eqb d.at b e)
+pub pins_at : (d : Pool) (x b : ℕ) → d.current ≡ b → pins_of d x b ≡ get_or d.counted b 0 + x
+pins_at d x b e = ap (λ t. get_or d.counted b 0 + cond t x 0) (eq-eqb d.current b e)
 
-pub pins_else : (d : Pool) (x b : ℕ) → d.at ≢ b → pins_of d x b ≡ get_or d.counted b 0
-pins_else d x b e = ap (λ t. get_or d.counted b 0 + cond t x 0) (ne_eqb d.at b e) ∙ omega arith
+pub pins_else : (d : Pool) (x b : ℕ) → d.current ≢ b → pins_of d x b ≡ get_or d.counted b 0
+pins_else d x b e = ap (λ t. get_or d.counted b 0 + cond t x 0) (ne_eqb d.current b e) ∙ omega arith
 
 pub same_record : (p : Plan) (h h' : List Entry) (i r : ℕ) → only i h' ≡ only i h → record_words p h' i r ≡ record_words p h i r
 same_record p h h' i r e = ap (λ (l : List Entry). (get_or (entry i (start_at p i).words ∷ l) r (entry i [])).words) e
@@ -53,18 +53,18 @@ pub register_stays : (p : Plan) (h h' : List Entry) (ws ws' : List ℕ) (vs vs' 
     → Register p h ws vs i d x → Register p h' ws' vs' i d x
 register_stays p h h' ws ws' vs vs' i d x word givens cells ons beyonds lefts line r = record {
   word = word ∙ r.word;
-  at = r.at;
+  current = r.current;
   number = let c : count i h' ≡ count i h = ap length line in let n = r.number in omega arith;
   balance = λ b lb. let a = r.balance b lb in let g = givens b lb in let o = ons b in omega arith;
   wears = λ b lb. let a = r.wears b lb in omega arith;
-  spare = λ lt. let a = r.spare lt in (a.0, ons d.spare ∙ a.1);
-  tried = let a = r.tried in let e = beyonds (other d.at d.tried) d.at in omega arith;
+  free_buffer = λ lt. let a = r.free_buffer lt in (a.0, ons d.free_buffer ∙ a.1);
+  found_pinned = let a = r.found_pinned in let e = beyonds (other d.current d.found_pinned) d.current in omega arith;
   counts = r.counts;
   short = r.short;
-  draft = λ q lt lq. cells d.spare q lt (let s = r.short in omega arith) ∙ r.draft q lt lq;
+  draft = λ q lt lq. cells d.free_buffer q lt (let s = r.short in omega arith) ∙ r.draft q lt lq;
   latest = λ q lq lw.
       let same : record_words p h i (count i h) ≡ record_words p h' i (count i h') = sym (same_record p h h' i (count i h) line) ∙ ap (λ (z : ℕ). record_words p h' i z) (sym (ap length line)) in
-      cells d.at q r.at lq ∙ (r.latest q lq (subst (λ (l : List ℕ). q < length l) (sym same) lw) ∙ ap (λ (l : List ℕ). get_or l q 0) same);
+      cells d.current q r.current lq ∙ (r.latest q lq (subst (λ (l : List ℕ). q < length l) (sym same) lw) ∙ ap (λ (l : List ℕ). get_or l q 0) same);
 }
 
 pub pinned_stays : (p : Plan) (h h' : List Entry) (ws ws' : List ℕ) (i b r : ℕ) → IsPrefix h h' → ((q : ℕ) → q < width p → get_or ws' (cell p i b q) 0 ≡ get_or ws (cell p i b q) 0) → Pinned p h ws i b r → Pinned p h' ws' i b r
@@ -95,27 +95,27 @@ module _ (S : Type 0) where
   -- a step of the seat id that changes no buffer, no pool and not the history
   pin_step : (p : Plan) (s : St) (k : Kept p s) (id : ℕ) (v w : SeatView) (ws : List ℕ) (pinned : ℕ → ℕ) → get_elem? s.views id ≡ some v → length ws ≡ length s.words
       → ((i b q : ℕ) → i < segments p → b < buffers p → q < width p → get_or ws (cell p i b q) 0 ≡ get_or s.words (cell p i b q) 0)
-      → w.share ≡ v.share
+      → w.pin_quota ≡ v.pin_quota
       → ((i : ℕ) → i < segments p → Register p k.history ws (set s.views id w) i (k.pools i) (pinned i))
       → Knows p k.history ws k.writer k.pools id w
       → Kept p record { words = ws; homes = s.homes; views = set s.views id w }
-  pin_step p s k id v w ws pinned at wide cells share registers mine = record {
+  pin_step p s k id v w ws pinned at wide cells pin_quota registers mine = record {
     history = k.history;
     writer = k.writer;
     pools = k.pools;
     pinned = pinned;
     wide = wide ∙ k.wide;
-    shares = let e = total_same (λ u. u.share) s.views id v w at (sym share) in let f = k.shares in omega arith;
+    shares = let e = total_same (λ u. u.pin_quota) s.views id v w at (sym pin_quota) in let f = k.shares in omega arith;
     few = k.few;
     legal = k.legal;
     registers = registers;
     each_seat = seats_stay (Knows p k.history ws k.writer k.pools) s.views id w mine (λ j u other at_j. let t = k.each_seat j u at_j in record {
       plan = t.plan;
       seen = t.seen;
-      told = t.told;
+      received = t.received;
       role = λ i has. let r = t.role i has in record { inside = r.inside; own = r.own; all = r.all; given = r.given; pool = r.pool };
       pins = λ i b li e. let y = t.pins i b li e in pinned_stays p k.history k.history s.words ws i b (get_or u.records i 0) (prefix_self k.history) (λ q lq. cells i b q li y.inside lq) y;
-      share = t.share;
+      pin_quota = t.pin_quota;
     });
   }
 
@@ -132,10 +132,10 @@ module _ (S : Type 0) where
       refl (k.registers i li)
 
   -- a step that changes no word, no pin and no pool
-  unmoved : (p : Plan) (s : St) (k : Kept p s) (c id : ℕ) (cs : List (ℕ × S)) (v w : SeatView) → get_elem? s.views id ≡ some v → w.share ≡ v.share → w.left ≡ v.left → w.pins ≡ v.pins
+  unmoved : (p : Plan) (s : St) (k : Kept p s) (c id : ℕ) (cs : List (ℕ × S)) (v w : SeatView) → get_elem? s.views id ≡ some v → w.pin_quota ≡ v.pin_quota → w.left ≡ v.left → w.pins ≡ v.pins
       → Knows p k.history s.words k.writer k.pools id w → Kept p (stepped s c (get_or s.words c 0) id cs w keeps)
-  unmoved p s k c id cs v w at share left pins mine = subst (λ (ws : List ℕ). Kept p record { words = ws; homes = s.homes; views = set s.views id w }) (sym (set-get_or s.words c 0))
-      (pin_step p s k id v w s.words k.pinned at refl (λ i b q li lb lq. refl) share
+  unmoved p s k c id cs v w at pin_quota left pins mine = subst (λ (ws : List ℕ). Kept p record { words = ws; homes = s.homes; views = set s.views id w }) (sym (set-get_or s.words c 0))
+      (pin_step p s k id v w s.words k.pinned at refl (λ i b q li lb lq. refl) pin_quota
       (λ i li. beside p s k id v w s.words i at li refl (λ b lb. refl) (λ b q lb lq. refl) (ap (λ (l : List ℕ). get_or l i 0) (sym pins)) (omega arith)) mine)
 
   read_at : (s : St) (id : ℕ) (m : M) (k : Kept m.0.plan s) (c : ℕ) → get_elem? s.views id ≡ some m.0
@@ -165,7 +165,7 @@ module _ (S : Type 0) where
       let known = k.each_seat id v at in
       record {
         later = subst (λ (l : List Entry). IsPrefix v.seen l) (sym is) known.seen;
-        told = subst (λ (l : List Entry). IsPrefix v.told l) (sym is) known.told;
+        received = subst (λ (l : List Entry). IsPrefix v.received l) (sym is) known.received;
         own = λ i has near. ap (only i) is ∙ sym ((known.role i has).all near);
         given = λ i has far. ap (only i) is ∙ sym ((known.role i has).given far);
         legal = subst (λ (y : Plan × List Entry). IsLegal y.0 y.1) (λ t. (sym plan t, sym is t)) k.legal;
@@ -177,15 +177,15 @@ module _ (S : Type 0) where
   glance_at s id m k j at =
       let v : SeatView = m.0 in
       let known = k.each_seat id v at in
-      let w : SeatView = record v { seen = k.history; told = []; edge = v.high } in (
+      let w : SeatView = record v { seen = k.history; received = []; seen_end = v.high } in (
         w,
         unmoved v.plan s k j id m.1 v w at refl refl refl record {
           plan = λ _. refl;
           seen = prefix_self k.history;
-          told = (k.history, refl);
+          received = (k.history, refl);
           role = λ i is. let r = known.role i is in record { inside = r.inside; own = r.own; all = λ _. refl; given = λ far. let h = is.1 in absurd (omega arith); pool = r.pool };
           pins = known.pins;
-          share = known.share;
+          pin_quota = known.pin_quota;
         },
         (told_all v.plan s k id v w refl at refl, refl, refl),
       )
@@ -196,7 +196,7 @@ module _ (S : Type 0) where
       let r = glance_at s id m (subst (λ (z : Plan). Kept z s) (sym e) k) j at in
       (r.0, keeps, tt, subst (λ (z : Plan). Kept z (stepped s j (get_or s.words j 0) id m.1 r.0 keeps)) e r.1, r.2)
 
-  pin_at : (s : St) (id : ℕ) (m : M) (k : Kept m.0.plan s) (j y : ℕ) → get_elem? s.views id ≡ some m.0 → j < segments m.0.plan → get_or m.0.pins j 0 ≡ 0 → j < length m.0.pins → j < length m.0.records → 0 < m.0.left → 0 < m.0.share
+  pin_at : (s : St) (id : ℕ) (m : M) (k : Kept m.0.plan s) (j y : ℕ) → get_elem? s.views id ≡ some m.0 → j < segments m.0.plan → get_or m.0.pins j 0 ≡ 0 → j < length m.0.pins → j < length m.0.records → 0 < m.0.left → 0 < m.0.pin_quota
       → y ≡ get_or s.words j 0 + 1
       → (w : SeatView) × Kept m.0.plan (stepped s j y id m.1 w keeps) × pinning (step 0 j 1 0 maybe.none) m (get_or s.words j 0) (w, m.1)
   pin_at s id m k j y at lj bare wide_pins wide_records some_left some_share is =
@@ -210,36 +210,36 @@ module _ (S : Type 0) where
       let ws : List ℕ = set s.words j y in
       let inside : j < length s.words = subst (λ (z : ℕ). j < z) (sym k.wide) (word_inside p j lj) in
       let lefts = total_one (λ u. u.left) s.views id v at in
-      let room : x + 1 < 2 ^ 56 = let a = r.wears d.at r.at in let b = pins_at d x d.at refl in omega arith in
-      let found : get_or s.words j 0 / 2 ^ 56 ≡ d.at = ap (λ (z : ℕ). z / 2 ^ 56) r.word ∙ div-mul-add d.at (2 ^ 56) x (omega arith) in
-      let w : SeatView = record v { seen = h; told = []; edge = v.high; left = v.left - 1; pins = set v.pins j (get_or s.words j 0 / 2 ^ 56 + 1); records = set v.records j (count j h) } in
-      let pin : get_or w.pins j 0 ≡ d.at + 1 = get_or-set_same v.pins j (get_or s.words j 0 / 2 ^ 56 + 1) 0 wide_pins ∙ ap (λ (z : ℕ). z + 1) found in
+      let room : x + 1 < 2 ^ 56 = let a = r.wears d.current r.current in let b = pins_at d x d.current refl in omega arith in
+      let found : get_or s.words j 0 / 2 ^ 56 ≡ d.current = ap (λ (z : ℕ). z / 2 ^ 56) r.word ∙ div-mul-add d.current (2 ^ 56) x (omega arith) in
+      let w : SeatView = record v { seen = h; received = []; seen_end = v.high; left = v.left - 1; pins = set v.pins j (get_or s.words j 0 / 2 ^ 56 + 1); records = set v.records j (count j h) } in
+      let pin : get_or w.pins j 0 ≡ d.current + 1 = get_or-set_same v.pins j (get_or s.words j 0 / 2 ^ 56 + 1) 0 wide_pins ∙ ap (λ (z : ℕ). z + 1) found in
       let mark : get_or w.records j 0 ≡ count j h = get_or-set_same v.records j (count j h) 0 wide_records in
       let vs : List SeatView = set s.views id w in
       let cells : (i b q : ℕ) → get_or ws (cell p i b q) 0 ≡ get_or s.words (cell p i b q) 0 = λ i b q. get_or-set_other s.words j (cell p i b q) y 0 (λ e. cell_behind p i b q j lj (sym e)) in
       let givens : (i b : ℕ) → get_or ws (given p i b) 0 ≡ get_or s.words (given p i b) 0 = λ i b. get_or-set_other s.words j (given p i b) y 0 (λ e. given_behind p i b j lj (sym e)) in
       let less_left : total (λ u. u.left) vs + 1 ≡ total (λ u. u.left) s.views = let e = total_set (λ u. u.left) s.views id v w at in omega arith in
-      let beyonds : (t : ℕ) → total (beyond j t d.at) vs ≡ total (beyond j t d.at) s.views = λ t. total_same (beyond j t d.at) s.views id v w at
-      (far_none t d.at (get_or v.pins j 0) (omega arith) ∙ sym (far_here t d.at (get_or w.pins j 0) pin)) in
-      let ons_at : total (on j d.at) vs ≡ total (on j d.at) s.views + 1 =
-      let e = total_set (on j d.at) s.views id v w at in let a = on_not j d.at v (λ z. omega arith) in let b = on_here j d.at w pin in omega arith in
-      let ons_else : (b : ℕ) → d.at ≢ b → total (on j b) vs ≡ total (on j b) s.views = λ b ne. total_same (on j b) s.views id v w at (on_not j b v (λ z. omega arith) ∙ sym (on_not j b w (λ z. ne (omega arith)))) in
+      let beyonds : (t : ℕ) → total (beyond j t d.current) vs ≡ total (beyond j t d.current) s.views = λ t. total_same (beyond j t d.current) s.views id v w at
+      (far_none t d.current (get_or v.pins j 0) (omega arith) ∙ sym (far_here t d.current (get_or w.pins j 0) pin)) in
+      let ons_at : total (on j d.current) vs ≡ total (on j d.current) s.views + 1 =
+      let e = total_set (on j d.current) s.views id v w at in let a = on_not j d.current v (λ z. omega arith) in let b = on_here j d.current w pin in omega arith in
+      let ons_else : (b : ℕ) → d.current ≢ b → total (on j b) vs ≡ total (on j b) s.views = λ b ne. total_same (on j b) s.views id v w at (on_not j b v (λ z. omega arith) ∙ sym (on_not j b w (λ z. ne (omega arith)))) in
       let mine : Register p h ws vs j d (x + 1) = record {
         word = get_or-set_same s.words j y 0 inside ∙ (let a = r.word in omega arith);
-        at = r.at;
+        current = r.current;
         number = r.number;
-        balance = λ b lb. let a = r.balance b lb in let g = givens j b in dite (ℕ_discrete d.at b)
+        balance = λ b lb. let a = r.balance b lb in let g = givens j b in dite (ℕ_discrete d.current b)
             (λ e. let o : total (on j b) vs ≡ total (on j b) s.views + 1 = subst (λ (z : ℕ). total (on j z) vs ≡ total (on j z) s.views + 1) e ons_at in let c = pins_at d x b e in let f = pins_at d (x + 1) b e in omega arith)
             (λ ne. let o = ons_else b ne in let c = pins_else d x b ne in let f = pins_else d (x + 1) b ne in omega arith);
-        wears = λ b lb. let a = r.wears b lb in dite (ℕ_discrete d.at b)
+        wears = λ b lb. let a = r.wears b lb in dite (ℕ_discrete d.current b)
             (λ e. let c = pins_at d x b e in let f = pins_at d (x + 1) b e in omega arith)
             (λ ne. let c = pins_else d x b ne in let f = pins_else d (x + 1) b ne in omega arith);
-        spare = λ lt. let a = r.spare lt in (a.0, ons_else d.spare (λ e. a.0 (sym e)) ∙ a.1);
-        tried = let a = r.tried in let e = beyonds (other d.at d.tried) in omega arith;
+        free_buffer = λ lt. let a = r.free_buffer lt in (a.0, ons_else d.free_buffer (λ e. a.0 (sym e)) ∙ a.1);
+        found_pinned = let a = r.found_pinned in let e = beyonds (other d.current d.found_pinned) in omega arith;
         counts = r.counts;
         short = r.short;
-        draft = λ q lt lq. cells j d.spare q ∙ r.draft q lt lq;
-        latest = λ q lq lw. cells j d.at q ∙ r.latest q lq lw;
+        draft = λ q lt lq. cells j d.free_buffer q ∙ r.draft q lt lq;
+        latest = λ q lq lw. cells j d.current q ∙ r.latest q lq lw;
       } in
       let elsewhere : (i : ℕ) → i ≢ j → get_or v.pins i 0 ≡ get_or w.pins i 0 = λ i ne. sym (get_or-set_other v.pins j i (get_or s.words j 0 / 2 ^ 56 + 1) 0 ne) in (
         w,
@@ -251,23 +251,23 @@ module _ (S : Type 0) where
             record {
               plan = λ _. refl;
               seen = prefix_self h;
-              told = (h, refl);
+              received = (h, refl);
               role = λ i has. let t = known.role i has in record { inside = t.inside; own = t.own; all = λ _. refl; given = λ far. let z = has.1 in absurd (omega arith); pool = t.pool };
               pins = λ i b li pinned_b. dite (ℕ_discrete i j)
                   (λ e.
-                  let same : d.at ≡ b = let z : get_or w.pins i 0 ≡ d.at + 1 = subst (λ (z : ℕ). get_or w.pins z 0 ≡ d.at + 1) (sym e) pin in omega arith in
-                  let there : Pinned p h ws j d.at (get_or w.records j 0) = record {
-                    inside = r.at;
+                  let same : d.current ≡ b = let z : get_or w.pins i 0 ≡ d.current + 1 = subst (λ (z : ℕ). get_or w.pins z 0 ≡ d.current + 1) (sym e) pin in omega arith in
+                  let there : Pinned p h ws j d.current (get_or w.records j 0) = record {
+                    inside = r.current;
                     old = omega arith;
-                    holds = λ q lq lw. cells j d.at q ∙ (r.latest q lq (subst (λ (z : ℕ). q < length (record_words p h j z)) mark lw) ∙ ap (λ (z : ℕ). get_or (record_words p h j z) q 0) (sym mark));
+                    holds = λ q lq lw. cells j d.current q ∙ (r.latest q lq (subst (λ (z : ℕ). q < length (record_words p h j z)) mark lw) ∙ ap (λ (z : ℕ). get_or (record_words p h j z) q 0) (sym mark));
                   } in
                   subst (λ (z : ℕ × ℕ). Pinned p h ws z.0 z.1 (get_or w.records z.0 0)) (λ t. (sym e t, same t)) there)
                   (λ ne.
                   let old = known.pins i b li (elsewhere i ne ∙ pinned_b) in
                   subst (λ (z : ℕ). Pinned p h ws i b z) (sym (get_or-set_other v.records j i (count j h) 0 ne)) (pinned_stays p h h s.words ws i b (get_or v.records i 0) (prefix_self h) (λ q lq. cells i b q) old));
-              share = λ i some_pin. some_share;
+              pin_quota = λ i some_pin. some_share;
             },
-        (told_all p s k id v w refl at refl, refl, subst (λ (z : ℕ). z < buffers p) (sym found) r.at, refl),
+        (told_all p s k id v w refl at refl, refl, subst (λ (z : ℕ). z < buffers p) (sym found) r.current, refl),
       )
 
   -- the word can't wrap
@@ -276,14 +276,14 @@ module _ (S : Type 0) where
       let r = k.registers j lj in
       let d = k.pools j in
       let lefts = total_one (λ u. u.left) s.views id v at in
-      let a = r.wears d.at r.at in
-      let b = pins_at d (k.pinned j) d.at refl in
+      let a = r.wears d.current r.current in
+      let b = pins_at d (k.pinned j) d.current refl in
       let c = r.word in
       let few = k.few in
-      let l = r.at in
+      let l = r.current in
       omega arith
 
-  pub pins : (p : Plan) (slots id : ℕ) (m : M) (j : ℕ) → m.0.spent ≡ false → j < segments m.0.plan → get_or m.0.pins j 0 ≡ 0 → j < length m.0.pins → j < length m.0.records → 0 < m.0.left → 0 < m.0.share
+  pub pins : (p : Plan) (slots id : ℕ) (m : M) (j : ℕ) → m.0.spent ≡ false → j < segments m.0.plan → get_or m.0.pins j 0 ≡ 0 → j < length m.0.pins → j < length m.0.records → 0 < m.0.left → 0 < m.0.pin_quota
       → Allows (Kept p) slots id m j (λ n. (n + 1) % 2 ^ 64) (pinning (step slots j 1 0 maybe.none) m)
   pins p slots id m j here lj bare wide_pins wide_records some_left some_share s k _ at _ =
       let e = own_plan p s k id m.0 here at in
@@ -317,7 +317,7 @@ module _ (S : Type 0) where
       let ons : (a : ℕ) → total (on j a) vs + on j a v ≡ total (on j a) s.views = λ a. let e = total_set (on j a) s.views id v w at in let z = on_not j a w (λ f. omega arith) in omega arith in
       let mine : Register p h ws vs j d x = record {
         word = word j lj ∙ r.word;
-        at = r.at;
+        current = r.current;
         number = r.number;
         balance = λ a la. let o = r.balance a la in let t = ons a in dite (ℕ_discrete a b)
             (λ e.
@@ -327,12 +327,12 @@ module _ (S : Type 0) where
             let none : on j a v ≡ 0 = on_not j a v (λ z. ne (omega arith)) in
             let g = givens j a la (λ _ e. ne e) in omega arith);
         wears = λ a la. let o = r.wears a la in let e = total_same (λ u. u.left) s.views id v w at refl in omega arith;
-        spare = λ lt. let a = r.spare lt in let t = ons d.spare in let z = a.1 in (a.0, omega arith);
-        tried = let a = r.tried in let e = total_set (beyond j (other d.at d.tried) d.at) s.views id v w at in let z = far_none (other d.at d.tried) d.at (get_or w.pins j 0) (omega arith) in omega arith;
+        free_buffer = λ lt. let a = r.free_buffer lt in let t = ons d.free_buffer in let z = a.1 in (a.0, omega arith);
+        found_pinned = let a = r.found_pinned in let e = total_set (beyond j (other d.current d.found_pinned) d.current) s.views id v w at in let z = far_none (other d.current d.found_pinned) d.current (get_or w.pins j 0) (omega arith) in omega arith;
         counts = r.counts;
         short = r.short;
-        draft = λ q lt lq. cells j d.spare q ∙ r.draft q lt lq;
-        latest = λ q lq lw. cells j d.at q ∙ r.latest q lq lw;
+        draft = λ q lt lq. cells j d.free_buffer q ∙ r.draft q lt lq;
+        latest = λ q lq lw. cells j d.current q ∙ r.latest q lq lw;
       } in
       pin_step p s k id v w ws k.pinned at (length-set s.words c y) (λ i a q li la lq. cells i a q) refl
       (λ i li. dite (ℕ_discrete i j)
@@ -341,14 +341,14 @@ module _ (S : Type 0) where
       record {
         plan = λ _. refl;
         seen = known.seen;
-        told = known.told;
+        received = known.received;
         role = λ i has. let t = known.role i has in record { inside = t.inside; own = t.own; all = t.all; given = t.given; pool = t.pool };
         pins = λ i a li pinned_a. dite (ℕ_discrete i j)
             (λ e. let z : get_or w.pins i 0 ≡ 0 = subst (λ (z : ℕ). get_or w.pins z 0 ≡ 0) (sym e) gone in absurd (omega arith))
             (λ ne. pinned_stays p h h s.words ws i a (get_or v.records i 0) (prefix_self h) (λ q lq. cells i a q) (known.pins i a li (elsewhere i ne ∙ pinned_a)));
-        share = λ i some_pin. dite (ℕ_discrete i j)
+        pin_quota = λ i some_pin. dite (ℕ_discrete i j)
             (λ e. let z : get_or w.pins i 0 ≡ 0 = subst (λ (z : ℕ). get_or w.pins z 0 ≡ 0) (sym e) gone in absurd (omega arith))
-            (λ ne. let z = elsewhere i ne in known.share i (omega arith));
+            (λ ne. let z = elsewhere i ne in known.pin_quota i (omega arith));
       }
 
   -- a given-back count can't wrap

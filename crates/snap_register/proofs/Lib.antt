@@ -9,6 +9,7 @@ pub mod Later
 pub mod Views
 pub mod Opens
 pub mod Updates
+pub mod Looks
 pub mod Drafts
 pub mod Pushing
 pub mod Packed

@@ -14,8 +14,8 @@ use Rattle.snap_register.specs.declared.plan.Plan.{Plan}
 use Rattle.snap_register.specs.declared.plan.Start.{Start}
 use Rattle.snap_register.specs.declared.plan.SeatView.{SeatView}
 use Rattle.snap_register.specs.History.{no_start, start_at, updates}
-use Rattle.snap_register.specs.Rule.{segments, seats, buffers, width, given, cell, size, other, pins_of, Knows, Kept, first_role, other_roles, reader, less}
-use Rattle.snap_register.specs.Setup.{newcomer, first_pool, start_of, plan_with, unused, laid, IsReady, IsSized, IsFirst, IsFresh}
+use Rattle.snap_register.specs.Rule.{segments, seats, buffers, width, given, cell, size, other, pins_of, Knows, Kept}
+use Rattle.snap_register.specs.Setup.{first_view, first_pool, start_of, plan_with, unused, opening_words, IsReady, IsSized, IsFirst}
 use Rattle.snap_register.specs.Seat.{Known, known}
 use Rattle.snap_register.specs.Parts.{IsNewSeat, AreWriters, AreReaders}
 use Rattle.snap_register.specs.Held.{Readable}
@@ -35,79 +35,33 @@ fewer_looks (suc l) looks any =
     (let goal : looks ≤ y = omega arith in goal, (let goal : y - looks ≡ x = omega arith in goal) ∙ ap (λ (z : ℕ). z * looks) (sym g))
 
 module _ (S : Type 0) where
-  pub enough : (words l : ℕ) (m : Me S SeatView) → IsFirst words l m → 0 < l → (m.0.plan.looks ≤ m.0.left) × (1 ≤ m.0.share)
-  enough words l m f any = let e = (fewer_looks l m.0.plan.looks any).0 in let x : ℕ = l * m.0.plan.looks in let a : m.0.left ≡ x = f.left_is in let e' : m.0.plan.looks ≤ x = e in let s = f.share_is in (omega arith, omega arith)
+  pub enough : (words l : ℕ) (m : Me S SeatView) → IsFirst words l m → 0 < l → (m.0.plan.looks ≤ m.0.left) × (1 ≤ m.0.pin_quota)
+  enough words l m f any = let e = (fewer_looks l m.0.plan.looks any).0 in let x : ℕ = l * m.0.plan.looks in let a : m.0.left ≡ x = f.left_is in let e' : m.0.plan.looks ≤ x = e in let s = f.pin_quota_is in (omega arith, omega arith)
 
   pub bare : (words l : ℕ) (m : Me S SeatView) → IsFirst words l m → (i : ℕ) → get_or m.0.pins i 0 ≡ 0
   bare words l m f i = ap (λ (z : List ℕ). get_or z i 0) f.pins_are ∙ dite (dec_le (segments m.0.plan) i)
       (λ past. get_or_past (replicate (segments m.0.plan) 0) i 0 (let e : length (replicate {A = ℕ} (segments m.0.plan) 0) ≡ segments m.0.plan = length-replicate (segments m.0.plan) 0 in omega arith))
       (λ here. get_or-replicate (segments m.0.plan) i 0 0 (omega arith))
 
-  pub first_less : (words words' l : ℕ) (m n : Me S SeatView) → IsFirst words l m → 0 < l → words' ≡ words → n ≡ (less m.0, m.1) → IsFirst words' (l - 1) n
-  first_less words words' l m n f any same is = subst (λ (z : Me S SeatView). IsFirst words' (l - 1) z) (sym is) (record {
-    words_are = same ∙ f.words_are;
-    alone = f.alone;
-    here = f.here;
-    seen_is = f.seen_is;
-    told_of = f.told_of;
-    edge_is = f.edge_is;
-    pool_end_is = f.pool_end_is;
-    pool_is = f.pool_is;
-    share_is = let e = f.share_is in omega arith;
-    left_is = ap (λ (z : ℕ). z - m.0.plan.looks) f.left_is ∙ (fewer_looks l m.0.plan.looks any).1;
-    readable = f.readable;
-    pins_are = f.pins_are;
-    records_are = f.records_are;
-  })
-
-  pub first_other : (words words' l : ℕ) (m n : Me S SeatView) → IsFirst words l m → 0 < l → words' ≡ words → n ≡ (other_roles m.0, m.1) → IsFirst words' (l - 1) n
-  first_other words words' l m n f any same is = subst (λ (z : Me S SeatView). IsFirst words' (l - 1) z) (sym is) (record {
-    words_are = same ∙ f.words_are;
-    alone = f.alone;
-    here = f.here;
-    seen_is = f.seen_is;
-    told_of = f.told_of;
-    edge_is = f.edge_is;
-    pool_end_is = f.pool_end_is;
-    pool_is = f.pool_is;
-    share_is = let e = f.share_is in omega arith;
-    left_is = ap (λ (z : ℕ). z - m.0.plan.looks) f.left_is ∙ (fewer_looks l m.0.plan.looks any).1;
-    readable = f.readable;
-    pins_are = f.pins_are;
-    records_are = f.records_are;
-  })
-
-  pub fresh_reader : (words words' l : ℕ) (m n : Me S SeatView) → IsFirst words l m → words' ≡ words → n ≡ (reader m.0, []) → IsFresh words' n
-  fresh_reader words words' l m n f same is = subst (λ (z : Me S SeatView). IsFresh words' z) (sym is) (record {
-    words_are = same ∙ f.words_are;
-    alone = refl;
-    here = f.here;
-    seen_is = f.seen_is;
-    told_of = refl;
-    edge_is = refl;
-    pool_is = f.pool_is;
-    share_is = refl;
-    left_is = refl;
-    readable = f.readable;
-    pins_are = f.pins_are;
-    records_are = f.records_are;
-  })
-
-  pub fresh_writer : (words words' l : ℕ) (m n : Me S SeatView) → IsFirst words l m → words' ≡ words → n ≡ (first_role m.0, []) → IsFresh words' n
-  fresh_writer words words' l m n f same is = subst (λ (z : Me S SeatView). IsFresh words' z) (sym is) (record {
-    words_are = same ∙ f.words_are;
-    alone = refl;
-    here = f.here;
-    seen_is = f.seen_is;
-    told_of = f.told_of;
-    edge_is = refl;
-    pool_is = f.pool_is;
-    share_is = refl;
-    left_is = refl;
-    readable = f.readable;
-    pins_are = f.pins_are;
-    records_are = f.records_are;
-  })
+  -- once a seat was handed out, which takes the segments below `low`
+  pub first_after : (words words' l k low : ℕ) (m n : Me S SeatView) → IsFirst words l m → k + 1 ≡ l → words' ≡ words → n ≡ (record m.0 { low = low; pin_quota = m.0.pin_quota - 1; left = m.0.left - m.0.plan.looks }, m.1) → IsFirst words' k n
+  first_after words words' l k low m n f e same is =
+      let one_less : l - 1 ≡ k = omega arith in
+      subst (λ (z : Me S SeatView). IsFirst words' k z) (sym is) (record {
+        words_are = same ∙ f.words_are;
+        alone = f.alone;
+        here = f.here;
+        seen_is = f.seen_is;
+        received_none = f.received_none;
+        seen_end_is = f.seen_end_is;
+        pool_end_is = f.pool_end_is;
+        pool_is = f.pool_is;
+        pin_quota_is = let e = f.pin_quota_is in omega arith;
+        left_is = ap (λ (z : ℕ). z - m.0.plan.looks) f.left_is ∙ ((fewer_looks l m.0.plan.looks (omega arith)).1 ∙ ap (λ (z : ℕ). z * m.0.plan.looks) one_less);
+        readable = f.readable;
+        pins_are = f.pins_are;
+        records_are = f.records_are;
+      })
 
 get_at_end : {A : Type 0} (l : List A) (a b : A) (j : ℕ) → slice_get (l ++ a ∷ []) j ≡ Some b → (slice_get l j ≡ Some b) ⊎ ((j ≡ length l) × (a ≡ b))
 get_at_end [] a b zero e = inr (refl, cc)
@@ -132,13 +86,6 @@ new_seat S z p low high a t m n me is te pe se le he fe =
       high_is = ap (λ (x : Known). x.high) is' ∙ he;
       left_is = ap (λ (x : Known). x.left) is' ∙ (fe ∙ ap (λ (x : Plan). x.looks) pe);
     }
-
--- the same with the count that is left
-pub first_reader : (S : Type 0) (words words' l k : ℕ) (m n : Me S SeatView) → IsFirst words l m → k + 1 ≡ l → words' ≡ words → n ≡ (less m.0, m.1) → IsFirst words' k n
-first_reader S words words' l k m n f e same is = let g = first_less S words words' l m n f (omega arith) same is in subst (λ (x : ℕ). IsFirst words' x n) (omega arith) g
-
-pub first_writer : (S : Type 0) (words words' l k : ℕ) (m n : Me S SeatView) → IsFirst words l m → k + 1 ≡ l → words' ≡ words → n ≡ (other_roles m.0, m.1) → IsFirst words' k n
-first_writer S words words' l k m n f e same is = let g = first_other S words words' l m n f (omega arith) same is in subst (λ (x : ℕ). IsFirst words' x n) (omega arith) g
 
 module _ {X : Type 0} (f : X → List ℕ) (d : X) (b : ℕ) where
   even_length : (xs : List X) → ((i : ℕ) → i < length xs → length (f (get_or xs i d)) ≡ b) → length (flat_map f xs) ≡ length xs * b
@@ -177,20 +124,20 @@ module _ (p : Plan) (ready : IsReady p) where
   abbrev block : ℕ
   block = buffers p * width p
 
-  block_is : p.head + unused p ≡ block
+  block_is : p.block_words + unused p ≡ block
   block_is =
       let n : ℕ = segments p in
       let w : ℕ = width p in
-      let x : ℕ = n * p.head in
+      let x : ℕ = n * p.block_words in
       let z : ℕ = n + p.scanners + 1 in
       let y : ℕ = z * w in
-      let a : suc n * p.head ≡ x + p.head = suc-mul n p.head in
+      let a : suc n * p.block_words ≡ x + p.block_words = suc-mul n p.block_words in
       let e : n + 1 ≡ suc n = omega arith in
-      let w_is : w ≡ x + p.head = ap (λ (t : ℕ). t * p.head) e ∙ a in
+      let w_is : w ≡ x + p.block_words = ap (λ (t : ℕ). t * p.block_words) e ∙ a in
       let c : suc z * w ≡ y + w = suc-mul z w in
       let g : buffers p ≡ suc z = omega arith in
       let d : block ≡ y + w = ap (λ (t : ℕ). t * w) g ∙ c in
-      let goal : p.head + (x + y) ≡ y + w = omega arith in goal ∙ sym d
+      let goal : p.block_words + (x + y) ≡ y + w = omega arith in goal ∙ sym d
 
   even : (i : ℕ) → i < length p.start → length (piece (get_or p.start i no_start)) ≡ block
   even i li =
@@ -200,16 +147,16 @@ module _ (p : Plan) (ready : IsReady p) where
       let e : length (words ++ rest) ≡ length words + length rest = length-append words rest in
       let u : ℕ = unused p in
       let l : length rest ≡ u = length-replicate (unused p) 0 in
-      let w : length words ≡ p.head = r in
+      let w : length words ≡ p.block_words = r in
       let t : ℕ = block in
-      let k : p.head + u ≡ t = block_is in
+      let k : p.block_words + u ≡ t = block_is in
       let goal : length (words ++ rest) ≡ t = omega arith in
       goal
 
   count_zeros : length zeros ≡ front
   count_zeros = length-replicate front 0
 
-  pub wide : length (laid p) ≡ size p
+  pub wide : length (opening_words p) ≡ size p
   wide =
       let e = even_length piece no_start block p.start even in
       let x : ℕ = segments p * block in
@@ -218,10 +165,10 @@ module _ (p : Plan) (ready : IsReady p) where
       let c = count_zeros in
       length-append zeros (flat_map piece p.start) ∙ omega arith
 
-  zero_at : (i : ℕ) → i < front → get_or (laid p) i 0 ≡ 0
+  zero_at : (i : ℕ) → i < front → get_or (opening_words p) i 0 ≡ 0
   zero_at i li = let c = count_zeros in get_or_append_left zeros (flat_map piece p.start) 0 i (omega arith) ∙ get_or-replicate front i 0 0 li
 
-  zero_given : (i b : ℕ) → i < segments p → b < buffers p → get_or (laid p) (given p i b) 0 ≡ 0
+  zero_given : (i b : ℕ) → i < segments p → b < buffers p → get_or (opening_words p) (given p i b) 0 ≡ 0
   zero_given i b li lb =
       let l = below_product i (segments p) (buffers p) b li lb in
       let x : ℕ = i * buffers p in
@@ -229,7 +176,7 @@ module _ (p : Plan) (ready : IsReady p) where
       let l' : x + b < g = l in
       zero_at (given p i b) (let goal : segments p + (x + b) < segments p + g = omega arith in goal)
 
-  record_at : (i q : ℕ) → i < segments p → q < width p → get_or (laid p) (cell p i 0 q) 0 ≡ get_or (start_at p i).words q 0
+  record_at : (i q : ℕ) → i < segments p → q < width p → get_or (opening_words p) (cell p i 0 q) 0 ≡ get_or (start_at p i).words q 0
   record_at i q li lq =
       let c = count_zeros in
       let x : ℕ = i * block in
@@ -248,34 +195,34 @@ module _ (p : Plan) (ready : IsReady p) where
       let o' : v ≤ t = subst (λ (z : ℕ). z ≤ block) o w in
       let short : q < v = lq in
       let u : ℕ = unused p in
-      let k : p.head + u ≡ t = block_is in
-      let lw : length words ≡ p.head = r in
-      ap (λ (z : ℕ). get_or (laid p) z 0) at ∙ (get_or-append-add zeros (flat_map piece p.start) (x + q) 0 ∙ (even_get piece no_start block p.start i q even li (omega arith)
+      let k : p.block_words + u ≡ t = block_is in
+      let lw : length words ≡ p.block_words = r in
+      ap (λ (z : ℕ). get_or (opening_words p) z 0) at ∙ (get_or-append-add zeros (flat_map piece p.start) (x + q) 0 ∙ (even_get piece no_start block p.start i q even li (omega arith)
       ∙ dite (dec_le (length words) q)
       (λ past. get_or-append_right words (replicate (unused p) 0) (length words) q 0 refl past ∙ (get_or-replicate (unused p) (q - length words) 0 0 (omega arith) ∙ sym (get_or_past words q 0 past)))
       (λ here. get_or_append_left words (replicate (unused p) 0) 0 q (omega arith))))
 
-  no_pin : (i : ℕ) → i < segments p → get_or (newcomer p).pins i 0 ≡ 0
+  no_pin : (i : ℕ) → i < segments p → get_or (first_view p).pins i 0 ≡ 0
   no_pin i li = get_or-replicate (segments p) i 0 0 li
 
   none_counted : (b : ℕ) → b < buffers p → pins_of (first_pool p) 0 b ≡ 0
   none_counted b lb = let z : get_or (first_pool p).counted b 0 ≡ 0 = get_or-replicate (buffers p) b 0 0 lb in
-      dite (ℕ_discrete (first_pool p).at b) (λ e. let a = pins_at (first_pool p) 0 b e in omega arith) (λ ne. let a = pins_else (first_pool p) 0 b ne in omega arith)
+      dite (ℕ_discrete (first_pool p).current b) (λ e. let a = pins_at (first_pool p) 0 b e in omega arith) (λ ne. let a = pins_else (first_pool p) 0 b ne in omega arith)
 
-  seated : (j : ℕ) (v : SeatView) → get_elem? (newcomer p ∷ []) j ≡ some v → Knows p [] (laid p) (λ _. 0) (λ _. first_pool p) j v
-  seated zero v e = subst (λ (u : SeatView). Knows p [] (laid p) (λ _. 0) (λ _. first_pool p) 0 u) (some-injective (newcomer p) v e) record {
+  seated : (j : ℕ) (v : SeatView) → get_elem? (first_view p ∷ []) j ≡ some v → Knows p [] (opening_words p) (λ _. 0) (λ _. first_pool p) j v
+  seated zero v e = subst (λ (u : SeatView). Knows p [] (opening_words p) (λ _. 0) (λ _. first_pool p) 0 u) (some-injective (first_view p) v e) record {
     plan = λ _. refl;
     seen = ([], refl);
-    told = ([], refl);
+    received = ([], refl);
     role = λ i has. record { inside = has.1; own = refl; all = λ _. refl; given = λ _. refl; pool = λ _. refl };
     pins = λ i b li pin. let n = no_pin i li in absurd (omega arith);
-    share = λ i pin. dite (dec_le (segments p) i)
-        (λ past. let n : get_or (newcomer p).pins i 0 ≡ 0 = get_or_past (newcomer p).pins i 0 (let e : length (newcomer p).pins ≡ segments p = length-replicate (segments p) 0 in omega arith) in absurd (omega arith))
+    pin_quota = λ i pin. dite (dec_le (segments p) i)
+        (λ past. let n : get_or (first_view p).pins i 0 ≡ 0 = get_or_past (first_view p).pins i 0 (let e : length (first_view p).pins ≡ segments p = length-replicate (segments p) 0 in omega arith) in absurd (omega arith))
         (λ here. let n = no_pin i (omega arith) in absurd (omega arith));
   }
   seated (suc j) v e = absurd (some-ne-none v (sym e))
 
-  pub opens : (S : Type 0) → Kept {S = S} p (opening (laid p) [] (newcomer p))
+  pub opens : (S : Type 0) → Kept {S = S} p (opening (opening_words p) [] (first_view p))
   opens S = record {
     history = [];
     writer = λ _. 0;
@@ -287,12 +234,12 @@ module _ (p : Plan) (ready : IsReady p) where
     legal = λ a b e is. let l : length (a ++ e ∷ b) ≡ 0 = ap length is in let m = length-append a (e ∷ b) in absurd (omega arith);
     registers = λ i li. record {
       word = zero_at i (let g : ℕ = segments p * buffers p in let goal : i < segments p + g = omega arith in goal);
-      at = omega arith;
+      current = omega arith;
       number = let r = (ready.each i li).2 in omega arith;
-      balance = λ b lb. let a = none_counted b lb in let g = zero_given i b li lb in let o = on_not i b (newcomer p) (λ z. let n = no_pin i li in absurd (omega arith)) in omega arith;
+      balance = λ b lb. let a = none_counted b lb in let g = zero_given i b li lb in let o = on_not i b (first_view p) (λ z. let n = no_pin i li in absurd (omega arith)) in omega arith;
       wears = λ b lb. let a = none_counted b lb in let y : ℕ = seats p * p.looks in let l : y < 2 ^ 56 = ready.looks in let goal : pins_of (first_pool p) 0 b + (y + 0) < 2 ^ 56 = omega arith in goal;
-      spare = λ lt. absurd (omega arith);
-      tried = let n = no_pin i li in let f = far_none (other 0 0) 0 (get_or (newcomer p).pins i 0) (omega arith) in omega arith;
+      free_buffer = λ lt. absurd (omega arith);
+      found_pinned = let n = no_pin i li in let f = far_none (other 0 0) 0 (get_or (first_view p).pins i 0) (omega arith) in omega arith;
       counts = length-replicate (buffers p) 0;
       short = omega arith;
       draft = λ q lt lq. absurd (omega arith);
@@ -308,31 +255,31 @@ pieces_of k (x ∷ xs) = λ i. (x.words.items ++ replicate k 0) ++ pieces_of k x
 pub count_of : (xs : List Opening) → length xs ≡ length (map start_of xs)
 count_of xs = sym (length-map xs start_of)
 
-pub laid_is : (n scanners looks head : ℕ) (xs : List Opening) → n ≡ length xs
-    → replicate (n + n * (n + scanners + 2)) 0 ++ flat_map (λ (x : Opening). x.words.items ++ replicate (n * head + (n + scanners + 1) * ((n + 1) * head)) 0) xs ≡ laid (plan_with scanners looks head xs)
-laid_is n scanners looks head xs e =
-    let c : n ≡ segments (plan_with scanners looks head xs) = e ∙ count_of xs in
-    (λ i. replicate (c i + c i * (c i + scanners + 2)) 0 ++ flat_map (λ (x : Opening). x.words.items ++ replicate (c i * head + (c i + scanners + 1) * ((c i + 1) * head)) 0) xs)
-    ∙ (λ i. replicate (segments (plan_with scanners looks head xs) + segments (plan_with scanners looks head xs) * buffers (plan_with scanners looks head xs)) 0 ++ pieces_of (unused (plan_with scanners looks head xs)) xs i)
+pub opening_words_are : (n scanners looks block_words : ℕ) (xs : List Opening) → n ≡ length xs
+    → replicate (n + n * (n + scanners + 2)) 0 ++ flat_map (λ (x : Opening). x.words.items ++ replicate (n * block_words + (n + scanners + 1) * ((n + 1) * block_words)) 0) xs ≡ opening_words (plan_with scanners looks block_words xs)
+opening_words_are n scanners looks block_words xs e =
+    let c : n ≡ segments (plan_with scanners looks block_words xs) = e ∙ count_of xs in
+    (λ i. replicate (c i + c i * (c i + scanners + 2)) 0 ++ flat_map (λ (x : Opening). x.words.items ++ replicate (c i * block_words + (c i + scanners + 1) * ((c i + 1) * block_words)) 0) xs)
+    ∙ (λ i. replicate (segments (plan_with scanners looks block_words xs) + segments (plan_with scanners looks block_words xs) * buffers (plan_with scanners looks block_words xs)) 0 ++ pieces_of (unused (plan_with scanners looks block_words xs)) xs i)
 
 pub base_of : (xs : List Opening) (i : ℕ) → i < length xs → get_or (map (λ (x : Opening). x.number) xs) i 0 ≡ (get_or (map start_of xs) i no_start).number
 base_of [] i li = absurd (omega arith)
 base_of (x ∷ xs) zero li = refl
 base_of (x ∷ xs) (suc i) li = base_of xs i (omega arith)
 
-pub sized_is : (n scanners looks head : ℕ) (xs : List Opening) → n ≡ length xs → 0 < length xs → length xs ≤ 16 → scanners ≤ 16 → IsReady (plan_with scanners looks head xs)
-    → IsSized n scanners head (n + (n * (n + scanners + 2) + n * (n + scanners + 2) * ((n + 1) * head))) (plan_with scanners looks head xs)
-sized_is n scanners looks head xs e any few few_scanners ready =
-    let c : n ≡ segments (plan_with scanners looks head xs) = e ∙ count_of xs in
+pub sized_is : (n scanners looks block_words : ℕ) (xs : List Opening) → n ≡ length xs → 0 < length xs → length xs ≤ 16 → scanners ≤ 16 → IsReady (plan_with scanners looks block_words xs)
+    → IsSized n scanners block_words (n + (n * (n + scanners + 2) + n * (n + scanners + 2) * ((n + 1) * block_words))) (plan_with scanners looks block_words xs)
+sized_is n scanners looks block_words xs e any few few_scanners ready =
+    let c : n ≡ segments (plan_with scanners looks block_words xs) = e ∙ count_of xs in
     record {
       segments_are = c;
       scanners_are = refl;
-      head_is = refl;
-      words_are = λ i. c i + (c i * (c i + scanners + 2) + c i * (c i + scanners + 2) * ((c i + 1) * head));
+      block_words_are = refl;
+      words_are = λ i. c i + (c i * (c i + scanners + 2) + c i * (c i + scanners + 2) * ((c i + 1) * block_words));
       some = omega arith;
       few = omega arith;
       few_scanners = few_scanners;
-      whole_head = ready.whole_head;
+      block_words_is = ready.block_words_is;
       starts = λ i li. ((ready.each i li).0, (ready.each i li).1);
     }
 
@@ -342,19 +289,19 @@ start_readable p ready i li =
     let r = ready.each i li in
     let none : get_or (replicate (segments p) 0) i 0 ≡ 0 = get_or-replicate (segments p) i 0 0 li in
     subst (λ (z : ℕ). Readable p [] i z) (sym none)
-    (readable p [] i 0 (λ a b e is. let l : length (a ++ e ∷ b) ≡ 0 = ap length is in let m = length-append a (e ∷ b) in absurd (omega arith)) ready.whole_head r.0 r.1 (omega arith))
+    (readable p [] i 0 (λ a b e is. let l : length (a ++ e ∷ b) ≡ 0 = ap length is in let m = length-append a (e ∷ b) in absurd (omega arith)) ready.block_words_is r.0 r.1 (omega arith))
 
-pub first_is : (S : Type 0) (p : Plan) (words : ℕ) (m : Me S SeatView) → IsReady p → words ≡ size p → m ≡ (newcomer p, []) → IsFirst words (seats m.0.plan) m
+pub first_is : (S : Type 0) (p : Plan) (words : ℕ) (m : Me S SeatView) → IsReady p → words ≡ size p → m ≡ (first_view p, []) → IsFirst words (seats m.0.plan) m
 first_is S p words m ready e is = subst (λ (x : Me S SeatView). IsFirst words (seats x.0.plan) x) (sym is) (record {
   words_are = e;
   alone = refl;
   here = refl;
   seen_is = refl;
-  told_of = refl;
-  edge_is = refl;
+  received_none = refl;
+  seen_end_is = refl;
   pool_end_is = refl;
   pool_is = refl;
-  share_is = refl;
+  pin_quota_is = refl;
   left_is = refl;
   readable = start_readable p ready;
   pins_are = refl;

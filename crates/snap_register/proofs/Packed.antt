@@ -1,7 +1,7 @@
 -- Registers that open with packed values.
-use Rattle.std.proofs.Common.{◌≡◌, ℕ, ◌+◌, ◌*◌, ◌^◌, ◌<◌, ◌≤◌, List, [], ◌∷◌, length, map, take, slice_get, get_or, Some, refl, ap, sym, subst, ◌∙◌, arith, mul-le-mul_right}
+use Rattle.std.proofs.Common.{◌≡◌, ℕ, ◌*◌, ◌^◌, ◌<◌, ◌≤◌, List, length, map, take, slice_get, Some, refl, ap, sym, subst, ◌∙◌, arith, mul-le-mul_right}
 use Rattle.std.proofs.lemmas.List.{length-map, take_all}
-use Rattle.std.proofs.lemmas.Option.{slice_get_within, get_or_from_slice_get, slice_get-map}
+use Rattle.std.proofs.lemmas.Option.{get_or_from_slice_get, slice_get-map}
 use Rattle.std.specs.Prelude.{option_map}
 use Rattle.snap_history.specs.Pairs.{Pairs}
 use Rattle.snap_history.proofs.Pairing.{element, partner}
@@ -38,7 +38,7 @@ ready_is scanners looks vs os few_scanners few some p =
           let block : IsBlock o.0.words.items 0 x.0.0 x.0.1 = o.2.block in
           let own : IsBlock o.0.words.items 0 o.0.number (value_at o.0.words.items 0) = record { whole = block.whole; is = let first = ap (λ (z : ℕ × List ℕ). z.0) block.is in λ t. ((first ∙ sym is) t, value_at o.0.words.items 0) } in
           (ap (λ (z : Start). length z.words) s ∙ o.2.wide, subst (λ (z : Start). IsBlock z.words 0 z.number (value_at z.words 0)) (sym s) own, omega arith);
-      whole_head = refl;
+      block_words_is = refl;
       few = omega arith;
       looks = let goal : all < 2 ^ 56 = omega arith in goal;
     }

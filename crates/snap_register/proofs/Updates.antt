@@ -1,5 +1,5 @@
 -- The registers' history as updates of a memory: what a seat knows, in a caller's words.
-use Rattle.std.proofs.Common.{◌≡◌, ◌≢◌, ℕ, zero, suc, ◌+◌, ◌<◌, ◌≤◌, ◌==◌, Bool, true, false, cond, List, [], ◌∷◌, ◌++◌, length, map, get_or, Some, None, Option, slice_get, refl, ap, sym, subst, ◌∙◌, arith, append_assoc, eq-eqb, ne_eqb}
+use Rattle.std.proofs.Common.{◌≡◌, ◌≢◌, ℕ, zero, suc, ◌+◌, ◌<◌, ◌≤◌, ◌==◌, Bool, true, false, cond, List, [], ◌∷◌, ◌++◌, length, get_or, Some, None, slice_get, refl, ap, sym, subst, ◌∙◌, arith, append_assoc, eq-eqb, ne_eqb}
 use Rattle.std.specs.Prelude.{if◌then◌else◌}
 use Rattle.std.proofs.lemmas.List.{map-append, append-nil}
 use Rattle.std.proofs.lemmas.Option.{same_Some}
@@ -16,12 +16,12 @@ use Rattle.snap_register.specs.declared.view.View.TheVariants.{Collected, Borrow
 use Rattle.snap_register.specs.History.{entry, only, count, number, start_at, memory, record_words, update_of, updates, starts}
 use Rattle.snap_register.specs.Rule.{segments, Has, IsLegal, Follows}
 use Rattle.snap_register.specs.Rule as rule
-use Rattle.snap_register.specs.Packing.{value_at, block_at, size_at, behind, IsBlock, AreBlocks, IsRecord}
+use Rattle.snap_register.specs.Packing.{value_at, size_at, IsBlock, AreBlocks, IsRecord}
 use Rattle.snap_register.specs.Held.{held, view_in, taken, Readable, CanTake, MayTake, IsPinned, IsShown}
-use Rattle.snap_register.specs.Seat.{Known, known, looked, number_in, value_in, own_of, IsBelow, Grows, Meets, Looks, HasLooked, HasFoundUpdate, IsValue, IsMemory, IsView, MayPublish, Shows}
-use Rattle.snap_register.proofs.Lines.{find, prefix_trans, only-append, only_same, count_prefix, count_push_same, record_prefix}
+use Rattle.snap_register.specs.Seat.{known, looked, IsBelow, Grows, Looks, HasLooked, HasFoundUpdate, IsValue, IsView, MayPublish, Shows}
+use Rattle.snap_register.proofs.Lines.{find, prefix_trans, count_push_same, record_prefix}
 use Rattle.snap_register.proofs.Blocks.{record_of}
-use Rattle.snap_register.proofs.Views.{Viewed, viewed}
+use Rattle.snap_register.proofs.Views.{viewed}
 
 counted : (b : Bool) (x : Entry) (l : List Entry) (n : ℕ) → n ≡ length l → (if b then 1 else 0) + n ≡ length (cond b (x ∷ l) l)
 counted true x l n e = omega arith
@@ -66,9 +66,9 @@ pub back : (part : List Update) (h : List Entry) → IsBeginning part (updates h
 back [] h b = record { entries = []; prefix = (h, refl); is = refl }
 back (u ∷ part) [] b = absurd (cc (b.1))
 back (u ∷ part) (x ∷ h) b =
-    let head : update_of x ≡ u = cc (b.1) in
+    let first : update_of x ≡ u = cc (b.1) in
     let rest = back part h (b.0, cc (b.1)) in
-    record { entries = x ∷ rest.entries; prefix = (rest.prefix.0, ap (λ l. x ∷ l) rest.prefix.1); is = cc (head, rest.is) }
+    record { entries = x ∷ rest.entries; prefix = (rest.prefix.0, ap (λ l. x ∷ l) rest.prefix.1); is = cc (first, rest.is) }
 
 -- a beginning with this many updates of j
 pub record Moment (h : List Entry) (j r : ℕ) : Type 0 where
@@ -97,8 +97,8 @@ pinned_looked z v j some = dite (ℕ_discrete (get_or v.pins j 0) 0)
     (λ e. absurd (some (ap (λ (b : Bool). cond b None (Some ((start_at v.plan j).number + get_or v.records j 0))) (eq-eqb (get_or v.pins j 0) 0 e))))
     (λ ne. omega arith)
 
-pub told_is : (z : TableId) (v : SeatView) (j k : ℕ) → looked (known z v) j ≡ Some k → (0 < get_or v.pins j 0) × ((start_at v.plan j).number + get_or v.records j 0 ≡ k)
-told_is z v j k is =
+pub last_look_is : (z : TableId) (v : SeatView) (j k : ℕ) → looked (known z v) j ≡ Some k → (0 < get_or v.pins j 0) × ((start_at v.plan j).number + get_or v.records j 0 ≡ k)
+last_look_is z v j k is =
     let some : 0 < get_or v.pins j 0 = pinned_looked z v j (λ none. absurd (cc (none, is))) in
     let e : number v.plan [] j + get_or v.records j 0 ≡ k = same_Some _ _ (sym (looked_some z v j some) ∙ is) in
     (some, omega arith)
@@ -144,7 +144,7 @@ memory_is p h i = let n = sym (number_is p h i) in let v = sym (value_is p h i) 
 pub view_shown : (z : TableId) (v : SeatView) (j : ℕ) (xs : List (ℕ × List ℕ)) → IsLegal v.plan v.seen → HasFoundUpdate (known z v) j → get_or v.records j 0 ≤ count j v.seen → length xs ≡ segments v.plan
     → ((k : ℕ) → k < segments v.plan → slice_get xs k ≡ Some (view_in (held v j) k)) → IsView (known z v) j xs
 view_shown z v j xs legal found le size each =
-    let t = told_is z v j found.told found.is in
+    let t = last_look_is z v j found.told found.is in
     let above = found.above in
     let u = viewed v.plan v.seen j (get_or v.records j 0) legal (let e = t.1 in omega arith) le in
     let n = number_is v.plan u.part j in
@@ -160,8 +160,8 @@ view_shown z v j xs legal found le size each =
 -- a caller's view is one that the seat can take along
 
 pub can_take : (z : TableId) (v : SeatView) (view : View) → MayPublish (known z v) view → CanTake v view
-can_take z v Collected m = λ i li. (told_is z v i _ (m.each i li)).0
-can_take z v (Borrowed j) m = let t = told_is z v j m.found.told m.found.is in let a = m.found.above in let e = t.1 in (m.inside, t.0, omega arith)
+can_take z v Collected m = λ i li. (last_look_is z v i _ (m.each i li)).0
+can_take z v (Borrowed j) m = let t = last_look_is z v j m.found.told m.found.is in let a = m.found.above in let e = t.1 in (m.inside, t.0, omega arith)
 
 pub may_take : (z : TableId) (v : SeatView) (view : View) → ((i : ℕ) → i < segments v.plan → Readable v.plan v.seen i (get_or v.records i 0)) → MayPublish (known z v) view → MayTake v v.low view
 may_take z v Collected read m =
@@ -173,7 +173,7 @@ may_take z v Collected read m =
       b.prefix,
       omega arith,
       λ k lk.
-          let t = (told_is z v k _ (m.each k lk)).1 in
+          let t = (last_look_is z v k _ (m.each k lk)).1 in
           let x : number_after (starts v.plan) m.part k ≡ number v.plan b.entries k = ap (λ h. number_after (starts v.plan) h k) (sym b.is) ∙ number_is v.plan b.entries k in
           let c : get_or v.records k 0 ≡ count k b.entries = omega arith in
           let words : held v k ≡ record_words v.plan b.entries k (count k b.entries) = ap (record_words v.plan v.seen k) c ∙ record_prefix v.plan b.entries v.seen k (count k b.entries) b.prefix (omega arith) in
@@ -181,7 +181,7 @@ may_take z v Collected read m =
           (read k lk).own.is ∙ (λ s. (number_k s, value_at (words s) 0)),
     )
 may_take z v (Borrowed j) read m = λ part pre before.
-    let t = told_is z v j m.found.told m.found.is in
+    let t = last_look_is z v j m.found.told m.found.is in
     let n = number_is v.plan part j in
     let e : m.found.told ≡ number_after (starts v.plan) (updates part) j + 1 = let x = t.1 in omega arith in
     let w = m.whole (updates part) (beginning_is part v.seen pre) (m.found.is ∙ ap (λ (x : ℕ). Some x) e) in

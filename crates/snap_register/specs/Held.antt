@@ -58,14 +58,14 @@ pub record IsShown (v w : SeatView) (i k : ℕ) (value : List ℕ) : Type 0 wher
 
 -- a look changes what was seen, the pins, and the looks left
 abbrev pub HasLookedFrom : SeatView → SeatView → Type 0
-HasLookedFrom v w = w ≡ record v { seen = w.seen; told = []; edge = v.high; left = w.left; pins = w.pins; records = w.records }
+HasLookedFrom v w = w ≡ record v { seen = w.seen; received = []; seen_end = v.high; left = w.left; pins = w.pins; records = w.records }
 
 -- the pool once the buffer b is current, where the word before counted x pins
 abbrev pub moved_pool : SeatView → ℕ → ℕ → Pool
 moved_pool v b x = record {
-  at = b;
-  tried = 0;
-  spare = buffers v.plan;
-  counted = slice_set v.pool.counted v.pool.at (slice_index v.pool.counted v.pool.at + x);
+  current = b;
+  found_pinned = 0;
+  free_buffer = buffers v.plan;
+  counted = slice_set v.pool.counted v.pool.current (slice_index v.pool.counted v.pool.current + x);
   draft = [];
 }

@@ -5,3 +5,4 @@ pub mod Seat
 pub mod Parts
 pub mod Packing
 pub mod Held
+pub mod Steps

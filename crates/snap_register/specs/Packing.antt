@@ -1,6 +1,7 @@
 -- Numbers and values as words. A block is a number, a length, and the value's bytes, eight in a word with the lowest first.
 use Rattle.std.specs.Prelude.{◌≡◌, ℕ, zero, suc, ◌+◌, ◌/◌, ◌<◌, ◌≤◌, ◌++◌, List, [], ◌∷◌, length, slice_index, take}
 use Rattle.std.specs.Int.{w64, to_le_bytes}
+use Rattle.snap_slot.specs.declared.layout.TheConstants.{MAX_VALUE_LEN}
 use Rattle.snap_history.specs.History.{Start}
 
 -- how many words hold this many bytes
@@ -36,7 +37,7 @@ behind ws at (suc k) = behind ws at k + size_at ws (behind ws at k)
 
 -- the block at this place lies within the words
 pub record IsWhole (ws : List ℕ) (at : ℕ) : Type 0 where
-  pub short : length_at ws at ≤ 4080
+  pub short : length_at ws at ≤ MAX_VALUE_LEN
   pub inside : at + size_at ws at ≤ length ws
 
 -- the number and the value that the block at this place holds

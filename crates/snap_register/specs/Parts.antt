@@ -1,5 +1,7 @@
 -- The seats of one opening.
-use Rattle.std.specs.Prelude.{◌≡◌, ℕ, ◌+◌, ◌^◌, ◌<◌, List, [], length, slice_get, Some, None}
+use Rattle.std.specs.Prelude.{◌≡◌, ℕ, ◌+◌, List, [], length, slice_get, Some}
+use Rattle.snap_slot.specs.Layout.{IsNumber}
+use Rattle.snap_register.specs.declared.packing.TheConstants.{BLOCK_WORDS}
 use Rattle.snap_register.specs.declared.plan.Opening.{Opening}
 use Rattle.snap_register.specs.declared.plan.Plan.{Plan}
 use Rattle.snap_register.specs.History.{starts}
@@ -34,6 +36,6 @@ pub record IsOpening (p : Plan) (looks : ℕ) (values : List (ℕ × List ℕ)) 
 -- the words hold the number and the value
 pub record IsPacked (x : ℕ × List ℕ) (o : Opening) : Type 0 where
   pub number_is : o.number ≡ x.0
-  pub low : x.0 < 2 ^ 63
-  pub wide : length o.words.items ≡ 512
+  pub low : IsNumber x.0
+  pub wide : length o.words.items ≡ BLOCK_WORDS
   pub block : IsBlock o.words.items 0 x.0 x.1

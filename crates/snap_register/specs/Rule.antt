@@ -5,6 +5,7 @@ use mathlib.Core.Option.{some}
 use mathlib.Core.List.{IsPrefix}
 use lib.ListN.{get_elem?}
 use Rattle.atomic_table.specs.Table.{State, Me, Step}
+use Rattle.snap_slot.specs.Layout.{IsNumber}
 use Rattle.snap_register.specs.declared.plan.Entry.{Entry}
 use Rattle.snap_register.specs.declared.plan.Plan.{Plan}
 use Rattle.snap_register.specs.declared.plan.Pool.{Pool}
@@ -22,7 +23,7 @@ abbrev pub buffers : Plan → ℕ
 buffers p = segments p + p.scanners + 2
 
 abbrev pub width : Plan → ℕ
-width p = (segments p + 1) * p.head
+width p = (segments p + 1) * p.block_words
 
 -- where the given-back count of the buffer b of the register i lies
 abbrev pub given : Plan → ℕ → ℕ → ℕ
@@ -44,9 +45,9 @@ Follows p a e = (b : List Entry) × IsPrefix b a × (count e.segment b ≡ count
 abbrev pub IsLegal : Plan → List Entry → Type 0
 IsLegal p h = (a b : List Entry) (e : Entry) → a ++ e ∷ b ≡ h → Follows p a e
 
--- the numbers are below 2^63
+-- the numbers are within the limit
 abbrev pub IsBelow : Plan → List Entry → Type 0
-IsBelow p h = (i : ℕ) → i < segments p → number p h i < 2 ^ 63
+IsBelow p h = (i : ℕ) → i < segments p → IsNumber (number p h i)
 
 -- the view writes the segment i
 abbrev pub Has : SeatView → ℕ → Type 0
@@ -54,7 +55,7 @@ Has v i = (v.low ≤ i) × (i < v.high)
 
 -- the segment i is the one that the view writes
 abbrev pub IsWriter : SeatView → ℕ → Type 0
-IsWriter v i = (v.low ≡ i) × (v.high ≡ i + 1) × (v.edge ≡ i + 1) × (v.pool_end ≡ i + 1)
+IsWriter v i = (v.low ≡ i) × (v.high ≡ i + 1) × (v.seen_end ≡ i + 1) × (v.pool_end ≡ i + 1)
 
 -- the sum of f over the views
 abbrev pub total : (SeatView → ℕ) → List SeatView → ℕ
@@ -78,23 +79,23 @@ other c k = cond (ltb k c) k (k + 1)
 
 -- all pins on the buffer b that the writer counted, with the x that the current word counts
 abbrev pub pins_of : Pool → ℕ → ℕ → ℕ
-pins_of d x b = slice_index d.counted b + cond (d.at == b) x 0
+pins_of d x b = slice_index d.counted b + cond (d.current == b) x 0
 
 -- The register i, whose current word counts x pins. Its pins are those given back and those held; the buffer noted as free has none; the buffers noted as held, with
 -- the pins elsewhere than on these and on the current one, are no more than the seats; and no count comes near 2^56.
 module _ (p : Plan) (h : List Entry) (words : List ℕ) (views : List SeatView) (i : ℕ) where
   pub record Register (d : Pool) (x : ℕ) : Type 0 where
-    pub word : slice_index words i ≡ d.at * 2 ^ 56 + x
-    pub at : d.at < buffers p
-    pub number : number p h i < 2 ^ 63
+    pub word : slice_index words i ≡ d.current * 2 ^ 56 + x
+    pub current : d.current < buffers p
+    pub number : IsNumber (number p h i)
     pub balance : (b : ℕ) → b < buffers p → pins_of d x b ≡ slice_index words (given p i b) + total (on i b) views
     pub wears : (b : ℕ) → b < buffers p → pins_of d x b + total (λ v. v.left) views < 2 ^ 56
-    pub spare : d.spare < buffers p → (d.spare ≡ d.at → ⊥) × (total (on i d.spare) views ≡ 0)
-    pub tried : d.tried + total (beyond i (other d.at d.tried) d.at) views ≤ seats p
+    pub free_buffer : d.free_buffer < buffers p → (d.free_buffer ≡ d.current → ⊥) × (total (on i d.free_buffer) views ≡ 0)
+    pub found_pinned : d.found_pinned + total (beyond i (other d.current d.found_pinned) d.current) views ≤ seats p
     pub counts : length d.counted ≡ buffers p
     pub short : length d.draft ≤ width p
-    pub draft : (q : ℕ) → d.spare < buffers p → q < length d.draft → slice_index words (cell p i d.spare q) ≡ slice_index d.draft q
-    pub latest : (q : ℕ) → q < width p → q < length (record_words p h i (count i h)) → slice_index words (cell p i d.at q) ≡ slice_index (record_words p h i (count i h)) q
+    pub draft : (q : ℕ) → d.free_buffer < buffers p → q < length d.draft → slice_index words (cell p i d.free_buffer q) ≡ slice_index d.draft q
+    pub latest : (q : ℕ) → q < width p → q < length (record_words p h i (count i h)) → slice_index words (cell p i d.current q) ≡ slice_index (record_words p h i (count i h)) q
 
 -- the view's pin x on the register i is of a buffer which holds the record r
 pub record Pinned (p : Plan) (h : List Entry) (words : List ℕ) (i b r : ℕ) : Type 0 where
@@ -107,17 +108,17 @@ module _ (p : Plan) (h : List Entry) (words : List ℕ) (writer : ℕ → ℕ) (
   pub record Writes (i : ℕ) : Type 0 where
     pub inside : i < segments p
     pub own : writer i ≡ seat
-    pub all : i < v.edge → only i v.seen ≡ only i h
-    pub given : v.edge ≤ i → only i v.told ≡ only i h
+    pub all : i < v.seen_end → only i v.seen ≡ only i h
+    pub given : v.seen_end ≤ i → only i v.received ≡ only i h
     pub pool : i < v.pool_end → pools i ≡ v.pool
 
   pub record Knows : Type 0 where
     pub plan : v.spent ≡ false → v.plan ≡ p
     pub seen : IsPrefix v.seen h
-    pub told : IsPrefix v.told h
+    pub received : IsPrefix v.received h
     pub role : (i : ℕ) → Has v i → Writes i
     pub pins : (i b : ℕ) → i < segments p → slice_index v.pins i ≡ b + 1 → Pinned p h words i b (slice_index v.records i)
-    pub share : (i : ℕ) → 0 < slice_index v.pins i → 0 < v.share
+    pub pin_quota : (i : ℕ) → 0 < slice_index v.pins i → 0 < v.pin_quota
 
 -- There is one history, of which each seat has seen a beginning. The words are its records
 pub record Kept {S : Type 0} (p : Plan) (s : State S SeatView) : Type 0 where
@@ -126,7 +127,7 @@ pub record Kept {S : Type 0} (p : Plan) (s : State S SeatView) : Type 0 where
   pub pools : ℕ → Pool
   pub pinned : ℕ → ℕ
   pub wide : length s.words ≡ size p
-  pub shares : total (λ v. v.share) s.views ≤ seats p
+  pub shares : total (λ v. v.pin_quota) s.views ≤ seats p
   pub few : buffers p ≤ 128
   pub legal : IsLegal p history
   pub registers : (i : ℕ) → i < segments p → Register p history s.words s.views i (pools i) (pinned i)
@@ -135,67 +136,67 @@ pub record Kept {S : Type 0} (p : Plan) (s : State S SeatView) : Type 0 where
 -- what a seat that sees all learns
 pub record Learns (v w : SeatView) : Type 0 where
   pub later : IsPrefix v.seen w.seen
-  pub told : IsPrefix v.told w.seen
-  pub own : (i : ℕ) → Has v i → i < v.edge → only i w.seen ≡ only i v.seen
-  pub given : (i : ℕ) → Has v i → v.edge ≤ i → only i w.seen ≡ only i v.told
+  pub received : IsPrefix v.received w.seen
+  pub own : (i : ℕ) → Has v i → i < v.seen_end → only i w.seen ≡ only i v.seen
+  pub given : (i : ℕ) → Has v i → v.seen_end ≤ i → only i w.seen ≡ only i v.received
   pub legal : IsLegal v.plan w.seen
   pub below : IsBelow v.plan w.seen
 
 -- the seat's update, of what it had drafted, stands at the end of what it has seen, and the free buffer is the current one
 pub record Publishes (v w : SeatView) (i x : ℕ) : Type 0 where
-  pub same : w ≡ record v { seen = w.seen; pool = record { at = v.pool.spare; tried = 0; spare = buffers v.plan; counted = slice_set v.pool.counted v.pool.at (slice_index v.pool.counted v.pool.at + x); draft = [] } }
+  pub same : w ≡ record v { seen = w.seen; pool = record { current = v.pool.free_buffer; found_pinned = 0; free_buffer = buffers v.plan; counted = slice_set v.pool.counted v.pool.current (slice_index v.pool.counted v.pool.current + x); draft = [] } }
   pub between : List Entry
   pub seen : w.seen ≡ (v.seen ++ between) ++ entry i v.pool.draft ∷ []
   pub others : only i between ≡ []
   pub legal : IsLegal v.plan w.seen
   pub below : IsBelow v.plan w.seen
-  pub small : slice_index v.pool.counted v.pool.at + x < 2 ^ 56
+  pub small : slice_index v.pool.counted v.pool.current + x < 2 ^ 56
 
 abbrev pub no_pool : Pool
-no_pool = record { at = 0; tried = 0; spare = 0; counted = []; draft = [] }
+no_pool = record { current = 0; found_pinned = 0; free_buffer = 0; counted = []; draft = [] }
 
 abbrev pub spent : SeatView
-spent = record { plan = record { scanners = 0; looks = 0; head = 0; start = [] }; spent = true; seen = []; told = []; low = 0; high = 0; edge = 0; pool_end = 0; pool = no_pool; share = 0; left = 0; pins = []; records = [] }
+spent = record { plan = record { scanners = 0; looks = 0; block_words = 0; start = [] }; spent = true; seen = []; received = []; low = 0; high = 0; seen_end = 0; pool_end = 0; pool = no_pool; pin_quota = 0; left = 0; pins = []; records = [] }
 
 -- the first segment that the view writes, alone, with a pin a register and the looks of a seat
 abbrev pub first_role : SeatView → SeatView
-first_role v = record v { high = v.low + 1; edge = v.low + 1; pool_end = v.low + 1; share = 1; left = v.plan.looks }
+first_role v = record v { high = v.low + 1; seen_end = v.low + 1; pool_end = v.low + 1; pin_quota = 1; left = v.plan.looks }
 
-abbrev pub other_roles : SeatView → SeatView
-other_roles v = record v { low = v.low + 1; share = v.share - 1; left = v.left - v.plan.looks }
+abbrev pub without_first_role : SeatView → SeatView
+without_first_role v = record v { low = v.low + 1; pin_quota = v.pin_quota - 1; left = v.left - v.plan.looks }
 
 -- a seat with a pin a register and the looks of a seat, that writes nothing
 abbrev pub reader : SeatView → SeatView
-reader v = record v { told = []; low = 0; high = 0; edge = 0; pool_end = 0; share = 1; left = v.plan.looks }
+reader v = record v { received = []; low = 0; high = 0; seen_end = 0; pool_end = 0; pin_quota = 1; left = v.plan.looks }
 
-abbrev pub less : SeatView → SeatView
-less v = record v { share = v.share - 1; left = v.left - v.plan.looks }
+abbrev pub without_reader : SeatView → SeatView
+without_reader v = record v { pin_quota = v.pin_quota - 1; left = v.left - v.plan.looks }
 
 -- what was seen alone
-abbrev pub onlooker : SeatView → SeatView
-onlooker v = record v { told = []; low = 0; high = 0; edge = 0; pool_end = 0; share = 0; left = 0; pins = []; records = [] }
+abbrev pub messenger : SeatView → SeatView
+messenger v = record v { received = []; low = 0; high = 0; seen_end = 0; pool_end = 0; pin_quota = 0; left = 0; pins = []; records = [] }
 
 -- the first view, told of what the second has seen
-abbrev pub joint : SeatView → SeatView → SeatView
-joint v u = record v { told = u.seen }
+abbrev pub with_received : SeatView → SeatView → SeatView
+with_received v u = record v { received = u.seen }
 
 -- the same, and it writes the second's segments too, which follow its own
-abbrev pub gathered : SeatView → SeatView → SeatView
-gathered v u = record v { told = u.seen; high = u.high }
+abbrev pub with_segments_of : SeatView → SeatView → SeatView
+with_segments_of v u = record v { received = u.seen; high = u.high }
 
 -- the first view, which has seen what the second has
-abbrev pub adopted : SeatView → SeatView → SeatView
-adopted v u = record v { seen = u.seen }
+abbrev pub with_seen_of : SeatView → SeatView → SeatView
+with_seen_of v u = record v { seen = u.seen }
 
 -- the buffer whose given-back count is loaded next
 abbrev pub next_other : Pool → ℕ
-next_other d = other d.at d.tried
+next_other d = other d.current d.found_pinned
 
 module _ {S : Type 0} where
   -- a fetch_add on a current word
   abbrev pub pinning : Step S → Me S SeatView → ℕ → Me S SeatView → Type 0
   pinning st m found m' = Learns m.0 m'.0 × (m'.1 ≡ m.1) × (found / 2 ^ 56 < buffers m.0.plan)
-      × (m'.0 ≡ record m.0 { seen = m'.0.seen; told = []; edge = m.0.high; left = m.0.left - 1; pins = slice_set m.0.pins st.word (found / 2 ^ 56 + 1); records = slice_set m.0.records st.word (count st.word m'.0.seen) })
+      × (m'.0 ≡ record m.0 { seen = m'.0.seen; received = []; seen_end = m.0.high; left = m.0.left - 1; pins = slice_set m.0.pins st.word (found / 2 ^ 56 + 1); records = slice_set m.0.records st.word (count st.word m'.0.seen) })
 
   -- a fetch_add on the given-back count of a pinned buffer
   abbrev pub giving : Step S → Me S SeatView → ℕ → Me S SeatView → Type 0
@@ -203,7 +204,7 @@ module _ {S : Type 0} where
 
   -- a load of a current word, which does not pin
   abbrev pub glanced : Step S → Me S SeatView → ℕ → Me S SeatView → Type 0
-  glanced st m found m' = Learns m.0 m'.0 × (m'.1 ≡ m.1) × (m'.0 ≡ record m.0 { seen = m'.0.seen; told = []; edge = m.0.high })
+  glanced st m found m' = Learns m.0 m'.0 × (m'.1 ≡ m.1) × (m'.0 ≡ record m.0 { seen = m'.0.seen; received = []; seen_end = m.0.high })
 
   -- a load of a word of a pinned buffer
   abbrev pub read : Step S → Me S SeatView → ℕ → Me S SeatView → Type 0
@@ -213,8 +214,8 @@ module _ {S : Type 0} where
 
   -- a load of the given-back count of the next other buffer
   abbrev pub checked : Step S → Me S SeatView → ℕ → Me S SeatView → Type 0
-  checked st m found m' = (found ≡ slice_index m.0.pool.counted (next_other m.0.pool) → m' ≡ (record m.0 { pool = record m.0.pool { spare = next_other m.0.pool; draft = [] } }, m.1))
-      × ((found ≡ slice_index m.0.pool.counted (next_other m.0.pool) → ⊥) → (m' ≡ (record m.0 { pool = record m.0.pool { tried = m.0.pool.tried + 1 } }, m.1)) × (m.0.pool.tried + 1 ≤ seats m.0.plan))
+  checked st m found m' = (found ≡ slice_index m.0.pool.counted (next_other m.0.pool) → m' ≡ (record m.0 { pool = record m.0.pool { free_buffer = next_other m.0.pool; draft = [] } }, m.1))
+      × ((found ≡ slice_index m.0.pool.counted (next_other m.0.pool) → ⊥) → (m' ≡ (record m.0 { pool = record m.0.pool { found_pinned = m.0.pool.found_pinned + 1 } }, m.1)) × (m.0.pool.found_pinned + 1 ≤ seats m.0.plan))
 
   -- a store of the next word of the free buffer
   abbrev pub drafted : Step S → Me S SeatView → ℕ → Me S SeatView → Type 0
@@ -222,4 +223,4 @@ module _ {S : Type 0} where
 
   -- a swap of the own current word
   abbrev pub published : Step S → Me S SeatView → ℕ → Me S SeatView → Type 0
-  published st m found m' = Publishes m.0 m'.0 st.word (found - m.0.pool.at * 2 ^ 56) × (m.0.pool.at * 2 ^ 56 ≤ found) × (m'.1 ≡ m.1)
+  published st m found m' = Publishes m.0 m'.0 st.word (found - m.0.pool.current * 2 ^ 56) × (m.0.pool.current * 2 ^ 56 ≤ found) × (m'.1 ≡ m.1)

@@ -1,7 +1,8 @@
 -- What a caller sees of a seat.
-use Rattle.std.specs.Prelude.{◌≡◌, ◌≢◌, ℕ, ◌+◌, ◌<◌, ◌≤◌, ◌^◌, ◌==◌, Option, Some, None, cond, List, [], ◌∷◌, ◌++◌, length, slice_index, slice_get}
+use Rattle.std.specs.Prelude.{◌≡◌, ◌≢◌, ℕ, ◌+◌, ◌<◌, ◌≤◌, ◌==◌, Option, Some, None, cond, List, [], ◌∷◌, ◌++◌, length, slice_index, slice_get}
 use Rattle.atomic_table.specs.Seated.{TableId}
 use Rattle.snap_history.specs.History.{Update, IsBeginning, number_after, value_after, updates_of}
+use Rattle.snap_slot.specs.Layout.{IsNumber}
 use Rattle.snap_register.specs.declared.plan.Plan.{Plan}
 use Rattle.snap_register.specs.declared.plan.SeatView.{SeatView}
 use Rattle.snap_register.specs.declared.view.View.{View}
@@ -39,9 +40,9 @@ number_in a h i = number_after (starts a.plan) h i
 abbrev pub value_in : Known → List Update → ℕ → List ℕ
 value_in a h i = value_after (starts a.plan) h i
 
--- the numbers of what was seen are below 2^63
+-- the numbers of what was seen are within the limit
 abbrev pub IsBelow : Known → Type 0
-IsBelow a = (i : ℕ) → i < segments a.plan → number_in a a.seen i < 2 ^ 63
+IsBelow a = (i : ℕ) → i < segments a.plan → IsNumber (number_in a a.seen i)
 
 -- the seats are of one opening
 pub record AreTogether (a b : Known) : Type 0 where

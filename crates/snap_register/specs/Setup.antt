@@ -1,6 +1,10 @@
 -- What a seat keeps of its table, and the table's plan.
 use Rattle.std.specs.Prelude.{◌≡◌, ℕ, ◌+◌, ◌*◌, ◌^◌, ◌<◌, ◌≤◌, List, [], ◌++◌, length, slice_index, map, replicate, false}
 use Rattle.std.specs.List.{flat_map}
+use Rattle.snap_slot.specs.Layout.{IsNumber}
+use Rattle.snap_slot.specs.declared.layout.TheConstants.{MAX_COUNT}
+use Rattle.snap_register.specs.declared.packing.TheConstants.{BLOCK_WORDS}
+use Rattle.snap_register.specs.declared.plan.TheConstants.{MAX_SCANNERS}
 use Rattle.snap_register.specs.declared.setup.Setup.{Setup}
 use Rattle.snap_register.specs.declared.plan.Opening.{Opening}
 use Rattle.snap_register.specs.declared.plan.Plan.{Plan}
@@ -17,51 +21,51 @@ abbrev pub start_of : Opening → Start
 start_of x = record { number = x.number; words = x.words.items }
 
 abbrev pub plan_with : ℕ → ℕ → ℕ → List Opening → Plan
-plan_with scanners looks head xs = record { scanners = scanners; looks = looks; head = head; start = map start_of xs }
+plan_with scanners looks block_words xs = record { scanners = scanners; looks = looks; block_words = block_words; start = map start_of xs }
 
 abbrev pub plan_of : Setup → Plan
-plan_of g = plan_with g.scanners g.looks g.head g.values.value.items
+plan_of g = plan_with g.scanners g.looks g.block_words g.values.value.items
 
 abbrev pub first_pool : Plan → Pool
-first_pool p = record { at = 0; tried = 0; spare = buffers p; counted = replicate (buffers p) 0; draft = [] }
+first_pool p = record { current = 0; found_pinned = 0; free_buffer = buffers p; counted = replicate (buffers p) 0; draft = [] }
 
-abbrev pub newcomer : Plan → SeatView
-newcomer p = record {
+abbrev pub first_view : Plan → SeatView
+first_view p = record {
   plan = p;
   spent = false;
   seen = [];
-  told = [];
+  received = [];
   low = 0;
   high = segments p;
-  edge = segments p;
+  seen_end = segments p;
   pool_end = segments p;
   pool = first_pool p;
-  share = seats p;
+  pin_quota = seats p;
   left = seats p * p.looks;
   pins = replicate (segments p) 0;
   records = replicate (segments p) 0;
 }
 
 -- the counts are those of the plan
-pub record IsSized (segments' scanners head words : ℕ) (p : Plan) : Type 0 where
+pub record IsSized (segments' scanners block_words words : ℕ) (p : Plan) : Type 0 where
   pub segments_are : segments' ≡ segments p
   pub scanners_are : scanners ≡ p.scanners
-  pub head_is : head ≡ p.head
+  pub block_words_are : block_words ≡ p.block_words
   pub words_are : words ≡ size p
   pub some : 0 < segments'
-  pub few : segments' ≤ 16
-  pub few_scanners : scanners ≤ 16
-  pub whole_head : p.head ≡ 512
-  pub starts : (i : ℕ) → i < segments p → (length (start_at p i).words ≡ p.head) × IsBlock (start_at p i).words 0 (start_at p i).number (value_at (start_at p i).words 0)
+  pub few : segments' ≤ MAX_COUNT
+  pub few_scanners : scanners ≤ MAX_SCANNERS
+  pub block_words_is : p.block_words ≡ BLOCK_WORDS
+  pub starts : (i : ℕ) → i < segments p → (length (start_at p i).words ≡ p.block_words) × IsBlock (start_at p i).words 0 (start_at p i).number (value_at (start_at p i).words 0)
 
 -- the seat is of a table of the plan's size and holds no slot, and its pins are these
 pub record IsSeated {S : Type 0} (words : ℕ) (pins : List ℕ) (left : ℕ) (m : Me S SeatView) : Type 0 where
   pub words_are : words ≡ size m.0.plan
   pub alone : m.1 ≡ []
   pub here : m.0.spent ≡ false
-  pub told_of : m.0.told ≡ []
-  pub edge_is : m.0.edge ≡ m.0.high
-  pub share_is : m.0.share ≡ 1
+  pub received_none : m.0.received ≡ []
+  pub seen_end_is : m.0.seen_end ≡ m.0.high
+  pub pin_quota_is : m.0.pin_quota ≡ 1
   pub left_is : left ≡ m.0.left
   pub wide_pins : length m.0.pins ≡ segments m.0.plan
   pub wide_records : length m.0.records ≡ segments m.0.plan
@@ -71,28 +75,28 @@ pub record IsSeated {S : Type 0} (words : ℕ) (pins : List ℕ) (left : ℕ) (m
   pub readable : (i : ℕ) → i < segments m.0.plan → Readable m.0.plan m.0.seen i (slice_index m.0.records i)
 
 -- the seat writes the segment i alone, has this number, and knows its current buffer and the pins counted for each
-pub record IsPool {S : Type 0} (i k at : ℕ) (counted : List ℕ) (m : Me S SeatView) : Type 0 where
+pub record IsPool {S : Type 0} (i k current : ℕ) (counted : List ℕ) (m : Me S SeatView) : Type 0 where
   pub role : IsWriter m.0 i
   pub inside : i < segments m.0.plan
   pub number_is : k ≡ number m.0.plan m.0.seen i
-  pub at_is : at ≡ m.0.pool.at
-  pub at_inside : at < buffers m.0.plan
-  pub tried_is : m.0.pool.tried ≡ 0
+  pub current_is : current ≡ m.0.pool.current
+  pub current_inside : current < buffers m.0.plan
+  pub found_pinned_is : m.0.pool.found_pinned ≡ 0
   pub counts : length m.0.pool.counted ≡ buffers m.0.plan
   pub counted_are : (b : ℕ) → b < buffers m.0.plan → slice_index counted b ≡ slice_index m.0.pool.counted b
 
 -- the words of a segment's buffers behind the first record's first words
 abbrev pub unused : Plan → ℕ
-unused p = segments p * p.head + (segments p + p.scanners + 1) * width p
+unused p = segments p * p.block_words + (segments p + p.scanners + 1) * width p
 
 -- the words at the start: in each register the buffer 0 is current and has no pin
-abbrev pub laid : Plan → List ℕ
-laid p = replicate (segments p + segments p * buffers p) 0 ++ flat_map (λ s. s.words ++ replicate (unused p) 0) p.start
+abbrev pub opening_words : Plan → List ℕ
+opening_words p = replicate (segments p + segments p * buffers p) 0 ++ flat_map (λ s. s.words ++ replicate (unused p) 0) p.start
 
 -- the values fill the first words, which begin with the number, and no number of looks comes near 2^56
 pub record IsReady (p : Plan) : Type 0 where
-  pub each : (i : ℕ) → i < segments p → (length (start_at p i).words ≡ p.head) × IsBlock (start_at p i).words 0 (start_at p i).number (value_at (start_at p i).words 0) × ((start_at p i).number < 2 ^ 63)
-  pub whole_head : p.head ≡ 512
+  pub each : (i : ℕ) → i < segments p → (length (start_at p i).words ≡ p.block_words) × IsBlock (start_at p i).words 0 (start_at p i).number (value_at (start_at p i).words 0) × IsNumber (start_at p i).number
+  pub block_words_is : p.block_words ≡ BLOCK_WORDS
   pub few : buffers p ≤ 128
   pub looks : seats p * p.looks < 2 ^ 56
 
@@ -102,11 +106,11 @@ pub record IsFirst {S : Type 0} (words left : ℕ) (m : Me S SeatView) : Type 0 
   pub alone : m.1 ≡ []
   pub here : m.0.spent ≡ false
   pub seen_is : m.0.seen ≡ []
-  pub told_of : m.0.told ≡ []
-  pub edge_is : m.0.edge ≡ m.0.high
+  pub received_none : m.0.received ≡ []
+  pub seen_end_is : m.0.seen_end ≡ m.0.high
   pub pool_end_is : m.0.pool_end ≡ m.0.high
   pub pool_is : m.0.pool ≡ first_pool m.0.plan
-  pub share_is : m.0.share ≡ left
+  pub pin_quota_is : m.0.pin_quota ≡ left
   pub left_is : m.0.left ≡ left * m.0.plan.looks
   pub readable : (i : ℕ) → i < segments m.0.plan → Readable m.0.plan m.0.seen i (slice_index m.0.records i)
   pub pins_are : m.0.pins ≡ replicate (segments m.0.plan) 0
@@ -118,10 +122,10 @@ pub record IsFresh {S : Type 0} (words : ℕ) (m : Me S SeatView) : Type 0 where
   pub alone : m.1 ≡ []
   pub here : m.0.spent ≡ false
   pub seen_is : m.0.seen ≡ []
-  pub told_of : m.0.told ≡ []
-  pub edge_is : m.0.edge ≡ m.0.high
+  pub received_none : m.0.received ≡ []
+  pub seen_end_is : m.0.seen_end ≡ m.0.high
   pub pool_is : m.0.pool ≡ first_pool m.0.plan
-  pub share_is : m.0.share ≡ 1
+  pub pin_quota_is : m.0.pin_quota ≡ 1
   pub left_is : m.0.left ≡ m.0.plan.looks
   pub readable : (i : ℕ) → i < segments m.0.plan → Readable m.0.plan m.0.seen i (slice_index m.0.records i)
   pub pins_are : m.0.pins ≡ replicate (segments m.0.plan) 0

@@ -3,9 +3,13 @@
 #![tactic(auto)]
 
 mod access;
+mod drafting;
+mod looking;
+mod meeting;
 mod opening;
 mod packing;
 mod plan;
+mod publishing;
 mod registers;
 mod seats;
 mod setup;
@@ -15,7 +19,7 @@ mod tests;
 mod view;
 
 pub use opening::Parts;
-pub use plan::{Entry, Opening, Plan, Pool, SeatView, Start};
+pub use plan::{Entry, MAX_SCANNERS, Opening, Plan, Pool, SeatView, Start};
 pub use registers::Registers;
 pub use seats::{Looker, ReadSeat, WriteSeat};
 pub use setup::{OneHistory, Setup, TableSeat, WordTable};

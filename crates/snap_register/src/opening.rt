@@ -4,14 +4,16 @@ ghost use Rattle.std.specs.Prelude.{replicate, IfOk, OnOk, slice_index, false};
 ghost use Rattle.std.specs.List.{flat_map};
 ghost use Rattle.std.specs.Arc.{arc_value};
 ghost use Rattle.atomic_table.specs.Seated.{TableId};
+ghost use Rattle.snap_slot.specs.declared.layout.TheConstants.{MAX_COUNT};
+ghost use Rattle.snap_register.specs.declared.plan.TheConstants.{MAX_SCANNERS};
 ghost use Rattle.snap_register.specs.History.{start_at};
 ghost use Rattle.snap_register.specs.Rule.{segments, seats, size};
 ghost use Rattle.snap_register.specs.Parts.{AreWriters, AreReaders};
-ghost use Rattle.snap_register.specs.Setup.{plan_with, plan_of, newcomer, unused, laid, IsReady};
+ghost use Rattle.snap_register.specs.Setup.{plan_with, plan_of, first_view, unused, opening_words, IsReady};
 ghost use Rattle.snap_register.specs.Setup.{IsSized, IsFirst, IsFresh};
 
 use crate::access::Access;
-use crate::plan::Opening;
+use crate::plan::{MAX_SEGMENTS, Opening};
 use crate::seats::{ReadSeat, WriteSeat};
 use crate::setup::{Setup, SplitReader, SplitWriter, TableSeat, WordTable};
 use atomic_table::Table;
@@ -24,7 +26,7 @@ use std::sync::Arc;
 struct Sizes {
     segments: usize,
     scanners: usize,
-    head: usize,
+    block_words: usize,
     words: usize,
     looks: u64,
 }
@@ -46,16 +48,19 @@ fn append(words: &mut Vec<u64>, x: &Opening, rest: usize) -> Result<(), AllocErr
     append_zeros(words, rest)
 }
 
-fn lay(
+// The first words of the table: zeros, and then for each segment the words of its first record and
+// the `rest`, which are zeros too. There are `count` words, for which room is made at once.
+fn first_words(
     alloc: Global,
     values: &Vec<Opening>,
     front: usize,
     rest: usize,
+    count: usize,
 ) -> Result<Vec<u64>, AllocError>
     ensures { IfOk result (λ v. v.items ≡ replicate front 0 ++ flat_map
         (λ x. x.words.items ++ replicate rest 0) values.now.items) }
 {
-    let mut words = Vec::new(alloc);
+    let mut words = Vec::with_capacity(alloc, count)?;
     append_zeros(&mut words, front)?;
     for x in values {
         append(&mut words, x, rest)?;
@@ -63,10 +68,14 @@ fn lay(
     Ok(words)
 }
 
-// A access for a fresh seat.
-fn sit(table: &Arc<WordTable, Global>, seat: TableSeat, sizes: Sizes) -> Result<Access, AllocError>
+// The access of a fresh seat.
+fn access_of(
+    table: &Arc<WordTable, Global>,
+    seat: TableSeat,
+    sizes: Sizes,
+) -> Result<Access, AllocError>
     requires own { seat.table_id ≡ (arc_value table.now).shared.table_id }
-    requires sized { IsSized sizes.segments sizes.scanners sizes.head sizes.words seat.me.0.plan
+    requires sized { IsSized sizes.segments sizes.scanners sizes.block_words sizes.words seat.me.0.plan
         × (sizes.looks ≡ seat.me.0.plan.looks) }
     requires fresh { IsFresh seat.table_id.words seat.me }
     ensures { IfOk result (λ c. (c.seat.table_id ≡ seat.table_id) × (c.seat.me ≡ seat.me)) }
@@ -77,9 +86,9 @@ fn sit(table: &Arc<WordTable, Global>, seat: TableSeat, sizes: Sizes) -> Result<
         seat,
         segments: sizes.segments,
         scanners: sizes.scanners,
-        head: sizes.head,
+        block_words: sizes.block_words,
         words: sizes.words,
-        pins: [0; 16],
+        pins: [0; MAX_SEGMENTS],
         left: sizes.looks,
     })
 }
@@ -97,29 +106,29 @@ pub struct Parts {
 fn seat_writers(
     alloc: Global,
     table: &Arc<WordTable, Global>,
-    place: &mut TableSeat,
+    first_seat: &mut TableSeat,
     sizes: Sizes,
     values: &Vec<Opening>,
 ) -> Result<Vec<WriteSeat>, AllocError>
-    requires own { place.old.table_id ≡ (arc_value table.now).shared.table_id }
-    requires sized { IsSized sizes.segments sizes.scanners sizes.head sizes.words place.old.me.0.plan
-        × (sizes.looks ≡ place.old.me.0.plan.looks) }
-    requires first { IsFirst place.old.table_id.words (seats place.old.me.0.plan) place.old.me
-        × (place.old.me.0.low ≡ 0) × (place.old.me.0.high ≡ sizes.segments) }
+    requires own { first_seat.old.table_id ≡ (arc_value table.now).shared.table_id }
+    requires sized { IsSized sizes.segments sizes.scanners sizes.block_words sizes.words first_seat.old.me.0.plan
+        × (sizes.looks ≡ first_seat.old.me.0.plan.looks) }
+    requires first { IsFirst first_seat.old.table_id.words (seats first_seat.old.me.0.plan) first_seat.old.me
+        × (first_seat.old.me.0.low ≡ 0) × (first_seat.old.me.0.high ≡ sizes.segments) }
     requires numbers { (length values.now.items ≡ sizes.segments) × ((i : ℕ)
-        → i < segments place.old.me.0.plan
+        → i < segments first_seat.old.me.0.plan
         → slice_index (map (λ x. x.number) values.now.items) i
-        ≡ (start_at place.old.me.0.plan i).number) }
-    ensures place { IfOk result (λ _. IsFirst place.new.table_id.words sizes.scanners place.new.me
-        × (place.new.table_id ≡ place.old.table_id) × (place.new.me.0.plan ≡ place.old.me.0.plan)) }
+        ≡ (start_at first_seat.old.me.0.plan i).number) }
+    ensures first_seat { IfOk result (λ _. IsFirst first_seat.new.table_id.words sizes.scanners first_seat.new.me
+        × (first_seat.new.table_id ≡ first_seat.old.table_id) × (first_seat.new.me.0.plan ≡ first_seat.old.me.0.plan)) }
     ensures seats { IfOk result (λ v. (length v.items ≡ sizes.segments)
-        × AreWriters place.old.table_id place.old.me.0.plan v.items) }
+        × AreWriters first_seat.old.table_id first_seat.old.me.0.plan v.items) }
 {
     let mut writers = Vec::new(alloc);
     for i in 0..sizes.segments {
-        let seat = table.shared.split_seat::<SplitWriter>(place);
+        let seat = table.shared.split_seat::<SplitWriter>(first_seat);
         let number = values[i].number;
-        writers.push(WriteSeat::of(sit(table, seat, sizes)?, i, number))?;
+        writers.push(WriteSeat::of(access_of(table, seat, sizes)?, i, number))?;
     }
     Ok(writers)
 }
@@ -128,20 +137,20 @@ fn seat_writers(
 fn seat_readers(
     alloc: Global,
     table: &Arc<WordTable, Global>,
-    place: &mut TableSeat,
+    first_seat: &mut TableSeat,
     sizes: Sizes,
 ) -> Result<Vec<ReadSeat>, AllocError>
-    requires own { place.old.table_id ≡ (arc_value table.now).shared.table_id }
-    requires sized { IsSized sizes.segments sizes.scanners sizes.head sizes.words place.old.me.0.plan
-        × (sizes.looks ≡ place.old.me.0.plan.looks) }
-    requires first { IsFirst place.old.table_id.words sizes.scanners place.old.me }
+    requires own { first_seat.old.table_id ≡ (arc_value table.now).shared.table_id }
+    requires sized { IsSized sizes.segments sizes.scanners sizes.block_words sizes.words first_seat.old.me.0.plan
+        × (sizes.looks ≡ first_seat.old.me.0.plan.looks) }
+    requires first { IsFirst first_seat.old.table_id.words sizes.scanners first_seat.old.me }
     ensures { IfOk result (λ v. (length v.items ≡ sizes.scanners)
-        × AreReaders place.old.table_id place.old.me.0.plan v.items) }
+        × AreReaders first_seat.old.table_id first_seat.old.me.0.plan v.items) }
 {
     let mut readers = Vec::new(alloc);
     for k in 0..sizes.scanners {
-        let seat = table.shared.split_seat::<SplitReader>(place);
-        readers.push(ReadSeat::of(sit(table, seat, sizes)?))?;
+        let seat = table.shared.split_seat::<SplitReader>(first_seat);
+        readers.push(ReadSeat::of(access_of(table, seat, sizes)?))?;
     }
     Ok(readers)
 }
@@ -150,40 +159,43 @@ fn seat_readers(
 pub(crate) fn open(
     alloc: Global,
     values: &Vec<Opening>,
-    head: usize,
+    block_words: usize,
     scanners: usize,
     looks: u64,
 ) -> Result<Parts, AllocError>
-    requires count { (0 < length values.now.items) × (length values.now.items ≤ 16)
-        × (scanners ≤ 16) }
-    requires ready { IsReady (plan_with scanners looks head values.now.items) }
+    requires count { (0 < length values.now.items) × (length values.now.items ≤ MAX_COUNT)
+        × (scanners ≤ MAX_SCANNERS) }
+    requires ready { IsReady (plan_with scanners looks block_words values.now.items) }
     ensures counts { IfOk result (λ r. (length r.writers.items ≡ length values.now.items)
         × (length r.scanners.items ≡ scanners)) }
     ensures seats { IfOk result (λ r. (z : TableId)
-        × AreWriters z (plan_with scanners looks head values.now.items) r.writers.items
-        × AreReaders z (plan_with scanners looks head values.now.items) r.scanners.items) }
+        × AreWriters z (plan_with scanners looks block_words values.now.items) r.writers.items
+        × AreReaders z (plan_with scanners looks block_words values.now.items) r.scanners.items) }
 {
     let n = values.len();
     let buffers = n + scanners + 2;
-    let width = (n + 1) * head;
-    let rest = n * head + (n + scanners + 1) * width;
-    let words = lay(alloc, values, n + n * buffers, rest)?;
+    let width = (n + 1) * block_words;
+    let rest = n * block_words + (n + scanners + 1) * width;
+    let count = n + (n * buffers + n * buffers * width);
+    let words = first_words(alloc, values, n + n * buffers, rest, count)?;
     let setup = Setup {
         scanners,
         looks,
-        head,
+        block_words,
         values: Snapshot::of(values),
     };
-    let (table, mut place) = Table::of_words(alloc, words.as_slice(), &setup)?;
+    let (table, mut first_seat) = Table::of_words(alloc, words.as_slice(), &setup)?;
+    // The table has a copy of its own, so for this moment there are two.
+    drop(words);
     let table = Arc::new(alloc, table)?;
     let sizes = Sizes {
         segments: n,
         scanners,
-        head,
-        words: n + (n * buffers + n * buffers * width),
+        block_words,
+        words: count,
         looks,
     };
-    let writers = seat_writers(alloc, &table, &mut place, sizes, values)?;
-    let scanners = seat_readers(alloc, &table, &mut place, sizes)?;
+    let writers = seat_writers(alloc, &table, &mut first_seat, sizes, values)?;
+    let scanners = seat_readers(alloc, &table, &mut first_seat, sizes)?;
     Ok(Parts { writers, scanners })
 }

@@ -1,17 +1,20 @@
 //! The sizes of a record: numbers and values as words.
 ghost use Rattle.std.specs.Prelude.{◌≡◌, ◌≤◌, ◌<◌, ◌+◌, length, take};
 ghost use Rattle.std.specs.Int.{w64, to_le_bytes};
+ghost use Rattle.snap_slot.specs.declared.layout.TheConstants.{MAX_VALUE_LEN};
 ghost use Rattle.snap_register.specs.Packing.{words_for};
 
-/// The most bytes that a value has.
-pub(crate) const MAX_VALUE_LEN: usize = 4080;
+use snap_slot::MAX_VALUE_LEN;
+
+/// The most words that a value takes.
+pub(crate) const VALUE_WORDS: usize = MAX_VALUE_LEN / 8;
 
 /// The most words that a number, a length and a value take.
-pub(crate) const BLOCK_WORDS: usize = 512;
+pub(crate) const BLOCK_WORDS: usize = 2 + VALUE_WORDS;
 
 /// How many words a number, a length and a value of this many bytes take.
 pub(crate) fn block_size(length: usize) -> usize
-    requires { length ≤ 4080 }
+    requires { length ≤ MAX_VALUE_LEN }
     ensures { result ≡ 2 + words_for length }
 {
     2 + (length + 7) / 8

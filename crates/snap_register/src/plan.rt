@@ -1,5 +1,16 @@
 //! What the rule of the pins speaks of: the table's plan, updates, and what each seat knows.
 
+use snap_slot::MAX_COUNT;
+
+/// The most segments, as there are in a file's header.
+pub(crate) const MAX_SEGMENTS: usize = MAX_COUNT as usize;
+
+/// The most scanners.
+pub const MAX_SCANNERS: usize = 16;
+
+/// The most buffers of a register: one for each seat's pin, the current one and a free one.
+pub(crate) const MAX_BUFFERS: usize = MAX_SEGMENTS + MAX_SCANNERS + 2;
+
 /// A segment at the start: its number, and the words of its number, length and value.
 #[derive(Drop)]
 pub struct Opening {
@@ -26,18 +37,18 @@ pub struct Plan {
     /// How many looks each seat may take.
     pub looks: u64,
     /// How many words a number, a length and a value take.
-    pub head: u64,
+    pub block_words: u64,
     pub start: [Start; 0],
 }
 
 /// What a register's writer knows of its buffers.
 pub struct Pool {
     /// The current buffer.
-    pub at: u64,
+    pub current: u64,
     /// How many of the others, in order, it noted as held.
-    pub tried: u64,
+    pub found_pinned: u64,
     /// The buffer that it noted as free, or the number of buffers.
-    pub spare: u64,
+    pub free_buffer: u64,
     /// The pins that it counted for each buffer.
     pub counted: [u64; 0],
     /// The words that it stored in the free buffer, from the first one on.
@@ -50,18 +61,18 @@ pub struct SeatView {
     /// Its view was joined into another's.
     pub spent: bool,
     pub seen: [Entry; 0],
-    /// What a seat had seen whose view was joined into this one, until the next look.
-    pub told: [Entry; 0],
+    /// What the seat had seen whose view was joined into this one, until the next look.
+    pub received: [Entry; 0],
     /// The segments from `low` on and below `high` are those that it writes.
     pub low: u64,
     pub high: u64,
-    /// It has seen all updates of its segments below, and was told of all of the others.
-    pub edge: u64,
+    /// Of its segments below this one it has seen all updates, and of the others it received all.
+    pub seen_end: u64,
     /// The pool is that of its segments below.
     pub pool_end: u64,
     pub pool: Pool,
     /// How many pins it may hold on a register.
-    pub share: u64,
+    pub pin_quota: u64,
     /// How many looks it may take.
     pub left: u64,
     /// For each register the buffer that it pins, plus 1, or 0.

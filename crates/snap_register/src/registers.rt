@@ -1,13 +1,18 @@
 //! Registers that start with given numbers and values.
 ghost use Rattle.std.specs.Prelude.{◌≡◌, ℕ, ◌^◌, ◌<◌, ◌≤◌, length, map, slice_get, Some, IfOk};
 ghost use Rattle.atomic_table.specs.Seated.{TableId};
+ghost use Rattle.snap_slot.specs.Layout.{IsNumber, IsShort};
+ghost use Rattle.snap_slot.specs.declared.layout.TheConstants.{MAX_COUNT};
+ghost use Rattle.snap_register.specs.declared.packing.TheConstants.{BLOCK_WORDS};
+ghost use Rattle.snap_register.specs.declared.plan.TheConstants.{MAX_SCANNERS};
 ghost use Rattle.snap_register.specs.declared.plan.Plan.{Plan};
 ghost use Rattle.snap_register.specs.Packing.{value_at, IsBlock};
 ghost use Rattle.snap_register.specs.Parts.{IsOpening, AreWriters, AreReaders};
 
 use crate::opening::{Parts, open};
-use crate::packing::{BLOCK_WORDS, word_of};
+use crate::packing::{BLOCK_WORDS, VALUE_WORDS, word_of};
 use crate::plan::Opening;
+use snap_slot::MAX_VALUE_LEN;
 use std::alloc::{AllocError, Global};
 
 /// Registers that threads share, one for each segment.
@@ -15,9 +20,8 @@ pub struct Registers;
 
 impl Registers {
     /// Registers of which segment i starts with the number and the value `values[i]`: one seat for
-    /// each segment's writer and one for each scanner, each with so many `looks`. Nobody has seen
-    /// an
-    /// update yet.
+    /// each segment's writer and one for each scanner, each with so many `looks`. Nobody has seen an
+    /// update yet. There is nothing to give back: the registers end with the last of their seats.
     ///
     /// Where memory runs out it answers the `AllocError`, and nothing is kept.
     pub fn open(
@@ -26,12 +30,12 @@ impl Registers {
         scanners: usize,
         looks: u64,
     ) -> Result<Parts, AllocError>
-        requires count { (0 < length values.now) × (length values.now ≤ 16) }
-        requires scanners { scanners ≤ 16 }
+        requires count { (0 < length values.now) × (length values.now ≤ MAX_COUNT) }
+        requires scanners { scanners ≤ MAX_SCANNERS }
         requires looks { looks ≤ 2 ^ 50 }
-        requires numbers { (i : ℕ) (x : _) → slice_get values.now i ≡ Some x → x.0 < 2 ^ 63 }
+        requires numbers { (i : ℕ) (x : _) → slice_get values.now i ≡ Some x → IsNumber x.0 }
         requires sizes { (i : ℕ) (x : _) → slice_get values.now i ≡ Some x
-            → length x.1.items ≤ 4080 }
+            → IsShort x.1.items }
         ensures writers { IfOk result (λ r. length r.writers.items ≡ length values.now) }
         ensures scanners { IfOk result (λ r. length r.scanners.items ≡ scanners) }
         ensures seats { IfOk result (λ r. (z : TableId) × (p : Plan)
@@ -48,9 +52,9 @@ impl Registers {
 
 // The words of the number and the value.
 fn opening_of(alloc: Global, number: u64, value: &[u8]) -> Result<Opening, AllocError>
-    requires { length value.now ≤ 4080 }
+    requires { IsShort value.now }
     ensures number { IfOk result (λ x. x.number ≡ number) }
-    ensures size { IfOk result (λ x. length x.words.items ≡ 512) }
+    ensures size { IfOk result (λ x. length x.words.items ≡ BLOCK_WORDS) }
     ensures block { IfOk result (λ x. IsBlock x.words.items 0 number value.now) }
 {
     let mut words = [0u64; BLOCK_WORDS];
@@ -63,16 +67,16 @@ fn opening_of(alloc: Global, number: u64, value: &[u8]) -> Result<Opening, Alloc
 
 // Writes the block of the number and the value.
 fn pack(number: u64, value: &[u8], words: &mut [u64])
-    requires bytes { length value.now ≤ 4080 }
-    requires words { length words.old ≡ 512 }
-    ensures size { length words.new ≡ 512 }
+    requires bytes { IsShort value.now }
+    requires words { length words.old ≡ BLOCK_WORDS }
+    ensures size { length words.new ≡ BLOCK_WORDS }
     ensures block { IsBlock words.new 0 number value.now }
 {
-    let mut bytes = [0u8; 4080];
+    let mut bytes = [0u8; MAX_VALUE_LEN];
     bytes[..value.len()].copy_from_slice(value);
     words[0] = number;
     words[1] = value.len() as u64;
-    for q in 0..510 {
+    for q in 0..VALUE_WORDS {
         let at = 8 * q;
         words[2 + q] = word_of(&bytes[at..at + 8]);
     }

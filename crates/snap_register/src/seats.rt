@@ -1,5 +1,7 @@
 //! The two kinds of seat.
 ghost use Rattle.std.specs.Prelude.{◌≡◌, ℕ, ◌+◌, ◌*◌, ◌^◌, ◌<◌, ◌≤◌, length, take, [], IsTrue, ◌↔◌};
+ghost use Rattle.snap_slot.specs.Layout.{IsNumber, IsShort};
+ghost use Rattle.snap_slot.specs.declared.layout.TheConstants.{MAX_COUNT, MAX_VALUE_LEN};
 ghost use Rattle.snap_register.specs.History.{start_at};
 ghost use Rattle.snap_register.specs.Rule.{segments, IsWriter};
 ghost use Rattle.snap_register.specs.Setup.{IsPool, first_pool};
@@ -8,6 +10,7 @@ ghost use Rattle.snap_register.specs.Seat.{AreTogether, Grows, Meets, Looks, Has
 ghost use Rattle.snap_register.specs.Seat.{HasFoundUpdate, IsValue, IsView, MayPublish, Shows};
 
 use crate::access::Access;
+use crate::plan::MAX_BUFFERS;
 use crate::snapshot::SnapshotBuf;
 use crate::view::View;
 use std::marker::Model;
@@ -25,15 +28,14 @@ pub trait Looker {
     /// How many segments there are.
     fn segments(&self) -> usize
         ensures count { result ≡ segments (known self.now).plan }
-        ensures some { (0 < result) × (result ≤ 16) };
+        ensures some { (0 < result) × (result ≤ MAX_COUNT) };
 
     /// Whether there was a look at the segment `j`.
     fn has_looked(&self, j: usize) -> bool
         requires segment { j < segments (known self.now).plan }
         ensures looked { IsTrue result ↔ HasLooked (known self.now) j };
 
-    /// Looks at the segment `j`: the seat sees all updates that stand in the history at this
-    /// moment,
+    /// Looks at the segment `j`: the seat sees all updates that stand in the history at this moment,
     /// and the number of `j` among them is the answer. The record that was found stays as it is
     /// until the seat's next look at `j`. A look waits for nobody.
     fn look(&mut self, j: usize) -> u64
@@ -45,15 +47,14 @@ pub trait Looker {
         ensures looked { Looks (known self.old) (known self.new) j result }
         ensures left { (known self.new).left + 1 ≡ (known self.old).left };
 
-    /// Writes the value of the record of the last look at `j` to the front of `out`, and answers
-    /// its
+    /// Writes the value of the record of the last look at `j` to the front of `out`, and answers its
     /// length.
     fn value(&mut self, j: usize, out: &mut [u8]) -> usize
         requires segment { j < segments (known self.old).plan }
         requires looked { HasLooked (known self.old) j }
-        requires room { 4080 ≤ length out.old }
+        requires room { MAX_VALUE_LEN ≤ length out.old }
         ensures value { IsValue (known self.old) j (take result out.new) }
-        ensures size { result ≤ 4080 }
+        ensures size { result ≤ MAX_VALUE_LEN }
         ensures same { known self.new ≡ known self.old };
 
     /// Fills `out` with the view of the record of the last look at `j`: the memory that the scan
@@ -139,9 +140,9 @@ pub struct WriteSeat {
     segment: usize,
     number: u64,
     /// The current buffer.
-    at: usize,
+    current: usize,
     /// The pins that were counted for each buffer.
-    counted: [u64; 34],
+    counted: [u64; MAX_BUFFERS],
 }
 
 impl Model for WriteSeat {
@@ -152,7 +153,7 @@ impl Model for WriteSeat {
 
     ghost view = { λ s. known s.access.seat.table_id s.access.seat.me.0 };
 
-    ghost invariant = { λ s. IsPool s.segment s.number s.at s.counted s.access.seat.me };
+    ghost invariant = { λ s. IsPool s.segment s.number s.current s.counted s.access.seat.me };
 }
 
 impl Looker for WriteSeat {
@@ -196,8 +197,8 @@ impl WriteSeat {
             access,
             segment,
             number,
-            at: 0,
-            counted: [0; 34],
+            current: 0,
+            counted: [0; MAX_BUFFERS],
         }
     }
 
@@ -217,24 +218,28 @@ impl WriteSeat {
         self.number
     }
 
-    /// Shows an update of the own segment to this value, with this view, and answers its number.
-    /// The
+    /// Shows an update of the own segment to this value, with this view, and answers its number. The
     /// update stands in the history from one moment of this call on. It always finds a free buffer,
     /// so it waits for nobody and refuses nothing.
     pub fn publish(&mut self, value: &[u8], view: &View) -> u64
-        requires size { length value.now ≤ 4080 }
-        requires next { number_in self.old self.old.seen (own_of self.old) + 1 < 2 ^ 63 }
+        requires size { IsShort value.now }
+        requires next { IsNumber (number_in self.old self.old.seen (own_of self.old) + 1) }
         requires view { MayPublish self.old view.now }
         ensures shown { Shows self.old self.new value.now }
         ensures below { IsBelow self.new }
         ensures number { result ≡ number_in self.new self.new.seen (own_of self.new) }
     {
         let next = self.number + 1;
-        let (at, pins) = self
-            .access
-            .publish(self.segment, self.at, &self.counted, next, value, view);
-        self.counted[self.at] += pins;
-        self.at = at;
+        let (current, pins) = self.access.publish(
+            self.segment,
+            self.current,
+            &self.counted,
+            next,
+            value,
+            view,
+        );
+        self.counted[self.current] += pins;
+        self.current = current;
         self.number = next;
         next
     }

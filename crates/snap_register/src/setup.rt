@@ -1,7 +1,7 @@
 //! The table of the registers' words, its rule (specs/Rule.antt), and what each step on it tells.
 ghost use Rattle.snap_register.specs.Rule.{Kept, pinning, giving, glanced, read, checked, drafted};
-ghost use Rattle.snap_register.specs.Rule.{published, onlooker, reader, less, first_role};
-ghost use Rattle.snap_register.specs.Rule.{other_roles, joint, adopted, spent};
+ghost use Rattle.snap_register.specs.Rule.{published, messenger, reader, without_reader, first_role};
+ghost use Rattle.snap_register.specs.Rule.{without_first_role, with_received, with_seen_of, spent};
 
 use crate::plan::{Opening, SeatView};
 use atomic_table::{Join, Play, Seat, Split, Table, TableRule};
@@ -13,18 +13,18 @@ use std::snapshot::Snapshot;
 pub struct Setup {
     pub scanners: usize,
     pub looks: u64,
-    pub head: usize,
+    pub block_words: usize,
     pub values: Snapshot<Vec<Opening>>,
 }
 
 pub struct OneHistory;
 
 impl TableRule<(), SeatView, Setup> for OneHistory {
-    ghost use Rattle.snap_register.specs.Setup.{plan_of, newcomer};
+    ghost use Rattle.snap_register.specs.Setup.{plan_of, first_view};
 
     ghost holds = { λ g. Kept (plan_of g) };
 
-    ghost first = { λ g. newcomer (plan_of g) };
+    ghost first = { λ g. first_view (plan_of g) };
 }
 
 pub type WordTable = Table<(), SeatView, Setup, OneHistory, Global>;
@@ -86,14 +86,14 @@ pub(crate) struct SplitMessenger;
 impl Split<SeatView> for SplitMessenger {
     ghost left = { λ v. v };
 
-    ghost right = { onlooker };
+    ghost right = { messenger };
 }
 
 /// The new seat writes the first segment.
 pub(crate) struct SplitWriter;
 
 impl Split<SeatView> for SplitWriter {
-    ghost left = { other_roles };
+    ghost left = { without_first_role };
 
     ghost right = { first_role };
 }
@@ -102,7 +102,7 @@ impl Split<SeatView> for SplitWriter {
 pub(crate) struct SplitReader;
 
 impl Split<SeatView> for SplitReader {
-    ghost left = { less };
+    ghost left = { without_reader };
 
     ghost right = { reader };
 }
@@ -111,7 +111,7 @@ impl Split<SeatView> for SplitReader {
 pub(crate) struct JoinMessage;
 
 impl Join<SeatView> for JoinMessage {
-    ghost both = { joint };
+    ghost both = { with_received };
 
     ghost spent = { spent };
 }
@@ -120,7 +120,7 @@ impl Join<SeatView> for JoinMessage {
 pub(crate) struct JoinAnswer;
 
 impl Join<SeatView> for JoinAnswer {
-    ghost both = { adopted };
+    ghost both = { with_seen_of };
 
     ghost spent = { spent };
 }

@@ -1,10 +1,10 @@
 //! Room for the numbers and values of all segments, which is made once and filled again and again.
-ghost use Rattle.std.specs.Prelude.{◌≡◌, ◌≢◌, ℕ, ◌<◌, List, length, take, slice_get, Some, IfOk};
+ghost use Rattle.std.specs.Prelude.{◌≡◌, ◌≢◌, ℕ, ◌<◌, List, length, slice_get, Some, IfOk};
 ghost use Rattle.snap_register.specs.Rule.{segments};
 ghost use Rattle.snap_register.specs.Seat.{looked, IsValue};
 
-use crate::packing::MAX_VALUE_LEN;
 use crate::seats::Looker;
+use snap_slot::MAX_VALUE_LEN;
 use std::alloc::{AllocError, Global};
 use std::marker::Model;
 
@@ -18,12 +18,13 @@ pub(crate) struct Held {
 
 impl Model for Held {
     ghost use Rattle.std.specs.Prelude.{◌≤◌, ℕ, List, take};
+    ghost use Rattle.snap_slot.specs.declared.layout.TheConstants.{MAX_VALUE_LEN};
 
     ghost Value = { ℕ × List ℕ };
 
     ghost view = { λ h. (h.number, take h.length h.bytes) };
 
-    ghost invariant = { λ h. h.length ≤ 4080 };
+    ghost invariant = { λ h. h.length ≤ MAX_VALUE_LEN };
 }
 
 impl Held {

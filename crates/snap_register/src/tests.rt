@@ -1,7 +1,10 @@
 //! Registers of one segment, by hand.
 ghost use Rattle.std.specs.Prelude.{◌≤◌, ◌^◌, length};
+ghost use Rattle.snap_slot.specs.Layout.{IsShort};
+ghost use Rattle.snap_register.specs.declared.plan.TheConstants.{MAX_SCANNERS};
 
 use crate::{Looker, Parts, ReadSeat, Registers, View, WriteSeat};
+use snap_slot::MAX_VALUE_LEN;
 use std::alloc::{AllocError, Global};
 use std::test::Fail;
 use std::thread::join;
@@ -11,7 +14,7 @@ fn write(writer: &mut WriteSeat, value: &[u8]) -> Option<u64> {
     if writer.segments() > 1 {
         return None;
     }
-    if writer.looks_left() == 0 || value.len() > 4080 {
+    if writer.looks_left() == 0 || value.len() > MAX_VALUE_LEN {
         return None;
     }
     writer.look(0);
@@ -38,7 +41,7 @@ fn look(reader: &mut ReadSeat) -> Option<u64> {
 }
 
 // The value that was last looked at.
-fn looked<'a>(reader: &mut ReadSeat, room: &'a mut [u8; 4080]) -> Option<&'a [u8]> {
+fn looked<'a>(reader: &mut ReadSeat, room: &'a mut [u8; MAX_VALUE_LEN]) -> Option<&'a [u8]> {
     if reader.segments() == 0 || !reader.has_looked(0) {
         return None;
     }
@@ -48,7 +51,7 @@ fn looked<'a>(reader: &mut ReadSeat, room: &'a mut [u8; 4080]) -> Option<&'a [u8
 
 // The last eight bytes of the value that was last looked at.
 fn looked_word(reader: &mut ReadSeat) -> Option<u64> {
-    let mut room = [0; 4080];
+    let mut room = [0; MAX_VALUE_LEN];
     let value = looked(reader, &mut room)?;
     if value.len() != 8 {
         return None;
@@ -59,7 +62,7 @@ fn looked_word(reader: &mut ReadSeat) -> Option<u64> {
 }
 
 fn is_empty(reader: &mut ReadSeat) -> bool {
-    let mut room = [0; 4080];
+    let mut room = [0; MAX_VALUE_LEN];
     match looked(reader, &mut room) {
         Some(value) => value.is_empty(),
         None => false,
@@ -68,7 +71,7 @@ fn is_empty(reader: &mut ReadSeat) -> bool {
 
 // Registers of one segment at number 0 with this value.
 fn open(alloc: Global, value: &[u8], scanners: usize, looks: u64) -> Result<Parts, AllocError>
-    requires { (length value.now ≤ 4080) × (scanners ≤ 16) × (looks ≤ 2 ^ 50) }
+    requires { IsShort value.now × (scanners ≤ MAX_SCANNERS) × (looks ≤ 2 ^ 50) }
 {
     let mut values = Vec::new(alloc);
     values.push((0, value.to_vec(alloc)?))?;
@@ -147,7 +150,7 @@ fn values_of_each_length(rt: HostRuntime) -> Result<(), Fail> {
     let (Some(mut writer), Some(mut scanner)) = (writers.pop(), scanners.pop()) else {
         panic!(rt; "a seat is missing")
     };
-    let mut room = [0; 4080];
+    let mut room = [0; MAX_VALUE_LEN];
     assert!(rt; look(&mut scanner) == Some(0));
     assert!(rt; looked(&mut scanner, &mut room) == Some([9, 8, 7].as_slice()));
     for length in [0, 1, 7, 8, 9, 4079, 4080] {

@@ -211,7 +211,8 @@ fn late_show_inside_a_scan(rt: HostRuntime) -> Result<(), Fail> {
         &rt,
         || show_late(&mut late, &turn),
         || {
-            wait_for(&turn, 1) && update(&mut other, b"b") == Some(1)
+            wait_for(&turn, 1)
+                && update(&mut other, b"b") == Some(1)
                 && tells(&mut staged, &mut out, &[0, 1, 1, 1, 1, 1])
         },
     );

@@ -10,7 +10,9 @@ use std::test::Fail;
 use std::thread::join;
 
 const SEGMENTS: usize = 3;
+
 const UPDATES: u64 = 200;
+
 const SCANS: usize = 300;
 
 /// Of each segment, the number of the last update that began, and of the last one that ended.
@@ -84,7 +86,11 @@ fn scan_once(scanner: &mut Scanner, snapshot: &mut Snapshot, course: &Course) ->
     let begun = numbers_of(&course.begun);
     Seen {
         ended,
-        numbers: [number_of(snapshot, 0), number_of(snapshot, 1), number_of(snapshot, 2)],
+        numbers: [
+            number_of(snapshot, 0),
+            number_of(snapshot, 1),
+            number_of(snapshot, 2),
+        ],
         begun,
         right: answered && is_right(snapshot, 0) && is_right(snapshot, 1) && is_right(snapshot, 2),
     }
@@ -171,11 +177,19 @@ fn three_writers_and_two_scanners_in_threads(rt: HostRuntime) -> Result<(), Fail
             let (x, (y, z)) = join(
                 &rt,
                 || write_all(&mut w0, &course),
-                || join(&rt, || write_all(&mut w1, &course), || write_all(&mut w2, &course)),
+                || join(
+                    &rt,
+                    || write_all(&mut w1, &course),
+                    || write_all(&mut w2, &course),
+                ),
             );
             x && y && z
         },
-        || join(&rt, || scan_all(alloc, &mut a, &course), || scan_all(alloc, &mut b, &course)),
+        || join(
+            &rt,
+            || scan_all(alloc, &mut a, &course),
+            || scan_all(alloc, &mut b, &course),
+        ),
     );
     let (first, second) = (first?, second?);
     assert!(rt; written);

@@ -6,11 +6,11 @@ use Rattle.snap_register.proofs.opening.seat_writers.Given as goal
 
 abbrev pub invariant-loop-i : goal.invariant-loop-i
 invariant-loop-i l = record {
-  table : l.place.table_id ≡ l.initial.place.table_id;
-  plan : l.place.me.0.plan ≡ l.initial.place.me.0.plan;
-  first : IsFirst l.place.table_id.words (seats l.initial.place.me.0.plan - l.i) l.place.me;
-  low : l.place.me.0.low ≡ l.i;
-  high : l.place.me.0.high ≡ l.sizes.segments;
+  table : l.first_seat.table_id ≡ l.initial.first_seat.table_id;
+  plan : l.first_seat.me.0.plan ≡ l.initial.first_seat.me.0.plan;
+  first : IsFirst l.first_seat.table_id.words (seats l.initial.first_seat.me.0.plan - l.i) l.first_seat.me;
+  low : l.first_seat.me.0.low ≡ l.i;
+  high : l.first_seat.me.0.high ≡ l.sizes.segments;
   count : length l.writers.items ≡ l.i;
-  each : AreWriters l.initial.place.table_id l.initial.place.me.0.plan l.writers.items;
+  each : AreWriters l.initial.first_seat.table_id l.initial.first_seat.me.0.plan l.writers.items;
 }

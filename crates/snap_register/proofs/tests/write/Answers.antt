@@ -1,5 +1,5 @@
-use Rattle.std.proofs.Common.{rules, ◌≡◌, ℕ, ◌+◌, ◌<◌, [], refl, ap, sym, subst, ◌∙◌, arith, append-nil, Some}
-use Rattle.snap_register.specs.Seat.{Known, IsCollected, looked, number_in}
+use Rattle.std.proofs.Common.{◌≡◌, ℕ, [], refl, ap, sym, subst, ◌∙◌, arith, append-nil, Some}
+use Rattle.snap_register.specs.Seat.{Known, looked, number_in}
 use Rattle.snap_register.specs.Rule.{segments}
 use Rattle.snap_register.proofs.tests.write.Goals as goal
 

@@ -24,11 +24,11 @@ load-found-requires c =
 pub invariant_of-self : goal.invariant_of-self
 invariant_of-self c =
     let me = c.args.self.now in
-    let told = c.load-found.ensures in
+    let step = c.load-found.ensures in
     let after = c.load-found.new.seat in
-    let mine : (d : Pool) → after.me ≡ (record me.seat.me.0 { pool = d }, me.seat.me.1) → IsSized me.segments me.scanners me.head me.words after.me.0.plan × IsSeated {S = Unit {0}} after.table_id.words me.pins me.left after.me = λ d is. (
-      subst (λ (m : Me (Unit {0}) SeatView). IsSized me.segments me.scanners me.head me.words m.0.plan) (sym is) me.sized,
-      seated_pool (Unit {0}) _ _ me.pins me.left me.seat.me after.me d (ap (λ (t : TableId). t.words) told.0) is me.seated,
+    let mine : (d : Pool) → after.me ≡ (record me.seat.me.0 { pool = d }, me.seat.me.1) → IsSized me.segments me.scanners me.block_words me.words after.me.0.plan × IsSeated {S = Unit {0}} after.table_id.words me.pins me.left after.me = λ d is. (
+      subst (λ (m : Me (Unit {0}) SeatView). IsSized me.segments me.scanners me.block_words me.words m.0.plan) (sym is) me.sized,
+      seated_pool (Unit {0}) _ _ me.pins me.left me.seat.me after.me d (ap (λ (t : TableId). t.words) step.0) is me.seated,
     ) in
-    let both = dite (ℕ_discrete c.load-found.result (get_or me.seat.me.0.pool.counted (next_other me.seat.me.0.pool) 0)) (λ same. mine _ (told.2.0 same)) (λ differs. mine _ (told.2.1 differs).0) in
-    record { own = told.0 ∙ me.own; sized = both.0; seated = both.1 }
+    let both = dite (ℕ_discrete c.load-found.result (get_or me.seat.me.0.pool.counted (next_other me.seat.me.0.pool) 0)) (λ same. mine _ (step.2.0 same)) (λ differs. mine _ (step.2.1 differs).0) in
+    record { own = step.0 ∙ me.own; sized = both.0; seated = both.1 }

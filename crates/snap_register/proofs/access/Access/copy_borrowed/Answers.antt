@@ -1,7 +1,5 @@
-use Rattle.std.proofs.Common.{rules, ◌≡◌, ℕ, ◌+◌, ◌*◌, ◌^◌, ◌<◌, ◌≤◌, ◌++◌, [], List, length, get_or, ap, sym, subst, ◌∙◌, arith, length-append}
-use mathlib.Core.List.{IsPrefix}
+use Rattle.std.proofs.Common.{◌≡◌, ℕ, ◌+◌, ◌*◌, ◌^◌, ◌<◌, ◌≤◌, ◌++◌, List, length, get_or, ap, sym, subst, ◌∙◌, arith, length-append}
 use Rattle.atomic_table.specs.Table.{Me}
-use Rattle.snap_register.specs.declared.plan.Plan.{Plan}
 use Rattle.snap_register.specs.declared.plan.SeatView.{SeatView}
 use Rattle.snap_register.specs.declared.view.View.TheVariants.{Borrowed}
 use Rattle.snap_register.specs.Rule.{segments, width}
@@ -10,7 +8,7 @@ use Rattle.snap_register.specs.Packing.{IsWhole, AreBlocks, piece, size_at, bloc
 use Rattle.snap_register.proofs.Blocks.{blocks_push, piece_length, behind_more}
 use Rattle.snap_register.proofs.Lines.{prefix_trans}
 use Rattle.snap_register.proofs.Views.{viewed, width_is}
-use Rattle.snap_register.proofs.Drafts.{Drafted, drafted, drafted_then, draft_is, held_drafted}
+use Rattle.snap_register.proofs.Drafts.{drafted, drafted_then, draft_is, held_drafted}
 use Rattle.snap_register.proofs.access.Access.copy_borrowed.Goals as goal
 use Rattle.snap_register.proofs.access.Access.copy_borrowed.Goals.{In-loop}
 
@@ -41,7 +39,7 @@ overflow_add-from c =
     let inside : c.loop.from + size_at (held c.loop.self.seat.me.0 c.args.j) c.loop.from ≤ length (held c.loop.self.seat.me.0 c.args.j) = w.inside in
     let same : length (held c.loop.self.seat.me.0 c.args.j) ≡ length (held a.seat.me.0 c.args.j) = ap length (words_are (goal.at.overflow_add-from c).In-loop) in
     let fits = (a.seated.readable c.args.j c.requires.pinned.0).fits in
-    let wide = width_is a.seat.me.0.plan a.sized.whole_head in
+    let wide = width_is a.seat.me.0.plan a.sized.block_words_is in
     let x : ℕ = width a.seat.me.0.plan in
     let fits' : length (held a.seat.me.0 c.args.j) ≤ x = fits in
     let wide' : x ≡ 512 + segments a.seat.me.0.plan * 512 = wide in

@@ -35,7 +35,7 @@ invariant_of-self c =
     let after = c.fetch_add.new.seat in
     record {
       own = c.fetch_add.ensures.0 ∙ me.own;
-      sized = subst (λ (m : Me (Unit {0}) SeatView). IsSized me.segments me.scanners me.head me.words m.0.plan) (sym is) me.sized;
+      sized = subst (λ (m : Me (Unit {0}) SeatView). IsSized me.segments me.scanners me.block_words me.words m.0.plan) (sym is) me.sized;
       seated = seated_bare (Unit {0}) _ _ me.pins me.left me.seat.me after.me c.args.j c.requires (search rules) (ap (λ (t : TableId). t.words) c.fetch_add.ensures.0) is me.seated;
     }
 

@@ -2,7 +2,7 @@ use Rattle.std.proofs.Common.{◌≡◌, ℕ, ◌+◌, ◌<◌, ◌≤◌, ◌/�
 use Rattle.atomic_table.specs.Table.{Me}
 use Rattle.snap_register.specs.declared.plan.Plan.{Plan}
 use Rattle.snap_register.specs.declared.plan.SeatView.{SeatView}
-use Rattle.snap_register.specs.History.{number, start_at, count}
+use Rattle.snap_register.specs.History.{number, start_at}
 use Rattle.snap_register.specs.Held.{held, Readable}
 use Rattle.snap_register.specs.Rule.{segments, Learns}
 use Rattle.snap_register.proofs.access.Access.look.Goals as goal
@@ -38,5 +38,5 @@ pub returns-clause-learns : goal.returns-clause-learns
 returns-clause-learns c =
     let v : SeatView = c.args.self.now.seat.me.0 in
     let l = subst (λ (m : Me (Unit {0}) SeatView). Learns m.0 c.pin.new.self.seat.me.0) c.give_back.ensures.3 c.pin.ensures.learns in
-    let mine : Learns v c.pin.new.self.seat.me.0 = record { later = l.later; told = l.told; own = l.own; given = l.given; legal = l.legal; below = l.below } in
+    let mine : Learns v c.pin.new.self.seat.me.0 = record { later = l.later; received = l.received; own = l.own; given = l.given; legal = l.legal; below = l.below } in
     subst (λ (m : Me (Unit {0}) SeatView). Learns v m.0) (sym c.read.ensures.same.2) mine

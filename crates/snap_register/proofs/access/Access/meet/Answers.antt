@@ -5,7 +5,7 @@ use Rattle.atomic_table.specs.Seated.{TableId}
 use Rattle.atomic_table.specs.Table.{Me}
 use Rattle.snap_register.specs.declared.plan.Plan.{Plan}
 use Rattle.snap_register.specs.declared.plan.SeatView.{SeatView}
-use Rattle.snap_register.specs.Rule.{Learns, IsLegal, joint}
+use Rattle.snap_register.specs.Rule.{Learns, IsLegal, with_received}
 use Rattle.snap_register.specs.Setup.{IsSized}
 use Rattle.snap_register.proofs.Keeps.{glances}
 use Rattle.snap_register.proofs.Joining.{shares, tells, adopts}
@@ -27,7 +27,7 @@ join_seat-requires c =
       c.split_seat-messenger.ensures.3 ∙ (sym c.requires.0 ∙ own),
       ap (λ (m : Me (Unit {0}) SeatView). m.1) c.split_seat-messenger.ensures.4,
       subst (λ (t : TableId). 0 < t.words) own (some_words (Unit {0}) _ _ _ _ _ _ _ _ them.sized them.seated),
-      tells (Unit {0}) _ _ _ _ _ them.seated.edge_is (λ i. ap (λ (m : Me (Unit {0}) SeatView). get_or m.0.pins i 0) c.split_seat-messenger.ensures.4),
+      tells (Unit {0}) _ _ _ _ _ them.seated.seen_end_is (λ i. ap (λ (m : Me (Unit {0}) SeatView). get_or m.0.pins i 0) c.split_seat-messenger.ensures.4),
     )
 
 pub load-requires : goal.load-requires
@@ -55,12 +55,12 @@ join_seat-requires-2 c =
       c.split_seat-answer.ensures.3 ∙ (c.load.ensures.0 ∙ (c.join_seat.ensures.0 ∙ (c.requires.0 ∙ own))),
       ap (λ (m : Me (Unit {0}) SeatView). m.1) c.split_seat-answer.ensures.4,
       subst (λ (t : TableId). 0 < t.words) own (some_words (Unit {0}) _ _ _ _ _ _ _ _ me.sized me.seated),
-      adopts (Unit {0}) _ _ _ _ _ (ap (λ (m : Me (Unit {0}) SeatView). m.0.low) same ∙ c.requires.2) (ap (λ (m : Me (Unit {0}) SeatView). m.0.high) same ∙ c.requires.3) (ap (λ (m : Me (Unit {0}) SeatView). m.0.told) same ∙ me.seated.told_of)
+      adopts (Unit {0}) _ _ _ _ _ (ap (λ (m : Me (Unit {0}) SeatView). m.0.low) same ∙ c.requires.2) (ap (λ (m : Me (Unit {0}) SeatView). m.0.high) same ∙ c.requires.3) (ap (λ (m : Me (Unit {0}) SeatView). m.0.received) same ∙ me.seated.received_none)
           (λ i. ap (λ (m : Me (Unit {0}) SeatView). get_or m.0.pins i 0) c.split_seat-answer.ensures.4),
     )
 
-told_by : (c : After-split_seat-answer) → Learns (joint c.args.other.now.seat.me.0 c.split_seat-messenger.result.me.0) c.split_seat-answer.new.seat.me.0
-told_by c = subst (λ (m : Me (Unit {0}) SeatView). Learns (joint c.args.other.now.seat.me.0 c.split_seat-messenger.result.me.0) m.0) (sym c.split_seat-answer.ensures.2)
+told_by : (c : After-split_seat-answer) → Learns (with_received c.args.other.now.seat.me.0 c.split_seat-messenger.result.me.0) c.split_seat-answer.new.seat.me.0
+told_by c = subst (λ (m : Me (Unit {0}) SeatView). Learns (with_received c.args.other.now.seat.me.0 c.split_seat-messenger.result.me.0) m.0) (sym c.split_seat-answer.ensures.2)
     (subst (λ (m : Me (Unit {0}) SeatView). Learns m.0 c.load.new.seat.me.0) c.join_seat.ensures.2 c.load.ensures.2.0)
 
 other_is : (c : After-split_seat-answer) → c.split_seat-answer.new.seat.me.0 ≡ record c.args.other.now.seat.me.0 { seen = c.split_seat-answer.new.seat.me.0.seen }
@@ -70,8 +70,8 @@ other_is c =
     let s : List Entry = c.load.new.seat.me.0.seen in
     let split = c.split_seat-answer.ensures.2 in
     let loaded : c.load.new.seat.me.0 ≡ record v { seen = s } = c.load.ensures.2.2
-    ∙ (ap (λ (m : Me (Unit {0}) SeatView). record m.0 { seen = s; told = []; edge = m.0.high }) c.join_seat.ensures.2
-    ∙ (λ i. record v { seen = s; told = sym them.seated.told_of i; edge = sym them.seated.edge_is i })) in
+    ∙ (ap (λ (m : Me (Unit {0}) SeatView). record m.0 { seen = s; received = []; seen_end = m.0.high }) c.join_seat.ensures.2
+    ∙ (λ i. record v { seen = s; received = sym them.seated.received_none i; seen_end = sym them.seated.seen_end_is i })) in
     ap (λ (m : Me (Unit {0}) SeatView). m.0) split ∙ (loaded ∙ ap (λ (m : Me (Unit {0}) SeatView). record v { seen = m.0.seen }) (sym split))
 
 other_alone : (c : After-split_seat-answer) → c.split_seat-answer.new.seat.me.1 ≡ c.args.other.now.seat.me.1
@@ -84,7 +84,7 @@ invariant_of-other c =
     let table = c.split_seat-answer.ensures.0 ∙ (c.load.ensures.0 ∙ c.join_seat.ensures.0) in
     record {
       own = table ∙ them.own;
-      sized = subst (λ (p : Plan). IsSized them.segments them.scanners them.head them.words p) (sym (ap (λ (v : SeatView). v.plan) (other_is a))) them.sized;
+      sized = subst (λ (p : Plan). IsSized them.segments them.scanners them.block_words them.words p) (sym (ap (λ (v : SeatView). v.plan) (other_is a))) them.sized;
       seated = seated_shown (Unit {0}) _ _ _ _ _ _ them.pins them.left them.seat.me c.split_seat-answer.new.seat.me them.seat.me.0.pool _ (ap (λ (t : TableId). t.words) table) (other_is a) (other_alone a) (told_by a).later (told_by a).legal them.sized them.seated;
     }
 
@@ -95,7 +95,7 @@ self_is c =
     ∙ ap (λ (l : List Entry). (record c.args.self.now.seat.me.0 { seen = l }, c.args.self.now.seat.me.1)) (ap (λ (m : Me (Unit {0}) SeatView). m.0.seen) c.split_seat-answer.ensures.4 ∙ sym (ap (λ (m : Me (Unit {0}) SeatView). m.0.seen) c.split_seat-answer.ensures.2)))
 
 self_later : (c : After-split_seat-answer) → IsPrefix c.args.self.now.seat.me.0.seen c.split_seat-answer.new.seat.me.0.seen
-self_later c = subst (λ (m : Me (Unit {0}) SeatView). IsPrefix m.0.seen c.split_seat-answer.new.seat.me.0.seen) c.split_seat-messenger.ensures.4 (told_by c).told
+self_later c = subst (λ (m : Me (Unit {0}) SeatView). IsPrefix m.0.seen c.split_seat-answer.new.seat.me.0.seen) c.split_seat-messenger.ensures.4 (told_by c).received
 
 pub invariant_of-self : goal.invariant_of-self
 invariant_of-self c =
@@ -106,6 +106,6 @@ invariant_of-self c =
     let is = self_is b in
     record {
       own = table ∙ me.own;
-      sized = subst (λ (m : Me (Unit {0}) SeatView). IsSized me.segments me.scanners me.head me.words m.0.plan) (sym is) me.sized;
+      sized = subst (λ (m : Me (Unit {0}) SeatView). IsSized me.segments me.scanners me.block_words me.words m.0.plan) (sym is) me.sized;
       seated = seated_shown (Unit {0}) _ _ _ _ _ _ me.pins me.left me.seat.me c.join_seat-2.new.seat.me me.seat.me.0.pool _ (ap (λ (t : TableId). t.words) table) (ap (λ (m : Me (Unit {0}) SeatView). m.0) is) (ap (λ (m : Me (Unit {0}) SeatView). m.1) is) (self_later a) (subst (λ (p : Plan). IsLegal p c.split_seat-answer.new.seat.me.0.seen) c.requires.1 (told_by a).legal) me.sized me.seated;
     }

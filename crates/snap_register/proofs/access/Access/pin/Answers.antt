@@ -14,7 +14,7 @@ fetch_add-found-requires c =
     let own : me.seat.table_id ≡ c.deref.result.now.shared.table_id = search rules in
     let seated = me.seated in
     let l = seated.left_is in
-    let sh = seated.share_is in
+    let sh = seated.pin_quota_is in
     let wp = seated.wide_pins in
     let wm = seated.wide_records in
     let lj = c.requires.0 in
@@ -27,10 +27,10 @@ fetch_add-found-requires c =
 pub invariant_of-self : goal.invariant_of-self
 invariant_of-self c =
     let me = c.args.self.now in
-    let told = c.fetch_add-found.ensures in
+    let step = c.fetch_add-found.ensures in
     let after = c.fetch_add-found.new.seat in
     record {
-      own = told.0 ∙ me.own;
-      sized = subst (λ (p : Plan). IsSized me.segments me.scanners me.head me.words p) (sym (ap (λ (v : SeatView). v.plan) told.2.3)) me.sized;
-      seated = seated_pinned (Unit {0}) _ _ _ _ _ _ me.pins me.left _ me.seat.me after.me c.args.j c.fetch_add-found.result c.requires.0 (search rules) (ap (λ (t : TableId). t.words) told.0) told.2.1 told.2.2 (let some = c.requires.2 in omega arith) told.2.0.later told.2.0.legal me.sized told.2.3 me.seated;
+      own = step.0 ∙ me.own;
+      sized = subst (λ (p : Plan). IsSized me.segments me.scanners me.block_words me.words p) (sym (ap (λ (v : SeatView). v.plan) step.2.3)) me.sized;
+      seated = seated_pinned (Unit {0}) _ _ _ _ _ _ me.pins me.left _ me.seat.me after.me c.args.j c.fetch_add-found.result c.requires.0 (search rules) (ap (λ (t : TableId). t.words) step.0) step.2.1 step.2.2 (let some = c.requires.2 in omega arith) step.2.0.later step.2.0.legal me.sized step.2.3 me.seated;
     }

@@ -1,5 +1,4 @@
-use Rattle.std.proofs.Common.{rules, ◌≡◌, ℕ, ◌+◌, ◌<◌, ◌≤◌, ◌++◌, ◌∷◌, [], List, length, get_or, refl, ap, sym, subst, ◌∙◌, arith}
-use mathlib.Core.List.{IsPrefix}
+use Rattle.std.proofs.Common.{◌≡◌, ℕ, ◌+◌, ◌++◌, ◌∷◌, [], List, length, refl, ap, sym, subst, ◌∙◌, arith}
 use Rattle.atomic_table.specs.Table.{Me}
 use Rattle.snap_register.specs.declared.plan.Entry.{Entry}
 use Rattle.snap_register.specs.declared.plan.Plan.{Plan}
@@ -7,10 +6,10 @@ use Rattle.snap_register.specs.declared.plan.Pool.{Pool}
 use Rattle.snap_register.specs.declared.plan.SeatView.{SeatView}
 use Rattle.snap_register.specs.declared.view.View.{View}
 use Rattle.snap_register.specs.declared.view.View.TheVariants.{Collected, Borrowed}
-use Rattle.snap_register.specs.History.{entry, only, count, number, start_at}
+use Rattle.snap_register.specs.History.{entry, count, start_at}
 use Rattle.snap_register.specs.Rule.{segments, IsLegal, IsBelow, Follows}
-use Rattle.snap_register.specs.Held.{taken, IsShown}
-use Rattle.snap_register.specs.Packing.{AreBlocks, IsBlock, size_at, value_at}
+use Rattle.snap_register.specs.Held.{taken}
+use Rattle.snap_register.specs.Packing.{AreBlocks}
 use Rattle.snap_register.proofs.Blocks.{block_stays}
 use Rattle.snap_register.proofs.Later.{publishes_count}
 use Rattle.snap_register.proofs.Updates.{follows_is}
@@ -45,7 +44,7 @@ may_follow c legal =
     let took : taken c.draft_value-filled.new.self.seat.me.0 c.args.view.now ≡ taken v c.args.view.now = ap (λ (u : SeatView). taken u c.args.view.now) (second_is c) ∙ taken_pool v c.draft_value-filled.new.self.seat.me.0.pool c.args.view.now in
     let blocks : AreBlocks c.copy_view.new.self.seat.me.0.pool.draft (length c.draft_value-filled.new.self.seat.me.0.pool.draft) (segments v.plan) (taken v c.args.view.now)
     = subst (λ (x : ℕ × Plan × (ℕ → ℕ × List ℕ)). AreBlocks c.copy_view.new.self.seat.me.0.pool.draft x.0 (segments x.1) x.2) (λ t. (size.0 t, plan t, took t)) c.copy_view.ensures.blocks in
-    follows_is v c.args.i c.args.k c.args.view.now c.args.value.now c.draft_value-filled.new.self.seat.me.0.pool.draft c.copy_view.new.self.seat.me.0.pool.draft c.requires.view.0 c.requires.view.1 c.args.self.now.seated.records_are c.requires.next.0
+    follows_is v c.args.i c.args.next c.args.view.now c.args.value.now c.draft_value-filled.new.self.seat.me.0.pool.draft c.copy_view.new.self.seat.me.0.pool.draft c.requires.view.0 c.requires.view.1 c.args.self.now.seated.records_are c.requires.next.0
     c.draft_value-filled.ensures.block (sym size.0 ∙ size.1) c.copy_view.ensures.prefix blocks legal
 
 pub swap-pins-requires-clause-view : goal.swap-pins-requires-clause-view

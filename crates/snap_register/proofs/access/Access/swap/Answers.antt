@@ -21,11 +21,11 @@ swap-found-requires c =
 pub invariant_of-self : goal.invariant_of-self
 invariant_of-self c =
     let me = c.args.self.now in
-    let told = c.swap-found.ensures in
+    let step = c.swap-found.ensures in
     let after = c.swap-found.new.seat in
-    let shown = told.2.0 in
+    let shown = step.2.0 in
     record {
-      own = told.0 ∙ me.own;
-      sized = subst (λ (p : Plan). IsSized me.segments me.scanners me.head me.words p) (sym (ap (λ (v : SeatView). v.plan) shown.same)) me.sized;
-      seated = seated_shown (Unit {0}) _ _ _ _ _ _ me.pins me.left me.seat.me after.me _ _ (ap (λ (t : TableId). t.words) told.0) shown.same told.2.2 (publishes_later me.seat.me.0 after.me.0 c.args.i _ shown) shown.legal me.sized me.seated;
+      own = step.0 ∙ me.own;
+      sized = subst (λ (p : Plan). IsSized me.segments me.scanners me.block_words me.words p) (sym (ap (λ (v : SeatView). v.plan) shown.same)) me.sized;
+      seated = seated_shown (Unit {0}) _ _ _ _ _ _ me.pins me.left me.seat.me after.me _ _ (ap (λ (t : TableId). t.words) step.0) shown.same step.2.2 (publishes_later me.seat.me.0 after.me.0 c.args.i _ shown) shown.legal me.sized me.seated;
     }

@@ -1,13 +1,12 @@
-use Rattle.std.proofs.Common.{rules, ◌≡◌, ℕ, ◌+◌, ◌^◌, ◌<◌, ◌≤◌, List, length, take, get_or, set, refl, ap, sym, subst, ◌∙◌, arith}
+use Rattle.std.proofs.Common.{◌≡◌, List, ap, sym, subst, ◌∙◌, arith}
 use Rattle.atomic_table.specs.Table.{Me}
 use Rattle.snap_register.specs.declared.plan.Plan.{Plan}
 use Rattle.snap_register.specs.declared.plan.SeatView.{SeatView}
 use mathlib.Core.List.{IsPrefix}
 use Rattle.snap_register.specs.declared.plan.Entry.{Entry}
-use Rattle.snap_register.specs.History.{number}
 use Rattle.snap_register.specs.Rule.{segments}
 use Rattle.snap_register.specs.Rule as rule
-use Rattle.snap_register.specs.Seat.{Known, known, looked, Grows, Meets, Looks, HasLooked, HasFoundUpdate, IsValue, IsView, MayPublish, Shows, number_in, own_of, AreTogether}
+use Rattle.snap_register.specs.Seat.{Known, known, looked, Meets}
 use Rattle.snap_register.proofs.Updates.{grows_is, below_is}
 use Rattle.snap_register.proofs.seats.ReadSeat.meet.Goals as goal
 
@@ -20,7 +19,7 @@ returns-clause-scanner c =
     let high = c.self.invariant.1 in
     subst (λ (a : Known). Meets a (known c.meet.new.self.seat.table_id w)) c.self.view_is (record {
       grows = grows_is s.table_id c.meet.new.self.seat.table_id s.me.0 w l.me.0 (ap (λ (m : Me (Unit {0}) SeatView). m.0.plan) is) (ap (λ (m : Me (Unit {0}) SeatView). m.0.low) is) (ap (λ (m : Me (Unit {0}) SeatView). m.0.high) is)
-          (subst (λ (l : List Entry). IsPrefix s.me.0.seen l) (sym (ap (λ (m : Me (Unit {0}) SeatView). m.0.seen) is)) l.told) (λ i has. let x = has.1 in absurd (omega arith));
+          (subst (λ (l : List Entry). IsPrefix s.me.0.seen l) (sym (ap (λ (m : Me (Unit {0}) SeatView). m.0.seen) is)) l.received) (λ i has. let x = has.1 in absurd (omega arith));
       looks = λ i. ap (λ (m : Me (Unit {0}) SeatView). looked (known s.table_id m.0) i) is;
       left = ap (λ (m : Me (Unit {0}) SeatView). m.0.left) is;
     })

@@ -1,19 +1,5 @@
-use Rattle.std.proofs.Common.{rules, ◌≡◌, ℕ, ◌+◌, ◌^◌, ◌<◌, ◌≤◌, List, length, take, get_or, set, refl, ap, sym, subst, ◌∙◌, arith}
-use Rattle.atomic_table.specs.Table.{Me}
-use Rattle.snap_register.specs.declared.plan.Plan.{Plan}
-use Rattle.snap_register.specs.declared.plan.SeatView.{SeatView}
-use Rattle.snap_register.specs.History.{number}
-use Rattle.snap_register.specs.Rule.{segments}
-use Rattle.snap_register.specs.Rule as rule
-use Rattle.snap_register.specs.Seat.{Known, known, Grows, Meets, Looks, HasLooked, HasFoundUpdate, IsValue, IsView, MayPublish, Shows, number_in, own_of, AreTogether}
-use Rattle.snap_register.proofs.Updates.{view_shown}
+use Rattle.snap_register.proofs.Looks.{view_is}
 use Rattle.snap_register.proofs.seats.ReadSeatLooker.view.Goals as goal
 
 pub returns-clause-view : goal.returns-clause-view
-returns-clause-view c =
-    let s = c.self.inside.access.seat in
-    let lj = subst (λ (a : Known). c.args.j < segments a.plan) (sym c.self.view_is) c.requires.segment in
-    let found = subst (λ (a : Known). HasFoundUpdate a c.args.j) (sym c.self.view_is) c.requires.updated in
-    let room = subst (λ (a : Known). length c.args.out.now ≡ segments a.plan) (sym c.self.view_is) c.requires.room in
-    subst (λ (a : Known). IsView a c.args.j c.view.new.out) c.self.view_is
-    (view_shown s.table_id s.me.0 c.args.j c.view.new.out c.view.ensures.legal found (c.self.inside.access.seated.records_are c.args.j lj) (c.view.ensures.size ∙ room) c.view.ensures.view)
+returns-clause-view c = let l = c.view.ensures in view_is _ c.self.inside.access.seat.me.0 _ c.self.view_is c.args.j c.requires.segment c.self.inside.access.seated.records_are _ _ l.legal c.requires.updated c.requires.room l.size l.view

@@ -1,4 +1,4 @@
-use Rattle.std.proofs.Common.{◌≡◌, sym, ap, ◌∙◌, ℕ}
+use Rattle.std.proofs.Common.{sym, ap, ◌∙◌, ℕ}
 use Rattle.snap_register.specs.Seat.{Known, number_in, own_of}
 use Rattle.snap_register.specs.History.{number}
 use Rattle.snap_register.proofs.Updates.{number_is}

@@ -17,9 +17,9 @@ invariant_of-result c =
       role = c.requires.role.0;
       inside = c.requires.role.1;
       number_is = let n = c.requires.number.0 in omega arith;
-      at_is = sym (ap (λ (x : Pool). x.at) d);
-      at_inside = omega arith;
-      tried_is = ap (λ (x : Pool). x.tried) d;
+      current_is = sym (ap (λ (x : Pool). x.current) d);
+      current_inside = omega arith;
+      found_pinned_is = ap (λ (x : Pool). x.found_pinned) d;
       counts = ap (λ (x : Pool). length x.counted) d ∙ length-replicate (buffers v.plan) 0;
       counted_are = λ b lb. get_or-replicate 34 b 0 0 (omega arith) ∙ sym (ap (λ (x : Pool). get_or x.counted b 0) d ∙ get_or-replicate (buffers v.plan) b 0 0 lb);
     }

@@ -1,21 +1,19 @@
-use Rattle.std.proofs.Common.{rules, ◌≡◌, ℕ, ◌+◌, ◌^◌, ◌<◌, ◌≤◌, List, length, take, get_or, set, refl, ap, sym, subst, ◌∙◌, arith}
-use Rattle.atomic_table.specs.Table.{Me}
+use Rattle.std.proofs.Common.{rules, ◌≡◌, ℕ, ◌+◌, ◌^◌, ◌<◌, ◌≤◌, length, get_or, set, ap, sym, subst, ◌∙◌, arith}
 use Rattle.snap_register.specs.declared.plan.Plan.{Plan}
 use Rattle.snap_register.specs.declared.plan.SeatView.{SeatView}
 use Rattle.snap_register.specs.History.{number}
 use Rattle.snap_register.specs.Rule.{segments}
-use Rattle.snap_register.specs.Rule as rule
-use Rattle.snap_register.specs.Seat.{Known, known, Grows, Meets, Looks, HasLooked, HasFoundUpdate, IsValue, IsView, MayPublish, Shows, number_in, own_of, AreTogether}
+use Rattle.snap_register.specs.Seat.{Known, known, MayPublish, Shows, number_in, own_of}
 use mathlib.Core.Logic.{dite}
 use native.Mathlib.Decide.{ℕ_discrete}
 use Rattle.std.proofs.Common.{get_or-set_same, get_or-set_other}
 use Rattle.std.proofs.lemmas.List.{length-set}
 use Rattle.snap_register.specs.declared.plan.Pool.{Pool}
 use Rattle.snap_register.specs.Rule.{buffers}
-use Rattle.snap_register.specs.Held.{CanTake, MayTake, IsShown}
+use Rattle.snap_register.specs.Held.{MayTake, IsShown}
 use Rattle.snap_register.proofs.Updates.{can_take, may_take, shown_is, below_is, number_is}
 use Rattle.snap_register.proofs.seats.WriteSeat.publish.Goals as goal
-use Rattle.snap_register.proofs.seats.WriteSeat.publish.Goals.{After-publish-at}
+use Rattle.snap_register.proofs.seats.WriteSeat.publish.Goals.{After-publish-current}
 
 pub overflow_add-next : goal.overflow_add-next
 overflow_add-next c =
@@ -27,8 +25,8 @@ overflow_add-next c =
     let small_sum : c.self.inside.number + 1 < 2 ^ 64 = omega arith in
     omega (arith, small_sum)
 
-pub publish-at-requires-clause-next : goal.publish-at-requires-clause-next
-publish-at-requires-clause-next c =
+pub publish-current-requires-clause-next : goal.publish-current-requires-clause-next
+publish-current-requires-clause-next c =
     let v : SeatView = c.self.inside.access.seat.me.0 in
     let next : number_in (known c.self.inside.access.seat.table_id v) (known c.self.inside.access.seat.table_id v).seen v.low + 1 < 2 ^ 63 = subst (λ (a : Known). number_in a a.seen (own_of a) + 1 < 2 ^ 63) (sym c.self.view_is) c.requires.next in
     let n = number_is v.plan v.seen v.low in
@@ -36,8 +34,8 @@ publish-at-requires-clause-next c =
     let k = c.self.invariant.number_is in
     (omega arith, omega arith)
 
-pub publish-at-requires-clause-view : goal.publish-at-requires-clause-view
-publish-at-requires-clause-view c =
+pub publish-current-requires-clause-view : goal.publish-current-requires-clause-view
+publish-current-requires-clause-view c =
     let s = c.self.inside.access.seat in
     let may = subst (λ (a : Known). MayPublish a c.args.view.now) (sym c.self.view_is) c.requires.view in (
       can_take s.table_id s.me.0 c.args.view.now may,
@@ -47,54 +45,54 @@ publish-at-requires-clause-view c =
 pub invariant_of-self : goal.invariant_of-self
 invariant_of-self c =
     let inv = c.self.invariant in
-    let l = c.publish-at.ensures in
+    let l = c.publish-current.ensures in
     let s = l.shown in
     let v : SeatView = c.self.inside.access.seat.me.0 in
-    let w : SeatView = c.publish-at.new.self.seat.me.0 in
+    let w : SeatView = c.publish-current.new.self.seat.me.0 in
     let pool = l.pool.1 in
-    let at = inv.at_is in
-    let la = inv.at_inside in
+    let at = inv.current_is in
+    let la = inv.current_inside in
     let lc = inv.counts in
     let plan : w.plan ≡ v.plan = ap (λ (u : SeatView). u.plan) s.same in
     let few : buffers w.plan ≡ buffers v.plan = ap buffers plan in
     let few34 : buffers v.plan ≤ 34 = let a = c.self.inside.access.sized.few in let b = c.self.inside.access.sized.few_scanners in let e = c.self.inside.access.sized.segments_are in let f = c.self.inside.access.sized.scanners_are in omega arith in
-    let mine : ℕ = c.self.inside.at in
-    let sum : ℕ = get_or v.pool.counted v.pool.at 0 + c.publish-at.result.1 in
+    let mine : ℕ = c.self.inside.current in
+    let sum : ℕ = get_or v.pool.counted v.pool.current 0 + c.publish-current.result.1 in
     record {
-      role = (ap (λ (u : SeatView). u.low) s.same ∙ inv.role.0, ap (λ (u : SeatView). u.high) s.same ∙ inv.role.1, ap (λ (u : SeatView). u.edge) s.same ∙ inv.role.2, ap (λ (u : SeatView). u.pool_end) s.same ∙ inv.role.3);
+      role = (ap (λ (u : SeatView). u.low) s.same ∙ inv.role.0, ap (λ (u : SeatView). u.high) s.same ∙ inv.role.1, ap (λ (u : SeatView). u.seen_end) s.same ∙ inv.role.2, ap (λ (u : SeatView). u.pool_end) s.same ∙ inv.role.3);
       inside = subst (λ (p : Plan). c.self.inside.segment < segments p) (sym plan) inv.inside;
       number_is = sym s.number_is;
-      at_is = sym (ap (λ (x : Pool). x.at) pool);
-      at_inside = let a = l.pool.0 in omega arith;
-      tried_is = ap (λ (x : Pool). x.tried) pool;
-      counts = ap (λ (x : Pool). length x.counted) pool ∙ (length-set v.pool.counted v.pool.at sum ∙ (inv.counts ∙ sym few));
+      current_is = sym (ap (λ (x : Pool). x.current) pool);
+      current_inside = let a = l.pool.0 in omega arith;
+      found_pinned_is = ap (λ (x : Pool). x.found_pinned) pool;
+      counts = ap (λ (x : Pool). length x.counted) pool ∙ (length-set v.pool.counted v.pool.current sum ∙ (inv.counts ∙ sym few));
       counted_are = λ b lb.
-          let new : get_or w.pool.counted b 0 ≡ get_or (set v.pool.counted v.pool.at sum) b 0 = ap (λ (x : Pool). get_or x.counted b 0) pool in
-          let same : get_or c.self.inside.counted mine 0 ≡ get_or v.pool.counted v.pool.at 0 = inv.counted_are mine la ∙ ap (λ (z : ℕ). get_or v.pool.counted z 0) at in
+          let new : get_or w.pool.counted b 0 ≡ get_or (set v.pool.counted v.pool.current sum) b 0 = ap (λ (x : Pool). get_or x.counted b 0) pool in
+          let same : get_or c.self.inside.counted mine 0 ≡ get_or v.pool.counted v.pool.current 0 = inv.counted_are mine la ∙ ap (λ (z : ℕ). get_or v.pool.counted z 0) at in
           dite (ℕ_discrete b mine)
-          (λ e. ap (λ (z : ℕ). get_or (set c.self.inside.counted mine (get_or c.self.inside.counted mine 0 + c.publish-at.result.1)) z 0) e
-          ∙ (get_or-set_same c.self.inside.counted mine (get_or c.self.inside.counted mine 0 + c.publish-at.result.1) 0 (search rules) ∙ (ap (λ (z : ℕ). z + c.publish-at.result.1) same
-          ∙ (sym (get_or-set_same v.pool.counted v.pool.at sum 0 (omega arith)) ∙ (ap (λ (z : ℕ). get_or (set v.pool.counted v.pool.at sum) z 0) (sym at ∙ sym e) ∙ sym new)))))
-          (λ ne. get_or-set_other c.self.inside.counted mine b (get_or c.self.inside.counted mine 0 + c.publish-at.result.1) 0 ne
-          ∙ (inv.counted_are b (omega arith) ∙ (sym (get_or-set_other v.pool.counted v.pool.at b sum 0 (λ e. ne (e ∙ sym at))) ∙ sym new)));
+          (λ e. ap (λ (z : ℕ). get_or (set c.self.inside.counted mine (get_or c.self.inside.counted mine 0 + c.publish-current.result.1)) z 0) e
+          ∙ (get_or-set_same c.self.inside.counted mine (get_or c.self.inside.counted mine 0 + c.publish-current.result.1) 0 (search rules) ∙ (ap (λ (z : ℕ). z + c.publish-current.result.1) same
+          ∙ (sym (get_or-set_same v.pool.counted v.pool.current sum 0 (omega arith)) ∙ (ap (λ (z : ℕ). get_or (set v.pool.counted v.pool.current sum) z 0) (sym at ∙ sym e) ∙ sym new)))))
+          (λ ne. get_or-set_other c.self.inside.counted mine b (get_or c.self.inside.counted mine 0 + c.publish-current.result.1) 0 ne
+          ∙ (inv.counted_are b (omega arith) ∙ (sym (get_or-set_other v.pool.counted v.pool.current b sum 0 (λ e. ne (e ∙ sym at))) ∙ sym new)));
     }
 
-shown : (c : After-publish-at) → IsShown c.self.inside.access.seat.me.0 c.publish-at.new.self.seat.me.0 c.self.inside.access.seat.me.0.low (c.self.inside.number + 1) c.args.value.now
-shown c = subst (λ (i : ℕ). IsShown c.self.inside.access.seat.me.0 c.publish-at.new.self.seat.me.0 i (c.self.inside.number + 1) c.args.value.now) (sym c.self.invariant.role.0) c.publish-at.ensures.shown
+shown : (c : After-publish-current) → IsShown c.self.inside.access.seat.me.0 c.publish-current.new.self.seat.me.0 c.self.inside.access.seat.me.0.low (c.self.inside.number + 1) c.args.value.now
+shown c = subst (λ (i : ℕ). IsShown c.self.inside.access.seat.me.0 c.publish-current.new.self.seat.me.0 i (c.self.inside.number + 1) c.args.value.now) (sym c.self.invariant.role.0) c.publish-current.ensures.shown
 
 pub returns-clause-shown : goal.returns-clause-shown
 returns-clause-shown c =
     let s = c.self.inside.access.seat in
-    let n = c.publish-at.new.self.seat in
+    let n = c.publish-current.new.self.seat in
     subst (λ (a : Known). Shows a (known n.table_id n.me.0) c.args.value.now) c.self.view_is
-    (shown_is s.table_id n.table_id s.me.0 n.me.0 (c.self.inside.number + 1) c.args.value.now c.publish-at.ensures.same.0 (shown (goal.at.returns-clause-shown c).After-publish-at))
+    (shown_is s.table_id n.table_id s.me.0 n.me.0 (c.self.inside.number + 1) c.args.value.now c.publish-current.ensures.same.0 (shown (goal.at.returns-clause-shown c).After-publish-current))
 
 pub returns-clause-below : goal.returns-clause-below
 returns-clause-below c =
-    let n = c.publish-at.new.self.seat in
-    below_is n.table_id n.me.0 c.publish-at.ensures.shown.below
+    let n = c.publish-current.new.self.seat in
+    below_is n.table_id n.me.0 c.publish-current.ensures.shown.below
 
 pub returns-clause-number : goal.returns-clause-number
 returns-clause-number c =
-    let w : SeatView = c.publish-at.new.self.seat.me.0 in
-    sym (number_is w.plan w.seen w.low ∙ (let low = ap (λ (u : SeatView). u.low) c.publish-at.ensures.shown.same ∙ c.self.invariant.role.0 in ap (λ (i : ℕ). number w.plan w.seen i) low ∙ c.publish-at.ensures.shown.number_is))
+    let w : SeatView = c.publish-current.new.self.seat.me.0 in
+    sym (number_is w.plan w.seen w.low ∙ (let low = ap (λ (u : SeatView). u.low) c.publish-current.ensures.shown.same ∙ c.self.invariant.role.0 in ap (λ (i : ℕ). number w.plan w.seen i) low ∙ c.publish-current.ensures.shown.number_is))

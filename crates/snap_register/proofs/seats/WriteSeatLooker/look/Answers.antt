@@ -1,39 +1,17 @@
-use Rattle.std.proofs.Common.{rules, ◌≡◌, ℕ, ◌+◌, ◌^◌, ◌<◌, ◌≤◌, List, length, take, get_or, set, refl, ap, sym, subst, ◌∙◌, arith}
-use Rattle.atomic_table.specs.Table.{Me}
-use Rattle.snap_register.specs.declared.plan.Plan.{Plan}
+use Rattle.std.proofs.Common.{sym, ◌∙◌}
 use Rattle.snap_register.specs.declared.plan.SeatView.{SeatView}
-use Rattle.snap_register.specs.History.{number}
-use Rattle.snap_register.specs.Rule.{segments}
-use Rattle.snap_register.specs.Rule as rule
-use Rattle.snap_register.specs.Seat.{Known, known, Grows, Meets, Looks, HasLooked, HasFoundUpdate, IsValue, IsView, MayPublish, Shows, number_in, own_of, AreTogether}
-use Rattle.snap_register.proofs.Updates.{grows_is, below_is, looks_is, number_is}
+use Rattle.snap_register.proofs.Updates.{number_is}
+use Rattle.snap_register.proofs.Looks.{look_seen, look_below, look_looked}
 use Rattle.snap_register.proofs.seats.WriteSeatLooker.look.Goals as goal
 
 pub returns-clause-seen : goal.returns-clause-seen
-returns-clause-seen c =
-    let s = c.self.inside.access.seat in
-    let l = c.look.ensures in
-    let w : SeatView = c.look.new.self.seat.me.0 in
-    let edge = c.self.inside.access.seated.edge_is in
-    subst (λ (a : Known). Grows a (known c.look.new.self.seat.table_id w)) c.self.view_is
-    (grows_is s.table_id c.look.new.self.seat.table_id s.me.0 w l.same.0 (ap (λ (u : SeatView). u.plan) l.view) (ap (λ (u : SeatView). u.low) l.view) (ap (λ (u : SeatView). u.high) l.view) l.learns.later
-    (λ i has. let x = has.1 in l.learns.own i has (omega arith)))
+returns-clause-seen c = let l = c.look.ensures in look_seen _ c.self.inside.access.seat.me.0 _ c.self.view_is _ c.look.new.self.seat.me.0 l.same.0 l.view c.self.inside.access.seated.seen_end_is l.learns
 
 pub returns-clause-below : goal.returns-clause-below
-returns-clause-below c =
-    let l = c.look.ensures in
-    let w : SeatView = c.look.new.self.seat.me.0 in
-    below_is c.look.new.self.seat.table_id w (subst (λ (p : Plan). rule.IsBelow p w.seen) (sym (ap (λ (u : SeatView). u.plan) l.view)) l.learns.below)
+returns-clause-below c = let l = c.look.ensures in look_below _ c.self.inside.access.seat.me.0 _ c.self.view_is _ c.look.new.self.seat.me.0 l.same.0 l.view l.learns
 
 pub returns-clause-number : goal.returns-clause-number
-returns-clause-number c =
-    let w : SeatView = c.look.new.self.seat.me.0 in
-    c.look.ensures.number ∙ sym (number_is w.plan w.seen c.args.j)
+returns-clause-number c = let w : SeatView = c.look.new.self.seat.me.0 in c.look.ensures.number ∙ sym (number_is w.plan w.seen c.args.j)
 
 pub returns-clause-looked : goal.returns-clause-looked
-returns-clause-looked c =
-    let s = c.self.inside.access.seat in
-    let l = c.look.ensures in
-    let w : SeatView = c.look.new.self.seat.me.0 in
-    subst (λ (a : Known). Looks a (known c.look.new.self.seat.table_id w) c.args.j c.look.result) c.self.view_is
-    (looks_is s.table_id c.look.new.self.seat.table_id s.me.0 w c.args.j c.look.result (ap (λ (u : SeatView). u.plan) l.view) l.looks l.number)
+returns-clause-looked c = let l = c.look.ensures in look_looked _ c.self.inside.access.seat.me.0 _ c.self.view_is _ c.look.new.self.seat.me.0 l.same.0 l.view c.args.j _ l.looks l.number

@@ -1,18 +1,5 @@
-use Rattle.std.proofs.Common.{rules, ◌≡◌, ℕ, ◌+◌, ◌^◌, ◌<◌, ◌≤◌, List, length, take, get_or, set, refl, ap, sym, subst, ◌∙◌, arith}
-use Rattle.atomic_table.specs.Table.{Me}
-use Rattle.snap_register.specs.declared.plan.Plan.{Plan}
-use Rattle.snap_register.specs.declared.plan.SeatView.{SeatView}
-use Rattle.snap_register.specs.History.{number}
-use Rattle.snap_register.specs.Rule.{segments}
-use Rattle.snap_register.specs.Rule as rule
-use Rattle.snap_register.specs.Seat.{Known, known, Grows, Meets, Looks, HasLooked, HasFoundUpdate, IsValue, IsView, MayPublish, Shows, number_in, own_of, AreTogether}
-use Rattle.snap_register.proofs.Updates.{value_shown}
+use Rattle.snap_register.proofs.Looks.{value_is}
 use Rattle.snap_register.proofs.seats.WriteSeatLooker.value.Goals as goal
 
 pub returns-clause-value : goal.returns-clause-value
-returns-clause-value c =
-    let s = c.self.inside.access.seat in
-    let lj = subst (λ (a : Known). c.args.j < segments a.plan) (sym c.self.view_is) c.requires.segment in
-    let has = subst (λ (a : Known). HasLooked a c.args.j) (sym c.self.view_is) c.requires.looked in
-    subst (λ (a : Known). IsValue a c.args.j (take c.value.result c.value.new.out)) c.self.view_is
-    (value_shown s.table_id s.me.0 c.args.j (take c.value.result c.value.new.out) has (c.self.inside.access.seated.records_are c.args.j lj) c.value.ensures.value)
+returns-clause-value c = value_is _ c.self.inside.access.seat.me.0 _ c.self.view_is c.args.j c.requires.segment c.self.inside.access.seated.records_are _ c.requires.looked c.value.ensures.value

@@ -1,0 +1,34 @@
+-- What a call changes of a seat at its table.
+use Rattle.std.specs.Prelude.{◌≡◌, ℕ, ◌<◌, List, slice_index}
+use Rattle.snap_register.specs.declared.access.Access.{Access}
+use Rattle.snap_register.specs.declared.plan.Pool.{Pool}
+use Rattle.snap_register.specs.declared.plan.SeatView.{SeatView}
+use Rattle.snap_register.specs.Rule.{segments, buffers, IsWriter}
+
+-- the seat writes the segment i alone, which there is
+abbrev pub Owns : SeatView → ℕ → Type 0
+Owns v i = IsWriter v i × (i < segments v.plan)
+
+-- the buffer b of the own register is noted as free
+abbrev pub IsFree : SeatView → ℕ → Type 0
+IsFree v b = (b ≡ v.pool.free_buffer) × (b < buffers v.plan)
+
+-- the seat pins a buffer of the register j
+abbrev pub HasPin : SeatView → ℕ → Type 0
+HasPin v j = (j < segments v.plan) × (0 < slice_index v.pins j)
+
+-- it is the same seat of the same table, with as many looks left
+abbrev pub IsSameSeat : Access → Access → Type 0
+IsSameSeat a b = (b.seat.table_id ≡ a.seat.table_id) × (b.seat.id ≡ a.seat.id) × (b.left ≡ a.left)
+
+-- and it knows the same
+abbrev pub IsSame : Access → Access → Type 0
+IsSame a b = (b.seat.table_id ≡ a.seat.table_id) × (b.seat.id ≡ a.seat.id) × (b.seat.me ≡ a.seat.me) × (b.left ≡ a.left)
+
+-- what it knows of its own buffers is this, and all else that it knows is the same
+abbrev pub HasPool : Access → Access → Pool → Type 0
+HasPool a b d = b.seat.me ≡ (record a.seat.me.0 { pool = d }, a.seat.me.1)
+
+-- the words that it stored in the free buffer are these, and nothing else changed
+abbrev pub HasDrafted : Access → Access → List ℕ → Type 0
+HasDrafted a b ws = (b.left ≡ a.left) × (b.seat.table_id ≡ a.seat.table_id) × (b.seat.id ≡ a.seat.id) × HasPool a b (record a.seat.me.0.pool { draft = ws })

@@ -1,0 +1,160 @@
+//! Looks: a seat gives its old pin back, pins the current buffer, and reads what is pinned.
+ghost use Rattle.std.specs.Prelude.{◌≡◌, ℕ, ◌+◌, ◌<◌, ◌≤◌, length, slice_index, slice_get};
+ghost use Rattle.std.specs.Prelude.{slice_set, take, Some};
+ghost use Rattle.snap_slot.specs.declared.layout.TheConstants.{MAX_VALUE_LEN};
+ghost use Rattle.snap_register.specs.declared.packing.TheConstants.{BLOCK_WORDS};
+ghost use Rattle.snap_register.specs.History.{number};
+ghost use Rattle.snap_register.specs.Rule.{segments, Learns, IsLegal};
+ghost use Rattle.snap_register.specs.Packing.{IsWhole, size_at, value_at};
+ghost use Rattle.snap_register.specs.Held.{held, view_in, IsPinned, HasLookedFrom};
+ghost use Rattle.snap_register.specs.Steps.{HasPin, IsSame};
+
+use crate::access::{Access, PIN_RANGE};
+use crate::packing::block_size;
+use crate::setup::{GiveBack, Pin, Read};
+use crate::snapshot::{Held, SnapshotBuf};
+
+impl Access {
+    /// The published number of j, whose record is pinned from here on.
+    pub(crate) fn look(&mut self, j: usize) -> u64
+        requires { (j < segments self.old.seat.me.0.plan) × (0 < self.old.left) }
+        ensures learns { Learns self.old.seat.me.0 self.new.seat.me.0 }
+        ensures number { result ≡ number self.new.seat.me.0.plan self.new.seat.me.0.seen j }
+        ensures looks { IsPinned self.old.seat.me.0 self.new.seat.me.0 j }
+        ensures left { self.new.left + 1 ≡ self.old.left }
+        ensures same { (self.new.seat.table_id ≡ self.old.seat.table_id)
+            × (self.new.seat.id ≡ self.old.seat.id) × (self.new.seat.me.1 ≡ self.old.seat.me.1) }
+        ensures view { HasLookedFrom self.old.seat.me.0 self.new.seat.me.0 }
+    {
+        self.give_back(j);
+        self.pin(j);
+        self.read(j, 0)
+    }
+
+    // Gives the pin on j back, if there is one.
+    fn give_back(&mut self, j: usize)
+        requires { j < segments self.old.seat.me.0.plan }
+        ensures { (self.new.left ≡ self.old.left)
+            × (self.new.seat.table_id ≡ self.old.seat.table_id)
+            × (self.new.seat.id ≡ self.old.seat.id)
+            × (self.new.seat.me ≡ (
+              record self.old.seat.me.0
+                  { pins = slice_set self.old.seat.me.0.pins j 0 },
+              self.old.seat.me.1,
+            )) }
+    {
+        if self.pins[j] > 0 {
+            let b = (self.pins[j] - 1) as usize;
+            let at = self.given(j, b);
+            self.table
+                .shared
+                .fetch_add::<GiveBack>(&mut self.seat, at, 1);
+            self.pins[j] = 0;
+        }
+    }
+
+    // Pins the current buffer of j.
+    fn pin(&mut self, j: usize)
+        requires { (j < segments self.old.seat.me.0.plan)
+            × (slice_index self.old.seat.me.0.pins j ≡ 0) × (0 < self.old.left) }
+        ensures learns { Learns self.old.seat.me.0 self.new.seat.me.0 }
+        ensures looks { IsPinned self.old.seat.me.0 self.new.seat.me.0 j }
+        ensures left { self.new.left + 1 ≡ self.old.left }
+        ensures same { (self.new.seat.table_id ≡ self.old.seat.table_id)
+            × (self.new.seat.id ≡ self.old.seat.id) × (self.new.seat.me.1 ≡ self.old.seat.me.1) }
+        ensures view { HasLookedFrom self.old.seat.me.0 self.new.seat.me.0 }
+    {
+        let found = self.table.shared.fetch_add::<Pin>(&mut self.seat, j, 1);
+        self.pins[j] = found / PIN_RANGE + 1;
+        self.left -= 1;
+    }
+
+    /// The word q of the pinned record of j.
+    pub(crate) fn read(&mut self, j: usize, q: usize) -> u64
+        requires pinned { HasPin self.old.seat.me.0 j }
+        requires place { q < length (held self.old.seat.me.0 j) }
+        ensures word { result ≡ slice_index (held self.old.seat.me.0 j) q }
+        ensures legal { IsLegal self.old.seat.me.0.plan self.old.seat.me.0.seen }
+        ensures same { IsSame self.old self.new }
+    {
+        let b = (self.pins[j] - 1) as usize;
+        let at = self.cell(j, b, q);
+        self.table.shared.load::<Read>(&mut self.seat, at)
+    }
+
+    /// How many words the block at this place of the pinned record of j takes.
+    pub(crate) fn size_at(&mut self, j: usize, at: usize) -> usize
+        requires pinned { HasPin self.old.seat.me.0 j }
+        requires block { IsWhole (held self.old.seat.me.0 j) at }
+        ensures size { (result ≡ size_at (held self.old.seat.me.0 j) at) × (result ≤ BLOCK_WORDS) }
+        ensures legal { IsLegal self.old.seat.me.0.plan self.old.seat.me.0.seen }
+        ensures same { IsSame self.old self.new }
+    {
+        let length = self.read(j, at + 1) as usize;
+        block_size(length)
+    }
+
+    /// The value of the pinned record of j. Answers its length.
+    pub(crate) fn value(&mut self, j: usize, out: &mut [u8]) -> usize
+        requires pinned { HasPin self.old.seat.me.0 j }
+        requires room { MAX_VALUE_LEN ≤ length out.old }
+        ensures value { take result out.new ≡ value_at (held self.old.seat.me.0 j) 0 }
+        ensures size { result ≤ MAX_VALUE_LEN }
+        ensures same { IsSame self.old self.new }
+    {
+        self.read_value(j, 0, out)
+    }
+
+    // The value of the block at this place of the pinned record of j. Answers its length.
+    fn read_value(&mut self, j: usize, at: usize, out: &mut [u8]) -> usize
+        requires pinned { HasPin self.old.seat.me.0 j }
+        requires block { IsWhole (held self.old.seat.me.0 j) at }
+        requires room { MAX_VALUE_LEN ≤ length out.old }
+        ensures value { take result out.new ≡ value_at (held self.old.seat.me.0 j) at }
+        ensures size { (result ≡ slice_index (held self.old.seat.me.0 j) (at + 1))
+            × (result ≤ MAX_VALUE_LEN) }
+        ensures same { IsSame self.old self.new }
+    {
+        let length = self.read(j, at + 1) as usize;
+        for q in 0..(length + 7) / 8 {
+            let word = self.read(j, at + 2 + q);
+            let to = 8 * q;
+            out[to..to + 8].copy_from_slice(&word.to_le_bytes());
+        }
+        length
+    }
+
+    /// The view of the pinned record of j, which is an update's.
+    pub(crate) fn view(&mut self, j: usize, out: &mut SnapshotBuf)
+        requires pinned { HasPin self.old.seat.me.0 j }
+        requires updated { 0 < slice_index self.old.seat.me.0.records j }
+        requires room { length out.old ≡ segments self.old.seat.me.0.plan }
+        ensures size { length out.new ≡ length out.old }
+        ensures legal { IsLegal self.old.seat.me.0.plan self.old.seat.me.0.seen }
+        ensures view { (k : ℕ) → k < segments self.old.seat.me.0.plan
+            → slice_get out.new k ≡ Some (view_in (held self.old.seat.me.0 j) k) }
+        ensures same { IsSame self.old self.new }
+    {
+        let mut at = self.size_at(j, 0);
+        for k in 0..out.segments.len() {
+            at += self.read_block(j, at, &mut out.segments[k]);
+        }
+    }
+
+    // The number and the value of the block at this place. Answers how many words it takes.
+    fn read_block(&mut self, j: usize, at: usize, out: &mut Held) -> usize
+        requires pinned { HasPin self.old.seat.me.0 j }
+        requires block { IsWhole (held self.old.seat.me.0 j) at }
+        ensures block { out.new ≡ (
+          slice_index (held self.old.seat.me.0 j) at,
+          value_at
+              (held self.old.seat.me.0 j) at,
+        ) }
+        ensures size { result ≡ size_at (held self.old.seat.me.0 j) at }
+        ensures same { IsSame self.old self.new }
+    {
+        out.number = self.read(j, at);
+        out.length = self.read_value(j, at, &mut out.bytes);
+        block_size(out.length)
+    }
+}
