@@ -7,8 +7,8 @@ use Rattle.snap_register.specs.declared.view.View.{View}
 use Rattle.snap_register.specs.declared.view.View.TheVariants.{Collected, Borrowed}
 use Rattle.snap_scan.specs.Looks.{most_looks}
 
--- the last looks told the numbers after a list that begins with what the seat had seen before, and is
--- a beginning of what it has seen after
+-- the last looks told the numbers after a list that begins with what the seat had seen before, and
+-- is a beginning of what it has seen after
 pub record IsCleanScan (before after : Known) : Type 0 where
   pub part : List Update
   pub begins : IsBeginning before.seen part
@@ -28,8 +28,8 @@ abbrev pub IsScan : Known → Known → View → Type 0
 IsScan before after Collected = IsCleanScan before after
 IsScan before after (Borrowed j) = IsBorrowedScan before after j
 
--- the numbers and values of the memory after a list that begins with what the seat had seen before, and
--- is a beginning of what it has seen after
+-- the numbers and values of the memory after a list that begins with what the seat had seen before,
+-- and is a beginning of what it has seen after
 pub record IsSnapshot (before after : Known) (memory : List (ℕ × List ℕ)) : Type 0 where
   pub part : List Update
   pub begins : IsBeginning before.seen part

@@ -1,4 +1,17 @@
-use Rattle.std.proofs.Common.{ℕ, inl, inr, ◌≤◌, Some, slice_get, slice_index, ap, sym, subst, ◌∙◌, arith}
+use Rattle.std.proofs.Common.{
+  ℕ,
+  inl,
+  inr,
+  ◌≤◌,
+  Some,
+  slice_get,
+  slice_index,
+  ap,
+  sym,
+  subst,
+  ◌∙◌,
+  arith,
+}
 use Rattle.std.proofs.lemmas.Bool.{cases_eq}
 use Rattle.snap_register.specs.Rule.{segments}
 use Rattle.snap_register.specs.Seat.{Known, IsValue}
@@ -17,9 +30,11 @@ loop-i-preserved g c =
           x.0,
           ap (slice_get c.read.new.self) is ∙ x.1,
           x.2 ∙ ap (slice_index c.args.numbers.now) (sym is),
-          subst (λ v. IsValue (g.L.Looker.known c.args.seat.now) v x.0.1) (sym is) (subst (λ (z : Known). IsValue z k x.0.1) inv.same x.3),
+          subst (λ v. IsValue (g.L.Looker.known c.args.seat.now) v x.0.1) (sym is)
+              (subst (λ (z : Known). IsValue z k x.0.1) inv.same x.3),
         )
-        | inr ne ↦ (let old = inv.each i (omega arith) in (old.0, c.read.ensures.others i ne ∙ old.1, old.2, old.3))
+        | inr ne ↦ (let old = inv.each i (omega arith) in
+            (old.0, c.read.ensures.others i ne ∙ old.1, old.2, old.3))
       ];
     }
 

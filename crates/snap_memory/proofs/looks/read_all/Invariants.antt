@@ -6,5 +6,6 @@ abbrev pub invariant-loop-i : goal.invariant-loop-i
 invariant-loop-i g l = record {
   same : g.L.Looker.known l.seat ≡ g.L.Looker.known l.fn.seat;
   long : length l.out ≡ length l.fn.out;
-  each : (i : ℕ) → i < l.i → (x : ℕ × List ℕ) × (slice_get l.out i ≡ Some x) × (x.0 ≡ slice_index l.fn.numbers i) × IsValue (g.L.Looker.known l.fn.seat) i x.1;
+  each : (i : ℕ) → i < l.i → (x : ℕ × List ℕ) × (slice_get l.out i ≡ Some x)
+      × (x.0 ≡ slice_index l.fn.numbers i) × IsValue (g.L.Looker.known l.fn.seat) i x.1;
 }

@@ -9,4 +9,5 @@ returns-in-Collected-clause-snapshot g c =
     let a = g.L.Looker.known c.args.seat.now in
     let b = g.L.Looker.known c.gather.new.seat in
     subst (λ (z : Known). IsSnapshot a z c.read_all.new.out) (sym c.read_all.ensures.same)
-    (snapshot_clean a b c.read_all.new.out (subst (IsScan a b) c.in-Collected.is c.gather.ensures.scan) c.read_all.ensures.values)
+    (snapshot_clean a b c.read_all.new.out
+    (subst (IsScan a b) c.in-Collected.is c.gather.ensures.scan) c.read_all.ensures.values)

@@ -1,7 +1,8 @@
 use Rattle.std.proofs.Common.{IfOk, Result, Ok, Err}
 use Rattle.snap_memory.proofs.tests.open.Goals as goal
 
-if_ok : {T E : Type 0} (P Q : T → Type 0) (r : Result T E) → ((x : T) → P x → Q x) → IfOk r P → IfOk r Q
+if_ok : {T E : Type 0} (P Q : T → Type 0) (r : Result T E) → ((x : T) → P x → Q x) → IfOk r P
+    → IfOk r Q
 if_ok P Q (Ok x) f h = f x h
 if_ok P Q (Err e) f h = tt
 
