@@ -1,6 +1,9 @@
 //! Room for the numbers and values of all segments, which is made once and filled again and again.
-ghost use Rattle.std.specs.Prelude.{◌≡◌, ℕ, ◌<◌, List, length, slice_get, Some, IfOk};
+ghost use Rattle.std.specs.Prelude.{◌≡◌, ◌≢◌, ℕ, ◌<◌, List, length, slice_get, Some, IfOk};
+ghost use Rattle.snap_register.specs.Rule.{segments};
+ghost use Rattle.snap_register.specs.Seat.{looked, IsValue};
 
+use crate::seats::Looker;
 use snap_slot::MAX_VALUE_LEN;
 use std::alloc::{AllocError, Global};
 use std::marker::Model;
@@ -35,6 +38,18 @@ impl Held {
         ensures { result ≡ self.now.0 }
     {
         self.number
+    }
+
+    // Becomes this number and the value of the record of the seat's last look at j.
+    fn read<L: Looker>(&mut self, seat: &mut L, j: usize, number: u64)
+        requires segment { j < segments (L.known seat.old).plan }
+        requires looked { looked (L.known seat.old) j ≡ Some number }
+        ensures number { self.new.0 ≡ number }
+        ensures value { IsValue (L.known seat.old) j self.new.1 }
+        ensures same { L.known seat.new ≡ L.known seat.old }
+    {
+        self.number = number;
+        self.length = seat.value(j, &mut self.bytes);
     }
 }
 
@@ -91,5 +106,20 @@ impl SnapshotBuf {
         ensures { (x : ℕ × List ℕ) → slice_get self.now i ≡ Some x → result.now ≡ x.1 }
     {
         self.segments[i].value()
+    }
+
+    /// Takes the value of the record of the seat's last look at the segment j, which told this
+    /// number, out of the buffer that the seat pins. The other segments stay as they are.
+    pub fn read<L: Looker>(&mut self, seat: &mut L, j: usize, number: u64)
+        requires inside { j < length self.old }
+        requires segment { j < segments (L.known seat.old).plan }
+        requires looked { looked (L.known seat.old) j ≡ Some number }
+        ensures size { length self.new ≡ length self.old }
+        ensures here { (x : ℕ × List ℕ) × (slice_get self.new j ≡ Some x)
+            × (x.0 ≡ number) × IsValue (L.known seat.old) j x.1 }
+        ensures others { (i : ℕ) → i ≢ j → slice_get self.new i ≡ slice_get self.old i }
+        ensures same { L.known seat.new ≡ L.known seat.old }
+    {
+        self.segments[j].read(seat, j, number);
     }
 }

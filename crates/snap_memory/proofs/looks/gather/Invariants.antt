@@ -1,0 +1,11 @@
+use Rattle.std.proofs.Common.{◌-◌, length}
+use Rattle.snap_scan.specs.Looks.{most_looks}
+use Rattle.snap_memory.proofs.Gathering.{Gathers}
+use Rattle.snap_memory.proofs.looks.gather.Given as goal
+
+abbrev pub invariant-looks : goal.invariant-looks
+invariant-looks g l = Gathers (g.L.Looker.known l.fn.seat)
+    (g.L.Looker.known l.seat) l.scan l.numbers
+
+abbrev pub decreases-looks : goal.decreases-looks
+decreases-looks g l = most_looks l.scan.segments - length l.scan.told

@@ -1,0 +1,13 @@
+use Rattle.std.proofs.Common.{sym, subst}
+use Rattle.snap_register.specs.Seat.{Known}
+use Rattle.snap_memory.specs.Scans.{IsScan, IsSnapshot}
+use Rattle.snap_memory.proofs.Answering.{snapshot_clean}
+use Rattle.snap_memory.proofs.looks.scan.Goals as goal
+
+pub returns-in-Collected-clause-snapshot : goal.returns-in-Collected-clause-snapshot
+returns-in-Collected-clause-snapshot g c =
+    let a = g.L.Looker.known c.args.seat.now in
+    let b = g.L.Looker.known c.gather.new.seat in
+    subst (λ (z : Known). IsSnapshot a z c.read_all.new.out) (sym c.read_all.ensures.same)
+    (snapshot_clean a b c.read_all.new.out
+    (subst (IsScan a b) c.in-Collected.is c.gather.ensures.scan) c.read_all.ensures.values)

@@ -1,0 +1,22 @@
+//! Snapshots of the registers that threads share: scans, and updates that take a scan along (Afek
+//! et al. 1993). Nobody waits for anybody.
+//!
+//! A scan looks at one register after the other, as the machine of `snap_scan` says, until the
+//! numbers told tell one moment. Then it reads the values out of the buffers that its seat still
+//! pins: those of the last looks where the scan is clean, and the view of one register where it
+//! borrows. Its answer is the memory after a list of updates that begins with all that its seat had
+//! seen before, and is a beginning of all that it has seen after (specs/Scans.antt).
+#![tactic(auto)]
+
+mod looks;
+mod scanner;
+mod snapshot;
+mod update;
+
+pub use scanner::Scanner;
+pub use snap_register::View;
+pub use snapshot::Snapshot;
+pub use update::{prepare, show};
+
+#[cfg(test)]
+mod tests;

@@ -1,0 +1,109 @@
+//! The scanners.
+ghost use Rattle.std.specs.Prelude.{◌≡◌, ℕ, ◌+◌, ◌<◌, ◌≤◌, length, take, OnOk, OnErr, IfErr};
+ghost use Rattle.snap_slot.specs.declared.layout.TheConstants.{MAX_COUNT, MAX_VALUE_LEN};
+ghost use Rattle.snap_register.specs.Rule.{segments};
+ghost use Rattle.snap_register.specs.Seat.{Grows, Meets, IsBelow, AreTogether, number_in, value_in};
+ghost use Rattle.snap_scan.specs.Looks.{most_looks};
+ghost use Rattle.snap_memory.specs.Scans.{IsSnapshot, CanScan, TakesLooks};
+ghost use Rattle.snap_disk.specs.declared.refusal.Refusal.{Refusal};
+
+use crate::looks::scan;
+use crate::snapshot::Snapshot;
+use snap_disk::Refusal;
+use snap_register::{Looker, ReadSeat, WriteSeat};
+use snap_scan::most_looks;
+use snap_slot::MAX_VALUE_LEN;
+use std::marker::Model;
+
+/// One scanner, on a seat of its own. It waits for nobody, and takes no memory.
+#[derive(Drop)]
+pub struct Scanner {
+    seat: ReadSeat,
+}
+
+impl Model for Scanner {
+    ghost use Rattle.snap_register.specs.Seat.{Known};
+
+    ghost Value = { Known };
+
+    ghost view = { λ s. s.seat };
+}
+
+impl Scanner {
+    /// The scanner on this seat.
+    pub fn new(seat: ReadSeat) -> Scanner
+        ensures { result ≡ seat }
+    {
+        Scanner { seat }
+    }
+
+    /// How many segments there are, 1 to 16.
+    pub fn segments(&self) -> usize
+        ensures count { result ≡ segments self.now.plan }
+        ensures some { (0 < result) × (result ≤ MAX_COUNT) }
+    {
+        self.seat.segments()
+    }
+
+    /// How many looks it may still take.
+    pub fn looks_left(&self) -> u64
+        ensures { result ≡ self.now.left }
+    {
+        self.seat.looks_left()
+    }
+
+    /// Fills `out` with the number and the value of each segment, all of one moment: the memory
+    /// after a list of updates that begins with all that the scanner had seen before this call, and
+    /// is a beginning of all that it has seen after. It takes off the looks that it takes.
+    ///
+    /// Where fewer looks are left than a scan might take ([`most_looks`]) it answers `Worn`, and
+    /// nothing changes.
+    pub fn scan_into(&mut self, out: &mut Snapshot) -> Result<(), Refusal>
+        requires room { length out.old ≡ segments self.old.plan }
+        ensures enough { OnOk result (CanScan self.old) }
+        ensures worn { IfErr result (λ why. (why ≡ Refusal.Worn)
+            × (self.old.left < most_looks (segments self.old.plan))) }
+        ensures snapshot { OnOk result (IsSnapshot self.old self.new out.new) }
+        ensures seen { OnOk result (Grows self.old self.new) }
+        ensures below { OnOk result (IsBelow self.new) }
+        ensures left { OnOk result (TakesLooks self.old self.new) }
+        ensures kept { OnErr result (out.new ≡ out.old) }
+        ensures unchanged { OnErr result (self.new ≡ self.old) }
+    {
+        if self.seat.looks_left() < most_looks(self.seat.segments()) as u64 {
+            return Err(Refusal::Worn);
+        }
+        scan(&mut self.seat, &mut out.buf);
+        Ok(())
+    }
+
+    /// One look at the segment `j`: its number, and its value at the front of `value`, with the
+    /// value's length.
+    pub fn read_one(&mut self, j: usize, value: &mut [u8; MAX_VALUE_LEN]) -> (u64, usize)
+        requires segment { j < segments self.old.plan }
+        requires left { 0 < self.old.left }
+        ensures seen { Grows self.old self.new }
+        ensures below { IsBelow self.new }
+        ensures number { result.0 ≡ number_in self.new self.new.seen j }
+        ensures value { take result.1 value.new ≡ value_in self.new self.new.seen j }
+        ensures size { result.1 ≤ MAX_VALUE_LEN }
+        ensures left { self.new.left + 1 ≡ self.old.left }
+    {
+        let number = self.seat.look(j);
+        let length = self.seat.value(j, value);
+        (number, length)
+    }
+
+    /// Afterwards the scanner and the writer have seen the same: all that either had seen, and all
+    /// that stands in the history at a moment of this call. So the scanner's next scan has all that
+    /// the writer showed before. It isn't a look.
+    pub fn meet(&mut self, writer: &mut WriteSeat)
+        requires together { AreTogether self.old writer.old }
+        ensures scanner { Meets self.old self.new }
+        ensures writer { Meets writer.old writer.new }
+        ensures met { self.new.seen ≡ writer.new.seen }
+        ensures below { IsBelow self.new }
+    {
+        self.seat.meet(writer);
+    }
+}

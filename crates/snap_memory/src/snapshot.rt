@@ -1,0 +1,56 @@
+//! The answer of a scan, in room that is made once and filled again and again.
+ghost use Rattle.std.specs.Prelude.{◌≡◌, ℕ, ◌<◌, List, length, slice_get, Some, IfOk};
+
+use snap_register::SnapshotBuf;
+use std::alloc::{AllocError, Global};
+use std::marker::Model;
+
+/// The number and the value of each segment, as a scan answered them.
+#[derive(Drop)]
+pub struct Snapshot {
+    pub(crate) buf: SnapshotBuf,
+}
+
+impl Model for Snapshot {
+    ghost use Rattle.std.specs.Prelude.{ℕ, List};
+
+    ghost Value = { List (ℕ × List ℕ) };
+
+    ghost view = { λ s. s.buf };
+}
+
+impl Snapshot {
+    /// Room for n segments, 4,096 bytes each; at first each has number 0 and the empty value.
+    ///
+    /// Where memory runs out it answers the `AllocError`, and nothing is kept.
+    pub fn new(alloc: Global, n: usize) -> Result<Snapshot, AllocError>
+        ensures size { IfOk result (λ s. length s ≡ n) }
+    {
+        Ok(Snapshot {
+            buf: SnapshotBuf::new(alloc, n)?,
+        })
+    }
+
+    /// How many segments it has room for.
+    pub fn len(&self) -> usize
+        ensures { result ≡ length self.now }
+    {
+        self.buf.len()
+    }
+
+    /// The number of the segment i.
+    pub fn number(&self, i: usize) -> u64
+        requires { i < length self.now }
+        ensures { (x : ℕ × List ℕ) → slice_get self.now i ≡ Some x → result ≡ x.0 }
+    {
+        self.buf.number(i)
+    }
+
+    /// The value of the segment i.
+    pub fn value(&self, i: usize) -> &[u8]
+        requires { i < length self.now }
+        ensures { (x : ℕ × List ℕ) → slice_get self.now i ≡ Some x → result.now ≡ x.1 }
+    {
+        self.buf.value(i)
+    }
+}
