@@ -4,7 +4,7 @@ ghost use Rattle.atomic_table.specs.Seated.{TableId};
 ghost use Rattle.snap_slot.specs.Layout.{IsNumber, IsShort};
 ghost use Rattle.snap_slot.specs.declared.layout.TheConstants.{MAX_COUNT};
 ghost use Rattle.snap_register.specs.declared.packing.TheConstants.{BLOCK_WORDS};
-ghost use Rattle.snap_register.specs.declared.plan.TheConstants.{MAX_SCANNERS};
+ghost use Rattle.snap_history.specs.declared.limits.TheConstants.{MAX_SCANNERS};
 ghost use Rattle.snap_register.specs.declared.plan.Plan.{Plan};
 ghost use Rattle.snap_register.specs.Packing.{value_at, IsBlock};
 ghost use Rattle.snap_register.specs.Parts.{IsOpening, AreWriters, AreReaders};

@@ -1,7 +1,7 @@
 //! Registers of one segment, by hand.
 ghost use Rattle.std.specs.Prelude.{◌≤◌, ◌^◌, length};
 ghost use Rattle.snap_slot.specs.Layout.{IsShort};
-ghost use Rattle.snap_register.specs.declared.plan.TheConstants.{MAX_SCANNERS};
+ghost use Rattle.snap_history.specs.declared.limits.TheConstants.{MAX_SCANNERS};
 
 use crate::packing::{block_size, tail_word, word_of};
 use crate::{Looker, Parts, ReadSeat, Registers, View, WriteSeat};
@@ -9,6 +9,8 @@ use snap_slot::MAX_VALUE_LEN;
 use std::alloc::{AllocError, Global};
 use std::test::Fail;
 use std::thread::join;
+
+mod threads;
 
 // Shows a value, where there is one segment and a look is left.
 fn write(writer: &mut WriteSeat, value: &[u8]) -> Option<u64> {

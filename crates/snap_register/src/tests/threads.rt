@@ -1,7 +1,7 @@
 //! Three writers and two scanners in threads of their own. What the scanners found is judged
 //! afterwards, by a checker that knows nothing of the registers.
 ghost use Rattle.std.specs.Prelude.{◌≡◌, ◌≤◌, ◌^◌, IsTrue};
-ghost use Rattle.snap_register.specs.declared.plan.TheConstants.{MAX_SCANNERS};
+ghost use Rattle.snap_history.specs.declared.limits.TheConstants.{MAX_SCANNERS};
 ghost use Rattle.snap_register.specs.Rule.{segments};
 ghost use Rattle.snap_register.specs.Seat.{IsCollected};
 
