@@ -176,8 +176,7 @@ module _ (S : Type 0) where
         few = k.few;
         legal = legal;
         registers = λ a la. dite (ℕ_discrete a i)
-            (λ e. subst (λ (z : ℕ × Pool × ℕ). Register p h ws (set s.views id w) z.0 z.1 z.2) (λ t.
-                (
+            (λ e. subst (λ (z : ℕ × Pool × ℕ). Register p h ws (set s.views id w) z.0 z.1 z.2) (λ t. (
               sym e t,
               sym (turn_here k.pools i d a e) t,
               sym (turn_here k.pinned i x a e) t,

@@ -16,8 +16,6 @@ mod setup;
 mod snapshot;
 #[cfg(test)]
 mod tests;
-#[cfg(test)]
-mod thread_tests;
 mod view;
 
 pub use opening::Parts;

@@ -10,6 +10,8 @@ use std::alloc::{AllocError, Global};
 use std::test::Fail;
 use std::thread::join;
 
+mod threads;
+
 // Shows a value, where there is one segment and a look is left.
 fn write(writer: &mut WriteSeat, value: &[u8]) -> Option<u64> {
     if writer.segments() > 1 {
