@@ -283,9 +283,11 @@ def test_standard_input_that_fails(snapd, _):
 
 def test_standard_output_that_fails(snapd, _):
     script = lines(["world 1 1", *["show 0"] * 2_000])
-    with open("/dev/full", "wb") as full:
-        run = snapd("script", stdin=script, stdout=full)
-    assert run.status == 1 and run.errors.startswith("snapd: standard output: "), run
+    # Also where the last line can't be read: what was to be said of it is not said of a text that was never written.
+    for it in (script, "world 1 1", "world 1 1\nshow\n"):
+        with open("/dev/full", "wb") as full:
+            run = snapd("script", stdin=it, stdout=full)
+        assert run.status == 1 and run.errors.startswith("snapd: standard output: "), run
     reader, writer = os.pipe()
     os.close(reader)
     run = snapd("script", stdin=script, stdout=writer)
