@@ -7,7 +7,7 @@ not in memory. The runs of the two programs alternate; printed are both medians 
 A whole process is to cost at most 1.3 times the C program's, and a store inside a process at most 1.05 times.
 
 Then it counts events a second of a world and lines a second of a script, each also ten times as long: the cost of an event
-is not to grow with their number. Last it counts the looks of a scan, alone and beside writers.
+is not to grow with their number. A script of 200 MB is to run with less than 10 MB resident. Last it counts the looks of a scan, alone and beside writers.
 """
 
 import argparse
@@ -89,6 +89,28 @@ def scripts():
     print(f"\n{'lines of a script':<44} {rates[0]:>12,.0f} {rates[1]:>12,.0f}   a second, at 100 kB and at 1 MB")
 
 
+def most_resident(process):
+    """The most memory that this process has had resident so far, in kB."""
+    status = pathlib.Path(f"/proc/{process.pid}/status").read_text()
+    return int(status.split("VmHWM:")[1].split()[0])
+
+
+def endless():
+    """Lines a second of a script of 200 MB, and whether it ran to its end with less than 10 MB resident."""
+    piece, pieces = b"show 0\n" * 10_000, 200_000_000 // 70_000 + 1
+    began = time.monotonic()
+    run = subprocess.Popen([TOP / "bin" / "snapd", "script"], stdin=subprocess.PIPE, stdout=subprocess.DEVNULL)
+    run.stdin.write(b"world 1 1\n")
+    for _ in range(pieces):
+        run.stdin.write(piece)
+    resident = most_resident(run)
+    run.stdin.close()
+    status = run.wait()
+    rate = 10_000 * pieces / (time.monotonic() - began)
+    print(f"{'a script of 200 MB of short lines':<44} {rate:>12,.0f} {resident:>12,}   lines a second, and kB resident")
+    return status == 0 and resident < 10_000
+
+
 def update(writer, segments):
     """The lines of one update while nobody else writes. A store whose spare gate is closed answers the last calls `not now`."""
     return [f"begin {writer} 61"] + [f"look w{writer}"] * (2 * segments) + [f"call {writer}"] * 6 + [f"show {writer}", f"ack {writer}"]
@@ -158,8 +180,9 @@ def main():
         print(f"allocations with 1 store and with {STORES}: {few} and {more}")
         worlds()
         scripts()
+        fits = endless()
         looks()
-        return 0 if few == more else 1
+        return 0 if few == more and fits else 1
 
 
 if __name__ == "__main__":

@@ -1,7 +1,9 @@
 """The command `script`: what it prints, line by line, and how it ends (docs/FORMATS.md, "Scripts")."""
 
 import os
+import subprocess
 
+# The most bytes of a line, without its end.
 LIMIT = 1_048_576
 
 STORE = ["called body", "called sync", "called open", "called sync"]
@@ -202,11 +204,81 @@ def test_lines_that_cannot_be_read(snapd, _):
         assert run.errors.startswith("snapd: line 4: ") and run.errors.count("\n") == 1, (line, run)
 
 
-def test_the_longest_script_and_one_byte_more(snapd, _):
-    head = "world 1 1\n"
-    whole = head + "\n" * (LIMIT - len(head))
-    snapd("script", stdin=whole).gave(0, head)
-    snapd("script", stdin=whole + "\n").failed_with(2, "1048576")
+def test_the_longest_line_and_one_byte_more(snapd, _):
+    longest = "begin 0 " + "a5" * ((LIMIT - 8) // 2)
+    assert len(longest) == LIMIT
+    for end in ("", "\n"):
+        snapd("script", stdin="world 1 1\n\n" + longest + end).gave(0, "world 1 1\nnot now\n")
+        for line in (longest + "0", "x" * (LIMIT + 1), "\x00" * (3 * LIMIT)):
+            run = snapd("script", stdin="world 1 1\n\n" + line + end)
+            assert (run.status, run.output) == (2, b"world 1 1\n"), run.status
+            assert run.errors == "snapd: line 3: a line has at most 1048576 bytes\n", run.errors
+    run = snapd("script", stdin="x" * LIMIT + "\n")
+    assert run.status == 2 and run.errors.startswith("snapd: line 1: the first line has to be "), run.errors
+
+
+def test_scripts_longer_than_a_line_may_be(snapd, _):
+    rows = 2_000_000 // len("show 0\n") + 1
+    snapd("script", stdin="world 1 1\n" + "show 0\n" * rows).gave(0, "world 1 1\n" + "not now\n" * rows)
+    snapd("script", stdin="world 1 1\n" + "\n" * 2_000_000 + "show 0").gave(0, "world 1 1\nnot now\n")
+    run = snapd("script", stdin="world 1 1\n" + "\n" * 2_000_000 + "show")
+    assert (run.status, run.output) == (2, b"world 1 1\n"), run
+    assert run.errors == "snapd: line 2000002: expected `show W`\n", run
+
+
+class Typed:
+    """A script that is sent piece by piece, by a pipe."""
+
+    def __init__(self, snapd):
+        self.run = subprocess.Popen(
+            [snapd.path, "script"], stdin=subprocess.PIPE, stdout=subprocess.PIPE, stderr=subprocess.PIPE, bufsize=0
+        )
+
+    def send(self, piece):
+        self.run.stdin.write(piece.encode())
+
+    def line(self):
+        return self.run.stdout.readline().decode()
+
+    def ends(self):
+        """The rest of what it prints, and its status."""
+        output, _ = self.run.communicate(timeout=60)
+        return output.decode(), self.run.returncode
+
+
+def test_a_line_is_answered_before_the_next_one_is_sent(snapd, _):
+    for rows in (BORROWED, WORKED):
+        typed = Typed(snapd)
+        for line, printed in rows:
+            typed.send(line + "\n")
+            assert typed.line() == printed + "\n", line
+        assert typed.ends() == ("", 0)
+
+
+def test_scripts_cut_at_every_byte(snapd, _):
+    for rows in (BORROWED, WORKED):
+        script, printed = (lines(it) for it in zip(*rows))
+        typed = Typed(snapd)
+        for byte in script:
+            typed.send(byte)
+        assert typed.ends() == (printed, 0)
+        for place in range(1, len(script)):
+            typed = Typed(snapd)
+            typed.send(script[:place])
+            whole = script[:place].count("\n")
+            before = "".join(typed.line() for _ in range(whole))
+            typed.send(script[place:])
+            rest, status = typed.ends()
+            assert (before + rest, status) == (printed, 0), place
+
+
+def test_standard_input_that_fails(snapd, _):
+    # A folder can be opened and not read.
+    folder = os.open(snapd.folder, os.O_RDONLY)
+    run = snapd("script", stdin=folder)
+    os.close(folder)
+    assert (run.status, run.output) == (1, b""), run
+    assert run.errors.startswith("snapd: standard input: ") and run.errors.count("\n") == 1, run
 
 
 def test_standard_output_that_fails(snapd, _):

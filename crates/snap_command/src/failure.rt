@@ -1,8 +1,6 @@
 //! Why a command did not do what was asked.
-ghost use Rattle.std.specs.Prelude.{◌≡◌, true};
-ghost use Rattle.std.specs.Io.KnownBytes.{Appends};
+ghost use Rattle.std.specs.Prelude.{◌≡◌};
 ghost use Rattle.snap_command.specs.Failure.{Says, status_of};
-ghost use Rattle.snap_stream.specs.Streams.{AppendsBeginning, refused_line};
 
 use snap_disk::Refusal;
 use snap_order::{Ended, Status};
@@ -47,29 +45,14 @@ impl Failure {
             (E.contents errors.new) }
     {
         match self {
-            Failure::Refused(why) => report_refusal(*why, errors),
+            Failure::Refused(why) => Ended {
+                status: Status::Refused,
+                is_told: complain_of_refusal(errors, *why),
+            },
             Failure::Input(_) | Failure::Output(_) | Failure::Unsaid { .. } => Ended {
                 status: Status::Failed,
-                is_told: complain(alloc, errors, self).is_ok(),
+                is_told: complain(alloc, errors, self),
             },
         }
-    }
-}
-
-/// Says on standard error that the command was refused.
-fn report_refusal<E: Write>(why: Refusal, errors: &mut E) -> Ended
-    ensures status { result.status ≡ Status.Refused }
-    ensures beginning { AppendsBeginning (E.contents errors.old) (E.contents errors.new)
-        (refused_line why) }
-    ensures whole { result.is_told ≡ true
-        → Appends (E.contents errors.old) (E.contents errors.new) (refused_line why) }
-{
-    let is_told = match complain_of_refusal(errors, why) {
-        Ok(()) => true,
-        Err(_) => false,
-    };
-    Ended {
-        status: Status::Refused,
-        is_told,
     }
 }

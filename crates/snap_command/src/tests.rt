@@ -5,55 +5,20 @@ ghost use Rattle.snap_order.specs.Order.{IsFileWithinLimits};
 use crate::act;
 use snap_disk::{Disk, FILE_LEN, FaultPlan, Fill, MemDisk};
 use snap_order::{FileOrder, Status};
-use std::io::{self, Read, Write};
+use snap_stream::TestStream;
+use std::io::{Read, Write};
 use std::process::Abort;
 use std::test::Fail;
 
 const LEN: usize = FILE_LEN as usize;
 
-/// A reader or a writer that moves two bytes at a time, and fails once `passes` bytes have passed.
-#[derive(Drop)]
-struct Failing {
-    bytes: Vec<u8>,
-    passed: usize,
-    passes: usize,
-}
-
-impl Failing {
-    /// How many bytes the next call moves, of those that there are.
-    fn step(&self, there: usize) -> io::Result<usize> {
-        let n = there.min(2).min(self.passes.saturating_sub(self.passed));
-        if n == 0 && there > 0 {
-            return Err(io::Error::other("the test's fault"));
-        }
-        Ok(n)
-    }
-}
-
-impl Read for Failing {
-    fn read(&mut self, buf: &mut [u8]) -> io::Result<usize> {
-        let mut left = self.bytes.as_slice();
-        if self.passed <= left.len() {
-            left = &left[self.passed..];
-        }
-        let n = self.step(left.len().min(buf.len()))?;
-        let n = n.min(left.len()).min(buf.len());
-        buf[..n].copy_from_slice(&left[..n]);
-        self.passed = self.passed.saturating_add(n);
-        Ok(n)
-    }
-}
-
-impl Write for Failing {
-    fn write(&mut self, buf: &[u8]) -> io::Result<usize> {
-        let n = self.step(buf.len())?.min(buf.len());
-        self.bytes.extend_from_slice(&buf[..n])?;
-        self.passed = self.passed.saturating_add(n);
-        Ok(n)
-    }
-
-    fn flush(&mut self) -> io::Result<()> {
-        Ok(())
+/// A stream that moves two bytes at a time, and fails once `passes` bytes have passed.
+fn failing(bytes: Vec<u8>, passes: usize) -> TestStream {
+    TestStream {
+        bytes,
+        passed: 0,
+        passes,
+        step: 2,
     }
 }
 
@@ -289,11 +254,7 @@ fn a_reader_that_fails_changes_nothing(rt: HostRuntime) -> Result<(), Fail> {
     for passes in 0..5 {
         let disk = with_hi(&rt)?;
         let calls = disk.calls();
-        let mut reader = Failing {
-            bytes: Vec::from_slice(rt.alloc(), b"value")?,
-            passed: 0,
-            passes,
-        };
+        let mut reader = failing(Vec::from_slice(rt.alloc(), b"value")?, passes);
         let mut writer = Vec::new(rt.alloc());
         let (disk, status, errors) = run_over(&rt, Command::Put, disk, &mut reader, &mut writer)?;
         assert_eq!(rt; status, Status::Failed);
@@ -317,11 +278,7 @@ fn a_writer_that_fails_is_a_failure(rt: HostRuntime) -> Result<(), Fail> {
         (Command::Check, "header index 0", said),
     ] {
         for passes in 0..whole.len() {
-            let mut writer = Failing {
-                bytes: Vec::new(rt.alloc()),
-                passed: 0,
-                passes,
-            };
+            let mut writer = failing(Vec::new(rt.alloc()), passes);
             let mut reader: &[u8] = b"yo";
             let (disk, status, errors) = run_over(
                 &rt,
@@ -379,11 +336,7 @@ fn errors_that_cannot_be_written(rt: HostRuntime) -> Result<(), Fail> {
         let order = order_of(Command::Get);
         let mut reader: &[u8] = b"";
         let mut output = Vec::new(rt.alloc());
-        let mut errors = Failing {
-            bytes: Vec::new(rt.alloc()),
-            passed: 0,
-            passes,
-        };
+        let mut errors = failing(Vec::new(rt.alloc()), passes);
         let (_disk, ended) = act(
             rt.alloc(),
             &order,

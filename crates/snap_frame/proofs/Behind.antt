@@ -3,10 +3,8 @@ use Rattle.std.proofs.Common.{
   ◌≡◌,
   ℕ,
   ◌+◌,
-  ◌*◌,
   ◌<◌,
   ◌≤◌,
-  ◌^◌,
   Bool,
   true,
   false,
@@ -16,7 +14,6 @@ use Rattle.std.proofs.Common.{
   ◌++◌,
   length,
   drop,
-  take,
   flat_map,
   All,
   refl,
@@ -24,19 +21,17 @@ use Rattle.std.proofs.Common.{
   ◌∙◌,
   ap,
   ap₂,
-  subst,
   arith,
   append_assoc,
   append-nil,
-  length-append,
 }
-use Rattle.std.specs.Int.{w32, w64, to_be_bytes, from_be_bytes}
+use Rattle.std.specs.Int.{w32, to_be_bytes}
 use Rattle.std.proofs.lemmas.List.Elements.{All-nil, All-cons, All-tail, All-append}
 use Rattle.std.proofs.lemmas.List.Concat.{flat_map-append}
-use Rattle.std.proofs.lemmas.Nat.{from_be_bytes-to_be_bytes_4, from_be_bytes-to_be_bytes_8}
 use Rattle.snap_frame.specs.declared.entries.SegmentValue.{SegmentValue}
 use Rattle.snap_frame.specs.declared.entries.SegmentStatus.{SegmentStatus}
 use Rattle.snap_frame.specs.Messages.{value_bytes, status_bytes, fence_byte, IsValue, IsStatus}
+use Rattle.snap_frame.proofs.BigEndian.{same_number, same_length}
 use Rattle.snap_frame.proofs.Exact.{append_split}
 
 -- no entry's bytes are a beginning of another's
@@ -105,26 +100,6 @@ no_rest {E} bytes MayStand es fs rest apart read any same e =
       | [] ↦ λ count is. is
       | d ∷ more ↦ λ count is. absurd (omega (arith, count, same))
     ] left.count left.is
-
--- eight bytes stand for one number
-pub same_number : (m n : ℕ) (xs ys : List ℕ) → m < 2 ^ 64 → n < 2 ^ 64
-    → to_be_bytes w64 m ++ xs ≡ to_be_bytes w64 n ++ ys → (m ≡ n) × (xs ≡ ys)
-same_number m n xs ys m_fits n_fits e =
-    let heads : to_be_bytes w64 m ≡ to_be_bytes w64 n = ap (take 8) e in (
-      sym (from_be_bytes-to_be_bytes_8 m m_fits) ∙ ap (from_be_bytes w64) heads
-          ∙ from_be_bytes-to_be_bytes_8 n n_fits,
-      ap (drop 8) e,
-    )
-
--- four bytes stand for one length
-pub same_length : (m n : ℕ) (xs ys : List ℕ) → m < 2 ^ 32 → n < 2 ^ 32
-    → to_be_bytes w32 m ++ xs ≡ to_be_bytes w32 n ++ ys → (m ≡ n) × (xs ≡ ys)
-same_length m n xs ys m_fits n_fits e =
-    let heads : to_be_bytes w32 m ≡ to_be_bytes w32 n = ap (take 4) e in (
-      sym (from_be_bytes-to_be_bytes_4 m m_fits) ∙ ap (from_be_bytes w32) heads
-          ∙ from_be_bytes-to_be_bytes_4 n n_fits,
-      ap (drop 4) e,
-    )
 
 abbrev value_of : ℕ → List ℕ → SegmentValue
 value_of n v = record { number = n; value = v }

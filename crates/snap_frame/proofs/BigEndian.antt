@@ -2,36 +2,31 @@
 use Rattle.std.proofs.Common.{
   ◌≡◌,
   ℕ,
-  suc,
-  ◌+◌,
   ◌<◌,
   ◌≤◌,
   ◌^◌,
   List,
-  ◌∷◌,
   ◌++◌,
-  [],
   length,
   take,
   drop,
-  get_or,
-  slice_index,
   inl,
   inr,
-  refl,
   sym,
   ◌∙◌,
   ap,
   arith,
   length-take,
-  length-drop,
-  ◌-◌,
 }
 use Rattle.std.specs.Int.{w32, w64, to_be_bytes, from_be_bytes}
 use Rattle.std.proofs.lemmas.List.{get_or-take, get_or_past, take-append-drop}
 use Rattle.std.proofs.lemmas.Bool.{cases_lt}
-use Rattle.std.proofs.Math.Seq.{take-length}
-use Rattle.std.proofs.lemmas.Nat.{be_bytes_4, be_bytes_8}
+use Rattle.std.proofs.lemmas.Nat.{
+  be_bytes_4,
+  be_bytes_8,
+  from_be_bytes-to_be_bytes_4,
+  from_be_bytes-to_be_bytes_8,
+}
 use Rattle.snap_frame.specs.Stream.{IsBytes}
 use Rattle.byteorder.specs.Endian.{big_number}
 
@@ -77,3 +72,23 @@ four_again xs bytes long =
 -- the first n bytes are those of a number, and the rest stands behind them
 pub front_is : (n : ℕ) (xs number : List ℕ) → number ≡ take n xs → xs ≡ number ++ drop n xs
 front_is n xs number is = sym (take-append-drop n xs) ∙ ap (λ zs. zs ++ drop n xs) (sym is)
+
+-- eight bytes stand for one number
+pub same_number : (m n : ℕ) (xs ys : List ℕ) → m < 2 ^ 64 → n < 2 ^ 64
+    → to_be_bytes w64 m ++ xs ≡ to_be_bytes w64 n ++ ys → (m ≡ n) × (xs ≡ ys)
+same_number m n xs ys m_fits n_fits e =
+    let heads : to_be_bytes w64 m ≡ to_be_bytes w64 n = ap (take 8) e in (
+      sym (from_be_bytes-to_be_bytes_8 m m_fits) ∙ ap (from_be_bytes w64) heads
+          ∙ from_be_bytes-to_be_bytes_8 n n_fits,
+      ap (drop 8) e,
+    )
+
+-- four bytes stand for one length
+pub same_length : (m n : ℕ) (xs ys : List ℕ) → m < 2 ^ 32 → n < 2 ^ 32
+    → to_be_bytes w32 m ++ xs ≡ to_be_bytes w32 n ++ ys → (m ≡ n) × (xs ≡ ys)
+same_length m n xs ys m_fits n_fits e =
+    let heads : to_be_bytes w32 m ≡ to_be_bytes w32 n = ap (take 4) e in (
+      sym (from_be_bytes-to_be_bytes_4 m m_fits) ∙ ap (from_be_bytes w32) heads
+          ∙ from_be_bytes-to_be_bytes_4 n n_fits,
+      ap (drop 4) e,
+    )

@@ -13,40 +13,25 @@ use Rattle.std.proofs.Common.{
   length,
   take,
   drop,
-  get_or,
-  slice_index,
-  Option,
   Some,
-  None,
   inl,
   inr,
   refl,
   sym,
   ◌∙◌,
   ap,
-  ap₂,
   subst,
   arith,
   append_assoc,
   length-append,
   length-take,
-  length-drop,
-  take_at,
-  drop_at,
   pos,
 }
-use Rattle.std.specs.Int.{w32, to_be_bytes, from_be_bytes}
-use Rattle.std.proofs.lemmas.List.{get_or-take, take-append-drop, append_cancel_left}
+use Rattle.std.specs.Int.{w32, to_be_bytes}
+use Rattle.std.proofs.lemmas.List.{take-append-drop}
 use Rattle.std.proofs.lemmas.Bool.{cases_lt, cond-true, lt-ltb}
-use Rattle.std.proofs.lemmas.Nat.{be_bytes_4, from_be_bytes-to_be_bytes_4}
-use Rattle.tokio_util.specs.declared.codec.length_delimited.DecodeState.TheVariants.{Head, Data}
-use Rattle.tokio_util.specs.Codec.LengthField.{
-  Layout,
-  field_value,
-  add_adjustment,
-  head_len,
-  skip_len,
-}
+use Rattle.std.proofs.lemmas.Nat.{be_bytes_4}
+use Rattle.tokio_util.specs.Codec.LengthField.{field_value, add_adjustment}
 use Rattle.tokio_util.specs.Codec.LengthDelimited.{
   Cut,
   frame,
@@ -74,17 +59,7 @@ use Rattle.snap_frame.specs.Stream.{
   feed_layout,
   IsBytes,
 }
-use Rattle.snap_frame.proofs.BigEndian.{bytes-take}
-
--- four bytes stand for one length
-pub same_length : (m n : ℕ) (xs ys : List ℕ) → m < 2 ^ 32 → n < 2 ^ 32
-    → to_be_bytes w32 m ++ xs ≡ to_be_bytes w32 n ++ ys → (m ≡ n) × (xs ≡ ys)
-same_length m n xs ys m_fits n_fits e =
-    let heads : to_be_bytes w32 m ≡ to_be_bytes w32 n = ap (take 4) e in (
-      sym (from_be_bytes-to_be_bytes_4 m m_fits) ∙ ap (from_be_bytes w32) heads
-          ∙ from_be_bytes-to_be_bytes_4 n n_fits,
-      ap (drop 4) e,
-    )
+use Rattle.snap_frame.proofs.BigEndian.{bytes-take, same_length}
 
 -- what a cut says of the bytes held
 abbrev pub Means : List ℕ → Cut → Type 0
@@ -95,7 +70,7 @@ Means held (unfinished state kept) =
     (pending_in state kept ≡ held) × StateFits state × IsPartial held
 
 -- no whole frame behind a length
-short_is_partial : (n : ℕ) (ys : List ℕ) → n ≤ 66000 → length ys < n
+short_is_partial : (n : ℕ) (ys : List ℕ) → n ≤ messages.max_payload → length ys < n
     → IsPartial (to_be_bytes w32 n ++ ys)
 short_is_partial n ys fits short =
     record {
@@ -108,7 +83,7 @@ short_is_partial n ys fits short =
           absurd (omega (arith, same.0, long.2));
     }
 
-pub payload_means : (n : ℕ) (ys : List ℕ) → n ≤ 66000
+pub payload_means : (n : ℕ) (ys : List ℕ) → n ≤ messages.max_payload
     → Means (to_be_bytes w32 n ++ ys) (cut_payload n ys)
 payload_means n ys fits =
     let held = to_be_bytes w32 n ++ ys in
@@ -170,7 +145,7 @@ head_means xs bytes =
           let v = field_value feed_layout xs in
           let split : to_be_bytes w32 v ++ drop 4 xs ≡ xs =
           ap (λ zs. zs ++ drop 4 xs) (four_again xs bytes long).0 ∙ take-append-drop 4 xs in
-          elim (cases_lt 66000 v) [
+          elim (cases_lt messages.max_payload v) [
             | inl big ↦ subst (Means xs) (sym (cut_frame_big feed_layout xs long big)) (
               v,
               drop 4 xs,

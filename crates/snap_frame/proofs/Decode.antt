@@ -3,8 +3,6 @@ use Rattle.std.proofs.Common.{
   ◌≡◌,
   ◌≢◌,
   ℕ,
-  ◌+◌,
-  ◌<◌,
   ◌≤◌,
   List,
   ◌++◌,
@@ -12,13 +10,11 @@ use Rattle.std.proofs.Common.{
   length,
   take,
   drop,
-  get_or,
   replicate,
   Option,
   Some,
   None,
   IfNone,
-  Result,
   Ok,
   Err,
   inl,
@@ -54,7 +50,7 @@ use Rattle.tokio_util.specs.declared.codec.length_delimited.LengthDelimitedCodec
 }
 use Rattle.tokio_util.specs.declared.codec.length_delimited.DecodeState.{DecodeState}
 use Rattle.tokio_util.specs.declared.codec.length_delimited.DecodeState.TheVariants.{Head, Data}
-use Rattle.tokio_util.specs.Codec.Next.{decoded, Decodes, Resumes}
+use Rattle.tokio_util.specs.Codec.Next.{decoded, Decodes}
 use Rattle.tokio_util.specs.Codec.LengthField.{
   Layout,
   field_value,
@@ -63,7 +59,6 @@ use Rattle.tokio_util.specs.Codec.LengthField.{
   skip_len,
 }
 use Rattle.tokio_util.specs.Codec.LengthDelimited.{
-  layout,
   codec_layout,
   with_state,
   Cut,
@@ -126,7 +121,7 @@ payload_of (unfinished s k) = []
 
 -- a payload that was found fits, so the length that was waited for does
 state_fits : (s : DecodeState) (zs p r : List ℕ) → cut_in feed_layout s zs ≡ frame p r
-    → length p ≤ 66000 → StateFits s
+    → length p ≤ messages.max_payload → StateFits s
 state_fits Head zs p r e fits = tt
 state_fits (Data n) zs p r e fits =
     elim (cases_lt (length zs) n) [
@@ -292,6 +287,12 @@ waits c t xs ys ready bytes_xs bytes_ys told =
     let left : ys ≡ xs = append_cancel_right ys xs more e in
     subst (λ (z : LengthDelimitedCodec). (pending z ys ≡ pending c xs)
     × Ready z) (sym codec) (ap (pending c) left, ready) in
+    let fails : (e : Error) → error_kind e ≢ OutOfMemory
+    → gives_frames t zs (decoded (Err e) t zs) → (pending t ys ≡ pending c xs) × Ready t =
+    λ e never said.
+    let heard = heard_error c t (xs ++ more) zs (cut c (xs ++ more)) e never
+    (told.1 more (decoded (Err e) t zs) said) in
+    same heard.0 heard.1 in
     elim (cut t zs) as (λ v. cut t zs ≡ v → IsDone v → (pending t ys ≡ pending c xs) × Ready t) [
       | frame p r ↦ λ e _.
           let b : Filled = record { items = p; spare = 0 } in
@@ -311,28 +312,20 @@ waits c t xs ys ready bytes_xs bytes_ys told =
                 ∙ sym heard.0.split ∙ pending-append c.state xs more),
             record { layout = laid; fits = fits },
           )
-      | too_big ↦ λ e _.
-          let said : gives_frames t zs (decoded (Err (error_of 21)) t zs) =
-          subst (λ (v : Cut). Answers t zs v (Err (error_of 21)) t zs) (sym e) (
+      | too_big ↦ λ e _. fails (error_of 21) (λ m. let wrong : InvalidData ≡ OutOfMemory =
+          sym data_kind ∙ m in cc)
+          (subst (λ (v : Cut). Answers t zs v (Err (error_of 21)) t zs) (sym e) (
             data_kind,
             refl,
             refl,
-          ) in
-          let heard = heard_error c t (xs ++ more) zs (cut c (xs ++ more)) (error_of 21) (λ m.
-          let wrong : InvalidData ≡ OutOfMemory = sym data_kind ∙ m in
-          cc) (told.1 more (decoded (Err (error_of 21)) t zs) said) in
-          same heard.0 heard.1
-      | overflows ↦ λ e _.
-          let said : gives_frames t zs (decoded (Err (error_of 20)) t zs) =
-          subst (λ (v : Cut). Answers t zs v (Err (error_of 20)) t zs) (sym e) (
+          ))
+      | overflows ↦ λ e _. fails (error_of 20) (λ m. let wrong : InvalidInput ≡ OutOfMemory =
+          sym input_kind ∙ m in cc)
+          (subst (λ (v : Cut). Answers t zs v (Err (error_of 20)) t zs) (sym e) (
             input_kind,
             refl,
             refl,
-          ) in
-          let heard = heard_error c t (xs ++ more) zs (cut c (xs ++ more)) (error_of 20) (λ m.
-          let wrong : InvalidInput ≡ OutOfMemory = sym input_kind ∙ m in
-          cc) (told.1 more (decoded (Err (error_of 20)) t zs) said) in
-          same heard.0 heard.1
+          ))
       | unfinished s k ↦ λ _ none. absurd none
     ] refl end.done
 

@@ -3,12 +3,7 @@ use Rattle.std.proofs.Common.{
   ◌≡◌,
   ◌≢◌,
   ℕ,
-  ◌+◌,
-  ◌<◌,
-  ◌≤◌,
-  ◌⊎◌,
   List,
-  ◌∷◌,
   ◌++◌,
   [],
   length,
@@ -24,7 +19,6 @@ use Rattle.std.proofs.Common.{
   sym,
   ◌∙◌,
   ap,
-  subst,
   arith,
   append_assoc,
   append-nil,
@@ -43,16 +37,13 @@ use Rattle.tokio_util.specs.declared.codec.length_delimited.LengthDelimitedCodec
 use Rattle.tokio_util.specs.declared.codec.length_delimited.DecodeState.{DecodeState}
 use Rattle.tokio_util.specs.declared.codec.length_delimited.DecodeState.TheVariants.{Head, Data}
 use Rattle.tokio_util.specs.Codec.Next.{DecodesAtEnd}
-use Rattle.tokio_util.specs.Codec.LengthField.{Layout}
 use Rattle.tokio_util.specs.Codec.LengthDelimited.{
-  codec_layout,
   Cut,
   frame,
   too_big,
   overflows,
   unfinished,
   cut,
-  cut_in,
   Answers,
   AnswersLast,
   AnswersAtEnd,
@@ -62,15 +53,14 @@ use Rattle.snap_frame.specs.Messages as messages
 use Rattle.snap_frame.specs.Stream.{
   HasFrame,
   HasLongLength,
-  IsPartial,
   pending,
   pending_in,
-  StateFits,
   Ready,
   IsBytes,
   NoFrameBeginsAnother,
 }
-use Rattle.snap_frame.proofs.Cuts.{same_length, Means}
+use Rattle.snap_frame.proofs.BigEndian.{same_length}
+use Rattle.snap_frame.proofs.Cuts.{Means}
 use Rattle.snap_frame.proofs.Decode.{means}
 
 pub append_split : (x y r s : List ℕ) → length x ≡ length y → x ++ r ≡ y ++ s → (x ≡ y) × (r ≡ s)

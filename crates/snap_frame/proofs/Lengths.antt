@@ -1,15 +1,12 @@
 -- How long the payloads of replies are.
 use Rattle.std.proofs.Common.{
   ◌≡◌,
-  ℕ,
   ◌+◌,
   ◌*◌,
-  ◌<◌,
   ◌≤◌,
   List,
   [],
   ◌∷◌,
-  ◌++◌,
   length,
   flat_map,
   All,
@@ -17,9 +14,8 @@ use Rattle.std.proofs.Common.{
   arith,
   length-append,
 }
-use Rattle.std.specs.Int.{w32, w64, to_be_bytes}
 use Rattle.std.proofs.lemmas.List.Elements.{All-tail}
-use Rattle.snap_disk.specs.Refusal.{code_of}
+use Rattle.snap_slot.specs.declared.layout.TheConstants.{MAX_VALUE_LEN}
 use Rattle.snap_frame.specs.declared.entries.SegmentValue.{SegmentValue}
 use Rattle.snap_frame.specs.declared.entries.SegmentStatus.{SegmentStatus}
 use Rattle.snap_frame.specs.declared.reply.Reply.{Reply}
@@ -39,9 +35,9 @@ length-statuses [] = refl
 length-statuses (e ∷ es) =
     omega (arith, length-append (status_bytes e) (flat_map status_bytes es), length-statuses es)
 
--- each value has at most 4,092 bytes with its head
+-- each value has at most so many bytes with its head
 values_fit : (vs : List SegmentValue) → All IsValue vs
-    → length (flat_map value_bytes vs) ≤ 4092 * length vs
+    → length (flat_map value_bytes vs) ≤ (12 + MAX_VALUE_LEN) * length vs
 values_fit [] each = omega arith
 values_fit (v ∷ vs) each =
     omega (

@@ -2,11 +2,7 @@
 use Rattle.std.specs.Prelude.{
   ◌≡◌,
   ℕ,
-  ◌+◌,
-  ◌*◌,
   ◌≤◌,
-  ◌<◌,
-  ◌^◌,
   Bool,
   true,
   false,
@@ -19,8 +15,10 @@ use Rattle.std.specs.Prelude.{
   All,
 }
 use Rattle.std.specs.Int.{w32, w64, to_be_bytes}
-use Rattle.snap_disk.specs.declared.refusal.Refusal.{Refusal}
 use Rattle.snap_disk.specs.Refusal.{code_of}
+use Rattle.snap_slot.specs.Layout.{IsNumber, IsShort}
+use Rattle.snap_slot.specs.declared.layout.TheConstants.{MAX_COUNT}
+use Rattle.snap_frame.specs.declared.frame.TheConstants.{MAX_PAYLOAD}
 use Rattle.snap_frame.specs.declared.request.Request.{Request}
 use Rattle.snap_frame.specs.declared.request.Request.TheVariants.{Update, Scan, Status}
 use Rattle.snap_frame.specs.declared.reply.Reply.{Reply}
@@ -30,7 +28,7 @@ use Rattle.snap_frame.specs.declared.entries.SegmentStatus.{SegmentStatus}
 
 -- the most bytes of a frame's payload
 abbrev pub max_payload : ℕ
-max_payload = 66000
+max_payload = MAX_PAYLOAD
 
 -- a payload behind its length in four bytes
 abbrev pub frame : List ℕ → List ℕ
@@ -72,20 +70,20 @@ says (replies.Refused why detail) = 0xE0 ∷ code_of why ∷ to_be_bytes w64 det
 
 -- a number and a value that a reply may hold
 abbrev pub IsValue : SegmentValue → Type 0
-IsValue v = (v.number < 2 ^ 63) × (length v.value ≤ 4080)
+IsValue v = IsNumber v.number × IsShort v.value
 
 abbrev pub IsStatus : SegmentStatus → Type 0
-IsStatus s = s.number < 2 ^ 63
+IsStatus s = IsNumber s.number
 
--- 1 to 16 entries, each of which may stand in a reply
+-- one entry or more, each of which may stand in a reply, and no more than a file can speak of
 pub record AreEntries {E : Type 0} (MayStand : E → Type 0) (es : List E) : Type 0 where
   pub one : 1 ≤ length es
-  pub few : length es ≤ 16
+  pub few : length es ≤ MAX_COUNT
   pub each : All MayStand es
 
 -- its numbers, lengths and counts are within the limits of replies
 abbrev pub IsInLimits : Reply → Type 0
-IsInLimits (replies.Stored number) = number < 2 ^ 63
+IsInLimits (replies.Stored number) = IsNumber number
 IsInLimits (replies.Snapshot values) = AreEntries IsValue values.items
 IsInLimits (replies.Status statuses) = AreEntries IsStatus statuses.items
 IsInLimits (replies.Refused why detail) = Unit {0}

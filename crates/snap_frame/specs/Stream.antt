@@ -11,7 +11,6 @@ use Rattle.std.specs.Prelude.{
   ◌⊎◌,
   List,
   [],
-  ◌∷◌,
   ◌++◌,
   length,
   Option,

@@ -20,34 +20,36 @@ ghost use Rattle.std.specs.Prelude.{
   IfNone,
 };
 ghost use Rattle.std.specs.Int.{w32, w64, to_be_bytes};
-ghost use Rattle.snap_frame.specs.Messages.{value_bytes, status_bytes, IsValue, IsStatus};
+ghost use Rattle.snap_slot.specs.declared.layout.TheConstants.{MAX_COUNT};
+ghost use Rattle.snap_frame.specs.Messages.{
+  max_payload,
+  value_bytes,
+  status_bytes,
+  IsValue,
+  IsStatus,
+};
 
 use crate::numbers::{first_u32, first_u64};
 use bytes::{Bytes, BytesMut};
+use snap_slot::{LAST_NUMBER, MAX_VALUE_LEN};
 use std::alloc::{AllocError, Global};
 
 /// A segment's number and value.
 #[derive(Debug, PartialEq, Eq, Drop)]
 pub struct SegmentValue {
-    /// Below 2^63.
+    /// At most [`LAST_NUMBER`].
     pub number: u64,
-    /// At most 4,080 bytes.
+    /// At most [`MAX_VALUE_LEN`] bytes.
     pub value: Bytes,
 }
 
 /// A segment's number, and whether it takes no new update until the next restart.
 #[derive(Clone, Copy, Debug, PartialEq, Eq, Drop)]
 pub struct SegmentStatus {
-    /// Below 2^63.
+    /// At most [`LAST_NUMBER`].
     pub number: u64,
     pub is_fenced: bool,
 }
-
-/// The largest number in a reply.
-pub(crate) const MAX_NUMBER: u64 = (1 << 63) - 1;
-
-/// The most bytes of a value in a reply.
-const MAX_VALUE: u32 = 4080;
 
 /// The bytes of a value's entry before the value: its number and its length.
 const VALUE_HEAD_LEN: usize = 12;
@@ -75,7 +77,7 @@ fn take_value(rest: &mut Bytes) -> Result<Option<SegmentValue>, AllocError>
         return Ok(None);
     }
     let (number, value_len) = value_head(rest.as_slice());
-    if number > MAX_NUMBER || value_len > MAX_VALUE {
+    if number > LAST_NUMBER || value_len as usize > MAX_VALUE_LEN {
         return Ok(None);
     }
     rest.advance(VALUE_HEAD_LEN);
@@ -128,7 +130,7 @@ fn take_status(rest: &mut Bytes) -> Option<SegmentStatus>
         return None;
     }
     let (number, fence) = status_fields(rest.as_slice());
-    if number > MAX_NUMBER || fence > 1 {
+    if number > LAST_NUMBER || fence > 1 {
         return None;
     }
     rest.advance(STATUS_LEN);
@@ -164,10 +166,10 @@ pub(crate) fn read_statuses(
 
 /// How many bytes the entries of a snapshot have together.
 pub(crate) fn values_len(values: &[SegmentValue]) -> usize
-    requires few { length values.now ≤ 16 }
+    requires few { length values.now ≤ MAX_COUNT }
     requires each { All IsValue values.now }
     ensures len { result ≡ length (flat_map value_bytes values.now) }
-    ensures bound { result ≤ 65472 }
+    ensures fits { 2 + result ≤ max_payload }
 {
     let mut len = 0;
     for entry in values {
@@ -178,9 +180,9 @@ pub(crate) fn values_len(values: &[SegmentValue]) -> usize
 
 /// How many bytes the entries of a status have together.
 pub(crate) fn statuses_len(statuses: &[SegmentStatus]) -> usize
-    requires few { length statuses.now ≤ 16 }
+    requires few { length statuses.now ≤ MAX_COUNT }
     ensures len { result ≡ length (flat_map status_bytes statuses.now) }
-    ensures bound { result ≤ 144 }
+    ensures fits { 2 + result ≤ max_payload }
 {
     STATUS_LEN * statuses.len()
 }

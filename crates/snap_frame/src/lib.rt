@@ -10,7 +10,6 @@
 //! `specs/Stream.antt` (what stands first among the bytes that are held).
 #![tactic(auto)]
 
-mod code;
 mod entries;
 mod feed;
 mod frame;

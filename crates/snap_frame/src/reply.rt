@@ -19,6 +19,7 @@ ghost use Rattle.std.specs.Prelude.{
   IfNone,
 };
 ghost use Rattle.std.specs.Int.{w64, to_be_bytes};
+ghost use Rattle.snap_slot.specs.declared.layout.TheConstants.{MAX_COUNT};
 ghost use Rattle.snap_frame.specs.Messages.{
   max_payload,
   frame,
@@ -28,25 +29,27 @@ ghost use Rattle.snap_frame.specs.Messages.{
   IsInLimits,
 };
 
-use crate::code::refusal_of;
 use crate::entries::{
-    MAX_NUMBER, SegmentStatus, SegmentValue, put_statuses, put_values, read_statuses, read_values,
+    SegmentStatus, SegmentValue, put_statuses, put_values, read_statuses, read_values,
     statuses_len, values_len,
 };
 use crate::frame::start_frame;
 use crate::numbers::first_u64;
-use bytes::BytesMut;
+use bytes::{Bytes, BytesMut};
 use snap_disk::Refusal;
+use snap_slot::{LAST_NUMBER, MAX_COUNT};
 use std::alloc::AllocError;
 
 /// What the server answers to a request (docs/FORMATS.md, "Frames and messages").
 #[derive(Debug, PartialEq, Eq, Drop)]
 pub enum Reply {
-    /// The segment holds this number, with the value of the update. Below 2^63.
+    /// The segment holds this number, with the value of the update. At most
+    /// [`LAST_NUMBER`].
     Stored(u64),
-    /// All segments at one moment, in order, 1 to 16 of them.
+    /// All segments at one moment, in order, 1 to [`MAX_COUNT`] of them.
     Snapshot(Vec<SegmentValue>),
-    /// All segments, each as it was when the server looked, in order, 1 to 16 of them.
+    /// All segments, each as it was when the server looked, in order, 1 to [`MAX_COUNT`] of
+    /// them.
     Status(Vec<SegmentStatus>),
     /// Refused, with the number that the refusal has to tell.
     Refused { why: Refusal, detail: u64 },
@@ -69,9 +72,6 @@ const REFUSED_LEN: usize = 10;
 /// The bytes of a payload before its entries: the kind and the count.
 const LIST_HEAD_LEN: usize = 2;
 
-/// The most entries of a reply.
-const MAX_SEGMENTS: u8 = 16;
-
 /// The number of a payload whose kind is that of a stored number.
 fn read_stored(payload: &[u8]) -> Option<Reply>
     requires long { 0 < length payload.now }
@@ -83,7 +83,7 @@ fn read_stored(payload: &[u8]) -> Option<Reply>
         return None;
     }
     let number = first_u64(&payload[1..]);
-    if number > MAX_NUMBER {
+    if number > LAST_NUMBER {
         return None;
     }
     Some(Reply::Stored(number))
@@ -100,7 +100,7 @@ fn read_refused(payload: &[u8]) -> Option<Reply>
         return None;
     }
     let detail = first_u64(&payload[2..]);
-    match refusal_of(payload[1]) {
+    match Refusal::of_code(payload[1]) {
         Some(why) => Some(Reply::Refused { why, detail }),
         None => None,
     }
@@ -108,54 +108,63 @@ fn read_refused(payload: &[u8]) -> Option<Reply>
 
 /// How many entries a payload says that it has, or `None` where it may not.
 fn entry_count(payload: &[u8]) -> Option<u8>
-    ensures some { IfSome result (λ n. (1 ≤ n) × (n ≤ 16)
+    ensures some { IfSome result (λ n. (1 ≤ n) × (n ≤ MAX_COUNT)
         × (payload.now ≡ slice_index payload.now 0 ∷ n ∷ drop 2 payload.now)) }
-    ensures none { IfNone result ((kind n : ℕ) → (tail : List ℕ) → 1 ≤ n → n ≤ 16
+    ensures none { IfNone result ((kind n : ℕ) → (tail : List ℕ) → 1 ≤ n → n ≤ MAX_COUNT
         → payload.now ≡ kind ∷ n ∷ tail → ⊥) }
 {
     if payload.len() < LIST_HEAD_LEN {
         return None;
     }
     let count = payload[1];
-    if count == 0 || count > MAX_SEGMENTS {
+    if count == 0 || count > MAX_COUNT {
         return None;
     }
     Some(count)
 }
 
-fn read_snapshot(mut payload: BytesMut) -> Result<Option<Reply>, AllocError>
-    requires { slice_index payload.items 0 ≡ 0x82 }
-    ensures reply { IfOk result (λ r. IfSome r (Says payload.items)) }
-    ensures nothing { IfOk result (λ r. IfNone r (SaysNothing payload.items)) }
+/// The count of a payload's entries and the bytes behind it, or `None` where it may not be.
+fn split_list(mut payload: BytesMut) -> Result<Option<(u8, Bytes)>, AllocError>
+    ensures some { IfOk result (λ o. IfSome o (λ list. (1 ≤ list.0) × (list.0 ≤ MAX_COUNT)
+        × (payload.items ≡ slice_index payload.items 0 ∷ list.0 ∷ list.1))) }
+    ensures none { IfOk result (λ o. IfNone o ((kind n : ℕ) → (tail : List ℕ) → 1 ≤ n
+        → n ≤ MAX_COUNT → payload.items ≡ kind ∷ n ∷ tail → ⊥)) }
 {
     let Some(count) = entry_count(payload.as_slice()) else {
         return Ok(None);
     };
-    let alloc = *payload.allocator();
     payload.advance(LIST_HEAD_LEN);
-    let Ok(rest) = payload.freeze() else {
-        return Err(AllocError);
+    match payload.freeze() {
+        Ok(entries) => Ok(Some((count, entries))),
+        Err(_) => Err(AllocError),
+    }
+}
+
+fn read_snapshot(payload: BytesMut) -> Result<Option<Reply>, AllocError>
+    requires { slice_index payload.items 0 ≡ 0x82 }
+    ensures reply { IfOk result (λ r. IfSome r (Says payload.items)) }
+    ensures nothing { IfOk result (λ r. IfNone r (SaysNothing payload.items)) }
+{
+    let alloc = *payload.allocator();
+    let Some((count, entries)) = split_list(payload)? else {
+        return Ok(None);
     };
-    match read_values(alloc, count, rest)? {
+    match read_values(alloc, count, entries)? {
         Some(values) => Ok(Some(Reply::Snapshot(values))),
         None => Ok(None),
     }
 }
 
-fn read_status(mut payload: BytesMut) -> Result<Option<Reply>, AllocError>
+fn read_status(payload: BytesMut) -> Result<Option<Reply>, AllocError>
     requires { slice_index payload.items 0 ≡ 0x83 }
     ensures reply { IfOk result (λ r. IfSome r (Says payload.items)) }
     ensures nothing { IfOk result (λ r. IfNone r (SaysNothing payload.items)) }
 {
-    let Some(count) = entry_count(payload.as_slice()) else {
+    let alloc = *payload.allocator();
+    let Some((count, entries)) = split_list(payload)? else {
         return Ok(None);
     };
-    let alloc = *payload.allocator();
-    payload.advance(LIST_HEAD_LEN);
-    let Ok(rest) = payload.freeze() else {
-        return Err(AllocError);
-    };
-    match read_statuses(alloc, count, rest)? {
+    match read_statuses(alloc, count, entries)? {
         Some(statuses) => Ok(Some(Reply::Status(statuses))),
         None => Ok(None),
     }

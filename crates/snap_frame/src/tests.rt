@@ -12,8 +12,10 @@ use snap_disk::Refusal;
 use std::alloc::{AllocError, Global};
 use std::test::Fail;
 
-/// The frames of requests on one connection, but the one with the long value.
-const REQUEST_FRAMES: [&[u8]; 8] = [
+/// The frames of requests on one connection, but the one with the long value and the length that
+/// is too large.
+const REQUEST_FRAMES: [&[u8]; 9] = [
+    &[0, 0, 0, 0x0C, 1, 0, 0, 0, 0, 0, 0, 0, 0, 1, 0x68, 0x69],
     &[0, 0, 0, 0x0C, 1, 0, 0, 0, 0, 0, 0, 0, 0, 1, 0x68, 0x69],
     &[0, 0, 0, 0x0B, 1, 0, 0, 0, 0, 0, 0, 0, 0, 1, 0x68],
     &[0, 0, 0, 0x0A, 1, 0, 0, 0, 0, 0, 0, 0, 0, 3],
@@ -24,12 +26,14 @@ const REQUEST_FRAMES: [&[u8]; 8] = [
     &[0, 0, 0, 0],
 ];
 
-/// The frames of their replies, and of the refusal that ends a session.
-const REPLY_FRAMES: [&[u8]; 8] = [
+/// The frames of all replies, the refusal that ends a session last.
+const REPLY_FRAMES: [&[u8]; 11] = [
+    &[0, 0, 0, 9, 0x81, 0, 0, 0, 0, 0, 0, 0, 1],
     &[0, 0, 0, 9, 0x81, 0, 0, 0, 0, 0, 0, 0, 1],
     &[0, 0, 0, 0x0A, 0xE0, 4, 0, 0, 0, 0, 0, 0, 0, 1],
     &[0, 0, 0, 0x0A, 0xE0, 5, 0, 0, 0, 0, 0, 0, 0, 1],
     &[0, 0, 0, 0x0A, 0xE0, 2, 0, 0, 0, 0, 0, 0, 0, 2],
+    &[0, 0, 0, 0x0A, 0xE0, 3, 0, 0, 0, 0, 0, 0, 0x0F, 0xF1],
     &[
         0, 0, 0, 0x1C, 0x82, 2, 0, 0, 0, 0, 0, 0, 0, 1, 0, 0, 0, 2, 0x68, 0x69, 0, 0, 0, 0, 0, 0,
         0, 0, 0, 0, 0, 0,
@@ -37,6 +41,7 @@ const REPLY_FRAMES: [&[u8]; 8] = [
     &[
         0, 0, 0, 0x14, 0x83, 2, 0, 0, 0, 0, 0, 0, 0, 1, 0, 0, 0, 0, 0, 0, 0, 0, 0, 0,
     ],
+    &[0, 0, 0, 0x0A, 0xE0, 1, 0, 0, 0, 0, 0, 0, 0, 0],
     &[0, 0, 0, 0x0A, 0xE0, 1, 0, 0, 0, 0, 0, 0, 0, 0],
     &[0, 0, 0, 0x0A, 0xE0, 0x0F, 0, 0, 0, 0, 0, 1, 1, 0xD0],
 ];
@@ -61,6 +66,7 @@ fn update(
 /// What a feed answers to the frames of requests, in order.
 fn request_answers(alloc: Global) -> Result<Vec<Result<Option<Request>, Refusal>>, AllocError> {
     let mut answers = Vec::new(alloc);
+    answers.push(update(alloc, 0, 1, b"hi")?)?;
     answers.push(update(alloc, 0, 1, b"hi")?)?;
     answers.push(update(alloc, 0, 1, b"h")?)?;
     answers.push(update(alloc, 0, 3, b"")?)?;
@@ -94,16 +100,22 @@ fn replies(alloc: Global) -> Result<Vec<Reply>, AllocError> {
     })?;
     let mut replies = Vec::new(alloc);
     replies.push(Reply::Stored(1))?;
+    replies.push(Reply::Stored(1))?;
     for (why, detail) in [
         (Refusal::Conflict, 1),
         (Refusal::OutOfStep, 1),
         (Refusal::NoSegment, 2),
+        (Refusal::TooLong, 4081),
     ] {
         replies.push(Reply::Refused { why, detail })?;
     }
     replies.push(Reply::Snapshot(values))?;
     replies.push(Reply::Status(statuses))?;
-    for (why, detail) in [(Refusal::Malformed, 0), (Refusal::TooLarge, 66_000)] {
+    for (why, detail) in [
+        (Refusal::Malformed, 0),
+        (Refusal::Malformed, 0),
+        (Refusal::TooLarge, 66_000),
+    ] {
         replies.push(Reply::Refused { why, detail })?;
     }
     Ok(replies)
@@ -313,6 +325,71 @@ fn bad_replies(rt: HostRuntime) -> Result<(), Fail> {
         feed.push(payload)?;
         assert_eq!(rt; feed.next(), Err(ReplyFault::BadReply), "{payload:?}");
         assert!(rt; feed.is_between());
+    }
+    Ok(())
+}
+
+/// Run with each allocation refused in turn: a push that finds no memory changes nothing and may be
+/// made again, and a feed that couldn't take a frame off says so from then on.
+#[test]
+fn requests_without_memory(rt: HostRuntime) -> Result<(), Fail> {
+    let alloc = rt.alloc();
+    let Ok(answers) = request_answers(alloc) else {
+        return Ok(());
+    };
+    let mut feed = Feed::new(alloc);
+    for (frame, answer) in REQUEST_FRAMES.iter().zip(answers) {
+        if feed.push(*frame) == Err(Refusal::NoMemory) {
+            assert_eq!(rt; feed.next(), Ok(None));
+            assert!(rt; feed.is_between());
+            if feed.push(*frame).is_err() {
+                return Ok(());
+            }
+        }
+        let given = feed.next();
+        if given == Err(Refusal::NoMemory) {
+            assert_eq!(rt; feed.next(), Err(Refusal::NoMemory));
+            assert_eq!(rt; feed.push(*frame), Err(Refusal::NoMemory));
+            assert!(rt; !feed.is_between());
+            return Ok(());
+        }
+        assert_eq!(rt; given, answer);
+    }
+    Ok(())
+}
+
+/// Run with each allocation refused in turn: so it is for replies, and one that can't be written
+/// leaves the buffer as it was.
+#[test]
+fn replies_without_memory(rt: HostRuntime) -> Result<(), Fail> {
+    let alloc = rt.alloc();
+    let Ok(replies) = replies(alloc) else {
+        return Ok(());
+    };
+    for (frame, reply) in REPLY_FRAMES.iter().zip(replies) {
+        let mut feed = ReplyFeed::new(alloc);
+        if feed.push(*frame).is_err() {
+            assert!(rt; feed.is_between());
+            continue;
+        }
+        let no_memory = ReplyFault::Failed(Failure::NoMemory);
+        match feed.next() {
+            Ok(Some(given)) => {
+                assert_eq!(rt; given, reply);
+                let mut out = BytesMut::new(alloc);
+                match write_reply(&given, &mut out) {
+                    Ok(()) => assert_eq!(rt; out.as_slice(), *frame),
+                    Err(why) => {
+                        assert_eq!(rt; why, Refusal::NoMemory);
+                        assert!(rt; out.is_empty());
+                    }
+                }
+            }
+            answer => {
+                assert_eq!(rt; answer, Err(no_memory));
+                assert_eq!(rt; feed.next(), Err(no_memory));
+            }
+        }
     }
     Ok(())
 }

@@ -1,34 +1,88 @@
 -- Blocks of words, copied and put behind one another.
-use Rattle.std.proofs.Common.{◌≡◌, ℕ, zero, suc, ◌+◌, ◌*◌, ◌<◌, ◌≤◌, List, [], ◌∷◌, ◌++◌, length, get_or, take, drop, refl, ap, sym, subst, ◌∙◌, arith, append_assoc, length-append}
-use Rattle.std.proofs.lemmas.List.{take_at, take-take, get_or_append_left, get_or-append-add, get_or_push, take-append-drop, drop-take}
+use Rattle.std.proofs.Common.{
+  ◌≡◌,
+  ℕ,
+  zero,
+  suc,
+  ◌+◌,
+  ◌*◌,
+  ◌<◌,
+  ◌≤◌,
+  List,
+  [],
+  ◌∷◌,
+  ◌++◌,
+  length,
+  get_or,
+  take,
+  drop,
+  refl,
+  ap,
+  sym,
+  subst,
+  ◌∙◌,
+  arith,
+  append_assoc,
+  length-append,
+}
+use Rattle.std.proofs.lemmas.List.{
+  take_at,
+  take-take,
+  get_or_append_left,
+  get_or-append-add,
+  get_or_push,
+  take-append-drop,
+  drop-take,
+}
 use Rattle.std.specs.Int.{w64, to_le_bytes}
 use mathlib.Core.List.{IsPrefix}
 use mathlib.Core.Logic.{dite}
 use native.Mathlib.Decide.{ℕ_discrete}
 use Rattle.snap_history.specs.History.{Start}
-use Rattle.snap_register.specs.Packing.{words_for, bytes_at, length_at, value_at, size_at, block_at, piece, behind, IsWhole, IsBlock, AreBlocks, IsRecord}
+use Rattle.snap_register.specs.Packing.{
+  words_for,
+  bytes_at,
+  length_at,
+  value_at,
+  size_at,
+  block_at,
+  piece,
+  behind,
+  IsWhole,
+  IsBlock,
+  AreBlocks,
+  IsRecord,
+}
 
-pub piece_more : (ws : List ℕ) (at k : ℕ) → piece ws at (k + 1) ≡ piece ws at k ++ get_or ws (at + k) 0 ∷ []
+pub piece_more : (ws : List ℕ) (at k : ℕ) → piece ws at (k + 1) ≡ piece ws at k
+    ++ get_or ws (at + k) 0 ∷ []
 piece_more ws at k = let e : k + 1 ≡ suc k = omega arith in ap (piece ws at) e
 
 pub piece_length : (ws : List ℕ) (at k : ℕ) → length (piece ws at k) ≡ k
 piece_length ws at zero = refl
-piece_length ws at (suc k) = let l = length-append (piece ws at k) (get_or ws (at + k) 0 ∷ []) in let r = piece_length ws at k in omega arith
+piece_length ws at (suc k) = let l = length-append (piece ws at k) (get_or ws (at + k) 0 ∷ []) in
+    let r = piece_length ws at k in omega arith
 
-pub piece_get : (ws : List ℕ) (at k q : ℕ) → q < k → get_or (piece ws at k) q 0 ≡ get_or ws (at + q) 0
+pub piece_get : (ws : List ℕ) (at k q : ℕ) → q < k
+    → get_or (piece ws at k) q 0 ≡ get_or ws (at + q) 0
 piece_get ws at zero q lt = absurd (omega arith)
 piece_get ws at (suc k) q lt =
     let l = piece_length ws at k in
     dite (ℕ_discrete q k)
-    (λ e. get_or_push (piece ws at k) (get_or ws (at + k) 0) 0 q (l ∙ sym e) ∙ ap (λ (z : ℕ). get_or ws (at + z) 0) (sym e))
-    (λ ne. get_or_append_left (piece ws at k) (get_or ws (at + k) 0 ∷ []) 0 q (omega arith) ∙ piece_get ws at k q (omega arith))
+    (λ e. get_or_push (piece ws at k) (get_or ws (at + k) 0) 0 q (l ∙ sym e)
+    ∙ ap (λ (z : ℕ). get_or ws (at + z) 0) (sym e))
+    (λ ne. get_or_append_left (piece ws at k) (get_or ws (at + k) 0 ∷ []) 0 q (omega arith)
+    ∙ piece_get ws at k q (omega arith))
 
-pub bytes_more : (ws : List ℕ) (at k : ℕ) → bytes_at ws at (k + 1) ≡ bytes_at ws at k ++ to_le_bytes w64 (get_or ws (at + k) 0)
+pub bytes_more : (ws : List ℕ) (at k : ℕ) → bytes_at ws at (k + 1) ≡ bytes_at ws at k
+    ++ to_le_bytes w64 (get_or ws (at + k) 0)
 bytes_more ws at k = let e : k + 1 ≡ suc k = omega arith in ap (bytes_at ws at) e
 
-pub bytes_same : (d w : List ℕ) (a b k : ℕ) → ((q : ℕ) → q < k → get_or d (a + q) 0 ≡ get_or w (b + q) 0) → bytes_at d a k ≡ bytes_at w b k
+pub bytes_same : (d w : List ℕ) (a b k : ℕ)
+    → ((q : ℕ) → q < k → get_or d (a + q) 0 ≡ get_or w (b + q) 0) → bytes_at d a k ≡ bytes_at w b k
 bytes_same d w a b zero each = refl
-bytes_same d w a b (suc k) each = λ t. bytes_same d w a b k (λ q lq. each q (omega arith)) t ++ to_le_bytes w64 (each k (omega arith) t)
+bytes_same d w a b (suc k) each = λ t. bytes_same d w a b k (λ q lq. each q (omega arith)) t
+    ++ to_le_bytes w64 (each k (omega arith) t)
 
 pub size_small : (ws : List ℕ) (at : ℕ) → IsWhole ws at → size_at ws at ≤ 512
 size_small ws at w = let s = w.short in omega arith
@@ -39,7 +93,9 @@ pub record Copied (d w : List ℕ) (a b : ℕ) : Type 0 where
   pub size : size_at d a ≡ size_at w b
   pub block : block_at d a ≡ block_at w b
 
-pub block_same : (d w : List ℕ) (a b : ℕ) → IsWhole w b → ((q : ℕ) → q < size_at w b → get_or d (a + q) 0 ≡ get_or w (b + q) 0) → a + size_at w b ≤ length d → Copied d w a b
+pub block_same : (d w : List ℕ) (a b : ℕ) → IsWhole w b
+    → ((q : ℕ) → q < size_at w b → get_or d (a + q) 0 ≡ get_or w (b + q) 0)
+    → a + size_at w b ≤ length d → Copied d w a b
 block_same d w a b whole each fits =
     let size_w : size_at w b ≡ 2 + words_for (length_at w b) = refl in
     let len : length_at d a ≡ length_at w b = each 1 (omega arith) in
@@ -48,13 +104,17 @@ block_same d w a b whole each fits =
     let size_k : size_at w b ≡ 2 + k = refl in
     let zero_d : a + 0 ≡ a = omega arith in
     let zero_w : b + 0 ≡ b = omega arith in
-    let number : get_or d a 0 ≡ get_or w b 0 = ap (λ (z : ℕ). get_or d z 0) (sym zero_d) ∙ (each 0 (omega arith) ∙ ap (λ (z : ℕ). get_or w z 0) zero_w) in
+    let number : get_or d a 0 ≡ get_or w b 0 = ap (λ (z : ℕ). get_or d z 0) (sym zero_d)
+    ∙ (each 0 (omega arith) ∙ ap (λ (z : ℕ). get_or w z 0) zero_w) in
     let bytes : bytes_at d (a + 2) k ≡ bytes_at w (b + 2) k = bytes_same d w (a + 2) (b + 2) k
     (λ q lq.
     let x : a + 2 + q ≡ a + (2 + q) = omega arith in
     let y : b + (2 + q) ≡ b + 2 + q = omega arith in
-    ap (λ (z : ℕ). get_or d z 0) x ∙ (each (2 + q) (omega arith) ∙ ap (λ (z : ℕ). get_or w z 0) y)) in
-    let value : value_at d a ≡ value_at w b = ap (λ (n : ℕ). take n (bytes_at d (a + 2) (words_for n))) len ∙ ap (take (length_at w b)) bytes in
+    ap (λ (z : ℕ). get_or d z 0) x
+    ∙ (each (2 + q) (omega arith) ∙ ap (λ (z : ℕ). get_or w z 0) y)) in
+    let value : value_at d a ≡ value_at w b =
+    ap (λ (n : ℕ). take n (bytes_at d (a + 2) (words_for n))) len
+    ∙ ap (take (length_at w b)) bytes in
     record {
       whole = record { short = let s = whole.short in omega arith; inside = omega arith };
       size = size;
@@ -66,19 +126,24 @@ pub block_stays : (d e : List ℕ) (a : ℕ) → IsPrefix d e → IsWhole d a �
 block_stays d e a pre whole =
     let in_d = whole.inside in
     let l : length e ≡ length d + length pre.0 = ap length (sym pre.1) ∙ length-append d pre.0 in
-    block_same e d a a whole (λ q lq. ap (λ (l : List ℕ). get_or l (a + q) 0) (sym pre.1) ∙ get_or_append_left d pre.0 0 (a + q) (omega arith)) (omega arith)
+    block_same e d a a whole (λ q lq. ap (λ (l : List ℕ). get_or l (a + q) 0) (sym pre.1)
+    ∙ get_or_append_left d pre.0 0 (a + q) (omega arith)) (omega arith)
 
-pub behind_stays : (d e : List ℕ) (a k : ℕ) → IsPrefix d e → ((i : ℕ) → i < k → IsWhole d (behind d a i)) → behind e a k ≡ behind d a k
+pub behind_stays : (d e : List ℕ) (a k : ℕ) → IsPrefix d e
+    → ((i : ℕ) → i < k → IsWhole d (behind d a i)) → behind e a k ≡ behind d a k
 behind_stays d e a zero pre each = refl
 behind_stays d e a (suc k) pre each =
     let r : behind e a k ≡ behind d a k = behind_stays d e a k pre (λ i li. each i (omega arith)) in
-    let s : size_at e (behind d a k) ≡ size_at d (behind d a k) = (block_stays d e (behind d a k) pre (each k (omega arith))).size in
+    let s : size_at e (behind d a k) ≡ size_at d (behind d a k) =
+    (block_stays d e (behind d a k) pre (each k (omega arith))).size in
     ap (λ (z : ℕ). z + size_at e z) r ∙ ap (λ (z : ℕ). behind d a k + z) s
 
-pub behind_more : (ws : List ℕ) (at k : ℕ) → behind ws at (k + 1) ≡ behind ws at k + size_at ws (behind ws at k)
+pub behind_more : (ws : List ℕ) (at k : ℕ)
+    → behind ws at (k + 1) ≡ behind ws at k + size_at ws (behind ws at k)
 behind_more ws at k = let e : k + 1 ≡ suc k = omega arith in ap (behind ws at) e
 
-pub behind_small : (ws : List ℕ) (at k : ℕ) → ((i : ℕ) → i < k → IsWhole ws (behind ws at i)) → behind ws at k ≤ at + k * 512
+pub behind_small : (ws : List ℕ) (at k : ℕ) → ((i : ℕ) → i < k → IsWhole ws (behind ws at i))
+    → behind ws at k ≤ at + k * 512
 behind_small ws at zero each = omega arith
 behind_small ws at (suc k) each =
     let r = behind_small ws at k (λ i li. each i (omega arith)) in
@@ -86,7 +151,8 @@ behind_small ws at (suc k) each =
     omega arith
 
 -- one block more
-pub blocks_push : (d w : List ℕ) (at from k : ℕ) (f : Start) → AreBlocks d at k f → IsWhole w from → block_at w from ≡ f k → AreBlocks (d ++ piece w from (size_at w from)) at (k + 1) f
+pub blocks_push : (d w : List ℕ) (at from k : ℕ) (f : Start) → AreBlocks d at k f → IsWhole w from
+    → block_at w from ≡ f k → AreBlocks (d ++ piece w from (size_at w from)) at (k + 1) f
 blocks_push d w at from k f old whole is =
     let n : ℕ = size_at w from in
     let p : List ℕ = piece w from n in
@@ -94,21 +160,33 @@ blocks_push d w at from k f old whole is =
     let pre : IsPrefix d e = (p, refl) in
     let lp : length p ≡ n = piece_length w from n in
     let le : length e ≡ length d + length p = length-append d p in
-    let behind_k : behind e at k ≡ length d = behind_stays d e at k pre (λ i li. (old.each i li).whole) ∙ old.last in
+    let behind_k : behind e at k ≡ length d =
+    behind_stays d e at k pre (λ i li. (old.each i li).whole) ∙ old.last in
     let new : Copied e w (length d) from = block_same e w (length d) from whole
     (λ q lq. get_or-append-add d p q 0 ∙ piece_get w from n q lq) (omega arith) in
     record {
       each = λ i li. dite (ℕ_discrete i k)
           (λ same. subst (λ (z : ℕ). IsBlock e (behind e at z) (f z).0 (f z).1) (sym same)
-          (subst (λ (z : ℕ). IsBlock e z (f k).0 (f k).1) (sym behind_k) (record { whole = new.whole; is = new.block ∙ is })))
+          (subst (λ (z : ℕ). IsBlock e z (f k).0 (f k).1) (sym behind_k) (record {
+            whole =
+                new.whole;
+            is = new.block ∙ is;
+          })))
           (λ before.
           let b = old.each i (omega arith) in
           let s = block_stays d e (behind d at i) pre b.whole in
-          let same : behind e at i ≡ behind d at i = behind_stays d e at i pre (λ j lj. (old.each j (omega arith)).whole) in
-          subst (λ (z : ℕ). IsBlock e z (f i).0 (f i).1) (sym same) (record { whole = s.whole; is = s.block ∙ b.is }));
+          let same : behind e at i ≡ behind d at i =
+          behind_stays d e at i pre (λ j lj. (old.each j (omega arith)).whole) in
+          subst (λ (z : ℕ). IsBlock e z (f i).0 (f i).1) (sym same) (record {
+            whole = s.whole;
+            is =
+                s.block ∙ b.is;
+          }));
       last =
-          let m : behind e at (k + 1) ≡ behind e at k + size_at e (behind e at k) = behind_more e at k in
-          let z : behind e at k + size_at e (behind e at k) ≡ length d + size_at e (length d) = ap (λ (z : ℕ). z + size_at e z) behind_k in
+          let m : behind e at (k + 1) ≡ behind e at k + size_at e (behind e at k) =
+          behind_more e at k in
+          let z : behind e at k + size_at e (behind e at k) ≡ length d + size_at e (length d) =
+          ap (λ (z : ℕ). z + size_at e z) behind_k in
           let s : size_at e (length d) ≡ n = new.size in
           m ∙ (z ∙ omega arith);
     }
@@ -117,7 +195,9 @@ pub no_blocks : (d : List ℕ) (f : Start) → AreBlocks d (length d) 0 f
 no_blocks d f = record { each = λ i li. absurd (omega arith); last = refl }
 
 -- an update's words, from its own block and those of its view
-pub record_of : (d e : List ℕ) (n k : ℕ) (v : List ℕ) (f g : Start) → IsBlock d 0 k v → length d ≡ size_at d 0 → IsPrefix d e → AreBlocks e (length d) n f → ((i : ℕ) → i < n → f i ≡ g i) → IsRecord n k v g e
+pub record_of : (d e : List ℕ) (n k : ℕ) (v : List ℕ) (f g : Start) → IsBlock d 0 k v
+    → length d ≡ size_at d 0 → IsPrefix d e → AreBlocks e (length d) n f
+    → ((i : ℕ) → i < n → f i ≡ g i) → IsRecord n k v g e
 record_of d e n k v f g own long pre blocks same =
     let s = block_stays d e 0 pre own.whole in
     let at : length d ≡ size_at e 0 = long ∙ sym s.size in
@@ -132,51 +212,76 @@ record_of d e n k v f g own long pre blocks same =
 
 -- a piece more of a list
 pub take_piece : (n k : ℕ) (xs : List ℕ) → take (n + k) xs ≡ take n xs ++ take k (drop n xs)
-take_piece n k xs = sym (take-append-drop n (take (n + k) xs)) ∙ (λ i. take-take n (n + k) xs (omega arith) i ++ drop-take n k xs i)
+take_piece n k xs = sym (take-append-drop n (take (n + k) xs))
+    ∙ (λ i. take-take n (n + k) xs (omega arith) i ++ drop-take n k xs i)
 
 -- one word more, of eight of the bytes
-pub bytes_push : (d value : List ℕ) (k w : ℕ) → length d ≡ 2 + k → bytes_at d 2 k ≡ take (8 * k) value → to_le_bytes w64 w ≡ take 8 (drop (8 * k) value) → bytes_at (d ++ w ∷ []) 2 (k + 1) ≡ take (8 * (k + 1)) value
+pub bytes_push : (d value : List ℕ) (k w : ℕ) → length d ≡ 2 + k
+    → bytes_at d 2 k ≡ take (8 * k) value → to_le_bytes w64 w ≡ take 8 (drop (8 * k) value)
+    → bytes_at (d ++ w ∷ []) 2 (k + 1) ≡ take (8 * (k + 1)) value
 bytes_push d value k w long old new =
     let e : List ℕ = d ++ w ∷ [] in
-    let first : bytes_at e 2 k ≡ bytes_at d 2 k = bytes_same e d 2 2 k (λ q lq. get_or_append_left d (w ∷ []) 0 (2 + q) (omega arith)) in
+    let first : bytes_at e 2 k ≡ bytes_at d 2 k =
+    bytes_same e d 2 2 k (λ q lq. get_or_append_left d (w ∷ []) 0 (2 + q) (omega arith)) in
     let last : get_or e (2 + k) 0 ≡ w = get_or_push d w 0 (2 + k) long in
     let at : 8 * k + 8 ≡ 8 * (k + 1) = omega arith in
-    bytes_more e 2 k ∙ ((λ t. (first ∙ old) t ++ (ap (to_le_bytes w64) last ∙ new) t) ∙ (sym (take_piece (8 * k) 8 value) ∙ ap (λ (z : ℕ). take z value) at))
+    bytes_more e 2 k ∙ ((λ t. (first ∙ old) t ++ (ap (to_le_bytes w64) last ∙ new) t)
+    ∙ (sym (take_piece (8 * k) 8 value) ∙ ap (λ (z : ℕ). take z value) at))
 
-pub bytes_all : (d bytes : List ℕ) (k : ℕ) → ((q : ℕ) → q < k → to_le_bytes w64 (get_or d (2 + q) 0) ≡ take 8 (drop (8 * q) bytes)) → bytes_at d 2 k ≡ take (8 * k) bytes
+pub bytes_all : (d bytes : List ℕ) (k : ℕ)
+    → ((q : ℕ) → q < k → to_le_bytes w64 (get_or d (2 + q) 0) ≡ take 8 (drop (8 * q) bytes))
+    → bytes_at d 2 k ≡ take (8 * k) bytes
 bytes_all d bytes zero each = refl
 bytes_all d bytes (suc k) each =
     let at : 8 * suc k ≡ 8 * k + 8 = omega arith in
-    (λ i. bytes_all d bytes k (λ q lq. each q (omega arith)) i ++ each k (omega arith) i) ∙ (sym (take_piece (8 * k) 8 bytes) ∙ ap (λ (z : ℕ). take z bytes) (sym at))
+    (λ i. bytes_all d bytes k (λ q lq. each q (omega arith)) i ++ each k (omega arith) i)
+    ∙ (sym (take_piece (8 * k) 8 bytes) ∙ ap (λ (z : ℕ). take z bytes) (sym at))
 
 pub words_enough : (n : ℕ) → n ≤ 4080 → (words_for n ≤ 510) × (n ≤ 8 * words_for n)
 words_enough n le = (omega arith, omega arith)
 
 -- a first block, by its words
-pub first_block : (d value : List ℕ) (k : ℕ) → length value ≤ 4080 → 2 + words_for (length value) ≤ length d → get_or d 0 0 ≡ k → get_or d 1 0 ≡ length value → take (length value) (bytes_at d 2 (words_for (length value))) ≡ value → IsBlock d 0 k value
+pub first_block : (d value : List ℕ) (k : ℕ) → length value ≤ 4080
+    → 2 + words_for (length value) ≤ length d → get_or d 0 0 ≡ k → get_or d 1 0 ≡ length value
+    → take (length value) (bytes_at d 2 (words_for (length value))) ≡ value → IsBlock d 0 k value
 first_block d value k le fits number len bytes =
-    let val : value_at d 0 ≡ value = ap (λ (n : ℕ). take n (bytes_at d 2 (words_for n))) len ∙ bytes in
+    let val : value_at d 0 ≡ value = ap (λ (n : ℕ). take n (bytes_at d 2 (words_for n))) len
+    ∙ bytes in
     let size : size_at d 0 ≡ 2 + words_for (length value) = ap (λ (n : ℕ). 2 + words_for n) len in
     record {
-      whole = record { short = let e : length_at d 0 ≡ length value = len in omega arith; inside = let s : size_at d 0 ≡ 2 + words_for (length value) = size in omega arith };
+      whole = record {
+        short = let e : length_at d 0 ≡ length value = len in omega arith;
+        inside =
+            let s : size_at d 0 ≡ 2 + words_for (length value) = size in omega arith;
+      };
       is = λ t. (number t, val t);
     }
 
-pub packed_block : (d value bytes : List ℕ) (k n : ℕ) → length value ≤ 4080 → length d ≡ 512 → 510 ≤ n → get_or d 0 0 ≡ k → get_or d 1 0 ≡ length value → take (length value) bytes ≡ value
-    → ((q : ℕ) → q < n → to_le_bytes w64 (get_or d (2 + q) 0) ≡ take 8 (drop (8 * q) bytes)) → IsBlock d 0 k value
+pub packed_block : (d value bytes : List ℕ) (k n : ℕ) → length value ≤ 4080 → length d ≡ 512
+    → 510 ≤ n → get_or d 0 0 ≡ k → get_or d 1 0 ≡ length value → take (length value) bytes ≡ value
+    → ((q : ℕ) → q < n → to_le_bytes w64 (get_or d (2 + q) 0) ≡ take 8 (drop (8 * q) bytes))
+    → IsBlock d 0 k value
 packed_block d value bytes k n le long all number len whole each =
     let w = words_enough (length value) le in
     first_block d value k le (omega arith) number len
-    (ap (take (length value)) (bytes_all d bytes (words_for (length value)) (λ q lq. each q (omega arith)))
+    (ap (take (length value)) (bytes_all d bytes (words_for (length value)) (λ q lq.
+    each q (omega arith)))
     ∙ (take-take (length value) (8 * words_for (length value)) bytes w.1 ∙ whole))
 
 -- the last word, which holds the bytes behind the whole words
-pub tail_bytes : (d value rest : List ℕ) (k w : ℕ) → length d ≡ 2 + k → bytes_at d 2 k ≡ take (8 * k) value → to_le_bytes w64 w ≡ drop (8 * k) value ++ rest → words_for (length value) ≡ k + 1
+pub tail_bytes : (d value rest : List ℕ) (k w : ℕ) → length d ≡ 2 + k
+    → bytes_at d 2 k ≡ take (8 * k) value → to_le_bytes w64 w ≡ drop (8 * k) value ++ rest
+    → words_for (length value) ≡ k + 1
     → take (length value) (bytes_at (d ++ w ∷ []) 2 (words_for (length value))) ≡ value
 tail_bytes d value rest k w long old new last =
     let e : List ℕ = d ++ w ∷ [] in
-    let first : bytes_at e 2 k ≡ bytes_at d 2 k = bytes_same e d 2 2 k (λ q lq. get_or_append_left d (w ∷ []) 0 (2 + q) (omega arith)) in
+    let first : bytes_at e 2 k ≡ bytes_at d 2 k =
+    bytes_same e d 2 2 k (λ q lq. get_or_append_left d (w ∷ []) 0 (2 + q) (omega arith)) in
     let here : get_or e (2 + k) 0 ≡ w = get_or_push d w 0 (2 + k) long in
-    let all : bytes_at e 2 (k + 1) ≡ take (8 * k) value ++ (drop (8 * k) value ++ rest) = bytes_more e 2 k ∙ (λ t. (first ∙ old) t ++ (ap (to_le_bytes w64) here ∙ new) t) in
-    let whole : take (8 * k) value ++ (drop (8 * k) value ++ rest) ≡ value ++ rest = sym (append_assoc (take (8 * k) value) (drop (8 * k) value) rest) ∙ ap (λ l. l ++ rest) (take-append-drop (8 * k) value) in
-    ap (take (length value)) (ap (bytes_at e 2) last ∙ (all ∙ whole)) ∙ take_at value rest (length value) refl
+    let all : bytes_at e 2 (k + 1) ≡ take (8 * k) value ++ (drop (8 * k) value ++ rest) =
+    bytes_more e 2 k ∙ (λ t. (first ∙ old) t ++ (ap (to_le_bytes w64) here ∙ new) t) in
+    let whole : take (8 * k) value ++ (drop (8 * k) value ++ rest) ≡ value ++ rest =
+    sym (append_assoc (take (8 * k) value) (drop (8 * k) value) rest)
+    ∙ ap (λ l. l ++ rest) (take-append-drop (8 * k) value) in
+    ap (take (length value)) (ap (bytes_at e 2) last ∙ (all ∙ whole))
+    ∙ take_at value rest (length value) refl

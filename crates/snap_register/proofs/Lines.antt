@@ -1,6 +1,46 @@
 -- What a beginning of a history, and one more update, do to a segment's line.
-use Rattle.std.proofs.Common.{◌≡◌, ◌≢◌, ℕ, zero, suc, ◌+◌, ◌<◌, ◌≤◌, ◌==◌, ◌⊎◌, inl, inr, ⊎_elim, Bool, true, false, cond, List, [], ◌∷◌, ◌++◌, length, get_or, refl, ap, sym, subst, ◌∙◌, arith, append_assoc, length-append, eq-eqb, ne_eqb}
-use Rattle.std.proofs.lemmas.List.{same_from_push, get_or_append_left, get_or_push, nil_from_length, append-nil}
+use Rattle.std.proofs.Common.{
+  ◌≡◌,
+  ◌≢◌,
+  ℕ,
+  zero,
+  suc,
+  ◌+◌,
+  ◌<◌,
+  ◌≤◌,
+  ◌==◌,
+  ◌⊎◌,
+  inl,
+  inr,
+  ⊎_elim,
+  Bool,
+  true,
+  false,
+  cond,
+  List,
+  [],
+  ◌∷◌,
+  ◌++◌,
+  length,
+  get_or,
+  refl,
+  ap,
+  sym,
+  subst,
+  ◌∙◌,
+  arith,
+  append_assoc,
+  length-append,
+  eq-eqb,
+  ne_eqb,
+}
+use Rattle.std.proofs.lemmas.List.{
+  same_from_push,
+  get_or_append_left,
+  get_or_push,
+  nil_from_length,
+  append-nil,
+}
 use mathlib.Core.List.{IsPrefix}
 use mathlib.Core.Logic.{dite}
 use native.Mathlib.Decide.{ℕ_discrete}
@@ -12,13 +52,17 @@ use Rattle.snap_register.specs.Rule.{Follows, IsLegal}
 pub prefix_self : {A : Type 0} (xs : List A) → IsPrefix xs xs
 prefix_self xs = ([], append-nil xs)
 
-pub prefix_trans : {A : Type 0} (xs ys zs : List A) → IsPrefix xs ys → IsPrefix ys zs → IsPrefix xs zs
-prefix_trans xs ys zs p q = (p.0 ++ q.0, sym (append_assoc xs p.0 q.0) ∙ (ap (λ w. w ++ q.0) p.1 ∙ q.1))
+pub prefix_trans : {A : Type 0} (xs ys zs : List A) → IsPrefix xs ys → IsPrefix ys zs
+    → IsPrefix xs zs
+prefix_trans xs ys zs p q =
+    (p.0 ++ q.0, sym (append_assoc xs p.0 q.0) ∙ (ap (λ w. w ++ q.0) p.1 ∙ q.1))
 
-pub prefix_push : {A : Type 0} (xs ys : List A) (y : A) → IsPrefix xs ys → IsPrefix xs (ys ++ y ∷ [])
+pub prefix_push : {A : Type 0} (xs ys : List A) (y : A) → IsPrefix xs ys
+    → IsPrefix xs (ys ++ y ∷ [])
 prefix_push xs ys y p = prefix_trans xs ys (ys ++ y ∷ []) p (y ∷ [], refl)
 
-both : {A : Type 0} (t : Bool) (x : A) (a b c : List A) → a ≡ b ++ c → cond t (x ∷ a) a ≡ cond t (x ∷ b) b ++ c
+both : {A : Type 0} (t : Bool) (x : A) (a b c : List A) → a ≡ b ++ c
+    → cond t (x ∷ a) a ≡ cond t (x ∷ b) b ++ c
 both true x a b c e = ap (λ w. x ∷ w) e
 both false x a b c e = e
 
@@ -32,58 +76,85 @@ only_same i e is = ap (λ t. cond t (e ∷ []) []) (eq-eqb e.segment i is)
 pub only_other : (i : ℕ) (e : Entry) → e.segment ≢ i → only i (e ∷ []) ≡ []
 only_other i e is = ap (λ t. cond t (e ∷ []) []) (ne_eqb e.segment i is)
 
-pub only_push_same : (i : ℕ) (h : List Entry) (e : Entry) → e.segment ≡ i → only i (h ++ e ∷ []) ≡ only i h ++ e ∷ []
+pub only_push_same : (i : ℕ) (h : List Entry) (e : Entry) → e.segment ≡ i
+    → only i (h ++ e ∷ []) ≡ only i h ++ e ∷ []
 only_push_same i h e is = only-append i h (e ∷ []) ∙ ap (λ w. only i h ++ w) (only_same i e is)
 
-pub only_push_other : (i : ℕ) (h : List Entry) (e : Entry) → e.segment ≢ i → only i (h ++ e ∷ []) ≡ only i h
-only_push_other i h e is = only-append i h (e ∷ []) ∙ (ap (λ w. only i h ++ w) (only_other i e is) ∙ append-nil (only i h))
+pub only_push_other : (i : ℕ) (h : List Entry) (e : Entry) → e.segment ≢ i
+    → only i (h ++ e ∷ []) ≡ only i h
+only_push_other i h e is =
+    only-append i h (e ∷ []) ∙ (ap (λ w. only i h ++ w) (only_other i e is) ∙ append-nil (only i h))
 
-pub count_push_same : (i : ℕ) (h : List Entry) (e : Entry) → e.segment ≡ i → count i (h ++ e ∷ []) ≡ count i h + 1
+pub count_push_same : (i : ℕ) (h : List Entry) (e : Entry) → e.segment ≡ i
+    → count i (h ++ e ∷ []) ≡ count i h + 1
 count_push_same i h e is = ap length (only_push_same i h e is) ∙ length-append (only i h) (e ∷ [])
 
-pub count_push_other : (i : ℕ) (h : List Entry) (e : Entry) → e.segment ≢ i → count i (h ++ e ∷ []) ≡ count i h
+pub count_push_other : (i : ℕ) (h : List Entry) (e : Entry) → e.segment ≢ i
+    → count i (h ++ e ∷ []) ≡ count i h
 count_push_other i h e is = ap length (only_push_other i h e is)
 
 pub count_prefix : (i : ℕ) (a h : List Entry) → IsPrefix a h → count i a ≤ count i h
-count_prefix i a h p = let e : count i h ≡ count i a + count i p.0 = ap (count i) (sym p.1) ∙ (ap length (only-append i a p.0) ∙ length-append (only i a) (only i p.0)) in omega arith
+count_prefix i a h p = let e : count i h ≡ count i a + count i p.0 =
+    ap (count i) (sym p.1) ∙ (ap length (only-append i a p.0)
+    ∙ length-append (only i a) (only i p.0)) in omega arith
 
 -- what a record of a beginning's line has, the whole's has
-pub record_prefix : (p : Plan) (a h : List Entry) (i r : ℕ) → IsPrefix a h → r ≤ count i a → record_words p h i r ≡ record_words p a i r
-record_prefix p a h i r pre le = ap (λ (l : List Entry). (get_or (entry i (start_at p i).words ∷ l) r (entry i [])).words) (ap (only i) (sym pre.1) ∙ only-append i a pre.0)
-    ∙ ap (λ (e : Entry). e.words) (get_or_append_left (line p a i) (only i pre.0) (entry i []) r (omega arith))
+pub record_prefix : (p : Plan) (a h : List Entry) (i r : ℕ) → IsPrefix a h → r ≤ count i a
+    → record_words p h i r ≡ record_words p a i r
+record_prefix p a h i r pre le =
+    ap (λ (l : List Entry). (get_or (entry i (start_at p i).words ∷ l) r (entry i [])).words)
+    (ap (only i) (sym pre.1) ∙ only-append i a pre.0)
+    ∙ ap (λ (e : Entry). e.words) (get_or_append_left (line p a i) (only i pre.0) (entry i []) r
+    (omega arith))
 
 -- the record of the last update
-pub record_last : (p : Plan) (h : List Entry) (i : ℕ) (ws : List ℕ) → record_words p (h ++ entry i ws ∷ []) i (count i h + 1) ≡ ws
-record_last p h i ws = ap (λ (l : List Entry). (get_or (entry i (start_at p i).words ∷ l) (count i h + 1) (entry i [])).words) (only_push_same i h (entry i ws) refl)
-    ∙ ap (λ (e : Entry). e.words) (get_or_push (line p h i) (entry i ws) (entry i []) (count i h + 1) (omega arith))
+pub record_last : (p : Plan) (h : List Entry) (i : ℕ) (ws : List ℕ)
+    → record_words p (h ++ entry i ws ∷ []) i (count i h + 1) ≡ ws
+record_last p h i ws = ap (λ (l : List Entry).
+    (get_or (entry i (start_at p i).words ∷ l) (count i h + 1) (entry i [])).words)
+    (only_push_same i h (entry i ws) refl)
+    ∙ ap (λ (e : Entry). e.words) (get_or_push (line p h i) (entry i ws) (entry i [])
+    (count i h + 1) (omega arith))
 
-pub none_between : (i : ℕ) (a h : List Entry) (p : IsPrefix a h) → count i a ≡ count i h → only i p.0 ≡ []
-none_between i a h p same = nil_from_length (only i p.0) (let e : count i h ≡ count i a + count i p.0 = ap (count i) (sym p.1) ∙ (ap length (only-append i a p.0) ∙ length-append (only i a) (only i p.0)) in omega arith)
+pub none_between : (i : ℕ) (a h : List Entry) (p : IsPrefix a h) → count i a ≡ count i h
+    → only i p.0 ≡ []
+none_between i a h p same =
+    nil_from_length (only i p.0) (let e : count i h ≡ count i a + count i p.0 =
+    ap (count i) (sym p.1) ∙ (ap length (only-append i a p.0)
+    ∙ length-append (only i a) (only i p.0)) in omega arith)
 
 -- a beginning that has no fewer of a segment has all of it
-pub all_only : (i : ℕ) (a h : List Entry) → IsPrefix a h → count i h ≤ count i a → only i a ≡ only i h
+pub all_only : (i : ℕ) (a h : List Entry) → IsPrefix a h → count i h ≤ count i a
+    → only i a ≡ only i h
 all_only i a h p le =
     let same : count i a ≡ count i h = let c = count_prefix i a h p in omega arith in
     let none = none_between i a h p same in
-    sym (append-nil (only i a)) ∙ (ap (λ w. only i a ++ w) (sym none) ∙ (sym (only-append i a p.0) ∙ ap (only i) p.1))
+    sym (append-nil (only i a))
+    ∙ (ap (λ w. only i a ++ w) (sym none) ∙ (sym (only-append i a p.0) ∙ ap (only i) p.1))
 
 -- a list is empty or has a last element
 last_view : {A : Type 0} (b : List A) → (b ≡ []) ⊎ ((c : List A) × (y : A) × (b ≡ c ++ y ∷ []))
 last_view [] = inl refl
-last_view (x ∷ xs) = ⊎_elim (λ e. inr ([], x, ap (λ w. x ∷ w) e)) (λ t. inr (x ∷ t.0, t.1, ap (λ w. x ∷ w) t.2)) (last_view xs)
+last_view (x ∷ xs) = ⊎_elim (λ e. inr ([], x, ap (λ w. x ∷ w) e)) (λ t.
+    inr (x ∷ t.0, t.1, ap (λ w. x ∷ w) t.2)) (last_view xs)
 
-pub legal_push : (p : Plan) (h : List Entry) (x : Entry) → IsLegal p h → Follows p h x → IsLegal p (h ++ x ∷ [])
+pub legal_push : (p : Plan) (h : List Entry) (x : Entry) → IsLegal p h → Follows p h x
+    → IsLegal p (h ++ x ∷ [])
 legal_push p h x legal follows a b e is = ⊎_elim
     (λ none. let s = same_from_push a h e x (ap (λ w. a ++ e ∷ w) (sym none) ∙ is) in
-    subst (λ (z : Entry). Follows p a z) (sym s.1) (subst (λ (z : List Entry). Follows p z x) (sym s.0) follows))
-    (λ t. let s = same_from_push (a ++ e ∷ t.0) h t.1 x (append_assoc a (e ∷ t.0) (t.1 ∷ []) ∙ (ap (λ w. a ++ e ∷ w) (sym t.2) ∙ is)) in legal a t.0 e s.0)
+    subst (λ (z : Entry). Follows p a z) (sym s.1)
+    (subst (λ (z : List Entry). Follows p z x) (sym s.0) follows))
+    (λ t. let s = same_from_push (a ++ e ∷ t.0) h t.1 x (append_assoc a (e ∷ t.0) (t.1 ∷ [])
+    ∙ (ap (λ w. a ++ e ∷ w) (sym t.2) ∙ is)) in legal a t.0 e s.0)
     (last_view b)
 
 pub legal_prefix : (p : Plan) (a h : List Entry) → IsPrefix a h → IsLegal p h → IsLegal p a
-legal_prefix p a h pre legal l r e is = legal l (r ++ pre.0) e (sym (append_assoc l (e ∷ r) pre.0) ∙ (ap (λ w. w ++ pre.0) is ∙ pre.1))
+legal_prefix p a h pre legal l r e is =
+    legal l (r ++ pre.0) e (sym (append_assoc l (e ∷ r) pre.0) ∙ (ap (λ w. w ++ pre.0) is ∙ pre.1))
 
 -- what may follow a beginning may follow the whole, where its segment has no further update
-pub follows_later : (p : Plan) (a h : List Entry) (x : Entry) → IsPrefix a h → count x.segment a ≡ count x.segment h → Follows p a x → Follows p h x
+pub follows_later : (p : Plan) (a h : List Entry) (x : Entry) → IsPrefix a h
+    → count x.segment a ≡ count x.segment h → Follows p a x → Follows p h x
 follows_later p a h x pre same f = (f.0, prefix_trans f.0 a h f.1 pre, f.2 ∙ same, f.3)
 
 -- the update at the place r of a segment's line, and what stands before it
@@ -94,20 +165,24 @@ pub record Found (i r : ℕ) (h : List Entry) : Type 0 where
   pub place : count i before ≡ r
   pub its : (get_or (only i h) r (entry i [])).segment ≡ i
 
-found_more : (i r : ℕ) (x : Entry) (h : List Entry) → x.segment ≢ i → Found i r h → Found i r (x ∷ h)
+found_more : (i r : ℕ) (x : Entry) (h : List Entry) → x.segment ≢ i → Found i r h
+    → Found i r (x ∷ h)
 found_more i r x h other f =
-    let e : only i (x ∷ h) ≡ only i h = ap (λ t. cond t (x ∷ only i h) (only i h)) (ne_eqb x.segment i other) in
+    let e : only i (x ∷ h) ≡ only i h =
+    ap (λ t. cond t (x ∷ only i h) (only i h)) (ne_eqb x.segment i other) in
     record {
       before = x ∷ f.before;
       after = f.after;
       is = ap (λ l. x ∷ (f.before ++ get_or l r (entry i []) ∷ f.after)) e ∙ ap (λ w. x ∷ w) f.is;
-      place = ap (λ t. length (cond t (x ∷ only i f.before) (only i f.before))) (ne_eqb x.segment i other) ∙ f.place;
+      place = ap (λ t. length (cond t (x ∷ only i f.before) (only i f.before)))
+          (ne_eqb x.segment i other) ∙ f.place;
       its = ap (λ l. (get_or l r (entry i [])).segment) e ∙ f.its;
     }
 
 found_first : (i : ℕ) (x : Entry) (h : List Entry) → x.segment ≡ i → Found i zero (x ∷ h)
 found_first i x h same =
-    let e : only i (x ∷ h) ≡ x ∷ only i h = ap (λ t. cond t (x ∷ only i h) (only i h)) (eq-eqb x.segment i same) in
+    let e : only i (x ∷ h) ≡ x ∷ only i h =
+    ap (λ t. cond t (x ∷ only i h) (only i h)) (eq-eqb x.segment i same) in
     record {
       before = [];
       after = h;
@@ -116,28 +191,37 @@ found_first i x h same =
       its = ap (λ l. (get_or l zero (entry i [])).segment) e ∙ same;
     }
 
-found_next : (i r : ℕ) (x : Entry) (h : List Entry) → x.segment ≡ i → Found i r h → Found i (suc r) (x ∷ h)
+found_next : (i r : ℕ) (x : Entry) (h : List Entry) → x.segment ≡ i → Found i r h
+    → Found i (suc r) (x ∷ h)
 found_next i r x h same f =
-    let e : only i (x ∷ h) ≡ x ∷ only i h = ap (λ t. cond t (x ∷ only i h) (only i h)) (eq-eqb x.segment i same) in
+    let e : only i (x ∷ h) ≡ x ∷ only i h =
+    ap (λ t. cond t (x ∷ only i h) (only i h)) (eq-eqb x.segment i same) in
     record {
       before = x ∷ f.before;
       after = f.after;
-      is = ap (λ l. x ∷ (f.before ++ get_or l (suc r) (entry i []) ∷ f.after)) e ∙ ap (λ w. x ∷ w) f.is;
-      place = ap (λ t. length (cond t (x ∷ only i f.before) (only i f.before))) (eq-eqb x.segment i same) ∙ ap suc f.place;
+      is = ap (λ l. x ∷ (f.before ++ get_or l (suc r) (entry i []) ∷ f.after)) e
+          ∙ ap (λ w. x ∷ w) f.is;
+      place = ap (λ t. length (cond t (x ∷ only i f.before) (only i f.before)))
+          (eq-eqb x.segment i same) ∙ ap suc f.place;
       its = ap (λ l. (get_or l (suc r) (entry i [])).segment) e ∙ f.its;
     }
 
-fewer : (i r : ℕ) (x : Entry) (h : List Entry) → x.segment ≡ i → suc r < count i (x ∷ h) → r < count i h
-fewer i r x h same lt = let e : count i (x ∷ h) ≡ suc (count i h) = ap (λ t. length (cond t (x ∷ only i h) (only i h))) (eq-eqb x.segment i same) in omega arith
+fewer : (i r : ℕ) (x : Entry) (h : List Entry) → x.segment ≡ i → suc r < count i (x ∷ h)
+    → r < count i h
+fewer i r x h same lt = let e : count i (x ∷ h) ≡ suc (count i h) =
+    ap (λ t. length (cond t (x ∷ only i h) (only i h))) (eq-eqb x.segment i same) in omega arith
 
 same_count : (i : ℕ) (x : Entry) (h : List Entry) → x.segment ≢ i → count i (x ∷ h) ≡ count i h
-same_count i x h other = ap (λ t. length (cond t (x ∷ only i h) (only i h))) (ne_eqb x.segment i other)
+same_count i x h other = ap (λ t. length (cond t (x ∷ only i h) (only i h)))
+    (ne_eqb x.segment i other)
 
 pub find : (i r : ℕ) (h : List Entry) → r < count i h → Found i r h
 find i r [] lt = absurd (omega arith)
 find i zero (x ∷ h) lt = dite (ℕ_discrete x.segment i)
     (λ same. found_first i x h same)
-    (λ other. found_more i zero x h other (find i zero h (let e = same_count i x h other in omega arith)))
+    (λ other. found_more i zero x h other (find i zero h (let e = same_count i x h other in
+    omega arith)))
 find i (suc r) (x ∷ h) lt = dite (ℕ_discrete x.segment i)
     (λ same. found_next i r x h same (find i r h (fewer i r x h same lt)))
-    (λ other. found_more i (suc r) x h other (find i (suc r) h (let e = same_count i x h other in omega arith)))
+    (λ other. found_more i (suc r) x h other (find i (suc r) h (let e = same_count i x h other in
+    omega arith)))

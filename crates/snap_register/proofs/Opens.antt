@@ -1,8 +1,51 @@
 -- The words at the start keep the rule, and the first seat hands out the others.
-use Rattle.std.proofs.Common.{◌≡◌, ℕ, zero, suc, ◌+◌, ◌-◌, ◌*◌, ◌^◌, ◌<◌, ◌≤◌, ◌⊎◌, inl, inr, ⊎_elim, List, [], ◌∷◌, ◌++◌, map, length, get_or, refl, ap, sym, subst, ◌∙◌, arith, length-append, suc-mul, mul_assoc, one-mul, mul-le-mul_right, Some, slice_get}
+use Rattle.std.proofs.Common.{
+  ◌≡◌,
+  ℕ,
+  zero,
+  suc,
+  ◌+◌,
+  ◌-◌,
+  ◌*◌,
+  ◌^◌,
+  ◌<◌,
+  ◌≤◌,
+  ◌⊎◌,
+  inl,
+  inr,
+  ⊎_elim,
+  List,
+  [],
+  ◌∷◌,
+  ◌++◌,
+  map,
+  length,
+  get_or,
+  refl,
+  ap,
+  sym,
+  subst,
+  ◌∙◌,
+  arith,
+  length-append,
+  suc-mul,
+  mul_assoc,
+  one-mul,
+  mul-le-mul_right,
+  Some,
+  slice_get,
+}
 use Rattle.std.specs.Prelude.{replicate}
 use Rattle.std.specs.List.{flat_map}
-use Rattle.std.proofs.lemmas.List.{length-map, length-replicate, get_or_append_left, get_or-append-add, get_or-append_right, get_or-replicate, get_or_past}
+use Rattle.std.proofs.lemmas.List.{
+  length-map,
+  length-replicate,
+  get_or_append_left,
+  get_or-append-add,
+  get_or-append_right,
+  get_or-replicate,
+  get_or_past,
+}
 use mathlib.Core.Logic.{dite}
 use mathlib.Core.Option.{some, some-injective, some-ne-none}
 use native.Mathlib.Decide.{dec_le, ℕ_discrete}
@@ -14,8 +57,30 @@ use Rattle.snap_register.specs.declared.plan.Plan.{Plan}
 use Rattle.snap_register.specs.declared.plan.Start.{Start}
 use Rattle.snap_register.specs.declared.plan.SeatView.{SeatView}
 use Rattle.snap_register.specs.History.{no_start, start_at, updates}
-use Rattle.snap_register.specs.Rule.{segments, seats, buffers, width, given, cell, size, other, pins_of, Knows, Kept}
-use Rattle.snap_register.specs.Setup.{first_view, first_pool, start_of, plan_with, unused, opening_words, IsReady, IsSized, IsFirst}
+use Rattle.snap_register.specs.Rule.{
+  segments,
+  seats,
+  buffers,
+  width,
+  given,
+  cell,
+  size,
+  other,
+  pins_of,
+  Knows,
+  Kept,
+}
+use Rattle.snap_register.specs.Setup.{
+  first_view,
+  first_pool,
+  start_of,
+  plan_with,
+  unused,
+  opening_words,
+  IsReady,
+  IsSized,
+  IsFirst,
+}
 use Rattle.snap_register.specs.Seat.{Known, known}
 use Rattle.snap_register.specs.Parts.{IsNewSeat, AreWriters, AreReaders}
 use Rattle.snap_register.specs.Held.{Readable}
@@ -31,20 +96,39 @@ fewer_looks (suc l) looks any =
     let e : suc l * looks ≡ x + looks = suc-mul l looks in
     let y : ℕ = suc l * looks in
     let f : y ≡ x + looks = e in
-    let g : suc l - 1 ≡ l = omega arith in
-    (let goal : looks ≤ y = omega arith in goal, (let goal : y - looks ≡ x = omega arith in goal) ∙ ap (λ (z : ℕ). z * looks) (sym g))
+    let g : suc l - 1 ≡ l = omega arith in (
+      let goal : looks ≤ y = omega arith in goal,
+      (let goal : y - looks ≡ x = omega arith in goal)
+          ∙ ap (λ (z : ℕ). z * looks) (sym g),
+    )
 
 module _ (S : Type 0) where
-  pub enough : (words l : ℕ) (m : Me S SeatView) → IsFirst words l m → 0 < l → (m.0.plan.looks ≤ m.0.left) × (1 ≤ m.0.pin_quota)
-  enough words l m f any = let e = (fewer_looks l m.0.plan.looks any).0 in let x : ℕ = l * m.0.plan.looks in let a : m.0.left ≡ x = f.left_is in let e' : m.0.plan.looks ≤ x = e in let s = f.pin_quota_is in (omega arith, omega arith)
+  pub enough : (words l : ℕ) (m : Me S SeatView) → IsFirst words l m → 0 < l
+      → (m.0.plan.looks ≤ m.0.left) × (1 ≤ m.0.pin_quota)
+  enough words l m f any = let e = (fewer_looks l m.0.plan.looks any).0 in let x : ℕ =
+      l * m.0.plan.looks in let a : m.0.left ≡ x = f.left_is in let e' : m.0.plan.looks ≤ x = e in
+      let s = f.pin_quota_is in (omega arith, omega arith)
 
-  pub bare : (words l : ℕ) (m : Me S SeatView) → IsFirst words l m → (i : ℕ) → get_or m.0.pins i 0 ≡ 0
-  bare words l m f i = ap (λ (z : List ℕ). get_or z i 0) f.pins_are ∙ dite (dec_le (segments m.0.plan) i)
-      (λ past. get_or_past (replicate (segments m.0.plan) 0) i 0 (let e : length (replicate {A = ℕ} (segments m.0.plan) 0) ≡ segments m.0.plan = length-replicate (segments m.0.plan) 0 in omega arith))
+  pub bare : (words l : ℕ) (m : Me S SeatView) → IsFirst words l m → (i : ℕ)
+      → get_or m.0.pins i 0 ≡ 0
+  bare words l m f i = ap (λ (z : List ℕ). get_or z i 0) f.pins_are
+      ∙ dite (dec_le (segments m.0.plan) i)
+      (λ past. get_or_past (replicate (segments m.0.plan) 0) i 0 (let e : length (replicate {A =
+      ℕ} (segments m.0.plan) 0) ≡ segments m.0.plan = length-replicate (segments m.0.plan) 0 in
+      omega arith))
       (λ here. get_or-replicate (segments m.0.plan) i 0 0 (omega arith))
 
   -- once a seat was handed out, which takes the segments below `low`
-  pub first_after : (words words' l k low : ℕ) (m n : Me S SeatView) → IsFirst words l m → k + 1 ≡ l → words' ≡ words → n ≡ (record m.0 { low = low; pin_quota = m.0.pin_quota - 1; left = m.0.left - m.0.plan.looks }, m.1) → IsFirst words' k n
+  pub first_after : (words words' l k low : ℕ) (m n : Me S SeatView) → IsFirst words l m → k + 1 ≡ l
+      → words' ≡ words → n ≡ (
+        record m.0 {
+          low = low;
+          pin_quota = m.0.pin_quota - 1;
+          left =
+              m.0.left - m.0.plan.looks;
+        },
+        m.1,
+      ) → IsFirst words' k n
   first_after words words' l k low m n f e same is =
       let one_less : l - 1 ≡ k = omega arith in
       subst (λ (z : Me S SeatView). IsFirst words' k z) (sym is) (record {
@@ -57,25 +141,37 @@ module _ (S : Type 0) where
         pool_end_is = f.pool_end_is;
         pool_is = f.pool_is;
         pin_quota_is = let e = f.pin_quota_is in omega arith;
-        left_is = ap (λ (z : ℕ). z - m.0.plan.looks) f.left_is ∙ ((fewer_looks l m.0.plan.looks (omega arith)).1 ∙ ap (λ (z : ℕ). z * m.0.plan.looks) one_less);
+        left_is = ap (λ (z : ℕ). z - m.0.plan.looks) f.left_is
+            ∙ ((fewer_looks l m.0.plan.looks (omega arith)).1
+            ∙ ap (λ (z : ℕ). z * m.0.plan.looks) one_less);
         readable = f.readable;
         pins_are = f.pins_are;
         records_are = f.records_are;
       })
 
-get_at_end : {A : Type 0} (l : List A) (a b : A) (j : ℕ) → slice_get (l ++ a ∷ []) j ≡ Some b → (slice_get l j ≡ Some b) ⊎ ((j ≡ length l) × (a ≡ b))
+get_at_end : {A : Type 0} (l : List A) (a b : A) (j : ℕ) → slice_get (l ++ a ∷ []) j ≡ Some b
+    → (slice_get l j ≡ Some b) ⊎ ((j ≡ length l) × (a ≡ b))
 get_at_end [] a b zero e = inr (refl, cc)
 get_at_end [] a b (suc j) e = absurd cc
 get_at_end (x ∷ xs) a b zero e = inl e
-get_at_end (x ∷ xs) a b (suc j) e = ⊎_elim (λ z. inl z) (λ t. inr (ap suc t.0, t.1)) (get_at_end xs a b j e)
+get_at_end (x ∷ xs) a b (suc j) e =
+    ⊎_elim (λ z. inl z) (λ t. inr (ap suc t.0, t.1)) (get_at_end xs a b j e)
 
-pub writers_more : (z : TableId) (p : Plan) (xs : List Known) (a : Known) → AreWriters z p xs → IsNewSeat z p (length xs) (length xs + 1) a → AreWriters z p (xs ++ a ∷ [])
-writers_more z p xs a old new i b at = ⊎_elim (λ e. old i b e) (λ t. subst (λ (y : ℕ × Known). IsNewSeat z p y.0 (y.0 + 1) y.1) (λ k. (sym t.0 k, t.1 k)) new) (get_at_end xs a b i at)
+pub writers_more : (z : TableId) (p : Plan) (xs : List Known) (a : Known) → AreWriters z p xs
+    → IsNewSeat z p (length xs) (length xs + 1) a → AreWriters z p (xs ++ a ∷ [])
+writers_more z p xs a old new i b at =
+    ⊎_elim (λ e. old i b e) (λ t. subst (λ (y : ℕ × Known). IsNewSeat z p y.0 (y.0 + 1) y.1) (λ k.
+    (sym t.0 k, t.1 k)) new) (get_at_end xs a b i at)
 
-pub readers_more : (z : TableId) (p : Plan) (xs : List Known) (a : Known) → AreReaders z p xs → IsNewSeat z p 0 0 a → AreReaders z p (xs ++ a ∷ [])
-readers_more z p xs a old new i b at = ⊎_elim (λ e. old i b e) (λ t. subst (λ (y : Known). IsNewSeat z p 0 0 y) t.1 new) (get_at_end xs a b i at)
+pub readers_more : (z : TableId) (p : Plan) (xs : List Known) (a : Known) → AreReaders z p xs
+    → IsNewSeat z p 0 0 a → AreReaders z p (xs ++ a ∷ [])
+readers_more z p xs a old new i b at =
+    ⊎_elim (λ e. old i b e) (λ t. subst (λ (y : Known). IsNewSeat z p 0 0 y) t.1 new)
+    (get_at_end xs a b i at)
 
-pub new_seat : (S : Type 0) (z : TableId) (p : Plan) (low high : ℕ) (a : Known) (t : TableId) (m n : Me S SeatView) → m ≡ n → a ≡ known t m.0 → t ≡ z → n.0.plan ≡ p → n.0.seen ≡ [] → n.0.low ≡ low → n.0.high ≡ high → n.0.left ≡ n.0.plan.looks → IsNewSeat z p low high a
+pub new_seat : (S : Type 0) (z : TableId) (p : Plan) (low high : ℕ) (a : Known) (t : TableId)
+    (m n : Me S SeatView) → m ≡ n → a ≡ known t m.0 → t ≡ z → n.0.plan ≡ p → n.0.seen ≡ []
+    → n.0.low ≡ low → n.0.high ≡ high → n.0.left ≡ n.0.plan.looks → IsNewSeat z p low high a
 new_seat S z p low high a t m n me is te pe se le he fe =
     let is' : a ≡ known t n.0 = is ∙ ap (λ (x : Me S SeatView). known t x.0) me in
     record {
@@ -88,7 +184,8 @@ new_seat S z p low high a t m n me is te pe se le he fe =
     }
 
 module _ {X : Type 0} (f : X → List ℕ) (d : X) (b : ℕ) where
-  even_length : (xs : List X) → ((i : ℕ) → i < length xs → length (f (get_or xs i d)) ≡ b) → length (flat_map f xs) ≡ length xs * b
+  even_length : (xs : List X) → ((i : ℕ) → i < length xs → length (f (get_or xs i d)) ≡ b)
+      → length (flat_map f xs) ≡ length xs * b
   even_length [] even = omega arith
   even_length (x ∷ xs) even =
       let rest = even_length xs (λ i li. even (suc i) (omega arith)) in
@@ -98,18 +195,23 @@ module _ {X : Type 0} (f : X → List ℕ) (d : X) (b : ℕ) where
       let z : suc (length xs) * b ≡ y + b = suc-mul (length xs) b in
       length-append (f x) (flat_map f xs) ∙ (omega arith ∙ sym z)
 
-  even_get : (xs : List X) (i j : ℕ) → ((i : ℕ) → i < length xs → length (f (get_or xs i d)) ≡ b) → i < length xs → j < b → get_or (flat_map f xs) (i * b + j) 0 ≡ get_or (f (get_or xs i d)) j 0
+  even_get : (xs : List X) (i j : ℕ) → ((i : ℕ) → i < length xs → length (f (get_or xs i d)) ≡ b)
+      → i < length xs → j < b → get_or (flat_map f xs) (i * b + j) 0
+      ≡ get_or (f (get_or xs i d)) j 0
   even_get [] i j even li lj = absurd (omega arith)
   even_get (x ∷ xs) zero j even li lj =
       let this : length (f x) ≡ b = even 0 (omega arith) in
       let at : zero * b + j ≡ j = omega arith in
-      ap (λ (z : ℕ). get_or (f x ++ flat_map f xs) z 0) at ∙ get_or_append_left (f x) (flat_map f xs) 0 j (omega arith)
+      ap (λ (z : ℕ). get_or (f x ++ flat_map f xs) z 0) at
+      ∙ get_or_append_left (f x) (flat_map f xs) 0 j (omega arith)
   even_get (x ∷ xs) (suc i) j even li lj =
       let this : length (f x) ≡ b = even 0 (omega arith) in
       let y : ℕ = i * b in
       let z : suc i * b ≡ y + b = suc-mul i b in
       let at : suc i * b + j ≡ length (f x) + (y + j) = omega arith in
-      ap (λ (z : ℕ). get_or (f x ++ flat_map f xs) z 0) at ∙ (get_or-append-add (f x) (flat_map f xs) (y + j) 0 ∙ even_get xs i j (λ k lk. even (suc k) (omega arith)) (omega arith) lj)
+      ap (λ (z : ℕ). get_or (f x ++ flat_map f xs) z 0) at
+      ∙ (get_or-append-add (f x) (flat_map f xs) (y + j) 0
+      ∙ even_get xs i j (λ k lk. even (suc k) (omega arith)) (omega arith) lj)
 
 module _ (p : Plan) (ready : IsReady p) where
   abbrev front : ℕ
@@ -166,9 +268,12 @@ module _ (p : Plan) (ready : IsReady p) where
       length-append zeros (flat_map piece p.start) ∙ omega arith
 
   zero_at : (i : ℕ) → i < front → get_or (opening_words p) i 0 ≡ 0
-  zero_at i li = let c = count_zeros in get_or_append_left zeros (flat_map piece p.start) 0 i (omega arith) ∙ get_or-replicate front i 0 0 li
+  zero_at i li = let c = count_zeros in
+      get_or_append_left zeros (flat_map piece p.start) 0 i (omega arith)
+      ∙ get_or-replicate front i 0 0 li
 
-  zero_given : (i b : ℕ) → i < segments p → b < buffers p → get_or (opening_words p) (given p i b) 0 ≡ 0
+  zero_given : (i b : ℕ) → i < segments p → b < buffers p
+      → get_or (opening_words p) (given p i b) 0 ≡ 0
   zero_given i b li lb =
       let l = below_product i (segments p) (buffers p) b li lb in
       let x : ℕ = i * buffers p in
@@ -176,16 +281,20 @@ module _ (p : Plan) (ready : IsReady p) where
       let l' : x + b < g = l in
       zero_at (given p i b) (let goal : segments p + (x + b) < segments p + g = omega arith in goal)
 
-  record_at : (i q : ℕ) → i < segments p → q < width p → get_or (opening_words p) (cell p i 0 q) 0 ≡ get_or (start_at p i).words q 0
+  record_at : (i q : ℕ) → i < segments p → q < width p
+      → get_or (opening_words p) (cell p i 0 q) 0 ≡ get_or (start_at p i).words q 0
   record_at i q li lq =
       let c = count_zeros in
       let x : ℕ = i * block in
       let g : ℕ = segments p * buffers p in
-      let m : (i * buffers p + 0) * width p ≡ x = ap (λ (z : ℕ). z * width p) (let y : ℕ = i * buffers p in let e : y + 0 ≡ y = omega arith in e) ∙ mul_assoc i (buffers p) (width p) in
+      let m : (i * buffers p + 0) * width p ≡ x =
+      ap (λ (z : ℕ). z * width p) (let y : ℕ = i * buffers p in let e : y + 0 ≡ y =
+      omega arith in e) ∙ mul_assoc i (buffers p) (width p) in
       let y : ℕ = (i * buffers p + 0) * width p in
       let m' : y ≡ x = m in
       let c' : length zeros ≡ segments p + g = c in
-      let at : cell p i 0 q ≡ length zeros + (x + q) = (let goal : segments p + (g + (y + q)) ≡ length zeros + (x + q) = omega arith in goal) in
+      let at : cell p i 0 q ≡ length zeros + (x + q) =
+      (let goal : segments p + (g + (y + q)) ≡ length zeros + (x + q) = omega arith in goal) in
       let w : 1 * width p ≤ block = mul-le-mul_right (width p) (omega arith) in
       let words : List ℕ = (start_at p i).words in
       let r = (ready.each i li).0 in
@@ -197,29 +306,47 @@ module _ (p : Plan) (ready : IsReady p) where
       let u : ℕ = unused p in
       let k : p.block_words + u ≡ t = block_is in
       let lw : length words ≡ p.block_words = r in
-      ap (λ (z : ℕ). get_or (opening_words p) z 0) at ∙ (get_or-append-add zeros (flat_map piece p.start) (x + q) 0 ∙ (even_get piece no_start block p.start i q even li (omega arith)
+      ap (λ (z : ℕ). get_or (opening_words p) z 0) at
+      ∙ (get_or-append-add zeros (flat_map piece p.start) (x + q) 0
+      ∙ (even_get piece no_start block p.start i q even li (omega arith)
       ∙ dite (dec_le (length words) q)
-      (λ past. get_or-append_right words (replicate (unused p) 0) (length words) q 0 refl past ∙ (get_or-replicate (unused p) (q - length words) 0 0 (omega arith) ∙ sym (get_or_past words q 0 past)))
+      (λ past. get_or-append_right words (replicate (unused p) 0) (length words) q 0 refl past
+      ∙ (get_or-replicate (unused p) (q - length words) 0 0 (omega arith)
+      ∙ sym (get_or_past words q 0 past)))
       (λ here. get_or_append_left words (replicate (unused p) 0) 0 q (omega arith))))
 
   no_pin : (i : ℕ) → i < segments p → get_or (first_view p).pins i 0 ≡ 0
   no_pin i li = get_or-replicate (segments p) i 0 0 li
 
   none_counted : (b : ℕ) → b < buffers p → pins_of (first_pool p) 0 b ≡ 0
-  none_counted b lb = let z : get_or (first_pool p).counted b 0 ≡ 0 = get_or-replicate (buffers p) b 0 0 lb in
-      dite (ℕ_discrete (first_pool p).current b) (λ e. let a = pins_at (first_pool p) 0 b e in omega arith) (λ ne. let a = pins_else (first_pool p) 0 b ne in omega arith)
+  none_counted b lb = let z : get_or (first_pool p).counted b 0 ≡ 0 =
+      get_or-replicate (buffers p) b 0 0 lb in
+      dite (ℕ_discrete (first_pool p).current b) (λ e. let a = pins_at (first_pool p) 0 b e in
+      omega arith) (λ ne. let a = pins_else (first_pool p) 0 b ne in omega arith)
 
-  seated : (j : ℕ) (v : SeatView) → get_elem? (first_view p ∷ []) j ≡ some v → Knows p [] (opening_words p) (λ _. 0) (λ _. first_pool p) j v
-  seated zero v e = subst (λ (u : SeatView). Knows p [] (opening_words p) (λ _. 0) (λ _. first_pool p) 0 u) (some-injective (first_view p) v e) record {
-    plan = λ _. refl;
-    seen = ([], refl);
-    received = ([], refl);
-    role = λ i has. record { inside = has.1; own = refl; all = λ _. refl; given = λ _. refl; pool = λ _. refl };
-    pins = λ i b li pin. let n = no_pin i li in absurd (omega arith);
-    pin_quota = λ i pin. dite (dec_le (segments p) i)
-        (λ past. let n : get_or (first_view p).pins i 0 ≡ 0 = get_or_past (first_view p).pins i 0 (let e : length (first_view p).pins ≡ segments p = length-replicate (segments p) 0 in omega arith) in absurd (omega arith))
-        (λ here. let n = no_pin i (omega arith) in absurd (omega arith));
-  }
+  seated : (j : ℕ) (v : SeatView) → get_elem? (first_view p ∷ []) j ≡ some v
+      → Knows p [] (opening_words p) (λ _. 0) (λ _. first_pool p) j v
+  seated zero v e = subst (λ (u : SeatView).
+      Knows p [] (opening_words p) (λ _. 0) (λ _. first_pool p) 0 u)
+      (some-injective (first_view p) v e) record {
+        plan = λ _. refl;
+        seen = ([], refl);
+        received = ([], refl);
+        role = λ i has. record {
+          inside = has.1;
+          own = refl;
+          all = λ _. refl;
+          given = λ _. refl;
+          pool =
+              λ _. refl;
+        };
+        pins = λ i b li pin. let n = no_pin i li in absurd (omega arith);
+        pin_quota = λ i pin. dite (dec_le (segments p) i)
+            (λ past. let n : get_or (first_view p).pins i 0 ≡ 0 =
+            get_or_past (first_view p).pins i 0 (let e : length (first_view p).pins ≡ segments p =
+            length-replicate (segments p) 0 in omega arith) in absurd (omega arith))
+            (λ here. let n = no_pin i (omega arith) in absurd (omega arith));
+      }
   seated (suc j) v e = absurd (some-ne-none v (sym e))
 
   pub opens : (S : Type 0) → Kept {S = S} p (opening (opening_words p) [] (first_view p))
@@ -231,15 +358,22 @@ module _ (p : Plan) (ready : IsReady p) where
     wide = wide;
     shares = omega arith;
     few = ready.few;
-    legal = λ a b e is. let l : length (a ++ e ∷ b) ≡ 0 = ap length is in let m = length-append a (e ∷ b) in absurd (omega arith);
+    legal = λ a b e is. let l : length (a ++ e ∷ b) ≡ 0 = ap length is in let m =
+        length-append a (e ∷ b) in absurd (omega arith);
     registers = λ i li. record {
-      word = zero_at i (let g : ℕ = segments p * buffers p in let goal : i < segments p + g = omega arith in goal);
+      word = zero_at i (let g : ℕ = segments p * buffers p in let goal : i < segments p + g =
+          omega arith in goal);
       current = omega arith;
       number = let r = (ready.each i li).2 in omega arith;
-      balance = λ b lb. let a = none_counted b lb in let g = zero_given i b li lb in let o = on_not i b (first_view p) (λ z. let n = no_pin i li in absurd (omega arith)) in omega arith;
-      wears = λ b lb. let a = none_counted b lb in let y : ℕ = seats p * p.looks in let l : y < 2 ^ 56 = ready.looks in let goal : pins_of (first_pool p) 0 b + (y + 0) < 2 ^ 56 = omega arith in goal;
+      balance = λ b lb. let a = none_counted b lb in let g = zero_given i b li lb in let o =
+          on_not i b (first_view p) (λ z. let n = no_pin i li in absurd (omega arith)) in
+          omega arith;
+      wears = λ b lb. let a = none_counted b lb in let y : ℕ = seats p * p.looks in
+          let l : y < 2 ^ 56 = ready.looks in
+          let goal : pins_of (first_pool p) 0 b + (y + 0) < 2 ^ 56 = omega arith in goal;
       free_buffer = λ lt. absurd (omega arith);
-      found_pinned = let n = no_pin i li in let f = far_none (other 0 0) 0 (get_or (first_view p).pins i 0) (omega arith) in omega arith;
+      found_pinned = let n = no_pin i li in let f =
+          far_none (other 0 0) 0 (get_or (first_view p).pins i 0) (omega arith) in omega arith;
       counts = length-replicate (buffers p) 0;
       short = omega arith;
       draft = λ q lt lq. absurd (omega arith);
@@ -248,7 +382,9 @@ module _ (p : Plan) (ready : IsReady p) where
     each_seat = seated;
   }
 
-pieces_of : (k : ℕ) (xs : List Opening) → flat_map (λ (x : Opening). x.words.items ++ replicate k 0) xs ≡ flat_map (λ (s : Start). s.words ++ replicate k 0) (map start_of xs)
+pieces_of : (k : ℕ) (xs : List Opening)
+    → flat_map (λ (x : Opening). x.words.items ++ replicate k 0) xs
+    ≡ flat_map (λ (s : Start). s.words ++ replicate k 0) (map start_of xs)
 pieces_of k [] = refl
 pieces_of k (x ∷ xs) = λ i. (x.words.items ++ replicate k 0) ++ pieces_of k xs i
 
@@ -256,26 +392,40 @@ pub count_of : (xs : List Opening) → length xs ≡ length (map start_of xs)
 count_of xs = sym (length-map xs start_of)
 
 pub opening_words_are : (n scanners looks block_words : ℕ) (xs : List Opening) → n ≡ length xs
-    → replicate (n + n * (n + scanners + 2)) 0 ++ flat_map (λ (x : Opening). x.words.items ++ replicate (n * block_words + (n + scanners + 1) * ((n + 1) * block_words)) 0) xs ≡ opening_words (plan_with scanners looks block_words xs)
+    → replicate (n + n * (n + scanners + 2)) 0
+    ++ flat_map (λ (x : Opening). x.words.items
+    ++ replicate (n * block_words + (n + scanners + 1) * ((n + 1) * block_words)) 0) xs
+    ≡ opening_words (plan_with scanners looks block_words xs)
 opening_words_are n scanners looks block_words xs e =
     let c : n ≡ segments (plan_with scanners looks block_words xs) = e ∙ count_of xs in
-    (λ i. replicate (c i + c i * (c i + scanners + 2)) 0 ++ flat_map (λ (x : Opening). x.words.items ++ replicate (c i * block_words + (c i + scanners + 1) * ((c i + 1) * block_words)) 0) xs)
-    ∙ (λ i. replicate (segments (plan_with scanners looks block_words xs) + segments (plan_with scanners looks block_words xs) * buffers (plan_with scanners looks block_words xs)) 0 ++ pieces_of (unused (plan_with scanners looks block_words xs)) xs i)
+    (λ i. replicate (c i + c i * (c i + scanners + 2)) 0
+    ++ flat_map (λ (x : Opening). x.words.items
+    ++ replicate (c i * block_words + (c i + scanners + 1) * ((c i + 1) * block_words)) 0) xs)
+    ∙ (λ i. replicate (segments (plan_with scanners looks block_words xs)
+    + segments (plan_with scanners looks block_words xs) * buffers
+    (plan_with scanners looks block_words xs)) 0
+    ++ pieces_of (unused (plan_with scanners looks block_words xs)) xs i)
 
-pub base_of : (xs : List Opening) (i : ℕ) → i < length xs → get_or (map (λ (x : Opening). x.number) xs) i 0 ≡ (get_or (map start_of xs) i no_start).number
+pub base_of : (xs : List Opening) (i : ℕ) → i < length xs
+    → get_or (map (λ (x : Opening). x.number) xs) i 0 ≡ (get_or (map start_of xs) i no_start).number
 base_of [] i li = absurd (omega arith)
 base_of (x ∷ xs) zero li = refl
 base_of (x ∷ xs) (suc i) li = base_of xs i (omega arith)
 
-pub sized_is : (n scanners looks block_words : ℕ) (xs : List Opening) → n ≡ length xs → 0 < length xs → length xs ≤ 16 → scanners ≤ 16 → IsReady (plan_with scanners looks block_words xs)
-    → IsSized n scanners block_words (n + (n * (n + scanners + 2) + n * (n + scanners + 2) * ((n + 1) * block_words))) (plan_with scanners looks block_words xs)
+pub sized_is : (n scanners looks block_words : ℕ) (xs : List Opening) → n ≡ length xs
+    → 0 < length xs → length xs ≤ 16 → scanners ≤ 16
+    → IsReady (plan_with scanners looks block_words xs)
+    → IsSized n scanners block_words
+    (n + (n * (n + scanners + 2) + n * (n + scanners + 2) * ((n + 1) * block_words)))
+    (plan_with scanners looks block_words xs)
 sized_is n scanners looks block_words xs e any few few_scanners ready =
     let c : n ≡ segments (plan_with scanners looks block_words xs) = e ∙ count_of xs in
     record {
       segments_are = c;
       scanners_are = refl;
       block_words_are = refl;
-      words_are = λ i. c i + (c i * (c i + scanners + 2) + c i * (c i + scanners + 2) * ((c i + 1) * block_words));
+      words_are = λ i. c i + (c i * (c i + scanners + 2)
+          + c i * (c i + scanners + 2) * ((c i + 1) * block_words));
       some = omega arith;
       few = omega arith;
       few_scanners = few_scanners;
@@ -284,26 +434,30 @@ sized_is n scanners looks block_words xs e any few few_scanners ready =
     }
 
 -- at the start a seat may read each record
-start_readable : (p : Plan) → IsReady p → (i : ℕ) → i < segments p → Readable p [] i (get_or (replicate (segments p) 0) i 0)
+start_readable : (p : Plan) → IsReady p → (i : ℕ) → i < segments p
+    → Readable p [] i (get_or (replicate (segments p) 0) i 0)
 start_readable p ready i li =
     let r = ready.each i li in
     let none : get_or (replicate (segments p) 0) i 0 ≡ 0 = get_or-replicate (segments p) i 0 0 li in
     subst (λ (z : ℕ). Readable p [] i z) (sym none)
-    (readable p [] i 0 (λ a b e is. let l : length (a ++ e ∷ b) ≡ 0 = ap length is in let m = length-append a (e ∷ b) in absurd (omega arith)) ready.block_words_is r.0 r.1 (omega arith))
+    (readable p [] i 0 (λ a b e is. let l : length (a ++ e ∷ b) ≡ 0 = ap length is in let m =
+    length-append a (e ∷ b) in absurd (omega arith)) ready.block_words_is r.0 r.1 (omega arith))
 
-pub first_is : (S : Type 0) (p : Plan) (words : ℕ) (m : Me S SeatView) → IsReady p → words ≡ size p → m ≡ (first_view p, []) → IsFirst words (seats m.0.plan) m
-first_is S p words m ready e is = subst (λ (x : Me S SeatView). IsFirst words (seats x.0.plan) x) (sym is) (record {
-  words_are = e;
-  alone = refl;
-  here = refl;
-  seen_is = refl;
-  received_none = refl;
-  seen_end_is = refl;
-  pool_end_is = refl;
-  pool_is = refl;
-  pin_quota_is = refl;
-  left_is = refl;
-  readable = start_readable p ready;
-  pins_are = refl;
-  records_are = refl;
-})
+pub first_is : (S : Type 0) (p : Plan) (words : ℕ) (m : Me S SeatView) → IsReady p → words ≡ size p
+    → m ≡ (first_view p, []) → IsFirst words (seats m.0.plan) m
+first_is S p words m ready e is =
+    subst (λ (x : Me S SeatView). IsFirst words (seats x.0.plan) x) (sym is) (record {
+      words_are = e;
+      alone = refl;
+      here = refl;
+      seen_is = refl;
+      received_none = refl;
+      seen_end_is = refl;
+      pool_end_is = refl;
+      pool_is = refl;
+      pin_quota_is = refl;
+      left_is = refl;
+      readable = start_readable p ready;
+      pins_are = refl;
+      records_are = refl;
+    })

@@ -1,5 +1,25 @@
 -- Registers that open with packed values.
-use Rattle.std.proofs.Common.{◌≡◌, ℕ, ◌*◌, ◌^◌, ◌<◌, ◌≤◌, List, length, map, take, slice_get, Some, refl, ap, sym, subst, ◌∙◌, arith, mul-le-mul_right}
+use Rattle.std.proofs.Common.{
+  ◌≡◌,
+  ℕ,
+  ◌*◌,
+  ◌^◌,
+  ◌<◌,
+  ◌≤◌,
+  List,
+  length,
+  map,
+  take,
+  slice_get,
+  Some,
+  refl,
+  ap,
+  sym,
+  subst,
+  ◌∙◌,
+  arith,
+  mul-le-mul_right,
+}
 use Rattle.std.proofs.lemmas.List.{length-map, take_all}
 use Rattle.std.proofs.lemmas.Option.{get_or_from_slice_get, slice_get-map}
 use Rattle.std.specs.Prelude.{option_map}
@@ -14,10 +34,15 @@ use Rattle.snap_register.specs.Rule.{segments, seats}
 use Rattle.snap_register.specs.Setup.{start_of, plan_with, IsReady}
 use Rattle.snap_register.specs.Parts.{IsOpening, IsPacked}
 
-start_is : (scanners looks : ℕ) (os : List Opening) (i : ℕ) (o : Opening) → slice_get os i ≡ Some o → start_at (plan_with scanners looks 512 os) i ≡ start_of o
-start_is scanners looks os i o e = get_or_from_slice_get (map start_of os) i (start_of o) no_start (slice_get-map start_of os i ∙ ap (option_map start_of) e)
+start_is : (scanners looks : ℕ) (os : List Opening) (i : ℕ) (o : Opening) → slice_get os i ≡ Some o
+    → start_at (plan_with scanners looks 512 os) i ≡ start_of o
+start_is scanners looks os i o e =
+    get_or_from_slice_get (map start_of os) i (start_of o) no_start (slice_get-map start_of os i
+    ∙ ap (option_map start_of) e)
 
-pub ready_is : (scanners looks : ℕ) (vs : List (ℕ × List ℕ)) (os : List Opening) → scanners ≤ 16 → length os ≤ 16 → looks ≤ 2 ^ 50 → Pairs (λ _. IsPacked) vs os → IsReady (plan_with scanners looks 512 os)
+pub ready_is : (scanners looks : ℕ) (vs : List (ℕ × List ℕ)) (os : List Opening) → scanners ≤ 16
+    → length os ≤ 16 → looks ≤ 2 ^ 50 → Pairs (λ _. IsPacked) vs os
+    → IsReady (plan_with scanners looks 512 os)
 ready_is scanners looks vs os few_scanners few some p =
     let long : length (map start_of os) ≡ length os = length-map os start_of in
     let size : length vs ≡ length os = p.size in
@@ -36,28 +61,43 @@ ready_is scanners looks vs os few_scanners few some p =
           let is = o.2.number_is in
           let number : (start_at q i).number ≡ o.0.number = ap (λ (z : Start). z.number) s in
           let block : IsBlock o.0.words.items 0 x.0.0 x.0.1 = o.2.block in
-          let own : IsBlock o.0.words.items 0 o.0.number (value_at o.0.words.items 0) = record { whole = block.whole; is = let first = ap (λ (z : ℕ × List ℕ). z.0) block.is in λ t. ((first ∙ sym is) t, value_at o.0.words.items 0) } in
-          (ap (λ (z : Start). length z.words) s ∙ o.2.wide, subst (λ (z : Start). IsBlock z.words 0 z.number (value_at z.words 0)) (sym s) own, omega arith);
+          let own : IsBlock o.0.words.items 0 o.0.number (value_at o.0.words.items 0) =
+          record {
+            whole = block.whole;
+            is = let first =
+                ap (λ (z : ℕ × List ℕ). z.0) block.is in
+                λ t. ((first ∙ sym is) t, value_at o.0.words.items 0);
+          } in (
+            ap (λ (z : Start). length z.words) s ∙ o.2.wide,
+            subst (λ (z : Start). IsBlock z.words 0 z.number (value_at z.words 0)) (sym s) own,
+            omega arith,
+          );
       block_words_is = refl;
       few = omega arith;
       looks = let goal : all < 2 ^ 56 = omega arith in goal;
     }
 
-pub opening_is : (scanners looks : ℕ) (vs : List (ℕ × List ℕ)) (os : List Opening) → Pairs (λ _. IsPacked) vs os → IsOpening (plan_with scanners looks 512 os) looks vs
+pub opening_is : (scanners looks : ℕ) (vs : List (ℕ × List ℕ)) (os : List Opening)
+    → Pairs (λ _. IsPacked) vs os → IsOpening (plan_with scanners looks 512 os) looks vs
 opening_is scanners looks vs os p = record {
   segments_are = length-map os start_of ∙ sym p.size;
   looks_are = refl;
   each = λ i x e.
       let o = partner (λ _. IsPacked) vs os i x p e in
-      let s : start_at (plan_with scanners looks 512 os) i ≡ start_of o.0 = start_is scanners looks os i o.0 o.1 in
+      let s : start_at (plan_with scanners looks 512 os) i ≡ start_of o.0 =
+      start_is scanners looks os i o.0 o.1 in
       let number = ap (λ (z : Start). z.number) s ∙ o.2.number_is in
-      let value = ap (λ (z : Start). value_at z.words 0) s ∙ ap (λ (z : ℕ × List ℕ). z.1) o.2.block.is in
+      let value = ap (λ (z : Start). value_at z.words 0) s
+      ∙ ap (λ (z : ℕ × List ℕ). z.1) o.2.block.is in
       λ t. (number t, value t);
 }
 
 -- once all were packed
-pub packed_all : {A : Type 0} (f : A → ℕ × List ℕ) (k : ℕ) (xs : List A) (os : List Opening) → length xs ≤ k → Pairs (λ _. IsPacked) (map f (take k xs)) os → Pairs (λ _. IsPacked) (map f xs) os
+pub packed_all : {A : Type 0} (f : A → ℕ × List ℕ) (k : ℕ) (xs : List A) (os : List Opening)
+    → length xs ≤ k → Pairs (λ _. IsPacked) (map f (take k xs)) os
+    → Pairs (λ _. IsPacked) (map f xs) os
 packed_all f k xs os all p = subst (λ l. Pairs (λ _. IsPacked) (map f l) os) (take_all k xs all) p
 
-pub packed_length : {A : Type 0} (f : A → ℕ × List ℕ) (xs : List A) (os : List Opening) → Pairs (λ _. IsPacked) (map f xs) os → length xs ≡ length os
+pub packed_length : {A : Type 0} (f : A → ℕ × List ℕ) (xs : List A) (os : List Opening)
+    → Pairs (λ _. IsPacked) (map f xs) os → length xs ≡ length os
 packed_length f xs os p = sym (length-map xs f) ∙ p.size

@@ -1,5 +1,37 @@
 -- The registers' history as updates of a memory: what a seat knows, in a caller's words.
-use Rattle.std.proofs.Common.{◌≡◌, ◌≢◌, ℕ, zero, suc, ◌+◌, ◌<◌, ◌≤◌, ◌==◌, Bool, true, false, cond, List, [], ◌∷◌, ◌++◌, length, get_or, Some, None, slice_get, refl, ap, sym, subst, ◌∙◌, arith, append_assoc, eq-eqb, ne_eqb}
+use Rattle.std.proofs.Common.{
+  ◌≡◌,
+  ◌≢◌,
+  ℕ,
+  zero,
+  suc,
+  ◌+◌,
+  ◌<◌,
+  ◌≤◌,
+  ◌==◌,
+  Bool,
+  true,
+  false,
+  cond,
+  List,
+  [],
+  ◌∷◌,
+  ◌++◌,
+  length,
+  get_or,
+  Some,
+  None,
+  slice_get,
+  refl,
+  ap,
+  sym,
+  subst,
+  ◌∙◌,
+  arith,
+  append_assoc,
+  eq-eqb,
+  ne_eqb,
+}
 use Rattle.std.specs.Prelude.{if◌then◌else◌}
 use Rattle.std.proofs.lemmas.List.{map-append, append-nil}
 use Rattle.std.proofs.lemmas.Option.{same_Some}
@@ -7,49 +39,96 @@ use mathlib.Core.List.{IsPrefix}
 use mathlib.Core.Logic.{dite}
 use native.Mathlib.Decide.{ℕ_discrete}
 use Rattle.atomic_table.specs.Seated.{TableId}
-use Rattle.snap_history.specs.History.{Update, IsBeginning, updates_of, last_value, number_after, value_after}
+use Rattle.snap_history.specs.History.{
+  Update,
+  IsBeginning,
+  updates_of,
+  last_value,
+  number_after,
+  value_after,
+}
 use Rattle.snap_register.specs.declared.plan.Entry.{Entry}
 use Rattle.snap_register.specs.declared.plan.Plan.{Plan}
 use Rattle.snap_register.specs.declared.plan.SeatView.{SeatView}
 use Rattle.snap_register.specs.declared.view.View.{View}
 use Rattle.snap_register.specs.declared.view.View.TheVariants.{Collected, Borrowed}
-use Rattle.snap_register.specs.History.{entry, only, count, number, start_at, memory, record_words, update_of, updates, starts}
+use Rattle.snap_register.specs.History.{
+  entry,
+  only,
+  count,
+  number,
+  start_at,
+  memory,
+  record_words,
+  update_of,
+  updates,
+  starts,
+}
 use Rattle.snap_register.specs.Rule.{segments, Has, IsLegal, Follows}
 use Rattle.snap_register.specs.Rule as rule
 use Rattle.snap_register.specs.Packing.{value_at, size_at, IsBlock, AreBlocks, IsRecord}
-use Rattle.snap_register.specs.Held.{held, view_in, taken, Readable, CanTake, MayTake, IsPinned, IsShown}
-use Rattle.snap_register.specs.Seat.{known, looked, IsBelow, Grows, Looks, HasLooked, HasFoundUpdate, IsValue, IsView, MayPublish, Shows}
+use Rattle.snap_register.specs.Held.{
+  held,
+  view_in,
+  taken,
+  Readable,
+  CanTake,
+  MayTake,
+  IsPinned,
+  IsShown,
+}
+use Rattle.snap_register.specs.Seat.{
+  known,
+  looked,
+  IsBelow,
+  Grows,
+  Looks,
+  HasLooked,
+  HasFoundUpdate,
+  IsValue,
+  IsView,
+  MayPublish,
+  Shows,
+}
 use Rattle.snap_register.proofs.Lines.{find, prefix_trans, count_push_same, record_prefix}
 use Rattle.snap_register.proofs.Blocks.{record_of}
 use Rattle.snap_register.proofs.Views.{viewed}
 
-counted : (b : Bool) (x : Entry) (l : List Entry) (n : ℕ) → n ≡ length l → (if b then 1 else 0) + n ≡ length (cond b (x ∷ l) l)
+counted : (b : Bool) (x : Entry) (l : List Entry) (n : ℕ) → n ≡ length l
+    → (if b then 1 else 0) + n ≡ length (cond b (x ∷ l) l)
 counted true x l n e = omega arith
 counted false x l n e = omega arith
 
 pub updates_count : (i : ℕ) (h : List Entry) → updates_of i (updates h) ≡ count i h
 updates_count i [] = refl
-updates_count i (x ∷ h) = counted (x.segment == i) x (only i h) (updates_of i (updates h)) (updates_count i h)
+updates_count i (x ∷ h) = counted (x.segment == i) x (only i h) (updates_of i (updates h))
+    (updates_count i h)
 
 abbrev last_of : ℕ → Entry → List Entry → List ℕ
 last_of i e l = value_at (get_or (e ∷ l) (length l) (entry i [])).words 0
 
-last_one : (i : ℕ) (b : Bool) (e x : Entry) (l : List Entry) → last_of i (cond b x e) l ≡ last_of i e (cond b (x ∷ l) l)
+last_one : (i : ℕ) (b : Bool) (e x : Entry) (l : List Entry)
+    → last_of i (cond b x e) l ≡ last_of i e (cond b (x ∷ l) l)
 last_one i true e x l = refl
 last_one i false e x l = refl
 
-chosen : (b : Bool) (e x : Entry) → (if b then value_at x.words 0 else value_at e.words 0) ≡ value_at (cond b x e).words 0
+chosen : (b : Bool) (e x : Entry)
+    → (if b then value_at x.words 0 else value_at e.words 0) ≡ value_at (cond b x e).words 0
 chosen true e x = refl
 chosen false e x = refl
 
-last_is : (i : ℕ) (h : List Entry) (e : Entry) → last_value (value_at e.words 0) i (updates h) ≡ last_of i e (only i h)
+last_is : (i : ℕ) (h : List Entry) (e : Entry)
+    → last_value (value_at e.words 0) i (updates h) ≡ last_of i e (only i h)
 last_is i [] e = refl
-last_is i (x ∷ h) e = ap (λ v. last_value v i (updates h)) (chosen (x.segment == i) e x) ∙ (last_is i h (cond (x.segment == i) x e) ∙ last_one i (x.segment == i) e x (only i h))
+last_is i (x ∷ h) e = ap (λ v. last_value v i (updates h)) (chosen (x.segment == i) e x)
+    ∙ (last_is i h (cond (x.segment == i) x e) ∙ last_one i (x.segment == i) e x (only i h))
 
-pub number_is : (p : Plan) (h : List Entry) (i : ℕ) → number_after (starts p) (updates h) i ≡ number p h i
+pub number_is : (p : Plan) (h : List Entry) (i : ℕ)
+    → number_after (starts p) (updates h) i ≡ number p h i
 number_is p h i = let e = updates_count i h in omega arith
 
-pub value_is : (p : Plan) (h : List Entry) (i : ℕ) → value_after (starts p) (updates h) i ≡ (memory p h i).1
+pub value_is : (p : Plan) (h : List Entry) (i : ℕ)
+    → value_after (starts p) (updates h) i ≡ (memory p h i).1
 value_is p h i = last_is i h (entry i (start_at p i).words)
 
 -- a beginning of the one is a beginning of the other
@@ -68,7 +147,11 @@ back (u ∷ part) [] b = absurd (cc (b.1))
 back (u ∷ part) (x ∷ h) b =
     let first : update_of x ≡ u = cc (b.1) in
     let rest = back part h (b.0, cc (b.1)) in
-    record { entries = x ∷ rest.entries; prefix = (rest.prefix.0, ap (λ l. x ∷ l) rest.prefix.1); is = cc (first, rest.is) }
+    record {
+      entries = x ∷ rest.entries;
+      prefix = (rest.prefix.0, ap (λ l. x ∷ l) rest.prefix.1);
+      is = cc (first, rest.is);
+    }
 
 -- a beginning with this many updates of j
 pub record Moment (h : List Entry) (j r : ℕ) : Type 0 where
@@ -83,54 +166,82 @@ moment h j (suc r) le =
     let e : Entry = get_or (only j h) r (entry j []) in
     let same = count_push_same j f.before e f.its in
     let place = f.place in
-    record { part = f.before ++ e ∷ []; prefix = prefix_trans (f.before ++ e ∷ []) (f.before ++ e ∷ []) h ([], append-nil (f.before ++ e ∷ [])) (f.after, append_assoc f.before (e ∷ []) f.after ∙ f.is); count_is = omega arith }
+    record {
+      part = f.before ++ e ∷ [];
+      prefix =
+          prefix_trans (f.before ++ e ∷ []) (f.before ++ e ∷ []) h (
+            [],
+            append-nil (f.before ++ e ∷ []),
+          ) (f.after, append_assoc f.before (e ∷ []) f.after ∙ f.is);
+      count_is = omega arith;
+    }
 
 -- what the last look told
 
-pub looked_some : (z : TableId) (v : SeatView) (j : ℕ) → 0 < get_or v.pins j 0 → looked (known z v) j ≡ Some (number v.plan [] j + get_or v.records j 0)
+pub looked_some : (z : TableId) (v : SeatView) (j : ℕ) → 0 < get_or v.pins j 0
+    → looked (known z v) j ≡ Some (number v.plan [] j + get_or v.records j 0)
 looked_some z v j some = let n : get_or v.pins j 0 ≢ 0 = λ e. absurd (omega arith) in
-    let s : (start_at v.plan j).number + get_or v.records j 0 ≡ number v.plan [] j + get_or v.records j 0 = omega arith in
-    ap (λ (b : Bool). cond b None (Some ((start_at v.plan j).number + get_or v.records j 0))) (ne_eqb (get_or v.pins j 0) 0 n) ∙ ap (λ (x : ℕ). Some x) s
+    let s : (start_at v.plan j).number + get_or v.records j 0
+    ≡ number v.plan [] j + get_or v.records j 0 = omega arith in
+    ap (λ (b : Bool). cond b None (Some ((start_at v.plan j).number + get_or v.records j 0)))
+    (ne_eqb (get_or v.pins j 0) 0 n) ∙ ap (λ (x : ℕ). Some x) s
 
-pub pinned_looked : (z : TableId) (v : SeatView) (j : ℕ) → HasLooked (known z v) j → 0 < get_or v.pins j 0
+pub pinned_looked : (z : TableId) (v : SeatView) (j : ℕ) → HasLooked (known z v) j
+    → 0 < get_or v.pins j 0
 pinned_looked z v j some = dite (ℕ_discrete (get_or v.pins j 0) 0)
-    (λ e. absurd (some (ap (λ (b : Bool). cond b None (Some ((start_at v.plan j).number + get_or v.records j 0))) (eq-eqb (get_or v.pins j 0) 0 e))))
+    (λ e. absurd (some (ap (λ (b : Bool).
+    cond b None (Some ((start_at v.plan j).number + get_or v.records j 0)))
+    (eq-eqb (get_or v.pins j 0) 0 e))))
     (λ ne. omega arith)
 
-pub last_look_is : (z : TableId) (v : SeatView) (j k : ℕ) → looked (known z v) j ≡ Some k → (0 < get_or v.pins j 0) × ((start_at v.plan j).number + get_or v.records j 0 ≡ k)
+pub last_look_is : (z : TableId) (v : SeatView) (j k : ℕ) → looked (known z v) j ≡ Some k
+    → (0 < get_or v.pins j 0) × ((start_at v.plan j).number + get_or v.records j 0 ≡ k)
 last_look_is z v j k is =
     let some : 0 < get_or v.pins j 0 = pinned_looked z v j (λ none. absurd (cc (none, is))) in
-    let e : number v.plan [] j + get_or v.records j 0 ≡ k = same_Some _ _ (sym (looked_some z v j some) ∙ is) in
+    let e : number v.plan [] j + get_or v.records j 0 ≡ k =
+    same_Some _ _ (sym (looked_some z v j some) ∙ is) in
     (some, omega arith)
 
 -- a seat's calls
 
-pub grows_is : (z z' : TableId) (v w : SeatView) → z' ≡ z → w.plan ≡ v.plan → w.low ≡ v.low → w.high ≡ v.high → IsPrefix v.seen w.seen → ((i : ℕ) → Has v i → only i w.seen ≡ only i v.seen) → Grows (known z v) (known z' w)
+pub grows_is : (z z' : TableId) (v w : SeatView) → z' ≡ z → w.plan ≡ v.plan → w.low ≡ v.low
+    → w.high ≡ v.high → IsPrefix v.seen w.seen → ((i : ℕ) → Has v i → only i w.seen ≡ only i v.seen)
+    → Grows (known z v) (known z' w)
 grows_is z z' v w same plan low high later own = record {
   table = same;
   plan = plan;
   low = low;
   high = high;
   later = beginning_is v.seen w.seen later;
-  own = λ i l h. let a = updates_count i w.seen in let b = updates_count i v.seen in let c : count i w.seen ≡ count i v.seen = ap length (own i (l, h)) in omega arith;
+  own = λ i l h. let a = updates_count i w.seen in let b = updates_count i v.seen in
+      let c : count i w.seen ≡ count i v.seen = ap length (own i (l, h)) in omega arith;
 }
 
 pub below_is : (z : TableId) (v : SeatView) → rule.IsBelow v.plan v.seen → IsBelow (known z v)
 below_is z v b i li = let n = number_is v.plan v.seen i in let l = b i li in omega arith
 
-pub looks_is : (z z' : TableId) (v w : SeatView) (j k : ℕ) → w.plan ≡ v.plan → IsPinned v w j → k ≡ number w.plan w.seen j → Looks (known z v) (known z' w) j k
+pub looks_is : (z z' : TableId) (v w : SeatView) (j k : ℕ) → w.plan ≡ v.plan → IsPinned v w j
+    → k ≡ number w.plan w.seen j → Looks (known z v) (known z' w) j k
 looks_is z z' v w j k plan pin is = record {
-  here = looked_some z' w j pin.pinned ∙ (let l = pin.last in let e : number w.plan [] j + get_or w.records j 0 ≡ k = omega arith in ap (λ (x : ℕ). Some x) e);
-  others = λ i ne. let o = pin.others i ne in λ t. cond (o.0 t == 0) None (Some ((start_at (plan t) i).number + o.1 t));
+  here = looked_some z' w j pin.pinned ∙ (let l = pin.last in
+      let e : number w.plan [] j + get_or w.records j 0 ≡ k = omega arith in
+      ap (λ (x : ℕ). Some x) e);
+  others = λ i ne. let o = pin.others i ne in
+      λ t. cond (o.0 t == 0) None (Some ((start_at (plan t) i).number + o.1 t));
 }
 
-pub value_shown : (z : TableId) (v : SeatView) (j : ℕ) (value : List ℕ) → HasLooked (known z v) j → get_or v.records j 0 ≤ count j v.seen → value ≡ value_at (held v j) 0 → IsValue (known z v) j value
+pub value_shown : (z : TableId) (v : SeatView) (j : ℕ) (value : List ℕ) → HasLooked (known z v) j
+    → get_or v.records j 0 ≤ count j v.seen → value ≡ value_at (held v j) 0
+    → IsValue (known z v) j value
 value_shown z v j value has le is =
     let m = moment v.seen j (get_or v.records j 0) le in
     let c = m.count_is in
     let n = number_is v.plan m.part j in
-    let e : number v.plan [] j + get_or v.records j 0 ≡ number_after (starts v.plan) (updates m.part) j = omega arith in
-    let words : held v j ≡ record_words v.plan m.part j (count j m.part) = ap (record_words v.plan v.seen j) (sym c) ∙ record_prefix v.plan m.part v.seen j (count j m.part) m.prefix (omega arith) in
+    let e : number v.plan [] j + get_or v.records j 0
+    ≡ number_after (starts v.plan) (updates m.part) j = omega arith in
+    let words : held v j ≡ record_words v.plan m.part j (count j m.part) =
+    ap (record_words v.plan v.seen j) (sym c)
+    ∙ record_prefix v.plan m.part v.seen j (count j m.part) m.prefix (omega arith) in
     record {
       part = updates m.part;
       beginning = beginning_is m.part v.seen m.prefix;
@@ -138,81 +249,125 @@ value_shown z v j value has le is =
       value_is = is ∙ (ap (λ (l : List ℕ). value_at l 0) words ∙ sym (value_is v.plan m.part j));
     }
 
-memory_is : (p : Plan) (h : List Entry) (i : ℕ) → memory p h i ≡ (number_after (starts p) (updates h) i, value_after (starts p) (updates h) i)
+memory_is : (p : Plan) (h : List Entry) (i : ℕ)
+    → memory p h i ≡ (number_after (starts p) (updates h) i, value_after (starts p) (updates h) i)
 memory_is p h i = let n = sym (number_is p h i) in let v = sym (value_is p h i) in λ t. (n t, v t)
 
-pub view_shown : (z : TableId) (v : SeatView) (j : ℕ) (xs : List (ℕ × List ℕ)) → IsLegal v.plan v.seen → HasFoundUpdate (known z v) j → get_or v.records j 0 ≤ count j v.seen → length xs ≡ segments v.plan
-    → ((k : ℕ) → k < segments v.plan → slice_get xs k ≡ Some (view_in (held v j) k)) → IsView (known z v) j xs
+pub view_shown : (z : TableId) (v : SeatView) (j : ℕ) (xs : List (ℕ × List ℕ))
+    → IsLegal v.plan v.seen → HasFoundUpdate (known z v) j → get_or v.records j 0 ≤ count j v.seen
+    → length xs ≡ segments v.plan
+    → ((k : ℕ) → k < segments v.plan → slice_get xs k ≡ Some (view_in (held v j) k))
+    → IsView (known z v) j xs
 view_shown z v j xs legal found le size each =
     let t = last_look_is z v j found.told found.is in
     let above = found.above in
     let u = viewed v.plan v.seen j (get_or v.records j 0) legal (let e = t.1 in omega arith) le in
     let n = number_is v.plan u.part j in
     let b = u.before in
-    let e : found.told ≡ number_after (starts v.plan) (updates u.part) j + 1 = let x = t.1 in omega arith in
+    let e : found.told ≡ number_after (starts v.plan) (updates u.part) j + 1 = let x = t.1 in
+    omega arith in
     record {
       part = updates u.part;
       beginning = beginning_is u.part v.seen u.beginning;
       before = found.is ∙ ap (λ (x : ℕ). Some x) e;
-      memory = record { size = size; each = λ k lk. each k lk ∙ ap (λ (x : ℕ × List ℕ). Some x) ((u.view.each k lk).is ∙ memory_is v.plan u.part k) };
+      memory = record {
+        size = size;
+        each =
+            λ k lk. each k lk ∙ ap (λ (x : ℕ × List ℕ). Some x) ((u.view.each k lk).is
+            ∙ memory_is v.plan u.part k);
+      };
     }
 
 -- a caller's view is one that the seat can take along
 
-pub can_take : (z : TableId) (v : SeatView) (view : View) → MayPublish (known z v) view → CanTake v view
+pub can_take : (z : TableId) (v : SeatView) (view : View) → MayPublish (known z v) view
+    → CanTake v view
 can_take z v Collected m = λ i li. (last_look_is z v i _ (m.each i li)).0
-can_take z v (Borrowed j) m = let t = last_look_is z v j m.found.told m.found.is in let a = m.found.above in let e = t.1 in (m.inside, t.0, omega arith)
+can_take z v (Borrowed j) m = let t = last_look_is z v j m.found.told m.found.is in let a =
+    m.found.above in let e = t.1 in (m.inside, t.0, omega arith)
 
-pub may_take : (z : TableId) (v : SeatView) (view : View) → ((i : ℕ) → i < segments v.plan → Readable v.plan v.seen i (get_or v.records i 0)) → MayPublish (known z v) view → MayTake v v.low view
+pub may_take : (z : TableId) (v : SeatView) (view : View)
+    → ((i : ℕ) → i < segments v.plan → Readable v.plan v.seen i (get_or v.records i 0))
+    → MayPublish (known z v) view → MayTake v v.low view
 may_take z v Collected read m =
     let b = back m.part v.seen m.beginning in
     let n = number_is v.plan v.seen v.low in
-    let whole : number_after (starts v.plan) m.part v.low ≡ number_after (starts v.plan) (updates v.seen) v.low = m.whole in
-    let n' : number_after (starts v.plan) m.part v.low ≡ number v.plan b.entries v.low = ap (λ h. number_after (starts v.plan) h v.low) (sym b.is) ∙ number_is v.plan b.entries v.low in (
+    let whole : number_after (starts v.plan) m.part v.low
+    ≡ number_after (starts v.plan) (updates v.seen) v.low = m.whole in
+    let n' : number_after (starts v.plan) m.part v.low ≡ number v.plan b.entries v.low =
+    ap (λ h. number_after (starts v.plan) h v.low) (sym b.is)
+    ∙ number_is v.plan b.entries v.low in (
       b.entries,
       b.prefix,
       omega arith,
       λ k lk.
           let t = (last_look_is z v k _ (m.each k lk)).1 in
-          let x : number_after (starts v.plan) m.part k ≡ number v.plan b.entries k = ap (λ h. number_after (starts v.plan) h k) (sym b.is) ∙ number_is v.plan b.entries k in
+          let x : number_after (starts v.plan) m.part k ≡ number v.plan b.entries k =
+          ap (λ h. number_after (starts v.plan) h k) (sym b.is)
+          ∙ number_is v.plan b.entries k in
           let c : get_or v.records k 0 ≡ count k b.entries = omega arith in
-          let words : held v k ≡ record_words v.plan b.entries k (count k b.entries) = ap (record_words v.plan v.seen k) c ∙ record_prefix v.plan b.entries v.seen k (count k b.entries) b.prefix (omega arith) in
-          let number_k : (start_at v.plan k).number + get_or v.records k 0 ≡ number v.plan b.entries k = omega arith in
+          let words : held v k ≡ record_words v.plan b.entries k (count k b.entries) =
+          ap (record_words v.plan v.seen k) c
+          ∙ record_prefix v.plan b.entries v.seen k (count k b.entries) b.prefix
+          (omega arith) in
+          let number_k : (start_at v.plan k).number + get_or v.records k 0
+          ≡ number v.plan b.entries k = omega arith in
           (read k lk).own.is ∙ (λ s. (number_k s, value_at (words s) 0)),
     )
 may_take z v (Borrowed j) read m = λ part pre before.
     let t = last_look_is z v j m.found.told m.found.is in
     let n = number_is v.plan part j in
-    let e : m.found.told ≡ number_after (starts v.plan) (updates part) j + 1 = let x = t.1 in omega arith in
-    let w = m.whole (updates part) (beginning_is part v.seen pre) (m.found.is ∙ ap (λ (x : ℕ). Some x) e) in
+    let e : m.found.told ≡ number_after (starts v.plan) (updates part) j + 1 = let x = t.1 in
+    omega arith in
+    let w = m.whole (updates part) (beginning_is part v.seen pre) (m.found.is
+    ∙ ap (λ (x : ℕ). Some x) e) in
     let a = number_is v.plan part v.low in
     let b = number_is v.plan v.seen v.low in
     omega arith
 
 -- and then the update may follow
-pub follows_is : (v : SeatView) (i k : ℕ) (view : View) (value d e : List ℕ) → CanTake v view → MayTake v i view → ((j : ℕ) → j < segments v.plan → get_or v.records j 0 ≤ count j v.seen) → k ≡ number v.plan v.seen i + 1
-    → IsBlock d 0 k value → length d ≡ size_at d 0 → IsPrefix d e → AreBlocks e (length d) (segments v.plan) (taken v view) → IsLegal v.plan v.seen → Follows v.plan v.seen (entry i e)
+pub follows_is : (v : SeatView) (i k : ℕ) (view : View) (value d e : List ℕ) → CanTake v view
+    → MayTake v i view → ((j : ℕ) → j < segments v.plan → get_or v.records j 0 ≤ count j v.seen)
+    → k ≡ number v.plan v.seen i + 1
+    → IsBlock d 0 k value → length d ≡ size_at d 0 → IsPrefix d e
+    → AreBlocks e (length d) (segments v.plan) (taken v view) → IsLegal v.plan v.seen
+    → Follows v.plan v.seen (entry i e)
 follows_is v i k Collected value d e can may old next own long pre blocks legal =
     let n : k ≡ number v.plan may.0 i + 1 = let c = may.2 in omega arith in
-    let r = record_of d e (segments v.plan) k value (taken v Collected) (memory v.plan may.0) own long pre blocks may.3 in
-    let val : value ≡ value_at e 0 = sym (ap (λ (x : ℕ × List ℕ). x.1) r.own.is) in
-    (may.0, may.1, may.2, subst (λ (x : ℕ × List ℕ). IsRecord (segments v.plan) x.0 x.1 (memory v.plan may.0) e) (λ t. (n t, val t)) r)
+    let r = record_of d e (segments v.plan) k value (taken v Collected)
+    (memory v.plan may.0) own long pre blocks may.3 in
+    let val : value ≡ value_at e 0 = sym (ap (λ (x : ℕ × List ℕ). x.1) r.own.is) in (
+      may.0,
+      may.1,
+      may.2,
+      subst (λ (x : ℕ
+          × List ℕ). IsRecord (segments v.plan) x.0 x.1 (memory v.plan may.0) e) (λ t.
+          (n t, val t)) r,
+    )
 follows_is v i k (Borrowed j) value d e can may old next own long pre blocks legal =
     let u = viewed v.plan v.seen j (get_or v.records j 0) legal can.2 (old j can.0) in
     let whole = may u.part u.beginning u.before in
     let n : k ≡ number v.plan u.part i + 1 = omega arith in
-    let r = record_of d e (segments v.plan) k value (taken v (Borrowed j)) (memory v.plan u.part) own long pre blocks (λ x lx. (u.view.each x lx).is) in
-    let val : value ≡ value_at e 0 = sym (ap (λ (x : ℕ × List ℕ). x.1) r.own.is) in
-    (u.part, u.beginning, whole, subst (λ (x : ℕ × List ℕ). IsRecord (segments v.plan) x.0 x.1 (memory v.plan u.part) e) (λ t. (n t, val t)) r)
+    let r = record_of d e (segments v.plan) k value (taken v (Borrowed j))
+    (memory v.plan u.part) own long pre blocks (λ x lx. (u.view.each x lx).is) in
+    let val : value ≡ value_at e 0 = sym (ap (λ (x : ℕ × List ℕ). x.1) r.own.is) in (
+      u.part,
+      u.beginning,
+      whole,
+      subst (λ (x : ℕ × List ℕ). IsRecord (segments v.plan) x.0 x.1 (memory v.plan u.part) e)
+          (λ t. (n t, val t)) r,
+    )
 
 abbrev the_update : ℕ → List ℕ → Update
 the_update i l = record { segment = i; value = l }
 
 -- what a publication leaves
-pub shown_is : (z z' : TableId) (v w : SeatView) (k : ℕ) (value : List ℕ) → z' ≡ z → IsShown v w v.low k value → Shows (known z v) (known z' w) value
+pub shown_is : (z z' : TableId) (v w : SeatView) (k : ℕ) (value : List ℕ) → z' ≡ z
+    → IsShown v w v.low k value → Shows (known z v) (known z' w) value
 shown_is z z' v w k value same s =
     let e : Entry = entry v.low s.words in
-    let last : update_of e ≡ record { segment = v.low; value = value } = ap (λ (l : List ℕ). the_update v.low l) s.value_is in
+    let last : update_of e ≡ record { segment = v.low; value = value } =
+    ap (λ (l : List ℕ). the_update v.low l) s.value_is in
     record {
       table = same;
       plan = ap (λ (u : SeatView). u.plan) s.same;
@@ -221,6 +376,7 @@ shown_is z z' v w k value same s =
       looks = λ i. ap (λ (u : SeatView). looked (known z' u) i) s.same;
       left = ap (λ (u : SeatView). u.left) s.same;
       between = updates s.between;
-      seen = ap updates s.seen ∙ (map-append update_of (v.seen ++ s.between) (e ∷ []) ∙ (λ t. map-append update_of v.seen s.between t ++ last t ∷ []));
+      seen = ap updates s.seen ∙ (map-append update_of (v.seen ++ s.between) (e ∷ [])
+          ∙ (λ t. map-append update_of v.seen s.between t ++ last t ∷ []));
       others = updates_count v.low s.between ∙ ap length s.others;
     }

@@ -1,5 +1,19 @@
 -- What the buffers hold that a seat pins.
-use Rattle.std.specs.Prelude.{◌≡◌, ◌≢◌, ℕ, ◌+◌, ◌<◌, ◌≤◌, ◌++◌, List, [], ◌∷◌, slice_index, slice_set, length}
+use Rattle.std.specs.Prelude.{
+  ◌≡◌,
+  ◌≢◌,
+  ℕ,
+  ◌+◌,
+  ◌<◌,
+  ◌≤◌,
+  ◌++◌,
+  List,
+  [],
+  ◌∷◌,
+  slice_index,
+  slice_set,
+  length,
+}
 use mathlib.Core.List.{IsPrefix}
 use Rattle.snap_register.specs.declared.plan.Entry.{Entry}
 use Rattle.snap_register.specs.declared.plan.Plan.{Plan}
@@ -17,7 +31,8 @@ held v j = record_words v.plan v.seen j (slice_index v.records j)
 
 -- a record that fits a buffer, with its number and its value
 pub record Readable (p : Plan) (h : List Entry) (j r : ℕ) : Type 0 where
-  pub own : IsBlock (record_words p h j r) 0 ((start_at p j).number + r) (value_at (record_words p h j r) 0)
+  pub own : IsBlock (record_words p h j r) 0 ((start_at p j).number + r)
+      (value_at (record_words p h j r) 0)
   pub fits : length (record_words p h j r) ≤ width p
 
 -- what the view of that record tells of the segment i
@@ -32,20 +47,26 @@ taken v (Borrowed j) = view_in (held v j)
 -- the buffers are pinned from which it is taken
 abbrev pub CanTake : SeatView → View → Type 0
 CanTake v Collected = (i : ℕ) → i < segments v.plan → 0 < slice_index v.pins i
-CanTake v (Borrowed j) = (j < segments v.plan) × (0 < slice_index v.pins j) × (0 < slice_index v.records j)
+CanTake v (Borrowed j) = (j < segments v.plan) × (0 < slice_index v.pins j)
+    × (0 < slice_index v.records j)
 
 -- it is the memory after a beginning of what was seen, which has all updates of the segment i
 abbrev pub MayTake : SeatView → ℕ → View → Type 0
-MayTake v i Collected = (part : List Entry) × IsPrefix part v.seen × (count i part ≡ count i v.seen) × ((k : ℕ) → k < segments v.plan → block_at (held v k) 0 ≡ memory v.plan part k)
-MayTake v i (Borrowed j) = (part : List Entry) → IsPrefix part v.seen → number v.plan part j + 1 ≡ (start_at v.plan j).number + slice_index v.records j → count i part ≡ count i v.seen
+MayTake v i Collected = (part : List Entry) × IsPrefix part v.seen × (count i part ≡ count i v.seen)
+    × ((k : ℕ) → k < segments v.plan → block_at (held v k) 0 ≡ memory v.plan part k)
+MayTake v i (Borrowed j) = (part : List Entry) → IsPrefix part v.seen
+    → number v.plan part j + 1 ≡ (start_at v.plan j).number + slice_index v.records j
+    → count i part ≡ count i v.seen
 
 -- the pins on the other registers stay, and that on j is of its last record
 pub record IsPinned (v w : SeatView) (j : ℕ) : Type 0 where
   pub pinned : 0 < slice_index w.pins j
   pub last : slice_index w.records j ≡ count j w.seen
-  pub others : (i : ℕ) → i ≢ j → (slice_index w.pins i ≡ slice_index v.pins i) × (slice_index w.records i ≡ slice_index v.records i)
+  pub others : (i : ℕ) → i ≢ j → (slice_index w.pins i ≡ slice_index v.pins i)
+      × (slice_index w.records i ≡ slice_index v.records i)
 
--- an update of the segment i to this value, with this number, stands at the end of what was seen, and nothing else changed but the pool
+-- an update of the segment i to this value, with this number, stands at the end of what was seen,
+-- and nothing else changed but the pool
 pub record IsShown (v w : SeatView) (i k : ℕ) (value : List ℕ) : Type 0 where
   pub same : w ≡ record v { seen = w.seen; pool = w.pool }
   pub between : List Entry
@@ -58,7 +79,14 @@ pub record IsShown (v w : SeatView) (i k : ℕ) (value : List ℕ) : Type 0 wher
 
 -- a look changes what was seen, the pins, and the looks left
 abbrev pub HasLookedFrom : SeatView → SeatView → Type 0
-HasLookedFrom v w = w ≡ record v { seen = w.seen; received = []; seen_end = v.high; left = w.left; pins = w.pins; records = w.records }
+HasLookedFrom v w = w ≡ record v {
+  seen = w.seen;
+  received = [];
+  seen_end = v.high;
+  left = w.left;
+  pins = w.pins;
+  records = w.records;
+}
 
 -- the pool once the buffer b is current, where the word before counted x pins
 abbrev pub moved_pool : SeatView → ℕ → ℕ → Pool

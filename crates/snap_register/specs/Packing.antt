@@ -1,5 +1,22 @@
--- Numbers and values as words. A block is a number, a length, and the value's bytes, eight in a word with the lowest first.
-use Rattle.std.specs.Prelude.{◌≡◌, ℕ, zero, suc, ◌+◌, ◌/◌, ◌<◌, ◌≤◌, ◌++◌, List, [], ◌∷◌, length, slice_index, take}
+-- Numbers and values as words. A block is a number, a length, and the value's bytes, eight in a
+-- word with the lowest first.
+use Rattle.std.specs.Prelude.{
+  ◌≡◌,
+  ℕ,
+  zero,
+  suc,
+  ◌+◌,
+  ◌/◌,
+  ◌<◌,
+  ◌≤◌,
+  ◌++◌,
+  List,
+  [],
+  ◌∷◌,
+  length,
+  slice_index,
+  take,
+}
 use Rattle.std.specs.Int.{w64, to_le_bytes}
 use Rattle.snap_slot.specs.declared.layout.TheConstants.{MAX_VALUE_LEN}
 use Rattle.snap_history.specs.History.{Start}

@@ -10,7 +10,8 @@ use Rattle.snap_register.specs.Rule.{segments}
 use Rattle.snap_register.specs.Seat.{Known}
 use Rattle.atomic_table.specs.Seated.{TableId}
 
--- a seat that has seen nothing yet, with all its looks, that writes the segments from `low` on and below `high`
+-- a seat that has seen nothing yet, with all its looks, that writes the segments from `low` on and
+-- below `high`
 pub record IsNewSeat (z : TableId) (p : Plan) (low high : ℕ) (a : Known) : Type 0 where
   pub table_is : a.table ≡ z
   pub plan_is : a.plan ≡ p

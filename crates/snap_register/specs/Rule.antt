@@ -1,6 +1,29 @@
--- The rule of the registers' words, and what each step tells.
--- Word i is the current word of the register i: its buffer, times 2^56, and the pins on it. Behind these lie the given-back counts, and behind these the buffers.
-use Rattle.std.specs.Prelude.{◌≡◌, ℕ, ◌+◌, ◌-◌, ◌*◌, ◌/◌, ◌^◌, ◌<◌, ◌≤◌, ◌==◌, ltb, cond, List, [], ◌∷◌, ◌++◌, length, slice_index, slice_set, true, false}
+-- The rule of the registers' words, and what each step tells. Word i is the current word of the
+-- register i: its buffer, times 2^56, and the pins on it. Behind these lie the given-back counts,
+-- and behind these the buffers.
+use Rattle.std.specs.Prelude.{
+  ◌≡◌,
+  ℕ,
+  ◌+◌,
+  ◌-◌,
+  ◌*◌,
+  ◌/◌,
+  ◌^◌,
+  ◌<◌,
+  ◌≤◌,
+  ◌==◌,
+  ltb,
+  cond,
+  List,
+  [],
+  ◌∷◌,
+  ◌++◌,
+  length,
+  slice_index,
+  slice_set,
+  true,
+  false,
+}
 use mathlib.Core.Option.{some}
 use mathlib.Core.List.{IsPrefix}
 use lib.ListN.{get_elem?}
@@ -37,7 +60,8 @@ cell p i b q = segments p + (segments p * buffers p + ((i * buffers p + b) * wid
 abbrev pub size : Plan → ℕ
 size p = segments p + (segments p * buffers p + segments p * buffers p * width p)
 
--- after the history a the update e may come: its view is the memory after a beginning of a, in which its own segment's number is that in a, and its number is the next
+-- after the history a the update e may come: its view is the memory after a beginning of a, in
+-- which its own segment's number is that in a, and its number is the next
 abbrev pub Follows : Plan → List Entry → Entry → Type 0
 Follows p a e = (b : List Entry) × IsPrefix b a × (count e.segment b ≡ count e.segment a)
     × IsRecord (segments p) (number p b e.segment + 1) (value_at e.words 0) (memory p b) e.words
@@ -81,30 +105,39 @@ other c k = cond (ltb k c) k (k + 1)
 abbrev pub pins_of : Pool → ℕ → ℕ → ℕ
 pins_of d x b = slice_index d.counted b + cond (d.current == b) x 0
 
--- The register i, whose current word counts x pins. Its pins are those given back and those held; the buffer noted as free has none; the buffers noted as held, with
--- the pins elsewhere than on these and on the current one, are no more than the seats; and no count comes near 2^56.
+-- The register i, whose current word counts x pins. Its pins are those given back and those held;
+-- the buffer noted as free has none; the buffers noted as held, with the pins elsewhere than on
+-- these and on the current one, are no more than the seats; and no count comes near 2^56.
 module _ (p : Plan) (h : List Entry) (words : List ℕ) (views : List SeatView) (i : ℕ) where
   pub record Register (d : Pool) (x : ℕ) : Type 0 where
     pub word : slice_index words i ≡ d.current * 2 ^ 56 + x
     pub current : d.current < buffers p
     pub number : IsNumber (number p h i)
-    pub balance : (b : ℕ) → b < buffers p → pins_of d x b ≡ slice_index words (given p i b) + total (on i b) views
+    pub balance : (b : ℕ) → b < buffers p
+        → pins_of d x b ≡ slice_index words (given p i b) + total (on i b) views
     pub wears : (b : ℕ) → b < buffers p → pins_of d x b + total (λ v. v.left) views < 2 ^ 56
-    pub free_buffer : d.free_buffer < buffers p → (d.free_buffer ≡ d.current → ⊥) × (total (on i d.free_buffer) views ≡ 0)
-    pub found_pinned : d.found_pinned + total (beyond i (other d.current d.found_pinned) d.current) views ≤ seats p
+    pub free_buffer : d.free_buffer < buffers p → (d.free_buffer ≡ d.current → ⊥)
+        × (total (on i d.free_buffer) views ≡ 0)
+    pub found_pinned : d.found_pinned
+        + total (beyond i (other d.current d.found_pinned) d.current) views ≤ seats p
     pub counts : length d.counted ≡ buffers p
     pub short : length d.draft ≤ width p
-    pub draft : (q : ℕ) → d.free_buffer < buffers p → q < length d.draft → slice_index words (cell p i d.free_buffer q) ≡ slice_index d.draft q
-    pub latest : (q : ℕ) → q < width p → q < length (record_words p h i (count i h)) → slice_index words (cell p i d.current q) ≡ slice_index (record_words p h i (count i h)) q
+    pub draft : (q : ℕ) → d.free_buffer < buffers p → q < length d.draft
+        → slice_index words (cell p i d.free_buffer q) ≡ slice_index d.draft q
+    pub latest : (q : ℕ) → q < width p → q < length (record_words p h i (count i h))
+        → slice_index words (cell p i d.current q) ≡ slice_index (record_words p h i (count i h)) q
 
 -- the view's pin x on the register i is of a buffer which holds the record r
 pub record Pinned (p : Plan) (h : List Entry) (words : List ℕ) (i b r : ℕ) : Type 0 where
   pub inside : b < buffers p
   pub old : r ≤ count i h
-  pub holds : (q : ℕ) → q < width p → q < length (record_words p h i r) → slice_index words (cell p i b q) ≡ slice_index (record_words p h i r) q
+  pub holds : (q : ℕ) → q < width p → q < length (record_words p h i r)
+      → slice_index words (cell p i b q) ≡ slice_index (record_words p h i r) q
 
-module _ (p : Plan) (h : List Entry) (words : List ℕ) (writer : ℕ → ℕ) (pools : ℕ → Pool) (seat : ℕ) (v : SeatView) where
-  -- the seat is the writer of the segment i: it has seen, or was told of, all its updates, and knows its pool
+module _ (p : Plan) (h : List Entry) (words : List ℕ) (writer : ℕ → ℕ) (pools : ℕ → Pool)
+    (seat : ℕ) (v : SeatView) where
+  -- the seat is the writer of the segment i: it has seen, or was told of, all its updates, and
+  -- knows its pool
   pub record Writes (i : ℕ) : Type 0 where
     pub inside : i < segments p
     pub own : writer i ≡ seat
@@ -117,7 +150,8 @@ module _ (p : Plan) (h : List Entry) (words : List ℕ) (writer : ℕ → ℕ) (
     pub seen : IsPrefix v.seen h
     pub received : IsPrefix v.received h
     pub role : (i : ℕ) → Has v i → Writes i
-    pub pins : (i b : ℕ) → i < segments p → slice_index v.pins i ≡ b + 1 → Pinned p h words i b (slice_index v.records i)
+    pub pins : (i b : ℕ) → i < segments p → slice_index v.pins i ≡ b + 1
+        → Pinned p h words i b (slice_index v.records i)
     pub pin_quota : (i : ℕ) → 0 < slice_index v.pins i → 0 < v.pin_quota
 
 -- There is one history, of which each seat has seen a beginning. The words are its records
@@ -130,8 +164,10 @@ pub record Kept {S : Type 0} (p : Plan) (s : State S SeatView) : Type 0 where
   pub shares : total (λ v. v.pin_quota) s.views ≤ seats p
   pub few : buffers p ≤ 128
   pub legal : IsLegal p history
-  pub registers : (i : ℕ) → i < segments p → Register p history s.words s.views i (pools i) (pinned i)
-  pub each_seat : (j : ℕ) (v : SeatView) → get_elem? s.views j ≡ some v → Knows p history s.words writer pools j v
+  pub registers : (i : ℕ) → i < segments p
+      → Register p history s.words s.views i (pools i) (pinned i)
+  pub each_seat : (j : ℕ) (v : SeatView) → get_elem? s.views j ≡ some v
+      → Knows p history s.words writer pools j v
 
 -- what a seat that sees all learns
 pub record Learns (v w : SeatView) : Type 0 where
@@ -142,9 +178,21 @@ pub record Learns (v w : SeatView) : Type 0 where
   pub legal : IsLegal v.plan w.seen
   pub below : IsBelow v.plan w.seen
 
--- the seat's update, of what it had drafted, stands at the end of what it has seen, and the free buffer is the current one
+-- the seat's update, of what it had drafted, stands at the end of what it has seen, and the free
+-- buffer is the current one
 pub record Publishes (v w : SeatView) (i x : ℕ) : Type 0 where
-  pub same : w ≡ record v { seen = w.seen; pool = record { current = v.pool.free_buffer; found_pinned = 0; free_buffer = buffers v.plan; counted = slice_set v.pool.counted v.pool.current (slice_index v.pool.counted v.pool.current + x); draft = [] } }
+  pub same : w ≡ record v {
+    seen = w.seen;
+    pool =
+        record {
+          current = v.pool.free_buffer;
+          found_pinned = 0;
+          free_buffer = buffers v.plan;
+          counted = slice_set v.pool.counted v.pool.current
+              (slice_index v.pool.counted v.pool.current + x);
+          draft = [];
+        };
+  }
   pub between : List Entry
   pub seen : w.seen ≡ (v.seen ++ between) ++ entry i v.pool.draft ∷ []
   pub others : only i between ≡ []
@@ -156,25 +204,71 @@ abbrev pub no_pool : Pool
 no_pool = record { current = 0; found_pinned = 0; free_buffer = 0; counted = []; draft = [] }
 
 abbrev pub spent : SeatView
-spent = record { plan = record { scanners = 0; looks = 0; block_words = 0; start = [] }; spent = true; seen = []; received = []; low = 0; high = 0; seen_end = 0; pool_end = 0; pool = no_pool; pin_quota = 0; left = 0; pins = []; records = [] }
+spent = record {
+  plan = record { scanners = 0; looks = 0; block_words = 0; start = [] };
+  spent =
+      true;
+  seen = [];
+  received = [];
+  low = 0;
+  high = 0;
+  seen_end = 0;
+  pool_end = 0;
+  pool = no_pool;
+  pin_quota = 0;
+  left = 0;
+  pins = [];
+  records = [];
+}
 
 -- the first segment that the view writes, alone, with a pin a register and the looks of a seat
 abbrev pub first_role : SeatView → SeatView
-first_role v = record v { high = v.low + 1; seen_end = v.low + 1; pool_end = v.low + 1; pin_quota = 1; left = v.plan.looks }
+first_role v = record v {
+  high = v.low + 1;
+  seen_end = v.low + 1;
+  pool_end = v.low + 1;
+  pin_quota =
+      1;
+  left = v.plan.looks;
+}
 
 abbrev pub without_first_role : SeatView → SeatView
-without_first_role v = record v { low = v.low + 1; pin_quota = v.pin_quota - 1; left = v.left - v.plan.looks }
+without_first_role v = record v {
+  low = v.low + 1;
+  pin_quota = v.pin_quota - 1;
+  left =
+      v.left - v.plan.looks;
+}
 
 -- a seat with a pin a register and the looks of a seat, that writes nothing
 abbrev pub reader : SeatView → SeatView
-reader v = record v { received = []; low = 0; high = 0; seen_end = 0; pool_end = 0; pin_quota = 1; left = v.plan.looks }
+reader v = record v {
+  received = [];
+  low = 0;
+  high = 0;
+  seen_end = 0;
+  pool_end = 0;
+  pin_quota = 1;
+  left = v.plan.looks;
+}
 
 abbrev pub without_reader : SeatView → SeatView
 without_reader v = record v { pin_quota = v.pin_quota - 1; left = v.left - v.plan.looks }
 
 -- what was seen alone
 abbrev pub messenger : SeatView → SeatView
-messenger v = record v { received = []; low = 0; high = 0; seen_end = 0; pool_end = 0; pin_quota = 0; left = 0; pins = []; records = [] }
+messenger v = record v {
+  received = [];
+  low = 0;
+  high = 0;
+  seen_end = 0;
+  pool_end = 0;
+  pin_quota =
+      0;
+  left = 0;
+  pins = [];
+  records = [];
+}
 
 -- the first view, told of what the second has seen
 abbrev pub with_received : SeatView → SeatView → SeatView
@@ -196,31 +290,60 @@ module _ {S : Type 0} where
   -- a fetch_add on a current word
   abbrev pub pinning : Step S → Me S SeatView → ℕ → Me S SeatView → Type 0
   pinning st m found m' = Learns m.0 m'.0 × (m'.1 ≡ m.1) × (found / 2 ^ 56 < buffers m.0.plan)
-      × (m'.0 ≡ record m.0 { seen = m'.0.seen; received = []; seen_end = m.0.high; left = m.0.left - 1; pins = slice_set m.0.pins st.word (found / 2 ^ 56 + 1); records = slice_set m.0.records st.word (count st.word m'.0.seen) })
+      × (m'.0 ≡ record m.0 {
+        seen = m'.0.seen;
+        received = [];
+        seen_end = m.0.high;
+        left =
+            m.0.left - 1;
+        pins = slice_set m.0.pins st.word (found / 2 ^ 56 + 1);
+        records =
+            slice_set m.0.records st.word (count st.word m'.0.seen);
+      })
 
   -- a fetch_add on the given-back count of a pinned buffer
   abbrev pub giving : Step S → Me S SeatView → ℕ → Me S SeatView → Type 0
-  giving st m found m' = (i b : ℕ) → b < buffers m.0.plan → st.word ≡ given m.0.plan i b → m' ≡ (record m.0 { pins = slice_set m.0.pins i 0 }, m.1)
+  giving st m found m' = (i b : ℕ) → b < buffers m.0.plan → st.word ≡ given m.0.plan i b
+      → m' ≡ (record m.0 { pins = slice_set m.0.pins i 0 }, m.1)
 
   -- a load of a current word, which does not pin
   abbrev pub glanced : Step S → Me S SeatView → ℕ → Me S SeatView → Type 0
-  glanced st m found m' = Learns m.0 m'.0 × (m'.1 ≡ m.1) × (m'.0 ≡ record m.0 { seen = m'.0.seen; received = []; seen_end = m.0.high })
+  glanced st m found m' = Learns m.0 m'.0 × (m'.1 ≡ m.1)
+      × (m'.0 ≡ record m.0 { seen = m'.0.seen; received = []; seen_end = m.0.high })
 
   -- a load of a word of a pinned buffer
   abbrev pub read : Step S → Me S SeatView → ℕ → Me S SeatView → Type 0
   read st m found m' = (m' ≡ m) × IsLegal m.0.plan m.0.seen
-      × ((i b q : ℕ) → st.word ≡ cell m.0.plan i b q → i < segments m.0.plan → q < width m.0.plan → slice_index m.0.pins i ≡ b + 1 → slice_index m.0.records i ≤ count i m.0.seen → q < length (record_words m.0.plan m.0.seen i (slice_index m.0.records i))
+      × ((i b q : ℕ) → st.word ≡ cell m.0.plan i b q → i < segments m.0.plan → q < width m.0.plan
+      → slice_index m.0.pins i ≡ b + 1 → slice_index m.0.records i ≤ count i m.0.seen
+      → q < length (record_words m.0.plan m.0.seen i (slice_index m.0.records i))
       → found ≡ slice_index (record_words m.0.plan m.0.seen i (slice_index m.0.records i)) q)
 
   -- a load of the given-back count of the next other buffer
   abbrev pub checked : Step S → Me S SeatView → ℕ → Me S SeatView → Type 0
-  checked st m found m' = (found ≡ slice_index m.0.pool.counted (next_other m.0.pool) → m' ≡ (record m.0 { pool = record m.0.pool { free_buffer = next_other m.0.pool; draft = [] } }, m.1))
-      × ((found ≡ slice_index m.0.pool.counted (next_other m.0.pool) → ⊥) → (m' ≡ (record m.0 { pool = record m.0.pool { found_pinned = m.0.pool.found_pinned + 1 } }, m.1)) × (m.0.pool.found_pinned + 1 ≤ seats m.0.plan))
+  checked st m found m' = (found ≡ slice_index m.0.pool.counted (next_other m.0.pool)
+      → m' ≡ (
+        record m.0 {
+          pool = record m.0.pool {
+            free_buffer = next_other m.0.pool;
+            draft =
+                [];
+          };
+        },
+        m.1,
+      ))
+      × ((found ≡ slice_index m.0.pool.counted (next_other m.0.pool) → ⊥)
+      → (m' ≡ (
+        record m.0 { pool = record m.0.pool { found_pinned = m.0.pool.found_pinned + 1 } },
+        m.1,
+      )) × (m.0.pool.found_pinned + 1 ≤ seats m.0.plan))
 
   -- a store of the next word of the free buffer
   abbrev pub drafted : Step S → Me S SeatView → ℕ → Me S SeatView → Type 0
-  drafted st m found m' = m' ≡ (record m.0 { pool = record m.0.pool { draft = m.0.pool.draft ++ st.first ∷ [] } }, m.1)
+  drafted st m found m' = m'
+      ≡ (record m.0 { pool = record m.0.pool { draft = m.0.pool.draft ++ st.first ∷ [] } }, m.1)
 
   -- a swap of the own current word
   abbrev pub published : Step S → Me S SeatView → ℕ → Me S SeatView → Type 0
-  published st m found m' = Publishes m.0 m'.0 st.word (found - m.0.pool.current * 2 ^ 56) × (m.0.pool.current * 2 ^ 56 ≤ found) × (m'.1 ≡ m.1)
+  published st m found m' = Publishes m.0 m'.0 st.word (found - m.0.pool.current * 2 ^ 56)
+      × (m.0.pool.current * 2 ^ 56 ≤ found) × (m'.1 ≡ m.1)

@@ -1,5 +1,24 @@
 -- What a caller sees of a seat.
-use Rattle.std.specs.Prelude.{◌≡◌, ◌≢◌, ℕ, ◌+◌, ◌<◌, ◌≤◌, ◌==◌, Option, Some, None, cond, List, [], ◌∷◌, ◌++◌, length, slice_index, slice_get}
+use Rattle.std.specs.Prelude.{
+  ◌≡◌,
+  ◌≢◌,
+  ℕ,
+  ◌+◌,
+  ◌<◌,
+  ◌≤◌,
+  ◌==◌,
+  Option,
+  Some,
+  None,
+  cond,
+  List,
+  [],
+  ◌∷◌,
+  ◌++◌,
+  length,
+  slice_index,
+  slice_get,
+}
 use Rattle.atomic_table.specs.Seated.{TableId}
 use Rattle.snap_history.specs.History.{Update, IsBeginning, number_after, value_after, updates_of}
 use Rattle.snap_slot.specs.Layout.{IsNumber}
@@ -10,8 +29,9 @@ use Rattle.snap_register.specs.declared.view.View.TheVariants.{Collected, Borrow
 use Rattle.snap_register.specs.History.{starts, updates, start_at}
 use Rattle.snap_register.specs.Rule.{segments}
 
--- the table and its plan, the updates that the seat has seen, the segments that it writes, from `low` on and below `high`,
--- which buffers and which records its last looks found, and how many looks it has left
+-- the table and its plan, the updates that the seat has seen, the segments that it writes, from
+-- `low` on and below `high`, which buffers and which records its last looks found, and how many
+-- looks it has left
 pub record Known : Type 0 where
   pub table : TableId
   pub plan : Plan
@@ -23,11 +43,21 @@ pub record Known : Type 0 where
   pub left : ℕ
 
 abbrev pub known : TableId → SeatView → Known
-known z v = record { table = z; plan = v.plan; seen = updates v.seen; low = v.low; high = v.high; pins = v.pins; records = v.records; left = v.left }
+known z v = record {
+  table = z;
+  plan = v.plan;
+  seen = updates v.seen;
+  low = v.low;
+  high = v.high;
+  pins = v.pins;
+  records = v.records;
+  left = v.left;
+}
 
 -- the number that the last look at the segment j told
 abbrev pub looked : Known → ℕ → Option ℕ
-looked a j = cond (slice_index a.pins j == 0) None (Some ((start_at a.plan j).number + slice_index a.records j))
+looked a j = cond (slice_index a.pins j == 0) None
+    (Some ((start_at a.plan j).number + slice_index a.records j))
 
 -- the segment that a writer's seat writes
 abbrev pub own_of : Known → ℕ
@@ -79,7 +109,8 @@ pub record HasFoundUpdate (a : Known) (j : ℕ) : Type 0 where
   pub is : looked a j ≡ Some told
   pub above : (starts a.plan j).0 < told
 
--- the value is that of the number last looked at: of j after a beginning of what was seen in which j has that number
+-- the value is that of the number last looked at: of j after a beginning of what was seen in which
+-- j has that number
 pub record IsValue (a : Known) (j : ℕ) (value : List ℕ) : Type 0 where
   pub part : List Update
   pub beginning : IsBeginning part a.seen
@@ -89,27 +120,33 @@ pub record IsValue (a : Known) (j : ℕ) (value : List ℕ) : Type 0 where
 -- the list has each segment's number and value after these updates
 pub record IsMemory (a : Known) (part : List Update) (xs : List (ℕ × List ℕ)) : Type 0 where
   pub size : length xs ≡ segments a.plan
-  pub each : (i : ℕ) → i < segments a.plan → slice_get xs i ≡ Some (number_in a part i, value_in a part i)
+  pub each : (i : ℕ) → i < segments a.plan
+      → slice_get xs i ≡ Some (number_in a part i, value_in a part i)
 
--- the list has the memory after a beginning of what was seen, in which j has the number below the one last looked at
+-- the list has the memory after a beginning of what was seen, in which j has the number below the
+-- one last looked at
 pub record IsView (a : Known) (j : ℕ) (xs : List (ℕ × List ℕ)) : Type 0 where
   pub part : List Update
   pub beginning : IsBeginning part a.seen
   pub before : looked a j ≡ Some (number_in a part j + 1)
   pub memory : IsMemory a part xs
 
--- all last looks told the numbers after a beginning of what was seen, which has all updates of the own segment
+-- all last looks told the numbers after a beginning of what was seen, which has all updates of the
+-- own segment
 pub record IsCollected (a : Known) : Type 0 where
   pub part : List Update
   pub beginning : IsBeginning part a.seen
   pub whole : number_in a part (own_of a) ≡ number_in a a.seen (own_of a)
   pub each : (i : ℕ) → i < segments a.plan → looked a i ≡ Some (number_in a part i)
 
--- the last look at j found an update, and a beginning of what was seen that lacks just that update of j has all updates of the own segment
+-- the last look at j found an update, and a beginning of what was seen that lacks just that update
+-- of j has all updates of the own segment
 pub record IsBorrowed (a : Known) (j : ℕ) : Type 0 where
   pub inside : j < segments a.plan
   pub found : HasFoundUpdate a j
-  pub whole : (part : List Update) → IsBeginning part a.seen → looked a j ≡ Some (number_in a part j + 1) → number_in a part (own_of a) ≡ number_in a a.seen (own_of a)
+  pub whole : (part : List Update) → IsBeginning part a.seen
+      → looked a j ≡ Some (number_in a part j + 1)
+      → number_in a part (own_of a) ≡ number_in a a.seen (own_of a)
 
 -- an update of this seat may take this view along
 abbrev pub MayPublish : Known → View → Type 0

@@ -1,10 +1,26 @@
 -- What a seat keeps of its table, and the table's plan.
-use Rattle.std.specs.Prelude.{◌≡◌, ℕ, ◌+◌, ◌*◌, ◌^◌, ◌<◌, ◌≤◌, List, [], ◌++◌, length, slice_index, map, replicate, false}
+use Rattle.std.specs.Prelude.{
+  ◌≡◌,
+  ℕ,
+  ◌+◌,
+  ◌*◌,
+  ◌^◌,
+  ◌<◌,
+  ◌≤◌,
+  List,
+  [],
+  ◌++◌,
+  length,
+  slice_index,
+  map,
+  replicate,
+  false,
+}
 use Rattle.std.specs.List.{flat_map}
 use Rattle.snap_slot.specs.Layout.{IsNumber}
 use Rattle.snap_slot.specs.declared.layout.TheConstants.{MAX_COUNT}
 use Rattle.snap_register.specs.declared.packing.TheConstants.{BLOCK_WORDS}
-use Rattle.snap_register.specs.declared.plan.TheConstants.{MAX_SCANNERS}
+use Rattle.snap_history.specs.declared.limits.TheConstants.{MAX_SCANNERS}
 use Rattle.snap_register.specs.declared.setup.Setup.{Setup}
 use Rattle.snap_register.specs.declared.plan.Opening.{Opening}
 use Rattle.snap_register.specs.declared.plan.Plan.{Plan}
@@ -21,13 +37,26 @@ abbrev pub start_of : Opening → Start
 start_of x = record { number = x.number; words = x.words.items }
 
 abbrev pub plan_with : ℕ → ℕ → ℕ → List Opening → Plan
-plan_with scanners looks block_words xs = record { scanners = scanners; looks = looks; block_words = block_words; start = map start_of xs }
+plan_with scanners looks block_words xs = record {
+  scanners = scanners;
+  looks = looks;
+  block_words =
+      block_words;
+  start = map start_of xs;
+}
 
 abbrev pub plan_of : Setup → Plan
 plan_of g = plan_with g.scanners g.looks g.block_words g.values.value.items
 
 abbrev pub first_pool : Plan → Pool
-first_pool p = record { current = 0; found_pinned = 0; free_buffer = buffers p; counted = replicate (buffers p) 0; draft = [] }
+first_pool p = record {
+  current = 0;
+  found_pinned = 0;
+  free_buffer = buffers p;
+  counted =
+      replicate (buffers p) 0;
+  draft = [];
+}
 
 abbrev pub first_view : Plan → SeatView
 first_view p = record {
@@ -56,10 +85,12 @@ pub record IsSized (segments' scanners block_words words : ℕ) (p : Plan) : Typ
   pub few : segments' ≤ MAX_COUNT
   pub few_scanners : scanners ≤ MAX_SCANNERS
   pub block_words_is : p.block_words ≡ BLOCK_WORDS
-  pub starts : (i : ℕ) → i < segments p → (length (start_at p i).words ≡ p.block_words) × IsBlock (start_at p i).words 0 (start_at p i).number (value_at (start_at p i).words 0)
+  pub starts : (i : ℕ) → i < segments p → (length (start_at p i).words ≡ p.block_words)
+      × IsBlock (start_at p i).words 0 (start_at p i).number (value_at (start_at p i).words 0)
 
 -- the seat is of a table of the plan's size and holds no slot, and its pins are these
-pub record IsSeated {S : Type 0} (words : ℕ) (pins : List ℕ) (left : ℕ) (m : Me S SeatView) : Type 0 where
+pub record IsSeated {S : Type 0} (words : ℕ) (pins : List ℕ) (left : ℕ)
+    (m : Me S SeatView) : Type 0 where
   pub words_are : words ≡ size m.0.plan
   pub alone : m.1 ≡ []
   pub here : m.0.spent ≡ false
@@ -72,10 +103,13 @@ pub record IsSeated {S : Type 0} (words : ℕ) (pins : List ℕ) (left : ℕ) (m
   pub pins_are : (i : ℕ) → i < segments m.0.plan → slice_index pins i ≡ slice_index m.0.pins i
   pub pins_inside : (i : ℕ) → i < segments m.0.plan → slice_index m.0.pins i ≤ buffers m.0.plan
   pub records_are : (i : ℕ) → i < segments m.0.plan → slice_index m.0.records i ≤ count i m.0.seen
-  pub readable : (i : ℕ) → i < segments m.0.plan → Readable m.0.plan m.0.seen i (slice_index m.0.records i)
+  pub readable : (i : ℕ) → i < segments m.0.plan
+      → Readable m.0.plan m.0.seen i (slice_index m.0.records i)
 
--- the seat writes the segment i alone, has this number, and knows its current buffer and the pins counted for each
-pub record IsPool {S : Type 0} (i k current : ℕ) (counted : List ℕ) (m : Me S SeatView) : Type 0 where
+-- the seat writes the segment i alone, has this number, and knows its current buffer and the pins
+-- counted for each
+pub record IsPool {S : Type 0} (i k current : ℕ) (counted : List ℕ)
+    (m : Me S SeatView) : Type 0 where
   pub role : IsWriter m.0 i
   pub inside : i < segments m.0.plan
   pub number_is : k ≡ number m.0.plan m.0.seen i
@@ -83,7 +117,8 @@ pub record IsPool {S : Type 0} (i k current : ℕ) (counted : List ℕ) (m : Me 
   pub current_inside : current < buffers m.0.plan
   pub found_pinned_is : m.0.pool.found_pinned ≡ 0
   pub counts : length m.0.pool.counted ≡ buffers m.0.plan
-  pub counted_are : (b : ℕ) → b < buffers m.0.plan → slice_index counted b ≡ slice_index m.0.pool.counted b
+  pub counted_are : (b : ℕ) → b < buffers m.0.plan
+      → slice_index counted b ≡ slice_index m.0.pool.counted b
 
 -- the words of a segment's buffers behind the first record's first words
 abbrev pub unused : Plan → ℕ
@@ -91,16 +126,21 @@ unused p = segments p * p.block_words + (segments p + p.scanners + 1) * width p
 
 -- the words at the start: in each register the buffer 0 is current and has no pin
 abbrev pub opening_words : Plan → List ℕ
-opening_words p = replicate (segments p + segments p * buffers p) 0 ++ flat_map (λ s. s.words ++ replicate (unused p) 0) p.start
+opening_words p = replicate (segments p + segments p * buffers p) 0
+    ++ flat_map (λ s. s.words ++ replicate (unused p) 0) p.start
 
--- the values fill the first words, which begin with the number, and no number of looks comes near 2^56
+-- the values fill the first words, which begin with the number, and no number of looks comes near
+-- 2^56
 pub record IsReady (p : Plan) : Type 0 where
-  pub each : (i : ℕ) → i < segments p → (length (start_at p i).words ≡ p.block_words) × IsBlock (start_at p i).words 0 (start_at p i).number (value_at (start_at p i).words 0) × IsNumber (start_at p i).number
+  pub each : (i : ℕ) → i < segments p → (length (start_at p i).words ≡ p.block_words)
+      × IsBlock (start_at p i).words 0 (start_at p i).number (value_at (start_at p i).words 0)
+      × IsNumber (start_at p i).number
   pub block_words_is : p.block_words ≡ BLOCK_WORDS
   pub few : buffers p ≤ 128
   pub looks : seats p * p.looks < 2 ^ 56
 
--- the first seat, while it hands out the others: for each that is to come it has a pin a register and the looks
+-- the first seat, while it hands out the others: for each that is to come it has a pin a register
+-- and the looks
 pub record IsFirst {S : Type 0} (words left : ℕ) (m : Me S SeatView) : Type 0 where
   pub words_are : words ≡ size m.0.plan
   pub alone : m.1 ≡ []
@@ -112,7 +152,8 @@ pub record IsFirst {S : Type 0} (words left : ℕ) (m : Me S SeatView) : Type 0 
   pub pool_is : m.0.pool ≡ first_pool m.0.plan
   pub pin_quota_is : m.0.pin_quota ≡ left
   pub left_is : m.0.left ≡ left * m.0.plan.looks
-  pub readable : (i : ℕ) → i < segments m.0.plan → Readable m.0.plan m.0.seen i (slice_index m.0.records i)
+  pub readable : (i : ℕ) → i < segments m.0.plan
+      → Readable m.0.plan m.0.seen i (slice_index m.0.records i)
   pub pins_are : m.0.pins ≡ replicate (segments m.0.plan) 0
   pub records_are : m.0.records ≡ replicate (segments m.0.plan) 0
 
@@ -127,6 +168,7 @@ pub record IsFresh {S : Type 0} (words : ℕ) (m : Me S SeatView) : Type 0 where
   pub pool_is : m.0.pool ≡ first_pool m.0.plan
   pub pin_quota_is : m.0.pin_quota ≡ 1
   pub left_is : m.0.left ≡ m.0.plan.looks
-  pub readable : (i : ℕ) → i < segments m.0.plan → Readable m.0.plan m.0.seen i (slice_index m.0.records i)
+  pub readable : (i : ℕ) → i < segments m.0.plan
+      → Readable m.0.plan m.0.seen i (slice_index m.0.records i)
   pub pins_are : m.0.pins ≡ replicate (segments m.0.plan) 0
   pub records_are : m.0.records ≡ replicate (segments m.0.plan) 0

@@ -23,7 +23,8 @@ IsSameSeat a b = (b.seat.table_id ≡ a.seat.table_id) × (b.seat.id ≡ a.seat.
 
 -- and it knows the same
 abbrev pub IsSame : Access → Access → Type 0
-IsSame a b = (b.seat.table_id ≡ a.seat.table_id) × (b.seat.id ≡ a.seat.id) × (b.seat.me ≡ a.seat.me) × (b.left ≡ a.left)
+IsSame a b = (b.seat.table_id ≡ a.seat.table_id) × (b.seat.id ≡ a.seat.id) × (b.seat.me ≡ a.seat.me)
+    × (b.left ≡ a.left)
 
 -- what it knows of its own buffers is this, and all else that it knows is the same
 abbrev pub HasPool : Access → Access → Pool → Type 0
@@ -31,4 +32,5 @@ HasPool a b d = b.seat.me ≡ (record a.seat.me.0 { pool = d }, a.seat.me.1)
 
 -- the words that it stored in the free buffer are these, and nothing else changed
 abbrev pub HasDrafted : Access → Access → List ℕ → Type 0
-HasDrafted a b ws = (b.left ≡ a.left) × (b.seat.table_id ≡ a.seat.table_id) × (b.seat.id ≡ a.seat.id) × HasPool a b (record a.seat.me.0.pool { draft = ws })
+HasDrafted a b ws = (b.left ≡ a.left) × (b.seat.table_id ≡ a.seat.table_id)
+    × (b.seat.id ≡ a.seat.id) × HasPool a b (record a.seat.me.0.pool { draft = ws })

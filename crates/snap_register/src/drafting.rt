@@ -123,7 +123,8 @@ impl Access {
             × (to + BLOCK_WORDS ≤ width self.old.seat.me.0.plan) }
         ensures same { HasDrafted self.old self.new
             (self.old.seat.me.0.pool.draft ++ piece (held self.old.seat.me.0 j) from result) }
-        ensures size { (result ≡ size_at (held self.old.seat.me.0 j) from) × (result ≤ BLOCK_WORDS) }
+        ensures size { (result ≡ size_at (held self.old.seat.me.0 j) from)
+            × (result ≤ BLOCK_WORDS) }
     {
         let count = self.size_at(j, from);
         for q in 0..count {

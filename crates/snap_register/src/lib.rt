@@ -16,10 +16,12 @@ mod setup;
 mod snapshot;
 #[cfg(test)]
 mod tests;
+#[cfg(test)]
+mod thread_tests;
 mod view;
 
 pub use opening::Parts;
-pub use plan::{Entry, MAX_SCANNERS, Opening, Plan, Pool, SeatView, Start};
+pub use plan::{Entry, Opening, Plan, Pool, SeatView, Start};
 pub use registers::Registers;
 pub use seats::{Looker, ReadSeat, WriteSeat};
 pub use setup::{OneHistory, Setup, TableSeat, WordTable};

@@ -5,11 +5,18 @@ ghost use Rattle.std.specs.List.{flat_map};
 ghost use Rattle.std.specs.Arc.{arc_value};
 ghost use Rattle.atomic_table.specs.Seated.{TableId};
 ghost use Rattle.snap_slot.specs.declared.layout.TheConstants.{MAX_COUNT};
-ghost use Rattle.snap_register.specs.declared.plan.TheConstants.{MAX_SCANNERS};
+ghost use Rattle.snap_history.specs.declared.limits.TheConstants.{MAX_SCANNERS};
 ghost use Rattle.snap_register.specs.History.{start_at};
 ghost use Rattle.snap_register.specs.Rule.{segments, seats, size};
 ghost use Rattle.snap_register.specs.Parts.{AreWriters, AreReaders};
-ghost use Rattle.snap_register.specs.Setup.{plan_with, plan_of, first_view, unused, opening_words, IsReady};
+ghost use Rattle.snap_register.specs.Setup.{
+  plan_with,
+  plan_of,
+  first_view,
+  unused,
+  opening_words,
+  IsReady,
+};
 ghost use Rattle.snap_register.specs.Setup.{IsSized, IsFirst, IsFresh};
 
 use crate::access::Access;
@@ -75,7 +82,8 @@ fn access_of(
     sizes: Sizes,
 ) -> Result<Access, AllocError>
     requires own { seat.table_id ≡ (arc_value table.now).shared.table_id }
-    requires sized { IsSized sizes.segments sizes.scanners sizes.block_words sizes.words seat.me.0.plan
+    requires sized { IsSized sizes.segments sizes.scanners sizes.block_words sizes.words
+        seat.me.0.plan
         × (sizes.looks ≡ seat.me.0.plan.looks) }
     requires fresh { IsFresh seat.table_id.words seat.me }
     ensures { IfOk result (λ c. (c.seat.table_id ≡ seat.table_id) × (c.seat.me ≡ seat.me)) }
@@ -111,16 +119,20 @@ fn seat_writers(
     values: &Vec<Opening>,
 ) -> Result<Vec<WriteSeat>, AllocError>
     requires own { first_seat.old.table_id ≡ (arc_value table.now).shared.table_id }
-    requires sized { IsSized sizes.segments sizes.scanners sizes.block_words sizes.words first_seat.old.me.0.plan
+    requires sized { IsSized sizes.segments sizes.scanners sizes.block_words sizes.words
+        first_seat.old.me.0.plan
         × (sizes.looks ≡ first_seat.old.me.0.plan.looks) }
-    requires first { IsFirst first_seat.old.table_id.words (seats first_seat.old.me.0.plan) first_seat.old.me
+    requires first { IsFirst first_seat.old.table_id.words
+        (seats first_seat.old.me.0.plan) first_seat.old.me
         × (first_seat.old.me.0.low ≡ 0) × (first_seat.old.me.0.high ≡ sizes.segments) }
     requires numbers { (length values.now.items ≡ sizes.segments) × ((i : ℕ)
         → i < segments first_seat.old.me.0.plan
         → slice_index (map (λ x. x.number) values.now.items) i
         ≡ (start_at first_seat.old.me.0.plan i).number) }
-    ensures first_seat { IfOk result (λ _. IsFirst first_seat.new.table_id.words sizes.scanners first_seat.new.me
-        × (first_seat.new.table_id ≡ first_seat.old.table_id) × (first_seat.new.me.0.plan ≡ first_seat.old.me.0.plan)) }
+    ensures first_seat { IfOk result (λ _.
+        IsFirst first_seat.new.table_id.words sizes.scanners first_seat.new.me
+        × (first_seat.new.table_id ≡ first_seat.old.table_id)
+        × (first_seat.new.me.0.plan ≡ first_seat.old.me.0.plan)) }
     ensures seats { IfOk result (λ v. (length v.items ≡ sizes.segments)
         × AreWriters first_seat.old.table_id first_seat.old.me.0.plan v.items) }
 {
@@ -141,7 +153,8 @@ fn seat_readers(
     sizes: Sizes,
 ) -> Result<Vec<ReadSeat>, AllocError>
     requires own { first_seat.old.table_id ≡ (arc_value table.now).shared.table_id }
-    requires sized { IsSized sizes.segments sizes.scanners sizes.block_words sizes.words first_seat.old.me.0.plan
+    requires sized { IsSized sizes.segments sizes.scanners sizes.block_words sizes.words
+        first_seat.old.me.0.plan
         × (sizes.looks ≡ first_seat.old.me.0.plan.looks) }
     requires first { IsFirst first_seat.old.table_id.words sizes.scanners first_seat.old.me }
     ensures { IfOk result (λ v. (length v.items ≡ sizes.scanners)

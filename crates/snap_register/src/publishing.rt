@@ -14,9 +14,9 @@ use crate::setup::{Check, Publish};
 use crate::view::View;
 
 impl Access {
-    /// Fills a free buffer of the own register i with the record of the number `next`, this value and this
-    /// view, and makes it the current one. Answers the buffer, and the pins that the old current word
-    /// counted.
+    /// Fills a free buffer of the own register i with the record of the number `next`, this value
+    /// and this view, and makes it the current one. Answers the buffer, and the pins that the old
+    /// current word counted.
     pub(crate) fn publish(
         &mut self,
         i: usize,
@@ -50,21 +50,26 @@ impl Access {
 
     // A free buffer of the own register i: one that isn't current and that nobody pins.
     //
-    // The writer knows, for each buffer, all pins that were ever taken on it: those that the current
-    // word counted while the buffer was current. The buffer's given-back count has those that were
-    // given back. Where both are equal nobody pins the buffer, and nobody will before it is current
-    // again, since pins are taken on the current buffer alone. Each of the n + S seats pins at most
-    // one buffer of a register, and there are n + S + 1 buffers that aren't current, so one of them
-    // is free: the loop always ends in its `return`.
+    // The writer knows, for each buffer, all pins that were ever taken on it: those that the
+    // current word counted while the buffer was current. The buffer's given-back count has those
+    // that were given back. Where both are equal nobody pins the buffer, and nobody will before it
+    // is current again, since pins are taken on the current buffer alone. Each of the n + S seats
+    // pins at most one buffer of a register, and there are n + S + 1 buffers that aren't current,
+    // so one of them is free: the loop always ends in its `return`.
     fn find_free(&mut self, i: usize, current: usize, counted: &[u64; MAX_BUFFERS]) -> usize
         requires own { Owns self.old.seat.me.0 i }
         requires current { (current ≡ self.old.seat.me.0.pool.current)
-            × (current < buffers self.old.seat.me.0.plan) × (self.old.seat.me.0.pool.found_pinned ≡ 0) }
+            × (current < buffers self.old.seat.me.0.plan)
+            × (self.old.seat.me.0.pool.found_pinned ≡ 0) }
         requires counted { (b : ℕ) → b < buffers self.old.seat.me.0.plan
             → slice_index counted.now b ≡ slice_index self.old.seat.me.0.pool.counted b }
         ensures free { (result < buffers self.old.seat.me.0.plan)
-            × HasPool self.old self.new (record self.old.seat.me.0.pool
-            { found_pinned = self.new.seat.me.0.pool.found_pinned; free_buffer = result; draft = [] }) }
+            × HasPool self.old self.new (record self.old.seat.me.0.pool {
+              found_pinned = self.new.seat.me.0.pool.found_pinned;
+              free_buffer = result;
+              draft =
+                  [];
+            }) }
         ensures same { IsSameSeat self.old self.new }
     {
         let others = self.buffers() - 1;
@@ -85,7 +90,11 @@ impl Access {
             × (b < buffers self.old.seat.me.0.plan) }
         requires counted { counted ≡ slice_index self.old.seat.me.0.pool.counted b }
         ensures free { IsTrue result
-            → HasPool self.old self.new (record self.old.seat.me.0.pool { free_buffer = b; draft = [] }) }
+            → HasPool self.old self.new (record self.old.seat.me.0.pool {
+              free_buffer = b;
+              draft =
+                  [];
+            }) }
         ensures held { IsFalse result
             → HasPool self.old self.new (record self.old.seat.me.0.pool
             { found_pinned = self.old.seat.me.0.pool.found_pinned + 1 })
@@ -97,8 +106,8 @@ impl Access {
         found == counted
     }
 
-    // Makes the free buffer b, which is filled, the current one in place of `current`, and answers the
-    // pins that the old current word counted.
+    // Makes the free buffer b, which is filled, the current one in place of `current`, and answers
+    // the pins that the old current word counted.
     fn swap(&mut self, i: usize, current: usize, b: usize) -> u64
         requires own { Owns self.old.seat.me.0 i }
         requires buffer { IsFree self.old.seat.me.0 b }

@@ -4,7 +4,7 @@ ghost use Rattle.atomic_table.specs.Seated.{TableId};
 ghost use Rattle.snap_slot.specs.Layout.{IsNumber, IsShort};
 ghost use Rattle.snap_slot.specs.declared.layout.TheConstants.{MAX_COUNT};
 ghost use Rattle.snap_register.specs.declared.packing.TheConstants.{BLOCK_WORDS};
-ghost use Rattle.snap_register.specs.declared.plan.TheConstants.{MAX_SCANNERS};
+ghost use Rattle.snap_history.specs.declared.limits.TheConstants.{MAX_SCANNERS};
 ghost use Rattle.snap_register.specs.declared.plan.Plan.{Plan};
 ghost use Rattle.snap_register.specs.Packing.{value_at, IsBlock};
 ghost use Rattle.snap_register.specs.Parts.{IsOpening, AreWriters, AreReaders};
@@ -20,8 +20,9 @@ pub struct Registers;
 
 impl Registers {
     /// Registers of which segment i starts with the number and the value `values[i]`: one seat for
-    /// each segment's writer and one for each scanner, each with so many `looks`. Nobody has seen an
-    /// update yet. There is nothing to give back: the registers end with the last of their seats.
+    /// each segment's writer and one for each scanner, each with so many `looks`. Nobody has seen
+    /// an update yet. There is nothing to give back: the registers end with the last of their
+    /// seats.
     ///
     /// Where memory runs out it answers the `AllocError`, and nothing is kept.
     pub fn open(

@@ -35,9 +35,9 @@ pub trait Looker {
         requires segment { j < segments (known self.now).plan }
         ensures looked { IsTrue result ↔ HasLooked (known self.now) j };
 
-    /// Looks at the segment `j`: the seat sees all updates that stand in the history at this moment,
-    /// and the number of `j` among them is the answer. The record that was found stays as it is
-    /// until the seat's next look at `j`. A look waits for nobody.
+    /// Looks at the segment `j`: the seat sees all updates that stand in the history at this
+    /// moment, and the number of `j` among them is the answer. The record that was found stays as
+    /// it is until the seat's next look at `j`. A look waits for nobody.
     fn look(&mut self, j: usize) -> u64
         requires segment { j < segments (known self.old).plan }
         requires left { 0 < (known self.old).left }
@@ -47,8 +47,8 @@ pub trait Looker {
         ensures looked { Looks (known self.old) (known self.new) j result }
         ensures left { (known self.new).left + 1 ≡ (known self.old).left };
 
-    /// Writes the value of the record of the last look at `j` to the front of `out`, and answers its
-    /// length.
+    /// Writes the value of the record of the last look at `j` to the front of `out`, and answers
+    /// its length.
     fn value(&mut self, j: usize, out: &mut [u8]) -> usize
         requires segment { j < segments (known self.old).plan }
         requires looked { HasLooked (known self.old) j }
@@ -218,9 +218,9 @@ impl WriteSeat {
         self.number
     }
 
-    /// Shows an update of the own segment to this value, with this view, and answers its number. The
-    /// update stands in the history from one moment of this call on. It always finds a free buffer,
-    /// so it waits for nobody and refuses nothing.
+    /// Shows an update of the own segment to this value, with this view, and answers its number.
+    /// The update stands in the history from one moment of this call on. It always finds a free
+    /// buffer, so it waits for nobody and refuses nothing.
     pub fn publish(&mut self, value: &[u8], view: &View) -> u64
         requires size { IsShort value.now }
         requires next { IsNumber (number_in self.old self.old.seen (own_of self.old) + 1) }

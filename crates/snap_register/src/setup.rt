@@ -1,6 +1,12 @@
 //! The table of the registers' words, its rule (specs/Rule.antt), and what each step on it tells.
 ghost use Rattle.snap_register.specs.Rule.{Kept, pinning, giving, glanced, read, checked, drafted};
-ghost use Rattle.snap_register.specs.Rule.{published, messenger, reader, without_reader, first_role};
+ghost use Rattle.snap_register.specs.Rule.{
+  published,
+  messenger,
+  reader,
+  without_reader,
+  first_role,
+};
 ghost use Rattle.snap_register.specs.Rule.{without_first_role, with_received, with_seen_of, spent};
 
 use crate::plan::{Opening, SeatView};

@@ -1,8 +1,9 @@
 //! Registers of one segment, by hand.
 ghost use Rattle.std.specs.Prelude.{◌≤◌, ◌^◌, length};
 ghost use Rattle.snap_slot.specs.Layout.{IsShort};
-ghost use Rattle.snap_register.specs.declared.plan.TheConstants.{MAX_SCANNERS};
+ghost use Rattle.snap_history.specs.declared.limits.TheConstants.{MAX_SCANNERS};
 
+use crate::packing::{block_size, tail_word, word_of};
 use crate::{Looker, Parts, ReadSeat, Registers, View, WriteSeat};
 use snap_slot::MAX_VALUE_LEN;
 use std::alloc::{AllocError, Global};
@@ -189,5 +190,53 @@ fn a_writer_and_two_scanners_in_threads(rt: HostRuntime) -> Result<(), Fail> {
         },
     );
     assert!(rt; last == Some(200) && right);
+    Ok(())
+}
+
+#[test]
+fn words_as_another_program_packs_them(rt: HostRuntime) -> Result<(), Fail> {
+    // Python's struct.unpack("<Q", bytes), and the bytes filled up with zeros to eight.
+    assert!(rt; word_of(b"snapshot") == 8_390_039_475_830_484_595);
+    assert!(rt; word_of(&[1, 2, 3, 4, 5, 6, 7, 0x80]) == 9_225_348_980_303_659_521);
+    assert!(rt; word_of(&[0xFF; 8]) == 18_446_744_073_709_551_615);
+    assert!(rt; tail_word(&[]) == 0);
+    assert!(rt; tail_word(&[1]) == 1);
+    assert!(rt; tail_word(b"tail!") == 143_552_766_324);
+    assert!(rt; tail_word(b"snapsho") == 31_358_567_430_844_019);
+    assert!(rt; tail_word(&[0xFF; 7]) == 72_057_594_037_927_935);
+    let sizes = [(0, 2), (1, 3), (8, 3), (9, 4), (4079, 512), (4080, 512)];
+    for (length, words) in sizes {
+        assert!(rt; block_size(length) == words);
+    }
+    Ok(())
+}
+
+// Run with each allocation refused in turn (`rt try --test --fail-alloc N`): what was refused is
+// given back, and the next opening has all its seats.
+#[test]
+fn opens_after_a_refused_allocation(rt: HostRuntime) -> Result<(), Fail> {
+    let alloc = rt.alloc();
+    let tried = open(alloc, &[9, 8, 7], 2, 100);
+    let Ok(parts) = (if tried.is_err() {
+        open(alloc, &[9, 8, 7], 2, 100)
+    } else {
+        tried
+    }) else {
+        panic!(rt; "refused again")
+    };
+    let Parts {
+        mut writers,
+        mut scanners,
+    } = parts;
+    assert!(rt; writers.len() == 1 && scanners.len() == 2);
+    let (Some(mut writer), Some(mut scanner)) = (writers.pop(), scanners.pop()) else {
+        panic!(rt; "a seat is missing")
+    };
+    let mut room = [0; MAX_VALUE_LEN];
+    assert!(rt; look(&mut scanner) == Some(0));
+    assert!(rt; looked(&mut scanner, &mut room) == Some([9, 8, 7].as_slice()));
+    assert!(rt; write_all(&mut writer, 1, 3) == Some(3));
+    assert!(rt; look(&mut scanner) == Some(3));
+    assert!(rt; scanner.looks_left() == 98 && writer.looks_left() == 97);
     Ok(())
 }

@@ -3,5 +3,7 @@ pub mod Operands
 pub mod Crashes
 pub mod Digits
 pub mod Plays
-pub mod Scripts
-pub mod Played
+pub mod Lines
+pub mod Steps
+pub mod Ends
+pub mod Runs

@@ -4,4 +4,6 @@ pub mod Text
 pub mod Fault
 pub mod Script
 pub mod Player
+pub mod Progress
+pub mod Intake
 pub mod Playing

@@ -1,12 +1,14 @@
 -- What a script writes, for each way in which it can end.
-use Rattle.std.specs.Prelude.{◌≡◌, ◌≢◌, ℕ, ◌+◌, List, [], ◌∷◌, ◌++◌, length, take, Option, ⊤}
-use Rattle.std.specs.Io.KnownBytes.{Appends}
+use Rattle.std.specs.Prelude.{◌≡◌, ◌≢◌, ◌<◌, ◌≤◌, ◌⊎◌, ℕ, ◌+◌, ◌-◌, ◌^◌, min, List, [], ◌∷◌, ◌++◌, length, take, All, Option, ⊤}
+use Rattle.std.specs.Io.KnownBytes.{Appends, Consumes, Keeps}
+use Rattle.snap_stream.specs.Streams.{Had}
 use Rattle.snap_script.specs.Words.{lines_of}
 use Rattle.snap_script.specs.Line.{IsWorldLine, IsEventLine}
 use Rattle.snap_script.specs.Text.{world_text, line_text, replies_text}
 use Rattle.snap_script.specs.Fault.{IsUnreadable}
 use Rattle.snap_script.specs.declared.run.ScriptEnd.{ScriptEnd}
-use Rattle.snap_script.specs.declared.run.ScriptEnd.TheVariants.{Done, BadLine, NoMemory, WriteFailed}
+use Rattle.snap_script.specs.declared.run.ScriptEnd.TheVariants.{Done, BadLine, TooLong, NoMemory, ReadFailed, WriteFailed}
+use Rattle.snap_script.specs.declared.run.TheConstants.{MAX_LINE}
 use Rattle.snap_disk.specs.Device.{Device}
 use Rattle.snap_world.specs.Runs.{Configuration, Run}
 use Rattle.snap_world.specs.Start.{start_state, start_world_phases, AreFormatted}
@@ -57,25 +59,51 @@ abbrev pub PrintsPart : Option (List ℕ) → Option (List ℕ) → List (List �
 PrintsPart old new lines =
     (text : List ℕ) × MayPrint lines text × (m : ℕ) × Appends old new (take m text)
 
--- the input's lines are those done, then this one, which isn't empty, and then others
-pub record IsAt (input : List ℕ) (done : List (List ℕ)) (line : List ℕ) : Type 0 where
-  pub behind : List (List ℕ)
-  pub whole : lines_of input ≡ done ++ line ∷ behind
-  pub some : line ≢ []
+-- a line may have so many bytes, without its end
+abbrev pub IsShort : List ℕ → Type 0
+IsShort line = length line ≤ MAX_LINE
 
--- how a script on this input ends, and what a writer that held the old bytes then holds
-abbrev pub Ends : List ℕ → Option (List ℕ) → Option (List ℕ) → ScriptEnd → Type 0
+-- the text's lines are those done, none of them too long, and then others
+pub record IsAt (text : List ℕ) (done behind : List (List ℕ)) : Type 0 where
+  pub whole : lines_of text ≡ done ++ behind
+  pub short : All IsShort done
+
+-- the number of the line behind these, from 1, which stops at `u64::MAX`
+abbrev pub IsNumberBehind : List (List ℕ) → ℕ → Type 0
+IsNumberBehind done number = number ≡ min (length done + 1) (2 ^ 64 - 1)
+
+-- How a script ends of which these bytes were read and the rest wasn't, and what a writer that held the old bytes then
+-- holds.
+abbrev pub Ends : (taken rest : List ℕ) (old new : Option (List ℕ)) → ScriptEnd → Type 0
 -- every line was done
-Ends input old new Done = Prints old new (full_lines (lines_of input))
--- this line, the number-th, can't be read, and those before it were done
-Ends input old new (BadLine number fault) =
-    (done : List (List ℕ)) × (line : List ℕ) × IsAt input done line × (number ≡ length done + 1)
-    × IsUnreadable (full_lines done) line fault × Prints old new (full_lines done)
--- memory ran out in some line, and those before it were done
-Ends input old new NoMemory =
-    (done : List (List ℕ)) × (line : List ℕ) × IsAt input done line
+Ends taken rest old new Done =
+    (done : List (List ℕ)) × IsAt taken done [] × (rest ≡ []) × Prints old new (full_lines done)
+-- this line can't be read, though it isn't too long, and those before it were done
+Ends taken rest old new (BadLine number fault) =
+    (done behind : List (List ℕ)) × (line : List ℕ) × IsAt (taken ++ rest) done (line ∷ behind) × (line ≢ [])
+    × IsShort line × IsNumberBehind done number × IsUnreadable (full_lines done) line fault
     × Prints old new (full_lines done)
--- the writer failed at some line's text
-Ends input old new WriteFailed =
-    (done : List (List ℕ)) × (line : List ℕ) × IsAt input done line
-    × PrintsPart old new (full_lines (done ++ line ∷ []))
+-- this line is too long, and those before it were done
+Ends taken rest old new (TooLong number) =
+    (done behind : List (List ℕ)) × (line : List ℕ) × IsAt (taken ++ rest) done (line ∷ behind)
+    × (MAX_LINE < length line) × IsNumberBehind done number × Prints old new (full_lines done)
+-- memory ran out at first, or in some line, and those before it were done
+Ends taken rest old new NoMemory =
+    Keeps old new
+    ⊎ ((done behind : List (List ℕ)) × (line : List ℕ) × IsAt (taken ++ rest) done (line ∷ behind) × (line ≢ [])
+    × Prints old new (full_lines done))
+-- the reader failed, and all lines were done but the last one of what was read, which has no end there
+Ends taken rest old new (ReadFailed error) =
+    (done : List (List ℕ)) × (last : List ℕ) × IsAt taken done (last ∷ []) × Prints old new (full_lines done)
+-- the writer failed in the text of some lines
+Ends taken rest old new (WriteFailed error) =
+    (done behind : List (List ℕ)) × IsAt (taken ++ rest) done behind × PrintsPart old new (full_lines done)
+
+-- what a script reads and writes, and how it ends
+pub record Runs (read_old read_new written_old written_new : Option (List ℕ)) (end : ScriptEnd) : Type 0 where
+  -- the bytes that were read, and those that the reader still has
+  pub taken : List ℕ
+  pub rest : List ℕ
+  pub read : Consumes read_old read_new taken
+  pub has : Had read_new rest
+  pub ends : Ends taken rest written_old written_new end

@@ -15,20 +15,20 @@
 #![tactic(auto)]
 
 mod fault;
+mod intake;
 mod line;
 mod player;
 mod playing;
 mod print;
+mod progress;
 mod run;
 mod verb;
 mod words;
 
 pub use fault::LineFault;
-pub use playing::{PlayFailure, play};
-pub use run::{ScriptEnd, script};
+pub use playing::play;
+pub use run::{MAX_LINE, ScriptEnd, script};
 pub use verb::Verb;
 
-#[cfg(test)]
-mod playing_tests;
 #[cfg(test)]
 mod tests;

@@ -1,63 +1,120 @@
-//! A script, run.
-ghost use Rattle.std.specs.Prelude.{◌≡◌, ℕ};
-ghost use Rattle.snap_script.specs.Script.{Ends};
+//! A script, run while it is read.
+ghost use Rattle.std.specs.Prelude.{◌≡◌, ◌<◌, ◌≤◌, IfOk, length, vec_len};
+ghost use Rattle.snap_script.specs.Script.{Runs};
+ghost use Rattle.snap_script.specs.declared.run.TheConstants.{MAX_LINE};
 
 use crate::fault::LineFault;
-use crate::player::{Halt, Player};
-use crate::words::cut;
-use snap_stream::write_whole;
-use std::alloc::Global;
-use std::io::Write;
+use crate::intake::Intake;
+use std::alloc::{AllocError, Global};
+use std::io::{self, Read, Write};
+use std::sync::Wait;
+use thiserror::Error;
 
-/// How a script ended.
-#[derive(Clone, Copy, Debug, Drop, PartialEq, Eq)]
+/// The longest line in bytes, without the LF that ends it.
+pub const MAX_LINE: usize = 1_048_576;
+
+/// How many bytes one read may give.
+const PIECE: usize = 65_536;
+
+/// How a script ended. Its text is what standard error gets behind `snapd: `, save at
+/// [`ScriptEnd::Done`].
+///
+/// A line's number counts all lines of the input from 1, empty ones too, and stops at `u64::MAX`.
+#[derive(Debug, Drop, Error)]
 pub enum ScriptEnd {
-    /// Every line was done.
+    /// Every line was done, and the reader is at its end.
+    #[error("every line was done")]
     Done,
     /// A line can't be read. Those before it were done.
-    BadLine {
-        /// The line's number in the input, from 1. Empty lines count.
-        number: u64,
-        /// What is wrong in it.
-        fault: LineFault,
-    },
-    /// Memory ran out in a line. What was written is the text of the lines before it.
+    #[error("line {number}: {fault}")]
+    BadLine { number: u64, fault: LineFault },
+    /// A line has more than [`MAX_LINE`] bytes. Those before it were done.
+    #[error("line {number}: a line has at most 1048576 bytes")]
+    TooLong { number: u64 },
+    /// Memory ran out in a line, or at first. What was written is the text of the lines before it.
+    #[error("refused 8 NoMemory")]
     NoMemory,
+    /// The reader failed. The lines whose ends were read before were done.
+    #[error("standard input: {0}")]
+    ReadFailed(io::Error),
     /// The writer failed. What was written is a beginning of the text.
-    WriteFailed,
+    #[error("standard output: {0}")]
+    WriteFailed(io::Error),
 }
 
-/// Runs a script on a new world, and writes a line for each of its lines: what each event answered.
+/// Runs a script on a new world while it is read, and writes a line for each of its lines: what
+/// each event answered.
 ///
-/// A script is lines, which LF parts, of words, which single spaces part. Empty lines are skipped.
-/// The first other line is `world N S`, and every other one is an event; docs/FORMATS.md has their
-/// forms, and those of what is written. What is written are replies that a new world may give to
-/// those events, in the order of the lines.
+/// A script is lines, each of which LF ends (the last one may go without), of words, which single
+/// spaces part. Empty lines are skipped. The first other line is `world N S`, and every other one
+/// is an event; docs/FORMATS.md has their forms, and those of what is written. What is written are
+/// replies that a new world may give to all those events, in the order of the lines.
 ///
-/// The text of a line is written as soon as the line is done, by one call of the writer where that
-/// takes it whole. Nothing is flushed, and an error of the writer ends the script with no retry.
-pub fn script<W: Write>(alloc: Global, input: &[u8], writer: &mut W) -> ScriptEnd
-    ensures { Ends input.now (W.contents writer.old) (W.contents writer.new) result }
+/// Each line whose end has come is done and its text is written and flushed before the next read,
+/// so whoever writes the script can wait for its answer. An error of the reader or of the writer
+/// ends the script with no retry.
+///
+/// It takes room for one read and for the longest line, however many lines there are, and besides
+/// it what an event's own values and a reply's take. It returns only once the reader ends or
+/// something fails.
+pub fn script<X: Wait, R: Read, W: Write>(
+    rt: &X,
+    alloc: Global,
+    reader: &mut R,
+    writer: &mut W,
+) -> ScriptEnd
+    ensures { Runs (R.remaining reader.old) (R.remaining reader.new)
+        (W.contents writer.old) (W.contents writer.new) result }
 {
-    let mut player = Player::new(alloc);
-    let mut rest = Some(input);
-    let mut number: u64 = 0;
-    while let Some(text) = rest {
-        let (line, behind) = cut(text, b'\n');
-        rest = behind;
-        number += 1;
-        if line.is_empty() {
-            continue;
-        }
-        match player.line(line) {
+    let Ok(mut piece) = zero_bytes(alloc, PIECE) else {
+        return ScriptEnd::NoMemory;
+    };
+    let end = run_pieces(rt, alloc, reader, writer, &mut piece);
+    if let ScriptEnd::WriteFailed(_) = end {
+        return end;
+    }
+    match writer.flush() {
+        Ok(()) => end,
+        Err(error) => ScriptEnd::WriteFailed(error),
+    }
+}
+
+/// Runs a script piece by piece. What was written since the last read isn't flushed yet. `piece` is
+/// where a read puts its bytes.
+fn run_pieces<X: Wait, R: Read, W: Write>(
+    rt: &X,
+    alloc: Global,
+    reader: &mut R,
+    writer: &mut W,
+    piece: &mut [u8],
+) -> ScriptEnd
+    requires some { 0 < length piece.old }
+    requires short { length piece.old ≤ MAX_LINE }
+    ensures { Runs (R.remaining reader.old) (R.remaining reader.new)
+        (W.contents writer.old) (W.contents writer.new) result }
+{
+    let mut intake = Intake::new(alloc);
+    for _ in rt.forever() {
+        let len = match reader.read(piece) {
+            Ok(0) => return intake.finish(writer),
+            Ok(len) => len,
+            Err(error) => return ScriptEnd::ReadFailed(error),
+        };
+        match intake.take(&piece[..len], writer) {
             Ok(()) => {}
-            Err(Halt::Fault(fault)) => return ScriptEnd::BadLine { number, fault },
-            Err(Halt::NoMemory) => return ScriptEnd::NoMemory,
+            Err(end) => return end,
         }
-        match write_whole(writer, &player.text) {
+        match writer.flush() {
             Ok(()) => {}
-            Err(_) => return ScriptEnd::WriteFailed,
+            Err(error) => return ScriptEnd::WriteFailed(error),
         }
     }
-    ScriptEnd::Done
+    unreachable!()
+}
+
+/// So many zero bytes.
+fn zero_bytes(alloc: Global, len: usize) -> Result<Vec<u8>, AllocError>
+    ensures { IfOk result (λ bytes. vec_len bytes ≡ len) }
+{
+    vec![in alloc; 0u8; len]
 }

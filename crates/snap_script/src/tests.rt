@@ -1,35 +1,28 @@
 //! Whole scripts: what they write, and how they end.
 use crate::*;
+use snap_stream::TestStream;
 use std::alloc::{AllocError, Global};
-use std::io::{self, ErrorKind, Write};
+use std::sync::Wait;
+
+mod playing;
 
 /// What a script writes, and how it ends.
-fn run(alloc: Global, input: &[u8]) -> (ScriptEnd, Vec<u8>) {
+fn run(rt: &impl Wait, alloc: Global, mut input: &[u8]) -> (ScriptEnd, Vec<u8>) {
     let mut written = Vec::new(alloc);
-    let end = script(alloc, input, &mut written);
+    let end = script(rt, alloc, &mut input, &mut written);
     (end, written)
 }
 
-/// A writer that takes so many bytes and then fails.
-#[derive(Drop)]
-struct Failing {
-    room: usize,
-    taken: Vec<u8>,
+/// Whether every line was done.
+fn is_done(end: &ScriptEnd) -> bool {
+    matches!(end, ScriptEnd::Done)
 }
 
-impl Write for Failing {
-    fn write(&mut self, bytes: &[u8]) -> io::Result<usize> {
-        if self.room == 0 {
-            return Err(io::Error::from(ErrorKind::StorageFull));
-        }
-        let count = bytes.len().min(self.room);
-        self.taken.extend_from_slice(&bytes[..count])?;
-        self.room -= count;
-        Ok(count)
-    }
-
-    fn flush(&mut self) -> io::Result<()> {
-        Ok(())
+/// Whether this line can't be read for this reason.
+fn is_bad_line(end: &ScriptEnd, line: u64, why: LineFault) -> bool {
+    match end {
+        ScriptEnd::BadLine { number, fault } => *number == line && *fault == why,
+        _ => false,
     }
 }
 
@@ -168,7 +161,7 @@ called read
 memory 6869
 ";
 
-const HELP: &str = "world 1 1
+const UPDATE_INSIDE_SCAN: &str = "world 1 1
 begin 0 6869
 look w0
 look w0
@@ -185,7 +178,7 @@ look s0
 answer 0
 ";
 
-const HELP_OUTPUT: &str = "world 1 1
+const UPDATE_INSIDE_SCAN_OUTPUT: &str = "world 1 1
 begun
 number 0
 number 0
@@ -204,46 +197,47 @@ memory 6869
 
 #[test]
 fn worked_script(rt: HostRuntime) {
-    let (end, written) = run(rt.alloc(), WORKED.as_bytes());
-    assert_eq!(rt; end, ScriptEnd::Done);
+    let (end, written) = run(&rt, rt.alloc(), WORKED.as_bytes());
+    assert!(rt; is_done(&end));
     assert_eq!(rt; written.as_slice(), WORKED_OUTPUT.as_bytes());
     // Where the crash closes the gate that was written open, the first restart finds the old value.
     let (end, written) = run(
+        &rt,
         rt.alloc(),
         b"world 1 1\nbegin 0 61\nlook w0\nlook w0\ncall 0\ncall 0\ncall 0\n\
 crash 00\nrestart\nrecall\nrecall\nserve\n",
     );
-    assert_eq!(rt; end, ScriptEnd::Done);
+    assert!(rt; is_done(&end));
     assert!(rt; written.ends_with(b"\nmemory -\n"));
 }
 
 #[test]
 fn borrowed_view_script(rt: HostRuntime) {
-    let (end, written) = run(rt.alloc(), BORROWED_VIEW.as_bytes());
-    assert_eq!(rt; end, ScriptEnd::Done);
+    let (end, written) = run(&rt, rt.alloc(), BORROWED_VIEW.as_bytes());
+    assert!(rt; is_done(&end));
     assert_eq!(rt; written.as_slice(), BORROWED_VIEW_OUTPUT.as_bytes());
 }
 
-/// The script that the program's help shows: its scan's first two looks differ, so it looks once
-/// more.
+/// The program's help shows this script: an update is shown between the scan's first two looks, so
+/// they differ, and the scan looks once more.
 #[test]
-fn script_of_the_help(rt: HostRuntime) {
-    let (end, written) = run(rt.alloc(), HELP.as_bytes());
-    assert_eq!(rt; end, ScriptEnd::Done);
-    assert_eq!(rt; written.as_slice(), HELP_OUTPUT.as_bytes());
+fn an_update_inside_a_scan_costs_one_more_look(rt: HostRuntime) {
+    let (end, written) = run(&rt, rt.alloc(), UPDATE_INSIDE_SCAN.as_bytes());
+    assert!(rt; is_done(&end));
+    assert_eq!(rt; written.as_slice(), UPDATE_INSIDE_SCAN_OUTPUT.as_bytes());
 }
 
 /// Where `rt try --test --fail-alloc N` refuses an allocation, of the script or of the list written
 /// to, what was written is whole lines of the output, from its beginning.
 #[test]
 fn each_allocation_failing(rt: HostRuntime) {
-    let (end, written) = run(rt.alloc(), BORROWED_VIEW.as_bytes());
+    let (end, written) = run(&rt, rt.alloc(), BORROWED_VIEW.as_bytes());
     let whole = BORROWED_VIEW_OUTPUT.as_bytes();
-    if end == ScriptEnd::Done {
+    if is_done(&end) {
         assert_eq!(rt; written.as_slice(), whole);
         return;
     }
-    assert!(rt; end == ScriptEnd::NoMemory || end == ScriptEnd::WriteFailed);
+    assert!(rt; matches!(end, ScriptEnd::NoMemory | ScriptEnd::WriteFailed(_)));
     assert!(rt; whole.starts_with(written.as_slice()));
     assert!(rt; written.is_empty() || written.last() == Some(&b'\n'));
 }
@@ -254,13 +248,16 @@ fn each_allocation_failing(rt: HostRuntime) {
 fn a_writer_that_fails(rt: HostRuntime) {
     let whole = BORROWED_VIEW_OUTPUT.as_bytes();
     for room in [0, 1, 9, 10, 11, 100, whole.len() - 1] {
-        let mut writer = Failing {
-            room,
-            taken: Vec::new(rt.alloc()),
+        let mut writer = TestStream {
+            bytes: Vec::new(rt.alloc()),
+            passed: 0,
+            passes: room,
+            step: 4096,
         };
-        let end = script(rt.alloc(), BORROWED_VIEW.as_bytes(), &mut writer);
-        assert_eq!(rt; end, ScriptEnd::WriteFailed, "at {room}");
-        assert_eq!(rt; writer.taken.as_slice(), &whole[..room], "at {room}");
+        let mut reader = BORROWED_VIEW.as_bytes();
+        let end = script(&rt, rt.alloc(), &mut reader, &mut writer);
+        assert!(rt; matches!(end, ScriptEnd::WriteFailed(_)), "at {room}");
+        assert_eq!(rt; writer.bytes.as_slice(), &whole[..room], "at {room}");
     }
 }
 
@@ -298,8 +295,8 @@ fn lines_that_can_be_read(rt: HostRuntime) {
         let Ok(output) = format!(in rt.alloc(); "world 2 1\n{text}\n") else {
             continue;
         };
-        let (end, written) = run(rt.alloc(), input.as_bytes());
-        assert_eq!(rt; end, ScriptEnd::Done, "{line:?}");
+        let (end, written) = run(&rt, rt.alloc(), input.as_bytes());
+        assert!(rt; is_done(&end), "{line:?}");
         assert_eq!(rt; written.as_slice(), output.as_bytes(), "{line:?}");
     }
 }
@@ -359,8 +356,8 @@ fn lines_that_cannot_be_read(rt: HostRuntime) {
         let Ok(input) = format!(in rt.alloc(); "world 2 1\n\nscan 0\n{line}\nscan 0\n") else {
             continue;
         };
-        let (end, written) = run(rt.alloc(), input.as_bytes());
-        assert_eq!(rt; end, ScriptEnd::BadLine { number: 4, fault }, "{line:?}");
+        let (end, written) = run(&rt, rt.alloc(), input.as_bytes());
+        assert!(rt; is_bad_line(&end, 4, fault), "{line:?}");
         assert_eq!(rt;
             written.as_slice(),
             b"world 2 1\nscanning\n".as_slice(),
@@ -377,8 +374,8 @@ fn first_lines(rt: HostRuntime) {
         ("world 1 1", "world 1 1\n"),
         ("\nworld 01 016\n\n", "world 1 16\n"),
     ] {
-        let (end, written) = run(rt.alloc(), input.as_bytes());
-        assert_eq!(rt; end, ScriptEnd::Done, "{input:?}");
+        let (end, written) = run(&rt, rt.alloc(), input.as_bytes());
+        assert!(rt; is_done(&end), "{input:?}");
         assert_eq!(rt; written.as_slice(), output.as_bytes(), "{input:?}");
     }
     for input in [
@@ -395,12 +392,8 @@ fn first_lines(rt: HostRuntime) {
         "\nrestart",
         "\n ",
     ] {
-        let (end, written) = run(rt.alloc(), input.as_bytes());
-        let bad = ScriptEnd::BadLine {
-            number: 2,
-            fault: LineFault::NoWorld,
-        };
-        assert_eq!(rt; end, bad, "{input:?}");
+        let (end, written) = run(&rt, rt.alloc(), input.as_bytes());
+        assert!(rt; is_bad_line(&end, 2, LineFault::NoWorld), "{input:?}");
         assert!(rt; written.is_empty(), "{input:?}");
     }
 }
@@ -416,8 +409,8 @@ fn longest_value_and_one_more(rt: HostRuntime) -> Result<(), AllocError> {
     for _ in 0..4080 {
         input.push_str("a5")?;
     }
-    let (end, written) = run(rt.alloc(), input.as_bytes());
-    assert_eq!(rt; end, ScriptEnd::Done);
+    let (end, written) = run(&rt, rt.alloc(), input.as_bytes());
+    assert!(rt; is_done(&end));
     assert_eq!(rt;
         written.as_slice(),
         b"world 1 1\nnot now\nbegun\n".as_slice()
@@ -444,8 +437,8 @@ called body\ncalled sync\ncalled open\ncalled sync\nshown\nscanning\n",
     )?;
     input.push_str("look s0\nlook s0\nlook s0\nlook s0\nanswer 0\n")?;
     output.push_str("\n")?;
-    let (end, written) = run(rt.alloc(), input.as_bytes());
-    assert_eq!(rt; end, ScriptEnd::Done);
+    let (end, written) = run(&rt, rt.alloc(), input.as_bytes());
+    assert!(rt; is_done(&end));
     assert_eq!(rt; written.as_slice(), output.as_bytes());
     Ok(())
 }

@@ -2,12 +2,9 @@
 use Rattle.std.proofs.Common.{
   ◌≡◌,
   ℕ,
-  ◌≤◌,
   List,
   [],
-  ◌∷◌,
   ◌++◌,
-  length,
   Option,
   Some,
   None,
@@ -29,7 +26,6 @@ use Rattle.snap_session.proofs.Runs.{
   Joins,
   run_on,
   stays_joins,
-  moves_joins,
   loosen as loosen_run,
 }
 
@@ -197,19 +193,29 @@ pub goes_silent : {S : Type 0} (gives : S → Request → Reply → S
 goes_silent gives s t u t0 t1 t2 one two =
     goes_on Stays stays_joins gives s t u t0 t1 t2 [] [] [] [] one two
 
--- a talk that nobody disturbs is one that others may disturb
-pub loosen : {S : Type 0} (gives : S → Request → Reply → S
-    → Type 0) (s t : S) (old : Talk) (taken given : List ℕ) (new : Talk)
-    → Goes Stays gives s t old taken given new → Goes (Moves gives) gives s t old taken given new
-loosen gives s t old taken given new one =
+-- the same frames and replies by another run
+pub by_run : {S : Type 0} (before between : S → S → Type 0) (gives : S → Request → Reply → S
+    → Type 0) (s t u : S) (old : Talk) (taken given : List ℕ) (new : Talk)
+    (one : Goes before gives s t old taken given new)
+    → Run between gives s one.payloads (one.replies ++ one.unsaid) u
+    → Goes between gives s u old taken given new
+by_run before between gives s t u old taken given new one run =
     record {
       payloads = one.payloads;
       replies = one.replies;
       unsaid = one.unsaid;
       rest = one.rest;
       tail = one.tail;
-      run = loosen_run gives s t one.payloads (one.replies ++ one.unsaid) one.run;
+      run = run;
       cut = one.cut;
       said = one.said;
       phase = one.phase;
     }
+
+-- a talk that nobody disturbs is one that others may disturb
+pub loosen : {S : Type 0} (gives : S → Request → Reply → S
+    → Type 0) (s t : S) (old : Talk) (taken given : List ℕ) (new : Talk)
+    → Goes Stays gives s t old taken given new → Goes (Moves gives) gives s t old taken given new
+loosen gives s t old taken given new one =
+    by_run Stays (Moves gives) gives s t t old taken given new one
+    (loosen_run gives s t one.payloads (one.replies ++ one.unsaid) one.run)

@@ -1,26 +1,34 @@
 -- Several sessions on one service.
-use Rattle.std.proofs.Common.{◌≡◌, ℕ, List, [], ◌++◌, Option, refl}
+use Rattle.std.proofs.Common.{ℕ, List, ◌++◌, Option}
 use Rattle.snap_frame.specs.declared.request.Request.{Request}
 use Rattle.snap_frame.specs.declared.reply.Reply.{Reply}
 use Rattle.snap_session.specs.Talk.{Talk, Goes, Stays, Moves}
 use Rattle.snap_session.specs.Turns.{Turns}
 use Rattle.snap_session.proofs.Runs.{run_then, moves_joins}
-use Rattle.snap_session.proofs.Going.{loosen}
-use Rattle.snap_session.proofs.Steps.{rests}
+use Rattle.snap_session.proofs.Going.{by_run, loosen}
 use Rattle.snap_session.proofs.Turning.{turns_on, begins}
 
-pub turns_loosen : {S : Type 0} (gives : S → Request → Reply → S
-    → Type 0) (s t : S) (old : Talk) (r0 r1 w0 w1 : Option (List ℕ)) (new : Talk)
-    → Turns Stays gives s t old r0 r1 w0 w1 new → Turns (Moves gives) gives s t old r0 r1 w0 w1 new
-turns_loosen gives s t old r0 r1 w0 w1 new one =
+-- the same reads and writes by another way of the talk
+by_talk : {S : Type 0} (before between : S → S → Type 0) (gives : S → Request → Reply → S
+    → Type 0) (s t u : S) (old : Talk) (r0 r1 w0 w1 : Option (List ℕ)) (new : Talk)
+    (one : Turns before gives s t old r0 r1 w0 w1 new)
+    → Goes between gives s u old one.taken one.given new
+    → Turns between gives s u old r0 r1 w0 w1 new
+by_talk before between gives s t u old r0 r1 w0 w1 new one goes =
     record {
       taken = one.taken;
       given = one.given;
       read = one.read;
       writes = one.writes;
-      goes =
-          loosen gives s t old one.taken one.given new one.goes;
+      goes = goes;
     }
+
+pub turns_loosen : {S : Type 0} (gives : S → Request → Reply → S
+    → Type 0) (s t : S) (old : Talk) (r0 r1 w0 w1 : Option (List ℕ)) (new : Talk)
+    → Turns Stays gives s t old r0 r1 w0 w1 new → Turns (Moves gives) gives s t old r0 r1 w0 w1 new
+turns_loosen gives s t old r0 r1 w0 w1 new one =
+    by_talk Stays (Moves gives) gives s t t old r0 r1 w0 w1 new one
+    (loosen gives s t old one.taken one.given new one.goes)
 
 -- a session begins on a shared service
 pub shares : {S : Type 0} (gives : S → Request → Reply → S
@@ -44,22 +52,7 @@ pub lets_turn : {S : Type 0} (gives : S → Request → Reply → S
 lets_turn gives s t u t0 t1 v0 v1 r0 r1 w0 w1 q0 q1 x0 x1 one two =
     let o = one.goes in
     let w = two.goes in
-    record {
-      taken = one.taken;
-      given = one.given;
-      read = one.read;
-      writes = one.writes;
-      goes =
-          record {
-            payloads = o.payloads;
-            replies = o.replies;
-            unsaid = o.unsaid;
-            rest = o.rest;
-            tail = o.tail;
-            run = run_then (Moves gives) (moves_joins gives) gives s t u o.payloads (o.replies
-                ++ o.unsaid) o.run (w.payloads, w.replies ++ w.unsaid, w.run);
-            cut = o.cut;
-            said = o.said;
-            phase = o.phase;
-          };
-    }
+    by_talk (Moves gives) (Moves gives) gives s t u t0 r0 r1 w0 w1 t1 one
+    (by_run (Moves gives) (Moves gives) gives s t u t0 one.taken one.given t1 o
+    (run_then (Moves gives) (moves_joins gives) gives s t u o.payloads (o.replies ++ o.unsaid) o.run
+    (w.payloads, w.replies ++ w.unsaid, w.run)))

@@ -1,6 +1,7 @@
 -- The steps of a session.
 use Rattle.std.proofs.Common.{
   ◌≡◌,
+  ◌≢◌,
   inl,
   inr,
   ℕ,
@@ -24,7 +25,9 @@ use Rattle.std.proofs.Common.{
   append-nil,
   append_assoc,
   subst,
+  length-append,
 }
+use Rattle.std.specs.Int.{w32, to_be_bytes}
 use Rattle.snap_frame.specs.declared.request.Request.{Request}
 use Rattle.snap_frame.specs.Messages.{frame, payload}
 use Rattle.snap_frame.specs.Stream.{HasFrame, HasLongLength}
@@ -33,7 +36,6 @@ use Rattle.snap_frame.specs.declared.frame_buffer.Failure.{Failure}
 use Rattle.snap_frame.specs.declared.frame_buffer.Failure.TheVariants.{TooLarge, NoMemory}
 use Rattle.snap_frame.specs.Messages.{says}
 use Rattle.snap_session.specs.Talk.{
-  refused_malformed,
   refused_too_large,
   Talk,
   Goes,
@@ -47,6 +49,15 @@ use Rattle.snap_session.specs.Talk.{
   came,
   asked_bytes,
 }
+
+abbrev pub owed_of : Talk → List ℕ
+owed_of t = t.owed
+
+abbrev pub over_of : Talk → Option Failure
+over_of t = t.over
+
+abbrev pub asked_of : Talk → Option Request
+asked_of t = t.asked
 
 pub phase_going : (a b : Option Failure) (taken : List ℕ) (ps rs : List (List ℕ))
     (rest held : List ℕ) → a ≡ None → b ≡ None → held ≡ rest → Phase a b taken ps rs [] rest held []
@@ -62,34 +73,21 @@ pub phase_too_large : (a b : Option Failure) (taken : List ℕ) (ps rs : List (L
     → Phase a b taken ps rs [] rest held (frame refused_too_large)
 phase_too_large a b taken ps rs rest held one two long = rw (one, two) (refl, refl, long)
 
-phase_same : (a : Option Failure) (held : List ℕ) → Phase a a [] [] [] [] held held []
-phase_same None held = (refl, refl, refl)
-phase_same (Some w) held = (refl, refl, refl, refl, refl, refl)
+phase_same : (a : Option Failure) (rest held : List ℕ) → held ≡ rest
+    → Phase a a [] [] [] [] rest held []
+phase_same None rest held same = (refl, refl, same)
+phase_same (Some w) rest held same = (refl, refl, refl, refl, refl, refl)
 
 owed_only : (xs : List ℕ) → xs ≡ xs ++ ([] ++ [])
 owed_only xs = sym (append-nil xs)
 
--- nothing happens
-pub rests : {S : Type 0} (gives : S → Request → Reply → S → Type 0) (s : S) (t : Talk)
-    → Goes Stays gives s s t [] [] t
-rests gives s t =
-    record {
-      payloads = [];
-      replies = [];
-      unsaid = [];
-      rest = came t;
-      tail = [];
-      run = refl;
-      cut = append-nil (came t);
-      said = owed_only t.owed;
-      phase = phase_same t.over (came t);
-    }
-
--- memory runs out before anything is answered
-pub gives_up : {S : Type 0} (gives : S → Request → Reply → S
-    → Type 0) (s : S) (old : Talk) (taken : List ℕ) (new : Talk) → old.over ≡ None
-    → new.owed ≡ old.owed → new.over ≡ Some NoMemory → Goes Stays gives s s old taken [] new
-gives_up gives s old taken new going owed over =
+-- nothing is answered
+unanswered : {S : Type 0} (gives : S → Request → Reply → S
+    → Type 0) (s : S) (old : Talk) (taken given : List ℕ) (new : Talk)
+    → given ++ new.owed ≡ old.owed
+    → Phase old.over new.over taken [] [] [] (came old ++ taken) (came new) []
+    → Goes Stays gives s s old taken given new
+unanswered gives s old taken given new said phase =
     record {
       payloads = [];
       replies = [];
@@ -98,53 +96,55 @@ gives_up gives s old taken new going owed over =
       tail = [];
       run = refl;
       cut = refl;
-      said = owed ∙ owed_only old.owed;
-      phase = phase_no_memory old.over new.over taken [] [] [] (came old
-          ++ taken) (came new) going over (omega arith);
+      said = said ∙ owed_only old.owed;
+      phase = phase;
     }
-
--- a piece is taken in
-pub takes : {S : Type 0} (gives : S → Request → Reply → S
-    → Type 0) (s : S) (old : Talk) (piece : List ℕ) (new : Talk) → old.over ≡ None
-    → HasTaken old piece new → Goes Stays gives s s old piece [] new
-takes gives s old piece new going taken =
-    elim taken.2 [
-      | inl kept ↦
-          record {
-            payloads = [];
-            replies = [];
-            unsaid = [];
-            rest = came old ++ piece;
-            tail = [];
-            run = refl;
-            cut = refl;
-            said = taken.0 ∙ owed_only old.owed;
-            phase = phase_going old.over new.over piece [] [] (came old
-                ++ piece) (came new) going kept.0 (ap (λ (q : Option Request). asked_bytes q
-                ++ new.held) taken.1 ∙ ap (λ zs. asked_bytes old.asked ++ zs) kept.1
-                ∙ sym (append_assoc (asked_bytes old.asked) old.held piece));
-          }
-      | inr none ↦ gives_up gives s old piece new going taken.0 none
-    ]
 
 -- the bytes that came stay as they are, and some that are owed are sent
 pub sends : {S : Type 0} (gives : S → Request → Reply → S
     → Type 0) (s : S) (old : Talk) (given : List ℕ) (new : Talk) → old.owed ≡ given ++ new.owed
     → came new ≡ came old → new.over ≡ old.over → Goes Stays gives s s old [] given new
 sends gives s old given new owed same over =
-    record {
-      payloads = [];
-      replies = [];
-      unsaid = [];
-      rest = came old;
-      tail = [];
-      run = refl;
-      cut = append-nil (came old);
-      said = sym owed ∙ owed_only old.owed;
-      phase = subst (λ (o : Option Failure). Phase old.over o [] [] [] [] (came old) (came new) [])
-          (sym over) (subst (λ (zs : List ℕ). Phase old.over old.over [] [] [] [] (came old) zs [])
-          (sym same) (phase_same old.over (came old)));
-    }
+    unanswered gives s old [] given new (sym owed)
+    (subst (λ (o : Option Failure). Phase old.over o [] [] [] [] (came old ++ []) (came new) [])
+    (sym over) (phase_same old.over (came old ++ []) (came new)
+    (same ∙ sym (append-nil (came old)))))
+
+-- nothing happens
+pub rests : {S : Type 0} (gives : S → Request → Reply → S → Type 0) (s : S) (t : Talk)
+    → Goes Stays gives s s t [] [] t
+rests gives s t = sends gives s t [] t refl refl refl
+
+-- memory runs out before anything is answered
+pub gives_up : {S : Type 0} (gives : S → Request → Reply → S
+    → Type 0) (s : S) (old : Talk) (taken : List ℕ) (new : Talk) → old.over ≡ None
+    → new.owed ≡ old.owed → new.over ≡ Some NoMemory → Goes Stays gives s s old taken [] new
+gives_up gives s old taken new going owed over =
+    unanswered gives s old taken [] new owed
+    (phase_no_memory old.over new.over taken [] [] [] (came old ++ taken) (came new) going over
+    (omega arith))
+
+-- a piece is taken in
+pub takes : {S : Type 0} (gives : S → Request → Reply → S
+    → Type 0) (s : S) (old : Talk) (piece : List ℕ) (new : Talk) → old.over ≡ None
+    → HasTaken old piece new → Goes Stays gives s s old piece [] new
+takes gives s old piece new going (inl is) =
+    unanswered gives s old piece [] new (ap owed_of is)
+    (phase_going old.over new.over piece [] [] (came old ++ piece) (came new) going
+    (ap over_of is ∙ going)
+    (ap came is ∙ sym (append_assoc (asked_bytes old.asked) old.held piece)))
+takes gives s old piece new going (inr none) =
+    gives_up gives s old piece new going (ap owed_of none) (ap over_of none)
+
+pub taken_asked : (old : Talk) (piece : List ℕ) (new : Talk) → HasTaken old piece new
+    → new.asked ≡ old.asked
+taken_asked old piece new (inl is) = ap asked_of is
+taken_asked old piece new (inr none) = ap asked_of none
+
+pub taken_owed : (old : Talk) (piece : List ℕ) (new : Talk) → HasTaken old piece new
+    → new.owed ≡ old.owed
+taken_owed old piece new (inl is) = ap owed_of is
+taken_owed old piece new (inr none) = ap owed_of none
 
 pub came_free : (t : Talk) → t.asked ≡ None → came t ≡ t.held
 came_free t free = ap (λ (q : Option Request). asked_bytes q ++ t.held) free
@@ -152,13 +152,30 @@ came_free t free = ap (λ (q : Option Request). asked_bytes q ++ t.held) free
 pub came_asked : (t : Talk) (q : Request) → t.asked ≡ Some q → came t ≡ frame (payload q) ++ t.held
 came_asked t q is = ap (λ (o : Option Request). asked_bytes o ++ t.held) is
 
-cut_one : (held x rest : List ℕ) → held ≡ frame x ++ rest → held ++ [] ≡ frames (x ∷ []) ++ rest
-cut_one held x rest split =
-    append-nil held ∙ split ∙ ap (λ zs. zs ++ rest) (sym (append-nil (frame x)))
-
 said_one : (owed y : List ℕ) → owed ++ frame y ≡ owed ++ (frames (y ∷ []) ++ [])
 said_one owed y =
     ap (λ zs. owed ++ zs) (sym (append-nil (frame y)) ∙ sym (append-nil (frames (y ∷ []))))
+
+-- a frame is answered, and its reply is owed or no memory was left for it
+answered_one : {S : Type 0} (gives : S → Request → Reply → S
+    → Type 0) (s t : S) (old mid new : Talk) (x y : List ℕ) (ys us : List (List ℕ))
+    → ys ++ us ≡ y ∷ [] → came old ≡ frame x ++ came mid → Answer gives s x y t
+    → new.owed ≡ old.owed ++ (frames ys ++ [])
+    → Phase old.over new.over [] (x ∷ []) ys us (came mid) (came new) []
+    → Goes Stays gives s t old [] [] new
+answered_one gives s t old mid new x y ys us one found answer said phase =
+    record {
+      payloads = x ∷ [];
+      replies = ys;
+      unsaid = us;
+      rest = came mid;
+      tail = [];
+      run = subst (λ zs. Run Stays gives s (x ∷ []) zs t) (sym one) (s, t, refl, answer, refl);
+      cut = append-nil (came old) ∙ found
+          ∙ ap (λ zs. zs ++ came mid) (sym (append-nil (frame x)));
+      said = said;
+      phase = phase;
+    }
 
 -- a frame is answered
 pub answers : {S : Type 0} (gives : S → Request → Reply → S
@@ -166,31 +183,15 @@ pub answers : {S : Type 0} (gives : S → Request → Reply → S
     → came old ≡ frame x ++ came mid → mid.owed ≡ old.owed → mid.over ≡ None → Answer gives s x y t
     → Owes mid y new ok → Goes Stays gives s t old [] [] new
 answers gives s t old mid new x y true going found owed over answer owes =
-    record {
-      payloads = x ∷ [];
-      replies = y ∷ [];
-      unsaid = [];
-      rest = came mid;
-      tail = [];
-      run = (s, t, refl, answer, refl);
-      cut = cut_one (came old) x (came mid) found;
-      said = ap (λ (z : Talk). z.owed) owes ∙ ap (λ zs. zs ++ frame y) owed ∙ said_one old.owed y;
-      phase = phase_going old.over new.over [] (x ∷ []) (y ∷ []) (came mid) (came new) going
-          (ap (λ (z : Talk). z.over) owes ∙ over) (ap came owes);
-    }
+    answered_one gives s t old mid new x y (y ∷ []) [] refl found answer
+    (ap owed_of owes ∙ ap (λ zs. zs ++ frame y) owed ∙ said_one old.owed y)
+    (phase_going old.over new.over [] (x ∷ []) (y ∷ []) (came mid) (came new) going
+    (ap over_of owes ∙ over) (ap came owes))
 answers gives s t old mid new x y false going found owed over answer owes =
-    record {
-      payloads = x ∷ [];
-      replies = [];
-      unsaid = y ∷ [];
-      rest = came mid;
-      tail = [];
-      run = (s, t, refl, answer, refl);
-      cut = cut_one (came old) x (came mid) found;
-      said = owes.0 ∙ owed ∙ owed_only old.owed;
-      phase = phase_no_memory old.over new.over [] (x ∷ []) [] (y ∷ []) (came mid)
-          (came new) going owes.1 (omega arith);
-    }
+    answered_one gives s t old mid new x y [] (y ∷ []) refl found answer
+    (ap owed_of owes ∙ owed ∙ owed_only old.owed)
+    (phase_no_memory old.over new.over [] (x ∷ []) [] (y ∷ []) (came mid) (came new) going
+    (ap over_of owes) (omega arith))
 
 -- a length above the limit is refused
 pub refuses : {S : Type 0} (gives : S → Request → Reply → S
@@ -206,24 +207,12 @@ refuses gives s old mid new true going long is owes =
       tail = frame refused_too_large;
       run = refl;
       cut = append-nil (came old);
-      said = ap (λ (z : Talk). z.owed) owes
-          ∙ ap (λ (z : Talk). z.owed ++ frame refused_too_large) is;
+      said = ap owed_of owes ∙ ap (λ zs. zs ++ frame refused_too_large) (ap owed_of is);
       phase = phase_too_large old.over new.over [] [] [] (came old) (came new) going
-          (ap (λ (z : Talk). z.over) owes ∙ ap (λ (z : Talk). z.over) is) long;
+          (ap over_of owes ∙ ap over_of is) long;
     }
 refuses gives s old mid new false going long is owes =
-    record {
-      payloads = [];
-      replies = [];
-      unsaid = [];
-      rest = came old;
-      tail = [];
-      run = refl;
-      cut = append-nil (came old);
-      said = owes.0 ∙ ap (λ (z : Talk). z.owed) is ∙ owed_only old.owed;
-      phase = phase_no_memory old.over new.over [] [] [] [] (came old) (came new) going owes.1
-          (omega arith);
-    }
+    gives_up gives s old [] new going (ap owed_of owes ∙ ap owed_of is) (ap over_of owes)
 
 -- the first frame that is held is the first one that came
 pub found_first : (old mid : Talk) (x : List ℕ) → old.asked ≡ None → HasFrame old.held x mid.held
@@ -238,15 +227,41 @@ pub hands : {S : Type 0} (gives : S → Request → Reply → S
     → mid.over ≡ None → new ≡ record mid { asked = Some q } → Goes Stays gives s s old [] [] new
 hands gives s old mid new x q going free found asks owed over is =
     sends gives s old [] new
-    (sym (ap (λ (z : Talk). z.owed) is ∙ owed))
+    (sym (ap owed_of is ∙ owed))
     (ap came is ∙ ap (λ zs. frame zs ++ mid.held) (sym asks) ∙ sym found.split
     ∙ sym (came_free old free))
-    (ap (λ (z : Talk). z.over) is ∙ over ∙ sym going)
+    (ap over_of is ∙ over ∙ sym going)
 
 pub owes_free : (old : Talk) (y : List ℕ) (new : Talk) (ok : Bool) → Owes old y new ok
     → old.asked ≡ None → new.asked ≡ None
-owes_free old y new true owes free = ap (λ (z : Talk). z.asked) owes ∙ free
-owes_free old y new false owes free = owes.2 ∙ free
+owes_free old y new true owes free = ap asked_of owes ∙ free
+owes_free old y new false owes free = ap asked_of owes ∙ free
+
+-- bytes are owed then, unless it is over
+pub owes_some : (old : Talk) (y : List ℕ) (new : Talk) (ok : Bool) → Owes old y new ok
+    → new.over ≡ None → new.owed ≡ [] → ⊥
+owes_some old y new true owes going none =
+    absurd (omega (
+      arith,
+      ap length (sym (ap owed_of owes) ∙ none),
+      length-append old.owed (frame y),
+      length-append (to_be_bytes w32 (length y)) y,
+    ))
+owes_some old y new false owes going none =
+    let wrong : Some NoMemory ≡ None = sym (ap over_of owes) ∙ going in absurd cc
+
+-- it stays over
+pub owes_over : (old : Talk) (y : List ℕ) (new : Talk) (ok : Bool) → Owes old y new ok
+    → over_of old ≢ None → over_of new ≢ None
+owes_over old y new true owes over going = over (sym (ap over_of owes) ∙ going)
+owes_over old y new false owes over going =
+    let wrong : Some NoMemory ≡ None = sym (ap over_of owes) ∙ going in absurd cc
+
+-- what is held stays as it is
+pub owes_held : (old : Talk) (y : List ℕ) (new : Talk) (ok : Bool) → Owes old y new ok
+    → new.held ≡ old.held
+owes_held old y new true owes = ap (λ (z : Talk). z.held) owes
+owes_held old y new false owes = ap (λ (z : Talk). z.held) owes
 
 -- a request that was handed over is answered
 pub finishes : {S : Type 0} (gives : S → Request → Reply → S
@@ -256,8 +271,8 @@ pub finishes : {S : Type 0} (gives : S → Request → Reply → S
 finishes gives s t old mid new q r ok going asked is given owes =
     answers gives s t old mid new (payload q) (says r) ok going
     (came_asked old q asked ∙ ap (λ zs. frame (payload q) ++ zs) (sym (ap came is)))
-    (ap (λ (z : Talk). z.owed) is)
-    (ap (λ (z : Talk). z.over) is ∙ going)
+    (ap owed_of is)
+    (ap over_of is ∙ going)
     (inl (q, r, refl, given, refl))
     owes
 

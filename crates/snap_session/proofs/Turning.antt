@@ -6,7 +6,6 @@ use Rattle.std.proofs.Common.{
   [],
   ◌++◌,
   Option,
-  Some,
   None,
   refl,
   sym,
@@ -25,11 +24,19 @@ use Rattle.std.proofs.Common.{
 use Rattle.std.specs.Io.KnownBytes.{Appends, Consumes, Keeps}
 use Rattle.snap_frame.specs.declared.request.Request.{Request}
 use Rattle.snap_frame.specs.declared.reply.Reply.{Reply}
-use Rattle.snap_session.specs.declared.turns.Sent.{Sent}
-use Rattle.snap_session.specs.declared.turns.Sent.TheVariants.{Blocked, All}
+use Rattle.snap_session.specs.declared.turns.End.{End}
 use Rattle.std.proofs.lemmas.List.{take-append-drop}
-use Rattle.snap_session.specs.Talk.{Talk, Goes, Stays, HasTaken, came, asked_bytes}
-use Rattle.snap_session.specs.Turns.{Turns, Sends}
+use Rattle.snap_session.specs.Talk.{
+  Talk,
+  Goes,
+  Stays,
+  HasTaken,
+  came,
+  asked_bytes,
+  start,
+  most_owed,
+}
+use Rattle.snap_session.specs.Turns.{Turns, Sends, Serves, EndsAt}
 use Rattle.snap_session.proofs.Runs.{Joins, stays_joins}
 use Rattle.snap_session.proofs.Going.{goes_on}
 use Rattle.snap_session.proofs.Steps.{rests, takes, sends}
@@ -83,10 +90,10 @@ same_came a b one two =
 
 -- then bytes that are owed are written
 pub then_sends : {S : Type 0} (gives : S → Request → Reply → S
-    → Type 0) (s t : S) (t0 t1 t2 : Talk) (r0 r1 w0 w1 w2 : Option (List ℕ)) (sent : Sent)
-    → Turns Stays gives s t t0 r0 r1 w0 w1 t1 → Sends t1 t2 w1 w2 sent
+    → Type 0) (s t : S) (t0 t1 t2 : Talk) (r0 r1 w0 w1 w2 : Option (List ℕ))
+    → Turns Stays gives s t t0 r0 r1 w0 w1 t1 → Sends t1 t2 w1 w2
     → Turns Stays gives s t t0 r0 r1 w0 w2 t2
-then_sends gives s t t0 t1 t2 r0 r1 w0 w1 w2 sent one two =
+then_sends gives s t t0 t1 t2 r0 r1 w0 w1 w2 one two =
     then_turns gives s t t t0 t1 t2 r0 r1 r1 w0 w1 w2 one
     (record {
       taken = [];
@@ -112,6 +119,15 @@ then_answers gives s t u t0 t1 t2 r0 r1 w0 w1 one two =
       goes =
           two;
     })
+
+-- a round: bytes that are owed are written, and frames are answered
+pub then_round : {S : Type 0} (gives : S → Request → Reply → S
+    → Type 0) (s t u : S) (t0 t1 t2 t3 : Talk) (r0 r1 w0 w1 w2 : Option (List ℕ))
+    → Turns Stays gives s t t0 r0 r1 w0 w1 t1 → Sends t1 t2 w1 w2 → Goes Stays gives t u t2 [] [] t3
+    → Turns Stays gives s u t0 r0 r1 w0 w2 t3
+then_round gives s t u t0 t1 t2 t3 r0 r1 w0 w1 w2 one sent goes =
+    then_answers gives s t u t0 t2 t3 r0 r1 w0 w2
+    (then_sends gives s t t0 t1 t2 r0 r1 w0 w1 w2 one sent) goes
 
 -- then a piece is read and taken in
 pub then_takes : {S : Type 0} (gives : S → Request → Reply → S
@@ -161,8 +177,8 @@ then_ends gives s t t0 t1 r0 r1 r2 w0 w1 piece one read none =
 
 -- one more write
 pub sends_more : (old mid new : Talk) (w0 w1 w2 : Option (List ℕ)) (n : ℕ) (buf : List ℕ)
-    → Sends old mid w0 w1 Blocked → buf ≡ mid.owed → Appends w1 w2 (take n buf)
-    → new ≡ record mid { owed = drop n mid.owed } → Sends old new w0 w2 Blocked
+    → Sends old mid w0 w1 → buf ≡ mid.owed → Appends w1 w2 (take n buf)
+    → new ≡ record mid { owed = drop n mid.owed } → Sends old new w0 w2
 sends_more old mid new w0 w1 w2 n buf one same wrote is =
     record {
       given = one.given ++ take n mid.owed;
@@ -175,9 +191,20 @@ sends_more old mid new w0 w1 w2 n buf one same wrote is =
       over = ap (λ (z : Talk). z.over) is ∙ one.over;
       writes = appends_more w0 w1 w2 one.given (take n mid.owed) (one.given
           ++ take n mid.owed) one.writes (subst (λ zs. Appends w1 w2 (take n zs)) same wrote) refl;
-      all = λ wrong. absurd cc;
     }
 
-pub few_left : (old given new : List ℕ) → old ≡ given ++ new → length old ≤ 131540
-    → length new ≤ 131540
+pub few_left : (old given new : List ℕ) → old ≡ given ++ new → length old ≤ most_owed
+    → length new ≤ most_owed
 few_left old given new is few = omega (arith, ap length is, length-append given new)
+
+-- a session has come to its end with its last turn
+pub serves : {S : Type 0} (gives : S → Request → Reply → S
+    → Type 0) (s t u : S) (mid last : Talk) (r0 r1 r2 w0 w1 w2 : Option (List ℕ)) (end : End)
+    → Turns Stays gives s t start r0 r1 w0 w1 mid → Turns Stays gives t u mid r1 r2 w1 w2 last
+    → EndsAt end last r2 → Serves gives s u r0 r2 w0 w2 end
+serves gives s t u mid last r0 r1 r2 w0 w1 w2 end one two at =
+    record {
+      last = last;
+      turns = then_turns gives s t u start mid last r0 r1 r2 w0 w1 w2 one two;
+      ends = at;
+    }

@@ -2,6 +2,7 @@
 use Rattle.std.specs.Prelude.{
   ◌≡◌,
   ℕ,
+  ◌+◌,
   ◌≤◌,
   ◌⊎◌,
   List,
@@ -24,6 +25,7 @@ use Rattle.snap_frame.specs.declared.reply.Reply.TheVariants.{Refused}
 use Rattle.snap_frame.specs.declared.frame_buffer.Failure.{Failure}
 use Rattle.snap_frame.specs.declared.frame_buffer.Failure.TheVariants.{TooLarge, NoMemory}
 use Rattle.snap_disk.specs.declared.refusal.Refusal.TheVariants as refusals
+use Rattle.snap_session.specs.declared.session.TheConstants.{MAX_OWED}
 
 -- a request that was handed over, the bytes that came behind it, the bytes that are owed, and why
 -- no more are taken
@@ -111,13 +113,24 @@ pub record Goes {S : Type 0} (between : S → S → Type 0) (gives : S → Reque
   pub said : given ++ new.owed ≡ old.owed ++ (frames replies ++ tail)
   pub phase : Phase old.over new.over taken payloads replies unsaid rest (came new) tail
 
+-- no memory was left, and nothing else has changed
+abbrev pub HasNoMemory : Talk → Talk → Type 0
+HasNoMemory old new = new ≡ record old { over = Some NoMemory }
+
 -- a piece was taken in, or no memory was left
 abbrev pub HasTaken : Talk → List ℕ → Talk → Type 0
 HasTaken old piece new =
-    (new.owed ≡ old.owed) × (new.asked ≡ old.asked)
-    × (((new.over ≡ None) × (new.held ≡ old.held ++ piece)) ⊎ (new.over ≡ Some NoMemory))
+    (new ≡ record old { held = old.held ++ piece }) ⊎ HasNoMemory old new
 
 -- the frame of a payload is owed behind the rest, or no memory was left
 abbrev pub Owes : Talk → List ℕ → Talk → Bool → Type 0
 Owes old y new true = new ≡ record old { owed = old.owed ++ frame y }
-Owes old y new false = (new.owed ≡ old.owed) × (new.over ≡ Some NoMemory) × (new.asked ≡ old.asked)
+Owes old y new false = HasNoMemory old new
+
+-- the most bytes of a frame
+abbrev pub longest_frame : ℕ
+longest_frame = 4 + max_payload
+
+-- the most bytes that are owed: an answer begins below the bound, and adds one frame
+abbrev pub most_owed : ℕ
+most_owed = MAX_OWED + longest_frame

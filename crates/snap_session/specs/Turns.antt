@@ -15,8 +15,6 @@ use Rattle.snap_session.specs.declared.turns.Turn.TheVariants.{
   NeedsOutcome,
   Over,
 }
-use Rattle.snap_session.specs.declared.turns.Sent.{Sent}
-use Rattle.snap_session.specs.declared.turns.Sent.TheVariants.{All, Blocked, Failed}
 use Rattle.snap_session.specs.Talk.{Talk, Goes, Stays, start}
 
 -- Bytes that were read were taken in, and bytes that were given out were written.
@@ -29,16 +27,14 @@ pub record Turns {S : Type 0} (between : S → S → Type 0) (gives : S → Requ
   pub writes : Appends written_old written_new given
   pub goes : Goes between gives s t old taken given new
 
--- some bytes that were owed are written, all of them where nothing blocked or failed
-pub record Sends (old new : Talk) (written_old written_new : Option (List ℕ))
-    (sent : Sent) : Type 0 where
+-- some bytes that were owed are written
+pub record Sends (old new : Talk) (written_old written_new : Option (List ℕ)) : Type 0 where
   pub given : List ℕ
   pub owed : old.owed ≡ given ++ new.owed
   pub asked : new.asked ≡ old.asked
   pub held : new.held ≡ old.held
   pub over : new.over ≡ old.over
   pub writes : Appends written_old written_new given
-  pub all : sent ≡ All → new.owed ≡ []
 
 -- all that came is answered and written, save an unfinished frame
 abbrev pub AllSaid : Talk → Type 0
@@ -51,14 +47,14 @@ EndsAt ends.Closed t left = (t.over ≡ None) × (t.owed ≡ []) × (t.asked ≡
 EndsAt ends.Truncated t left = AllSaid t × (t.held ≡ [] → ⊥) × IsAtEnd left
 EndsAt ends.TooLarge t left = (t.over ≡ Some failures.TooLarge) × (t.owed ≡ [])
 EndsAt ends.ReadFailed t left = AllSaid t
-EndsAt ends.WriteFailed t left = Unit {0}
+EndsAt ends.WriteFailed t left = t.owed ≡ [] → ⊥
 EndsAt ends.NoMemory t left = (t.over ≡ Some failures.NoMemory) × (t.owed ≡ [])
 
 -- where a session stands after a turn
 abbrev pub StandsAt : Turn → Talk → Option (List ℕ) → Type 0
 StandsAt Again t left = Unit {0}
 StandsAt NeedsInput t left = AllSaid t
-StandsAt NeedsRoom t left = Unit {0}
+StandsAt NeedsRoom t left = t.owed ≡ [] → ⊥
 StandsAt NeedsOutcome t left = (t.over ≡ None) × (t.owed ≡ []) × (t.asked ≡ None → ⊥)
 StandsAt (Over end) t left = EndsAt end t left
 

@@ -7,7 +7,16 @@ ghost use Rattle.std.specs.Prelude.{◌≡◌, ◌≤◌, ◌<◌, ◌+◌, ◌�
 ghost use Rattle.std.specs.Prelude.{Some, None, true, false};
 ghost use Rattle.snap_frame.specs.Stream.{IsPartial};
 ghost use Rattle.snap_frame.specs.Messages.{says, IsInLimits};
-ghost use Rattle.snap_session.specs.Talk.{Talk, Goes, Stays, HasTaken, Owes, start};
+ghost use Rattle.snap_session.specs.Talk.{
+  Talk,
+  Goes,
+  Stays,
+  HasTaken,
+  Owes,
+  start,
+  longest_frame,
+  most_owed,
+};
 ghost use Rattle.snap_session.specs.Wants.{WantsAt};
 ghost use Rattle.snap_session.specs.Hears.{Hears};
 
@@ -103,11 +112,11 @@ impl Session {
         self.over
     }
 
-    /// Whether no byte of an unfinished frame is held. Asked only while it goes on.
+    /// Whether it goes on and no byte of an unfinished frame is held.
     pub fn is_between(&self) -> bool
-        ensures { self.now.over ≡ None → (IsTrue result ↔ (self.now.held ≡ [])) }
+        ensures { IsTrue result ↔ ((self.now.over ≡ None) × (self.now.held ≡ [])) }
     {
-        self.feed.is_between()
+        self.over.is_none() && self.feed.is_between()
     }
 
     /// The first n bytes owed were written. At most all of them.
@@ -134,7 +143,7 @@ impl Session {
     fn owe(&mut self, reply: &Reply) -> bool
         requires { IsInLimits reply.now }
         ensures owes { Owes self.old (says reply.now) self.new result }
-        ensures bounded { length self.new.owed ≤ length self.old.owed + 66004 }
+        ensures bounded { length self.new.owed ≤ length self.old.owed + longest_frame }
     {
         if write_reply(reply, &mut self.owed).is_err() {
             self.over = Some(Failure::NoMemory);
@@ -173,7 +182,7 @@ impl Session {
 
     /// Whether a reply more may be owed.
     fn has_room(&self) -> bool
-        ensures { result ≡ true → length self.now.owed < 65536 }
+        ensures { IsTrue result ↔ (length self.now.owed < MAX_OWED) }
     {
         self.owed.len() < MAX_OWED
     }
@@ -199,7 +208,7 @@ impl Session {
         requires free { self.old.asked ≡ None }
         ensures goes { Goes Stays S.gives service.old service.new self.old [] [] self.new }
         ensures wants { WantsAt S.hands_over result self.new }
-        ensures bounded { length self.new.owed ≤ length self.old.owed + 66004 }
+        ensures bounded { length self.new.owed ≤ length self.old.owed + longest_frame }
     {
         match self.hear() {
             Heard::Nothing => return Wants::Bytes,
@@ -237,7 +246,7 @@ impl Session {
         requires { self.old.over ≡ None }
         ensures goes { Goes Stays S.gives service.old service.new self.old [] [] self.new }
         ensures wants { WantsAt (self.old.asked ≡ None → S.hands_over) result self.new }
-        ensures bounded { length self.old.owed ≤ 131540 → length self.new.owed ≤ 131540 }
+        ensures bounded { length self.old.owed ≤ most_owed → length self.new.owed ≤ most_owed }
     {
         if !self.is_free() {
             return Wants::Outcome;
@@ -262,6 +271,8 @@ impl Session {
         requires { self.old.over ≡ None }
         ensures goes { Goes Stays S.gives service.old service.new self.old [] [] self.new }
         ensures free { self.new.asked ≡ None }
+        ensures held { self.new.held ≡ self.old.held }
+        ensures nobody { self.old.asked ≡ None → self.new ≡ self.old }
     {
         match self.take_asked() {
             None => {}

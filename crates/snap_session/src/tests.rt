@@ -347,3 +347,121 @@ fn two_sessions_by_turns(rt: HostRuntime) -> Result<(), Fail> {
     assert_eq!(rt; second_writer.bytes.as_slice(), refused.as_slice());
     Ok(())
 }
+
+/// Whether these are as many bytes as some of the replies' frames have, from the first one on.
+fn ends_between_frames(written: &[u8]) -> bool {
+    let mut len: usize = 0;
+    for (_, reply) in &TALK {
+        if written.len() == len {
+            return true;
+        }
+        len = len.wrapping_add(reply.len());
+    }
+    written.len() == len
+}
+
+/// Run with each allocation refused in turn: a session that ends for want of memory has written
+/// whole frames of the first replies, and nothing else.
+#[test]
+fn session_without_memory(rt: HostRuntime) -> Result<(), Fail> {
+    let alloc = rt.alloc();
+    let Ok(input) = input(alloc) else {
+        return Ok(());
+    };
+    let Ok((replies, _)) = model(alloc, input.len()) else {
+        return Ok(());
+    };
+    for piece in [1, 7, 4096] {
+        let Ok(mut reader) = CutReader::new(alloc, &input, piece) else {
+            return Ok(());
+        };
+        let (end, written) = run(&rt, alloc, &mut reader, usize::MAX);
+        let len = written.len().min(replies.len());
+        assert_eq!(rt; written.as_slice(), &replies[..len]);
+        match end {
+            End::Closed => assert_eq!(rt; written, replies),
+            End::NoMemory => assert!(rt; ends_between_frames(&written)),
+            // The test's writer found no memory.
+            end => assert_eq!(rt; end, End::WriteFailed),
+        }
+    }
+    Ok(())
+}
+
+/// Says at every other read or write that it would wait.
+#[derive(Drop)]
+struct Waiting<T> {
+    inner: T,
+    waits: bool,
+}
+
+impl<T> Waiting<T> {
+    /// Whether it is to wait this time.
+    fn has_to_wait(&mut self) -> bool {
+        self.waits = !self.waits;
+        self.waits
+    }
+}
+
+impl Read for Waiting<CutReader> {
+    fn read(&mut self, buf: &mut [u8]) -> io::Result<usize> {
+        if self.has_to_wait() {
+            return Err(io::Error::from(io::ErrorKind::WouldBlock));
+        }
+        self.inner.read(buf)
+    }
+}
+
+impl Write for Waiting<ShortWriter> {
+    fn write(&mut self, buf: &[u8]) -> io::Result<usize> {
+        if self.has_to_wait() {
+            return Err(io::Error::from(io::ErrorKind::WouldBlock));
+        }
+        self.inner.write(buf)
+    }
+
+    fn flush(&mut self) -> io::Result<()> {
+        Ok(())
+    }
+}
+
+/// A session whose peer makes it wait at every other step goes on where it stopped.
+#[test]
+fn reader_and_writer_that_wait(rt: HostRuntime) -> Result<(), Fail> {
+    let alloc = rt.alloc();
+    let input = input(alloc)?;
+    let (replies, _) = model(alloc, input.len())?;
+    let mut reader = Waiting {
+        inner: CutReader::new(alloc, &input, 7)?,
+        waits: false,
+    };
+    let mut writer = Waiting {
+        inner: ShortWriter::new(alloc, usize::MAX),
+        waits: false,
+    };
+    let mut session = Session::new(alloc);
+    let mut service = Counter { answered: 0 };
+    let mut piece = [0; 64];
+    let mut has_needed_input = false;
+    let mut has_needed_room = false;
+    for _ in 0..1000 {
+        match proceed(
+            &mut session,
+            &mut reader,
+            &mut writer,
+            &mut service,
+            0,
+            &mut piece,
+        ) {
+            Turn::NeedsInput => has_needed_input = true,
+            Turn::NeedsRoom => has_needed_room = true,
+            turn => {
+                assert_eq!(rt; turn, Turn::Over(End::Closed));
+                break;
+            }
+        }
+    }
+    assert!(rt; has_needed_input && has_needed_room);
+    assert_eq!(rt; writer.inner.bytes, replies);
+    Ok(())
+}

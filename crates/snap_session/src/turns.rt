@@ -1,6 +1,6 @@
 //! A session over any reader and writer, by turns.
-ghost use Rattle.std.specs.Prelude.{◌≡◌, ◌<◌, ◌≤◌, length, None};
-ghost use Rattle.snap_session.specs.Talk.{Stays};
+ghost use Rattle.std.specs.Prelude.{◌≡◌, ◌<◌, ◌≤◌, ◌↔◌, length, [], None};
+ghost use Rattle.snap_session.specs.Talk.{Stays, most_owed};
 ghost use Rattle.snap_session.specs.Turns.{Turns, Sends, StandsAt, Serves};
 
 use crate::service::Service;
@@ -55,7 +55,8 @@ enum Sent {
 
 /// Writes what is owed, as far as the writer takes it.
 fn send_owed<W: Write>(session: &mut Session, writer: &mut W) -> Sent
-    ensures { Sends session.old session.new (W.contents writer.old) (W.contents writer.new) result }
+    ensures sends { Sends session.old session.new (W.contents writer.old) (W.contents writer.new) }
+    ensures all { result ≡ Sent.All ↔ session.new.owed ≡ [] }
 {
     while !session.owed().is_empty() {
         match writer.write(session.owed()) {
@@ -88,7 +89,7 @@ pub fn proceed<R: Read, W: Write, S: Service>(
         (R.remaining reader.old) (R.remaining reader.new)
         (W.contents writer.old) (W.contents writer.new) session.new }
     ensures stands { StandsAt result session.new (R.remaining reader.new) }
-    ensures bounded { length session.old.owed ≤ 131540 → length session.new.owed ≤ 131540 }
+    ensures bounded { length session.old.owed ≤ most_owed → length session.new.owed ≤ most_owed }
     ensures free { (S.hands_over → ⊥) → session.old.asked ≡ None → session.new.asked ≡ None }
     ensures outcome { (S.hands_over → ⊥) → session.old.asked ≡ None
         → result ≡ Turn.NeedsOutcome → ⊥ }
@@ -131,8 +132,9 @@ pub fn proceed<R: Read, W: Write, S: Service>(
 ///
 /// - [`End::Closed`], [`End::Truncated`], [`End::ReadFailed`]: all of them;
 /// - [`End::TooLarge`]: all of them, and the refusal of that length behind them;
-/// - [`End::NoMemory`]: those of all requests that were answered but at most the last one;
-/// - [`End::WriteFailed`]: a beginning of these bytes.
+/// - [`End::NoMemory`]: whole frames, those of all requests that were answered but at most the
+///   last one, and no refusal behind them;
+/// - [`End::WriteFailed`]: a beginning of these bytes, and not all of them.
 ///
 /// The service hands nothing over. An error of `WouldBlock` is an error here.
 pub fn serve<X: Wait, R: Read, W: Write, S: Service>(

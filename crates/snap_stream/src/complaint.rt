@@ -1,5 +1,5 @@
 //! What a program says before it stops.
-ghost use Rattle.std.specs.Prelude.{◌≡◌, OnOk};
+ghost use Rattle.std.specs.Prelude.{◌≡◌, true};
 ghost use Rattle.std.specs.Io.KnownBytes.{Appends};
 ghost use Rattle.snap_stream.specs.Streams.{AppendsBeginning, refused_line};
 
@@ -7,26 +7,29 @@ use crate::write_whole;
 use snap_disk::Refusal;
 use std::alloc::Global;
 use std::fmt::Display;
-use std::io::{self, Write};
+use std::io::Write;
 
 /// Writes on standard error: `snapd: `, the text and one line feed, by one call where memory allows
-/// and the writer takes it whole.
-pub fn complain<E: Write, T: Display>(alloc: Global, errors: &mut E, text: &T) -> io::Result<()> {
+/// and the writer takes it whole. Says whether it took the whole line.
+pub fn complain<E: Write, T: Display>(alloc: Global, errors: &mut E, text: &T) -> bool {
     match format!(in alloc; "snapd: {text}\n") {
-        Ok(line) => write_whole(errors, line.as_bytes()),
-        Err(_) => writeln!(errors, "snapd: {text}"),
+        Ok(line) => write_whole(errors, line.as_bytes()).is_ok(),
+        Err(_) => writeln!(errors, "snapd: {text}").is_ok(),
     }
 }
 
-/// Writes on standard error the line of a refusal, as `snapd: refused 10 Damaged`. It takes no
-/// memory.
-pub fn complain_of_refusal<E: Write>(errors: &mut E, why: Refusal) -> io::Result<()>
-    ensures whole { OnOk result
-        (Appends (E.contents errors.old) (E.contents errors.new) (refused_line why)) }
+/// Writes on standard error the line of a refusal, as `snapd: refused 10 Damaged`, and says whether
+/// it took the whole line. It takes no memory.
+pub fn complain_of_refusal<E: Write>(errors: &mut E, why: Refusal) -> bool
+    ensures whole { result ≡ true
+        → Appends (E.contents errors.old) (E.contents errors.new) (refused_line why) }
     ensures beginning { AppendsBeginning (E.contents errors.old) (E.contents errors.new)
         (refused_line why) }
 {
-    write_whole(errors, line_of(why).as_bytes())
+    match write_whole(errors, line_of(why).as_bytes()) {
+        Ok(()) => true,
+        Err(_) => false,
+    }
 }
 
 /// The line that standard error gets of a refusal.

@@ -2,13 +2,15 @@
 //!
 //! [`write_whole`] and [`read_up_to`] go on after a call that moved fewer bytes than asked for,
 //! and end at the first one that failed. [`complain`] and [`complain_of_refusal`] say on standard
-//! error why a program stops.
+//! error why a program stops. [`TestStream`] is a stream for tests.
 #![tactic(auto)]
 
 mod complaint;
+mod test_stream;
 mod whole;
 
 pub use complaint::{complain, complain_of_refusal};
+pub use test_stream::TestStream;
 pub use whole::{read_up_to, write_whole};
 
 #[cfg(test)]

@@ -2,6 +2,7 @@
 ghost use Rattle.std.specs.Prelude.{◌≡◌, ℕ, ◌<◌, ◌≤◌, List, [], ◌∷◌, length, take};
 ghost use Rattle.std.specs.Prelude.{IfOk, IfErr, OnErr};
 ghost use Rattle.snap_slot.specs.declared.layout.TheConstants.{MAX_COUNT};
+ghost use Rattle.snap_history.specs.declared.limits.TheConstants.{MAX_SCANNERS};
 ghost use Rattle.snap_history.specs.History.{IsBeginning};
 ghost use Rattle.snap_world.specs.Machine.{State};
 ghost use Rattle.snap_world.specs.NodePhases.{TellsWhether, PhasesMove, NeedsMemory, StopsAt};
@@ -47,7 +48,7 @@ impl World {
         requires least { 0 < segments }
         requires most { segments ≤ MAX_COUNT }
         requires scanners_least { 0 < scanners }
-        requires scanners_most { scanners ≤ 16 }
+        requires scanners_most { scanners ≤ MAX_SCANNERS }
         ensures segments { IfOk result (λ w. segments_of w ≡ segments) }
         ensures phases { IfOk result (λ w. phases_of w ≡ start_world_phases segments scanners) }
         ensures devices { IfOk result (λ w. AreFormatted segments (devices_of w)) }

@@ -19,12 +19,13 @@ use snap_words::{WordFault, order};
 use std::env;
 use std::io::{BufWriter, ErrorKind};
 use std::process::ExitCode;
+use std::sync::Wait;
 
 fn main(rt: HostRuntime) -> ExitCode {
     let status = match words_of(&rt) {
         Ok(words) => match order(rt.alloc(), words.as_slice()) {
             Ok(Order::File(order)) => run(&rt, &order),
-            Ok(Order::Script) => play_script(&rt),
+            Ok(Order::Script) => play_script(&rt, &rt),
             Err(fault) => explain(&rt, &fault),
         },
         Err(fault) => explain(&rt, &fault),
@@ -95,11 +96,13 @@ fn run(rt: &HostRuntime, order: &FileOrder<'_>) -> Status
     ended.status
 }
 
-/// Runs the script on standard input. Its output is buffered, since each line of it is one write.
-fn play_script(rt: &HostRuntime) -> Status {
+/// Runs the script on standard input, which need not end: `waiting` is the runtime as what may wait.
+/// Its output is buffered, since each line of it is one write, and flushed before each read.
+fn play_script<X: Wait>(waiting: &X, rt: &HostRuntime) -> Status {
     match BufWriter::new(rt.alloc(), rt.stdout()) {
         Ok(mut writer) => {
-            play(rt.alloc(), &mut rt.stdin(), &mut writer, &mut rt.stderr()).status
+            let (mut reader, mut errors) = (rt.stdin(), rt.stderr());
+            play(waiting, rt.alloc(), &mut reader, &mut writer, &mut errors).status
         }
         Err(_) => stop(rt, &Failure::Refused(Refusal::NoMemory)),
     }

@@ -14,12 +14,16 @@ split_seat-seat-requires c =
     let inv = c.loop-i.invariant in
     let own : c.loop-i.first_seat.table_id ≡ c.deref.result.now.shared.table_id = search rules in
     let sized = c.requires.sized.0 in
-    let some_segments : 0 < segments c.loop-i.first_seat.me.0.plan = subst (λ (p : Plan). 0 < segments p) (sym inv.plan) (subst (λ (z : ℕ). 0 < z) sized.segments_are sized.some) in
+    let some_segments : 0 < segments c.loop-i.first_seat.me.0.plan =
+    subst (λ (p : Plan). 0 < segments p) (sym inv.plan)
+    (subst (λ (z : ℕ). 0 < z) sized.segments_are sized.some) in
     let e = sized.segments_are in
     let more = enough (Unit {0}) _ _ _ inv.first (omega arith) in (
       own,
-      subst (λ (t : TableId). 0 < t.words) own (subst (λ (z : ℕ). 0 < z) (sym inv.first.words_are) (word_inside c.loop-i.first_seat.me.0.plan 0 some_segments)),
-      gives (Unit {0}) _ _ _ inv.first.seen_end_is inv.first.pool_end_is (let a = inv.low in let b = inv.high in omega arith) (bare (Unit {0}) _ _ _ inv.first) more.0 more.1,
+      subst (λ (t : TableId). 0 < t.words) own (subst (λ (z : ℕ). 0 < z) (sym inv.first.words_are)
+          (word_inside c.loop-i.first_seat.me.0.plan 0 some_segments)),
+      gives (Unit {0}) _ _ _ inv.first.seen_end_is inv.first.pool_end_is (let a = inv.low in let b =
+          inv.high in omega arith) (bare (Unit {0}) _ _ _ inv.first) more.0 more.1,
     )
 
 pub loop-i-preserved : goal.loop-i-preserved
@@ -32,13 +36,18 @@ loop-i-preserved c =
     let me = given.1 ∙ split.4 in
     let words = ap (λ (t : TableId). t.words) split.0 in
     let first = inv.first in
-    let new : IsNewSeat z p c.loop-i.i (c.loop-i.i + 1) c.of.result = new_seat (Unit {0}) z p _ _ c.of.result _ _ _ me c.of.ensures (given.0 ∙ (split.3 ∙ inv.table)) inv.plan first.seen_is inv.low (ap (λ (n : ℕ). n + 1) inv.low) refl in
-    let more = writers_more z p c.loop-i.writers.items c.of.result inv.each (subst (λ (n : ℕ). IsNewSeat z p n (n + 1) c.of.result) (sym inv.count) new) in
+    let new : IsNewSeat z p c.loop-i.i (c.loop-i.i + 1) c.of.result =
+    new_seat (Unit {0}) z p _ _ c.of.result _ _ _ me c.of.ensures (given.0
+    ∙ (split.3 ∙ inv.table)) inv.plan first.seen_is inv.low
+    (ap (λ (n : ℕ). n + 1) inv.low) refl in
+    let more = writers_more z p c.loop-i.writers.items c.of.result inv.each
+    (subst (λ (n : ℕ). IsNewSeat z p n (n + 1) c.of.result) (sym inv.count) new) in
     let e = c.requires.sized.0.segments_are in
     record {
       table = search rules;
       plan = search rules;
-      first = first_after (Unit {0}) _ _ _ _ _ c.loop-i.first_seat.me _ first (omega arith) words split.2;
+      first = first_after (Unit {0}) _ _ _ _ _ c.loop-i.first_seat.me _ first
+          (omega arith) words split.2;
       low = search rules;
       high = search rules;
       count = search rules;

@@ -1,7 +1,7 @@
-use Rattle.snap_session.proofs.Turning.{begins, then_turns}
+use Rattle.snap_session.proofs.Turning.{begins, then_turns, serves}
 use Rattle.snap_session.proofs.turns.serve.Goals as goal
 use Rattle.snap_session.specs.Talk.{Talk, start}
-use Rattle.std.proofs.Common.{ap, ◌≡◌, sym, refl}
+use Rattle.std.proofs.Common.{ap}
 
 pub loop-init : goal.loop-init
 loop-init g c = (
@@ -20,30 +20,15 @@ loop-preserved g c = (
 
 pub returns-in-NeedsInput : goal.returns-in-NeedsInput
 returns-in-NeedsInput g c =
-    record {
-      last = c.proceed.new.session;
-      turns =
-          then_turns g.S.Service.gives _ _ _ _ _ _ _ _ _ _ _ _ c.loop.invariant.1
-          c.proceed.ensures.goes;
-      ends = c.in-NeedsInput.ensures.stands;
-    }
+    serves g.S.Service.gives _ _ _ _ _ _ _ _ _ _ _ _ c.loop.invariant.1 c.proceed.ensures.goes
+    c.in-NeedsInput.ensures.stands
 
 pub returns-in-NeedsRoom : goal.returns-in-NeedsRoom
 returns-in-NeedsRoom g c =
-    record {
-      last = c.proceed.new.session;
-      turns =
-          then_turns g.S.Service.gives _ _ _ _ _ _ _ _ _ _ _ _ c.loop.invariant.1
-          c.proceed.ensures.goes;
-      ends = tt;
-    }
+    serves g.S.Service.gives _ _ _ _ _ _ _ _ _ _ _ _ c.loop.invariant.1 c.proceed.ensures.goes
+    c.in-NeedsRoom.ensures.stands
 
 pub returns-in-Over : goal.returns-in-Over
 returns-in-Over g c =
-    record {
-      last = c.proceed.new.session;
-      turns =
-          then_turns g.S.Service.gives _ _ _ _ _ _ _ _ _ _ _ _ c.loop.invariant.1
-          c.proceed.ensures.goes;
-      ends = c.in-Over.ensures.stands;
-    }
+    serves g.S.Service.gives _ _ _ _ _ _ _ _ _ _ _ _ c.loop.invariant.1 c.proceed.ensures.goes
+    c.in-Over.ensures.stands

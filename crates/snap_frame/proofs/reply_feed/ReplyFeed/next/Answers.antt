@@ -1,4 +1,4 @@
-use Rattle.std.proofs.Common.{◌≡◌, ◌∙◌, List, ℕ, sym, ap, subst}
+use Rattle.std.proofs.Common.{◌∙◌, List, ℕ, sym, ap, subst}
 use Rattle.snap_frame.specs.Messages.{Says}
 use Rattle.snap_frame.specs.Stream.{Held, HasFrame}
 use Rattle.snap_frame.proofs.Exact.{same_frame}

@@ -1,4 +1,22 @@
-use Rattle.std.proofs.Common.{◌≡◌, ℕ, ◌+◌, ◌*◌, ◌^◌, ◌<◌, ◌≤◌, ◌++◌, List, length, get_or, ap, sym, subst, ◌∙◌, arith, length-append}
+use Rattle.std.proofs.Common.{
+  ◌≡◌,
+  ℕ,
+  ◌+◌,
+  ◌*◌,
+  ◌^◌,
+  ◌<◌,
+  ◌≤◌,
+  ◌++◌,
+  List,
+  length,
+  get_or,
+  ap,
+  sym,
+  subst,
+  ◌∙◌,
+  arith,
+  length-append,
+}
 use Rattle.atomic_table.specs.Table.{Me}
 use Rattle.snap_register.specs.declared.plan.SeatView.{SeatView}
 use Rattle.snap_register.specs.declared.view.View.TheVariants.{Borrowed}
@@ -13,31 +31,48 @@ use Rattle.snap_register.proofs.access.Access.copy_borrowed.Goals as goal
 use Rattle.snap_register.proofs.access.Access.copy_borrowed.Goals.{In-loop}
 
 -- the words read are those of the record that the seat pins
-words_are : (c : In-loop) → held c.loop.self.seat.me.0 c.args.j ≡ held c.args.self.now.seat.me.0 c.args.j
-words_are c = held_drafted (Unit {0}) c.size_at-from.new.self.seat.me c.loop.self.seat.me c.args.j c.loop.invariant.me ∙ ap (λ (m : Me (Unit {0}) SeatView). held m.0 c.args.j) c.size_at-from.ensures.same.2
+words_are : (c : In-loop) → held c.loop.self.seat.me.0 c.args.j
+    ≡ held c.args.self.now.seat.me.0 c.args.j
+words_are c = held_drafted (Unit {0}) c.size_at-from.new.self.seat.me c.loop.self.seat.me c.args.j
+    c.loop.invariant.me ∙ ap (λ (m : Me (Unit {0}) SeatView).
+    held m.0 c.args.j) c.size_at-from.ensures.same.2
 
-from_is : (c : In-loop) → c.loop.from ≡ behind (held c.args.self.now.seat.me.0 c.args.j) (size_at (held c.args.self.now.seat.me.0 c.args.j) 0) c.loop.counter
-from_is c = c.loop.invariant.from ∙ ap (λ (m : Me (Unit {0}) SeatView). behind (held m.0 c.args.j) (size_at (held m.0 c.args.j) 0) c.loop.counter) c.size_at-from.ensures.same.2
+from_is : (c : In-loop) → c.loop.from
+    ≡ behind (held c.args.self.now.seat.me.0 c.args.j)
+    (size_at (held c.args.self.now.seat.me.0 c.args.j) 0) c.loop.counter
+from_is c = c.loop.invariant.from
+    ∙ ap (λ (m : Me (Unit {0}) SeatView).
+    behind (held m.0 c.args.j) (size_at (held m.0 c.args.j) 0) c.loop.counter)
+    c.size_at-from.ensures.same.2
 
 whole : (c : In-loop) → IsWhole (held c.loop.self.seat.me.0 c.args.j) c.loop.from
 whole c =
     let a = c.args.self.now in
     let can = c.requires.pinned in
-    let u = viewed a.seat.me.0.plan a.seat.me.0.seen c.args.j (get_or a.seat.me.0.records c.args.j 0) c.size_at-from.ensures.legal can.2 (a.seated.records_are c.args.j can.0) in
+    let u = viewed a.seat.me.0.plan a.seat.me.0.seen c.args.j
+    (get_or a.seat.me.0.records c.args.j 0) c.size_at-from.ensures.legal can.2
+    (a.seated.records_are c.args.j can.0) in
     let init = c.size_at-from.new.self in
-    let lt : c.loop.counter < segments init.seat.me.0.plan = subst (λ (z : ℕ). c.loop.counter < z) init.sized.segments_are c.loop-test.true in
-    let lt' : c.loop.counter < segments a.seat.me.0.plan = subst (λ (m : Me (Unit {0}) SeatView). c.loop.counter < segments m.0.plan) c.size_at-from.ensures.same.2 lt in
-    subst (λ (x : List ℕ × ℕ). IsWhole x.0 x.1) (λ t. (sym (words_are c) t, sym (from_is c) t)) (u.view.each c.loop.counter lt').whole
+    let lt : c.loop.counter < segments init.seat.me.0.plan =
+    subst (λ (z : ℕ). c.loop.counter < z) init.sized.segments_are c.loop-test.true in
+    let lt' : c.loop.counter < segments a.seat.me.0.plan =
+    subst (λ (m : Me (Unit {0}) SeatView).
+    c.loop.counter < segments m.0.plan) c.size_at-from.ensures.same.2 lt in
+    subst (λ (x : List ℕ × ℕ). IsWhole x.0 x.1) (λ t. (sym (words_are c) t, sym (from_is c) t))
+    (u.view.each c.loop.counter lt').whole
 
 pub copy_block-count-requires-clause-block : goal.copy_block-count-requires-clause-block
-copy_block-count-requires-clause-block c = whole (goal.at.copy_block-count-requires-clause-block c).In-loop
+copy_block-count-requires-clause-block c =
+    whole (goal.at.copy_block-count-requires-clause-block c).In-loop
 
 pub overflow_add-from : goal.overflow_add-from
 overflow_add-from c =
     let a = c.args.self.now in
     let w = whole (goal.at.overflow_add-from c).In-loop in
-    let inside : c.loop.from + size_at (held c.loop.self.seat.me.0 c.args.j) c.loop.from ≤ length (held c.loop.self.seat.me.0 c.args.j) = w.inside in
-    let same : length (held c.loop.self.seat.me.0 c.args.j) ≡ length (held a.seat.me.0 c.args.j) = ap length (words_are (goal.at.overflow_add-from c).In-loop) in
+    let inside : c.loop.from + size_at (held c.loop.self.seat.me.0 c.args.j) c.loop.from
+    ≤ length (held c.loop.self.seat.me.0 c.args.j) = w.inside in
+    let same : length (held c.loop.self.seat.me.0 c.args.j) ≡ length (held a.seat.me.0 c.args.j) =
+    ap length (words_are (goal.at.overflow_add-from c).In-loop) in
     let fits = (a.seated.readable c.args.j c.requires.pinned.0).fits in
     let wide = width_is a.seat.me.0.plan a.sized.block_words_is in
     let x : ℕ = width a.seat.me.0.plan in
@@ -72,11 +107,18 @@ loop-preserved c =
     let small = inv.small in
     let few = c.copy_block-count.ensures.size.1 in
     let exact : size ≡ size_at (held m.0 j) from = c.copy_block-count.ensures.size.0 in
-    let block : block_at (held m.0 j) from ≡ view_in (held a.0 j) k = λ t. block_at (same t) (inv.from t) in
-    let pushed : AreBlocks (d ++ piece (held m.0 j) from (size_at (held m.0 j) from)) c.args.at (k + 1) (taken a.0 (Borrowed j)) = blocks_push d (held m.0 j) c.args.at from k (taken a.0 (Borrowed j)) inv.blocks (whole i) block in
+    let block : block_at (held m.0 j) from ≡ view_in (held a.0 j) k =
+    λ t. block_at (same t) (inv.from t) in
+    let pushed : AreBlocks (d ++ piece (held m.0 j) from (size_at (held m.0 j) from)) c.args.at
+    (k + 1) (taken a.0 (Borrowed j)) =
+    blocks_push d (held m.0 j) c.args.at from k (taken a.0 (Borrowed j)) inv.blocks
+    (whole i) block in
     let w : List ℕ = held a.0 j in
-    let next : behind w (size_at w 0) (k + 1) ≡ behind w (size_at w 0) k + size_at w (behind w (size_at w 0) k) = behind_more w (size_at w 0) k in
-    let size_is : size ≡ size_at w (behind w (size_at w 0) k) = exact ∙ (λ t. size_at (same t) (inv.from t)) in
+    let next : behind w (size_at w 0) (k + 1)
+    ≡ behind w (size_at w 0) k + size_at w (behind w (size_at w 0) k) =
+    behind_more w (size_at w 0) k in
+    let size_is : size ≡ size_at w (behind w (size_at w 0) k) =
+    exact ∙ (λ t. size_at (same t) (inv.from t)) in
     let at = inv.from in
     record {
       table = step.1 ∙ inv.table;
@@ -86,6 +128,7 @@ loop-preserved c =
       to = omega arith;
       small = omega arith;
       prefix = prefix_trans a.0.pool.draft d n.0.pool.draft inv.prefix (p, sym new);
-      blocks = subst (λ (l : List ℕ). AreBlocks l c.args.at (k + 1) (taken a.0 (Borrowed j))) (sym (new ∙ ap (λ (z : ℕ). d ++ piece (held m.0 j) from z) exact)) pushed;
+      blocks = subst (λ (l : List ℕ). AreBlocks l c.args.at (k + 1) (taken a.0 (Borrowed j)))
+          (sym (new ∙ ap (λ (z : ℕ). d ++ piece (held m.0 j) from z) exact)) pushed;
       from = (λ t. at t + size_is t) ∙ sym next;
     }

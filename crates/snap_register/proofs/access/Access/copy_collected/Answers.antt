@@ -1,4 +1,18 @@
-use Rattle.std.proofs.Common.{◌≡◌, ℕ, ◌+◌, ◌<◌, ◌++◌, List, length, ap, sym, subst, ◌∙◌, arith, length-append}
+use Rattle.std.proofs.Common.{
+  ◌≡◌,
+  ℕ,
+  ◌+◌,
+  ◌<◌,
+  ◌++◌,
+  List,
+  length,
+  ap,
+  sym,
+  subst,
+  ◌∙◌,
+  arith,
+  length-append,
+}
 use Rattle.atomic_table.specs.Table.{Me}
 use Rattle.snap_register.specs.declared.plan.SeatView.{SeatView}
 use Rattle.snap_register.specs.declared.view.View.TheVariants.{Collected}
@@ -26,15 +40,20 @@ loop-k-preserved c =
     let new : n.0.pool.draft ≡ d ++ p = draft_is (Unit {0}) a n (d ++ p) by in
     let same : held m.0 k ≡ held a.0 k = held_drafted (Unit {0}) a m k inv.me in
     let plan = ap (λ (x : Me (Unit {0}) SeatView). x.0.plan) inv.me in
-    let lk : k < segments a.0.plan = subst (λ (z : ℕ). k < z) c.args.self.now.sized.segments_are c.loop-k-test.true in
-    let read : IsWhole (held m.0 k) 0 = (c.loop-k.self.seated.readable k (subst (λ (p : Plan). k < segments p) (sym plan) lk)).own.whole in
+    let lk : k < segments a.0.plan =
+    subst (λ (z : ℕ). k < z) c.args.self.now.sized.segments_are c.loop-k-test.true in
+    let read : IsWhole (held m.0 k) 0 =
+    (c.loop-k.self.seated.readable k
+    (subst (λ (p : Plan). k < segments p) (sym plan) lk)).own.whole in
     let long : length n.0.pool.draft ≡ length d + length p = ap length new ∙ length-append d p in
     let lp : length p ≡ size = piece_length (held m.0 k) 0 size in
     let to = inv.to in
     let small = inv.small in
     let few = c.copy_block-to.ensures.size.1 in
     let exact : size ≡ size_at (held m.0 k) 0 = c.copy_block-to.ensures.size.0 in
-    let pushed : AreBlocks (d ++ piece (held m.0 k) 0 (size_at (held m.0 k) 0)) c.args.at (k + 1) (taken a.0 Collected) = blocks_push d (held m.0 k) c.args.at 0 k (taken a.0 Collected) inv.blocks read (ap (λ (l : List ℕ). block_at l 0) same) in
+    let pushed : AreBlocks (d ++ piece (held m.0 k) 0 (size_at (held m.0 k) 0)) c.args.at (k + 1)
+    (taken a.0 Collected) = blocks_push d (held m.0 k) c.args.at 0 k
+    (taken a.0 Collected) inv.blocks read (ap (λ (l : List ℕ). block_at l 0) same) in
     record {
       table = step.1 ∙ inv.table;
       id = step.2 ∙ inv.id;
@@ -43,5 +62,6 @@ loop-k-preserved c =
       to = omega arith;
       small = omega arith;
       prefix = prefix_trans a.0.pool.draft d n.0.pool.draft inv.prefix (p, sym new);
-      blocks = subst (λ (l : List ℕ). AreBlocks l c.args.at (k + 1) (taken a.0 Collected)) (sym (new ∙ ap (λ (z : ℕ). d ++ piece (held m.0 k) 0 z) exact)) pushed;
+      blocks = subst (λ (l : List ℕ). AreBlocks l c.args.at (k + 1) (taken a.0 Collected)) (sym (new
+          ∙ ap (λ (z : ℕ). d ++ piece (held m.0 k) 0 z) exact)) pushed;
     }

@@ -1,4 +1,24 @@
-use Rattle.std.proofs.Common.{◌≡◌, ℕ, ◌+◌, ◌-◌, ◌*◌, ◌<◌, ◌++◌, ◌∷◌, [], List, length, take, drop, ap, sym, subst, ◌∙◌, arith, length-drop}
+use Rattle.std.proofs.Common.{
+  ◌≡◌,
+  ℕ,
+  ◌+◌,
+  ◌-◌,
+  ◌*◌,
+  ◌<◌,
+  ◌++◌,
+  ◌∷◌,
+  [],
+  List,
+  length,
+  take,
+  drop,
+  ap,
+  sym,
+  subst,
+  ◌∙◌,
+  arith,
+  length-drop,
+}
 use Rattle.std.proofs.lemmas.List.{take-append-drop, take_all}
 use Rattle.std.specs.Int.{w64, to_le_bytes}
 use Rattle.atomic_table.specs.Table.{Me}
@@ -13,14 +33,22 @@ returns-then-from-value-clause-bytes c =
     let value : List ℕ = c.args.value.now in
     let x : ℕ = c.tail_word.result in
     let tail : List ℕ = drop (8 * c.args.whole) value in
-    let new : c.draft.new.self.seat.me.0.pool.draft ≡ d ++ x ∷ [] = ap (λ (m : Me (Unit {0}) SeatView). m.0.pool.draft) c.draft.ensures.3 in
+    let new : c.draft.new.self.seat.me.0.pool.draft ≡ d ++ x ∷ [] =
+    ap (λ (m : Me (Unit {0}) SeatView). m.0.pool.draft) c.draft.ensures.3 in
     let slice : List ℕ = take (length value - 8 * c.args.whole) tail in
-    let all : slice ≡ tail = take_all (length value - 8 * c.args.whole) tail (omega (arith, length-drop (8 * c.args.whole) value)) in
+    let all : slice ≡ tail = take_all (length value - 8 * c.args.whole) tail (omega (
+      arith,
+      length-drop (8 * c.args.whole) value,
+    )) in
     let first : take (length slice) (to_le_bytes w64 x) ≡ slice = c.tail_word.ensures in
-    let bytes : take (length tail) (to_le_bytes w64 x) ≡ tail = subst (λ (l : List ℕ). take (length l) (to_le_bytes w64 x) ≡ l) all first in
-    let le : to_le_bytes w64 x ≡ tail ++ drop (length tail) (to_le_bytes w64 x) = sym (take-append-drop (length tail) (to_le_bytes w64 x)) ∙ ap (λ (l : List ℕ). l ++ drop (length tail) (to_le_bytes w64 x)) bytes in
+    let bytes : take (length tail) (to_le_bytes w64 x) ≡ tail =
+    subst (λ (l : List ℕ). take (length l) (to_le_bytes w64 x) ≡ l) all first in
+    let le : to_le_bytes w64 x ≡ tail ++ drop (length tail) (to_le_bytes w64 x) =
+    sym (take-append-drop (length tail) (to_le_bytes w64 x))
+    ∙ ap (λ (l : List ℕ). l ++ drop (length tail) (to_le_bytes w64 x)) bytes in
     let a : 8 * c.args.whole < length value = omega (arith, c.if-from-value.true) in
     let b : length value < 8 * c.args.whole + 8 = c.requires.place.2 in
     let last : words_for (length value) ≡ c.args.whole + 1 = omega arith in
     ap (λ (l : List ℕ). take (length value) (bytes_at l 2 (words_for (length value)))) new
-    ∙ tail_bytes d value (drop (length tail) (to_le_bytes w64 x)) c.args.whole x c.requires.place.0 c.requires.bytes le last
+    ∙ tail_bytes d value (drop (length tail) (to_le_bytes w64 x)) c.args.whole x c.requires.place.0
+    c.requires.bytes le last

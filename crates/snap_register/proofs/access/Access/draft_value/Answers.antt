@@ -1,4 +1,22 @@
-use Rattle.std.proofs.Common.{◌≡◌, ℕ, ◌+◌, ◌-◌, ◌*◌, ◌++◌, ◌∷◌, [], List, length, take, drop, get_or, ap, ◌∙◌, arith, length-append}
+use Rattle.std.proofs.Common.{
+  ◌≡◌,
+  ℕ,
+  ◌+◌,
+  ◌-◌,
+  ◌*◌,
+  ◌++◌,
+  ◌∷◌,
+  [],
+  List,
+  length,
+  take,
+  drop,
+  get_or,
+  ap,
+  ◌∙◌,
+  arith,
+  length-append,
+}
 use Rattle.std.proofs.lemmas.List.{get_or_append_left}
 use Rattle.std.specs.Int.{w64, to_le_bytes}
 use Rattle.snap_register.specs.Packing.{bytes_at}
@@ -21,14 +39,18 @@ loop-q-preserved c =
     let long = inv.long in
     let more = length-append d (x ∷ []) in
     let eight : 8 * q + 8 - 8 * q ≡ 8 = omega arith in
-    let chunk : to_le_bytes w64 x ≡ take 8 (drop (8 * q) c.args.value.now) = c.word_of.ensures ∙ ap (λ (z : ℕ). take z (drop (8 * q) c.args.value.now)) eight in
+    let chunk : to_le_bytes w64 x ≡ take 8 (drop (8 * q) c.args.value.now) =
+    c.word_of.ensures ∙ ap (λ (z : ℕ). take z (drop (8 * q) c.args.value.now)) eight in
     record {
       table = step.1 ∙ inv.table;
       id = step.2 ∙ inv.id;
       me = drafted (Unit {0}) a n (d ++ x ∷ []) by;
       left = step.0 ∙ inv.left;
       long = ap length new ∙ omega arith;
-      number = ap (λ (l : List ℕ). get_or l 0 0) new ∙ (get_or_append_left d (x ∷ []) 0 0 (omega arith) ∙ inv.number);
-      length_is = ap (λ (l : List ℕ). get_or l 1 0) new ∙ (get_or_append_left d (x ∷ []) 0 1 (omega arith) ∙ inv.length_is);
-      bytes = ap (λ (l : List ℕ). bytes_at l 2 (q + 1)) new ∙ bytes_push d c.args.value.now q x long inv.bytes chunk;
+      number = ap (λ (l : List ℕ). get_or l 0 0) new
+          ∙ (get_or_append_left d (x ∷ []) 0 0 (omega arith) ∙ inv.number);
+      length_is = ap (λ (l : List ℕ). get_or l 1 0) new
+          ∙ (get_or_append_left d (x ∷ []) 0 1 (omega arith) ∙ inv.length_is);
+      bytes = ap (λ (l : List ℕ). bytes_at l 2 (q + 1)) new
+          ∙ bytes_push d c.args.value.now q x long inv.bytes chunk;
     }

@@ -6,7 +6,13 @@ abbrev pub invariant-loop-q : goal.invariant-loop-q
 invariant-loop-q l = record {
   table : l.self.seat.table_id ≡ l.fn.self.seat.table_id;
   id : l.self.seat.id ≡ l.fn.self.seat.id;
-  me : l.self.seat.me ≡ (record l.fn.self.seat.me.0 { pool = record l.fn.self.seat.me.0.pool { draft = l.self.seat.me.0.pool.draft } }, l.fn.self.seat.me.1);
+  me : l.self.seat.me ≡ (
+    record l.fn.self.seat.me.0 {
+      pool =
+          record l.fn.self.seat.me.0.pool { draft = l.self.seat.me.0.pool.draft };
+    },
+    l.fn.self.seat.me.1,
+  );
   left : l.self.left ≡ l.fn.self.left;
   long : length l.self.seat.me.0.pool.draft ≡ 2 + l.q;
   number : slice_index l.self.seat.me.0.pool.draft 0 ≡ l.number;

@@ -17,16 +17,26 @@ fetch_add-requires c =
     let some : 0 < get_or me.pins c.args.j 0 = search rules in (
       own,
       subst (λ (t : TableId). c.given-at.result < t.words) own c.given-at.ensures.1,
-      gives_back (Unit {0}) _ _ _ me.seat.me _ c.args.j (get_or me.pins c.args.j 0 - 1) me.seated.here c.requires (omega arith) (omega arith) c.given-at.ensures.0,
+      gives_back (Unit {0}) _ _ _ me.seat.me _ c.args.j
+          (get_or me.pins c.args.j 0 - 1) me.seated.here c.requires (omega arith)
+          (omega arith) c.given-at.ensures.0,
     )
 
-is_bare : (c : After-fetch_add) → c.fetch_add.new.seat.me ≡ (record c.args.self.now.seat.me.0 { pins = set c.args.self.now.seat.me.0.pins c.args.j 0 }, c.args.self.now.seat.me.1)
+is_bare : (c : After-fetch_add)
+    → c.fetch_add.new.seat.me ≡ (
+      record c.args.self.now.seat.me.0 {
+        pins =
+            set c.args.self.now.seat.me.0.pins c.args.j 0;
+      },
+      c.args.self.now.seat.me.1,
+    )
 is_bare c =
     let me = c.args.self.now in
     let pin = me.seated.pins_are c.args.j c.requires in
     let few = me.seated.pins_inside c.args.j c.requires in
     let some : 0 < get_or me.pins c.args.j 0 = search rules in
-    c.fetch_add.ensures.2 c.args.j (get_or me.pins c.args.j 0 - 1) (omega arith) c.given-at.ensures.0
+    c.fetch_add.ensures.2 c.args.j (get_or me.pins c.args.j 0 - 1)
+    (omega arith) c.given-at.ensures.0
 
 pub invariant_of-self : goal.invariant_of-self
 invariant_of-self c =
@@ -35,9 +45,16 @@ invariant_of-self c =
     let after = c.fetch_add.new.seat in
     record {
       own = c.fetch_add.ensures.0 ∙ me.own;
-      sized = subst (λ (m : Me (Unit {0}) SeatView). IsSized me.segments me.scanners me.block_words me.words m.0.plan) (sym is) me.sized;
-      seated = seated_bare (Unit {0}) _ _ me.pins me.left me.seat.me after.me c.args.j c.requires (search rules) (ap (λ (t : TableId). t.words) c.fetch_add.ensures.0) is me.seated;
+      sized = subst (λ (m : Me (Unit {0}) SeatView).
+          IsSized me.segments me.scanners me.block_words me.words m.0.plan) (sym is) me.sized;
+      seated = seated_bare (Unit {0}) _ _ me.pins me.left me.seat.me after.me c.args.j c.requires
+          (search rules) (ap (λ (t : TableId). t.words) c.fetch_add.ensures.0) is me.seated;
     }
 
 pub returns-then-self-j-gt0 : goal.returns-then-self-j-gt0
-returns-then-self-j-gt0 c = (refl, c.fetch_add.ensures.0, c.fetch_add.ensures.1, is_bare (goal.at.returns-then-self-j-gt0 c).After-fetch_add)
+returns-then-self-j-gt0 c = (
+  refl,
+  c.fetch_add.ensures.0,
+  c.fetch_add.ensures.1,
+  is_bare (goal.at.returns-then-self-j-gt0 c).After-fetch_add,
+)

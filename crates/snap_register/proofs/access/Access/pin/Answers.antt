@@ -20,8 +20,10 @@ fetch_add-found-requires c =
     let lj = c.requires.0 in
     let some = c.requires.2 in (
       own,
-      subst (λ (z : ℕ). c.args.j < z) (sym seated.words_are ∙ ap (λ (t : TableId). t.words) own) (word_inside me.seat.me.0.plan c.args.j lj),
-      pins (Unit {0}) _ _ _ me.seat.me c.args.j seated.here lj c.requires.1 (omega arith) (omega arith) (omega arith) (omega arith),
+      subst (λ (z : ℕ). c.args.j < z) (sym seated.words_are
+          ∙ ap (λ (t : TableId). t.words) own) (word_inside me.seat.me.0.plan c.args.j lj),
+      pins (Unit {0}) _ _ _ me.seat.me c.args.j seated.here lj c.requires.1 (omega arith)
+          (omega arith) (omega arith) (omega arith),
     )
 
 pub invariant_of-self : goal.invariant_of-self
@@ -31,6 +33,10 @@ invariant_of-self c =
     let after = c.fetch_add-found.new.seat in
     record {
       own = step.0 ∙ me.own;
-      sized = subst (λ (p : Plan). IsSized me.segments me.scanners me.block_words me.words p) (sym (ap (λ (v : SeatView). v.plan) step.2.3)) me.sized;
-      seated = seated_pinned (Unit {0}) _ _ _ _ _ _ me.pins me.left _ me.seat.me after.me c.args.j c.fetch_add-found.result c.requires.0 (search rules) (ap (λ (t : TableId). t.words) step.0) step.2.1 step.2.2 (let some = c.requires.2 in omega arith) step.2.0.later step.2.0.legal me.sized step.2.3 me.seated;
+      sized = subst (λ (p : Plan). IsSized me.segments me.scanners me.block_words me.words p)
+          (sym (ap (λ (v : SeatView). v.plan) step.2.3)) me.sized;
+      seated = seated_pinned (Unit {0}) _ _ _ _ _ _ me.pins me.left _ me.seat.me after.me c.args.j
+          c.fetch_add-found.result c.requires.0 (search rules)
+          (ap (λ (t : TableId). t.words) step.0) step.2.1 step.2.2 (let some = c.requires.2 in
+          omega arith) step.2.0.later step.2.0.legal me.sized step.2.3 me.seated;
     }

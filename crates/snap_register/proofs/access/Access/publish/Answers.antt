@@ -1,4 +1,19 @@
-use Rattle.std.proofs.Common.{◌≡◌, ℕ, ◌+◌, ◌++◌, ◌∷◌, [], List, length, refl, ap, sym, subst, ◌∙◌, arith}
+use Rattle.std.proofs.Common.{
+  ◌≡◌,
+  ℕ,
+  ◌+◌,
+  ◌++◌,
+  ◌∷◌,
+  [],
+  List,
+  length,
+  refl,
+  ap,
+  sym,
+  subst,
+  ◌∙◌,
+  arith,
+}
 use Rattle.atomic_table.specs.Table.{Me}
 use Rattle.snap_register.specs.declared.plan.Entry.{Entry}
 use Rattle.snap_register.specs.declared.plan.Plan.{Plan}
@@ -16,7 +31,8 @@ use Rattle.snap_register.proofs.Updates.{follows_is}
 use Rattle.snap_register.proofs.access.Access.publish.Goals as goal
 use Rattle.snap_register.proofs.access.Access.publish.Goals.{After-copy_view}
 
-taken_pool : (v : SeatView) (p : Pool) (view : View) → taken (record v { pool = p }) view ≡ taken v view
+taken_pool : (v : SeatView) (p : Pool) (view : View)
+    → taken (record v { pool = p }) view ≡ taken v view
 taken_pool v p Collected = refl
 taken_pool v p (Borrowed j) = refl
 
@@ -24,27 +40,62 @@ taken_pool v p (Borrowed j) = refl
 abbrev WithPool : SeatView → Pool → SeatView
 WithPool v p = record v { pool = p }
 
-second_is : (c : After-copy_view) → c.draft_value-filled.new.self.seat.me.0 ≡ WithPool c.args.self.now.seat.me.0 c.draft_value-filled.new.self.seat.me.0.pool
+second_is : (c : After-copy_view)
+    → c.draft_value-filled.new.self.seat.me.0
+    ≡ WithPool c.args.self.now.seat.me.0 c.draft_value-filled.new.self.seat.me.0.pool
 second_is c =
-    let e : c.draft_value-filled.new.self.seat.me.0 ≡ WithPool c.args.self.now.seat.me.0 (record c.find_free-b.new.self.seat.me.0.pool { draft = c.draft_value-filled.new.self.seat.me.0.pool.draft })
-    = ap (λ (m : Me (Unit {0}) SeatView). m.0) c.draft_value-filled.ensures.same.3 ∙ ap (λ (m : Me (Unit {0}) SeatView). WithPool m.0 (record c.find_free-b.new.self.seat.me.0.pool { draft = c.draft_value-filled.new.self.seat.me.0.pool.draft })) c.find_free-b.ensures.free.1 in
+    let e : c.draft_value-filled.new.self.seat.me.0
+    ≡ WithPool c.args.self.now.seat.me.0 (record c.find_free-b.new.self.seat.me.0.pool {
+      draft =
+          c.draft_value-filled.new.self.seat.me.0.pool.draft;
+    })
+    = ap (λ (m : Me (Unit {0}) SeatView). m.0) c.draft_value-filled.ensures.same.3
+    ∙ ap (λ (m : Me (Unit {0}) SeatView).
+    WithPool m.0 (record c.find_free-b.new.self.seat.me.0.pool {
+      draft =
+          c.draft_value-filled.new.self.seat.me.0.pool.draft;
+    })) c.find_free-b.ensures.free.1 in
     e ∙ ap (WithPool c.args.self.now.seat.me.0) (sym (ap (λ (v : SeatView). v.pool) e))
 
-third_is : (c : After-copy_view) → c.copy_view.new.self.seat.me.0 ≡ WithPool c.args.self.now.seat.me.0 c.copy_view.new.self.seat.me.0.pool
+third_is : (c : After-copy_view)
+    → c.copy_view.new.self.seat.me.0
+    ≡ WithPool c.args.self.now.seat.me.0 c.copy_view.new.self.seat.me.0.pool
 third_is c =
-    let e : c.copy_view.new.self.seat.me.0 ≡ WithPool c.args.self.now.seat.me.0 (record c.draft_value-filled.new.self.seat.me.0.pool { draft = c.copy_view.new.self.seat.me.0.pool.draft })
-    = ap (λ (m : Me (Unit {0}) SeatView). m.0) c.copy_view.ensures.same.3 ∙ ap (λ (v : SeatView). WithPool v (record c.draft_value-filled.new.self.seat.me.0.pool { draft = c.copy_view.new.self.seat.me.0.pool.draft })) (second_is c) in
+    let e : c.copy_view.new.self.seat.me.0
+    ≡ WithPool c.args.self.now.seat.me.0
+    (record c.draft_value-filled.new.self.seat.me.0.pool {
+      draft =
+          c.copy_view.new.self.seat.me.0.pool.draft;
+    })
+    = ap (λ (m : Me (Unit {0}) SeatView). m.0) c.copy_view.ensures.same.3
+    ∙ ap (λ (v : SeatView). WithPool v
+    (record c.draft_value-filled.new.self.seat.me.0.pool {
+      draft =
+          c.copy_view.new.self.seat.me.0.pool.draft;
+    })) (second_is c) in
     e ∙ ap (WithPool c.args.self.now.seat.me.0) (sym (ap (λ (v : SeatView). v.pool) e))
 
-may_follow : (c : After-copy_view) → IsLegal c.args.self.now.seat.me.0.plan c.args.self.now.seat.me.0.seen → Follows c.args.self.now.seat.me.0.plan c.args.self.now.seat.me.0.seen (entry c.args.i c.copy_view.new.self.seat.me.0.pool.draft)
+may_follow : (c : After-copy_view)
+    → IsLegal c.args.self.now.seat.me.0.plan c.args.self.now.seat.me.0.seen
+    → Follows c.args.self.now.seat.me.0.plan c.args.self.now.seat.me.0.seen
+    (entry c.args.i c.copy_view.new.self.seat.me.0.pool.draft)
 may_follow c legal =
     let v : SeatView = c.args.self.now.seat.me.0 in
     let size = c.draft_value-filled.ensures.size in
-    let plan : c.draft_value-filled.new.self.seat.me.0.plan ≡ v.plan = ap (λ (u : SeatView). u.plan) (second_is c) in
-    let took : taken c.draft_value-filled.new.self.seat.me.0 c.args.view.now ≡ taken v c.args.view.now = ap (λ (u : SeatView). taken u c.args.view.now) (second_is c) ∙ taken_pool v c.draft_value-filled.new.self.seat.me.0.pool c.args.view.now in
-    let blocks : AreBlocks c.copy_view.new.self.seat.me.0.pool.draft (length c.draft_value-filled.new.self.seat.me.0.pool.draft) (segments v.plan) (taken v c.args.view.now)
-    = subst (λ (x : ℕ × Plan × (ℕ → ℕ × List ℕ)). AreBlocks c.copy_view.new.self.seat.me.0.pool.draft x.0 (segments x.1) x.2) (λ t. (size.0 t, plan t, took t)) c.copy_view.ensures.blocks in
-    follows_is v c.args.i c.args.next c.args.view.now c.args.value.now c.draft_value-filled.new.self.seat.me.0.pool.draft c.copy_view.new.self.seat.me.0.pool.draft c.requires.view.0 c.requires.view.1 c.args.self.now.seated.records_are c.requires.next.0
+    let plan : c.draft_value-filled.new.self.seat.me.0.plan ≡ v.plan =
+    ap (λ (u : SeatView). u.plan) (second_is c) in
+    let took : taken c.draft_value-filled.new.self.seat.me.0 c.args.view.now
+    ≡ taken v c.args.view.now = ap (λ (u : SeatView). taken u c.args.view.now) (second_is c)
+    ∙ taken_pool v c.draft_value-filled.new.self.seat.me.0.pool c.args.view.now in
+    let blocks : AreBlocks c.copy_view.new.self.seat.me.0.pool.draft
+    (length c.draft_value-filled.new.self.seat.me.0.pool.draft) (segments v.plan)
+    (taken v c.args.view.now)
+    = subst (λ (x : ℕ × Plan × (ℕ → ℕ × List ℕ)).
+    AreBlocks c.copy_view.new.self.seat.me.0.pool.draft x.0 (segments x.1) x.2) (λ t.
+    (size.0 t, plan t, took t)) c.copy_view.ensures.blocks in
+    follows_is v c.args.i c.args.next c.args.view.now c.args.value.now
+    c.draft_value-filled.new.self.seat.me.0.pool.draft c.copy_view.new.self.seat.me.0.pool.draft
+    c.requires.view.0 c.requires.view.1 c.args.self.now.seated.records_are c.requires.next.0
     c.draft_value-filled.ensures.block (sym size.0 ∙ size.1) c.copy_view.ensures.prefix blocks legal
 
 pub swap-pins-requires-clause-view : goal.swap-pins-requires-clause-view
@@ -52,7 +103,9 @@ swap-pins-requires-clause-view c = λ legal.
     let a = (goal.at.swap-pins-requires-clause-view c).After-copy_view in
     let is = third_is a in
     let e : Entry = entry c.args.i c.copy_view.new.self.seat.me.0.pool.draft in
-    subst (λ (x : Plan × List Entry). Follows x.0 x.1 e) (λ t. (ap (λ (v : SeatView). v.plan) (sym is) t, ap (λ (v : SeatView). v.seen) (sym is) t)) (may_follow a (subst (λ (v : SeatView). IsLegal v.plan v.seen) is legal))
+    subst (λ (x : Plan × List Entry). Follows x.0 x.1 e) (λ t.
+    (ap (λ (v : SeatView). v.plan) (sym is) t, ap (λ (v : SeatView). v.seen) (sym is) t))
+    (may_follow a (subst (λ (v : SeatView). IsLegal v.plan v.seen) is legal))
 
 pub returns-clause-shown : goal.returns-clause-shown
 returns-clause-shown c =
@@ -63,23 +116,33 @@ returns-clause-shown c =
     let w : SeatView = c.swap-pins.new.self.seat.me.0 in
     let shown = c.swap-pins.ensures.shown in
     let moved = ap (λ (x : SeatView). record x { seen = w.seen; pool = w.pool }) is in
-    let first : w ≡ record u { seen = w.seen; pool = w.pool } = shown.same ∙ ap (λ (q : Pool). record u { seen = w.seen; pool = q }) (sym (ap (λ (x : SeatView). x.pool) shown.same)) in
+    let first : w ≡ record u { seen = w.seen; pool = w.pool } =
+    shown.same ∙ ap (λ (q : Pool). record u {
+      seen = w.seen;
+      pool =
+          q;
+    }) (sym (ap (λ (x : SeatView). x.pool) shown.same)) in
     let same : w ≡ record v { seen = w.seen; pool = w.pool } = first ∙ moved in
     let d : List ℕ = c.draft_value-filled.new.self.seat.me.0.pool.draft in
     let own = c.draft_value-filled.ensures.block in
     let stays = block_stays d u.pool.draft 0 c.copy_view.ensures.prefix own.whole in
-    let more : count c.args.i w.seen ≡ count c.args.i u.seen + 1 = publishes_count u w c.args.i c.swap-pins.result shown in
+    let more : count c.args.i w.seen ≡ count c.args.i u.seen + 1 =
+    publishes_count u w c.args.i c.swap-pins.result shown in
     let plan : w.plan ≡ v.plan = ap (λ (x : SeatView). x.plan) same in
-    let number_plan : (start_at w.plan c.args.i).number ≡ (start_at v.plan c.args.i).number = ap (λ (p : Plan). (start_at p c.args.i).number) plan in
-    let seen_same : count c.args.i u.seen ≡ count c.args.i v.seen = ap (λ (x : SeatView). count c.args.i x.seen) is in
+    let number_plan : (start_at w.plan c.args.i).number ≡ (start_at v.plan c.args.i).number =
+    ap (λ (p : Plan). (start_at p c.args.i).number) plan in
+    let seen_same : count c.args.i u.seen ≡ count c.args.i v.seen =
+    ap (λ (x : SeatView). count c.args.i x.seen) is in
     let next = c.requires.next.0 in
     record {
       same = same;
       between = shown.between;
       words = u.pool.draft;
-      seen = shown.seen ∙ ap (λ (x : SeatView). (x.seen ++ shown.between) ++ entry c.args.i u.pool.draft ∷ []) is;
+      seen = shown.seen ∙ ap (λ (x : SeatView). (x.seen ++ shown.between)
+          ++ entry c.args.i u.pool.draft ∷ []) is;
       others = shown.others;
       value_is = ap (λ (x : ℕ × List ℕ). x.1) (stays.block ∙ own.is);
       number_is = omega arith;
-      below = subst (λ (p : Plan). IsBelow p w.seen) (sym (ap (λ (x : SeatView). x.plan) first)) shown.below;
+      below = subst (λ (p : Plan). IsBelow p w.seen)
+          (sym (ap (λ (x : SeatView). x.plan) first)) shown.below;
     }

@@ -14,8 +14,13 @@ swap-found-requires c =
     let me = c.args.self.now in
     let own : me.seat.table_id ≡ c.deref.result.now.shared.table_id = search rules in (
       own,
-      subst (λ (z : ℕ). c.args.i < z) (sym me.seated.words_are ∙ ap (λ (t : TableId). t.words) own) (word_inside me.seat.me.0.plan c.args.i c.requires.own.1),
-      publishes (Unit {0}) _ _ _ me.seat.me c.args.i _ me.seated.here c.requires.own.0 c.requires.own.1 (subst (λ (z : ℕ). z < buffers me.seat.me.0.plan) c.requires.buffer.0 c.requires.buffer.1) c.requires.next c.requires.view (ap (λ (z : ℕ). z * 2 ^ 56) c.requires.buffer.0),
+      subst (λ (z : ℕ). c.args.i < z) (sym me.seated.words_are
+          ∙ ap (λ (t : TableId). t.words) own)
+          (word_inside me.seat.me.0.plan c.args.i c.requires.own.1),
+      publishes (Unit {0}) _ _ _ me.seat.me c.args.i _ me.seated.here c.requires.own.0
+          c.requires.own.1 (subst (λ (z : ℕ).
+          z < buffers me.seat.me.0.plan) c.requires.buffer.0 c.requires.buffer.1) c.requires.next
+          c.requires.view (ap (λ (z : ℕ). z * 2 ^ 56) c.requires.buffer.0),
     )
 
 pub invariant_of-self : goal.invariant_of-self
@@ -26,6 +31,9 @@ invariant_of-self c =
     let shown = step.2.0 in
     record {
       own = step.0 ∙ me.own;
-      sized = subst (λ (p : Plan). IsSized me.segments me.scanners me.block_words me.words p) (sym (ap (λ (v : SeatView). v.plan) shown.same)) me.sized;
-      seated = seated_shown (Unit {0}) _ _ _ _ _ _ me.pins me.left me.seat.me after.me _ _ (ap (λ (t : TableId). t.words) step.0) shown.same step.2.2 (publishes_later me.seat.me.0 after.me.0 c.args.i _ shown) shown.legal me.sized me.seated;
+      sized = subst (λ (p : Plan). IsSized me.segments me.scanners me.block_words me.words p)
+          (sym (ap (λ (v : SeatView). v.plan) shown.same)) me.sized;
+      seated = seated_shown (Unit {0}) _ _ _ _ _ _ me.pins me.left me.seat.me after.me _ _
+          (ap (λ (t : TableId). t.words) step.0) shown.same step.2.2
+          (publishes_later me.seat.me.0 after.me.0 c.args.i _ shown) shown.legal me.sized me.seated;
     }

@@ -10,6 +10,8 @@ invariant-loop-k l = record {
   me : l.self.seat.me ≡ l.initial.self.seat.me;
   left : l.self.left ≡ l.initial.self.left;
   long : length l.out-inside.segments.items ≡ length l.initial.out-inside.segments.items;
-  at : l.at ≡ behind (held l.initial.self.seat.me.0 l.j) (size_at (held l.initial.self.seat.me.0 l.j) 0) l.k;
-  view : (i : ℕ) → i < l.k → slice_get l.out-inside.segments.items i ≡ Some (view_in (held l.initial.self.seat.me.0 l.j) i);
+  at : l.at ≡ behind (held l.initial.self.seat.me.0 l.j)
+      (size_at (held l.initial.self.seat.me.0 l.j) 0) l.k;
+  view : (i : ℕ) → i < l.k → slice_get l.out-inside.segments.items i
+      ≡ Some (view_in (held l.initial.self.seat.me.0 l.j) i);
 }

@@ -1,4 +1,22 @@
-use Rattle.std.proofs.Common.{rules, ◌≡◌, ℕ, ◌+◌, List, [], ◌∷◌, ◌++◌, length, map, take, slice_get, Some, refl, subst, sym, arith}
+use Rattle.std.proofs.Common.{
+  rules,
+  ◌≡◌,
+  ℕ,
+  ◌+◌,
+  List,
+  [],
+  ◌∷◌,
+  ◌++◌,
+  length,
+  map,
+  take,
+  slice_get,
+  Some,
+  refl,
+  subst,
+  sym,
+  arith,
+}
 use Rattle.std.proofs.lemmas.Option.{slice_get_read}
 use Rattle.std.proofs.lemmas.Result.{IfOk-weaker}
 use Rattle.snap_history.specs.Pairs.{Pairs}
@@ -16,7 +34,8 @@ loop-start-preserved c =
     let k : ℕ = c.loop-start.start-index in
     let x = c.start-item.result in
     let o : Opening = c.in_ok-opening_of.field-0 in
-    let e : slice_get vs k ≡ Some x = slice_get_read vs (length vs) k x refl c.loop-start-test.true c.start-item.is in
+    let e : slice_get vs k ≡ Some x =
+    slice_get_read vs (length vs) k x refl c.loop-start-test.true c.start-item.is in
     let packed : IsPacked (x.0, x.1.items) o = record {
       number_is = search rules;
       low = c.requires.numbers k x e;
@@ -25,17 +44,25 @@ loop-start-preserved c =
     } in
     let items : c.push.new.self.items ≡ c.loop-start.openings.items ++ o ∷ [] = search rules in
     let before : List (ℕ × List ℕ) = map (λ x. (x.0, x.1.items)) (take k vs) in
-    let more = Pairs-push (λ _. IsPacked) before c.loop-start.openings.items (x.0, x.1.items) o c.loop-start.invariant packed in
-    subst (λ (os : List Opening). Pairs (λ _. IsPacked) (map (λ x. (x.0, x.1.items)) (take (k + 1) vs)) os) (sym items)
-    (subst (λ (xs : List (ℕ × List ℕ)). Pairs (λ _. IsPacked) xs (c.loop-start.openings.items ++ o ∷ [])) (sym (map_next (λ x. (x.0, x.1.items)) k vs x e)) more)
+    let more = Pairs-push (λ _. IsPacked) before c.loop-start.openings.items (
+      x.0,
+      x.1.items,
+    ) o c.loop-start.invariant packed in
+    subst (λ (os : List Opening).
+    Pairs (λ _. IsPacked) (map (λ x. (x.0, x.1.items)) (take (k + 1) vs)) os) (sym items)
+    (subst (λ (xs : List (ℕ × List ℕ)). Pairs (λ _. IsPacked) xs (c.loop-start.openings.items
+    ++ o ∷ [])) (sym (map_next (λ x. (x.0, x.1.items)) k vs x e)) more)
 
-all_packed : (c : After-loop-start) → Pairs (λ _. IsPacked) (map (λ x. (x.0, x.1.items)) c.args.values.now) c.loop-start.openings.items
+all_packed : (c : After-loop-start)
+    → Pairs (λ _. IsPacked) (map (λ x. (x.0, x.1.items)) c.args.values.now)
+    c.loop-start.openings.items
 all_packed c = packed_all _ _ _ _ c.loop-start-test.false c.loop-start.invariant
 
 pub open-requires-clause-count : goal.open-requires-clause-count
 open-requires-clause-count c =
     let p = all_packed (goal.at.open-requires-clause-count c).After-loop-start in
-    let long : length c.args.values.now ≡ length c.loop-start.openings.items = packed_length _ _ _ p in
+    let long : length c.args.values.now ≡ length c.loop-start.openings.items =
+    packed_length _ _ _ p in
     let some = c.requires.count.0 in
     let few = c.requires.count.1 in
     (omega arith, omega arith, c.requires.scanners)
@@ -43,7 +70,8 @@ open-requires-clause-count c =
 pub open-requires-clause-ready : goal.open-requires-clause-ready
 open-requires-clause-ready c =
     let p = all_packed (goal.at.open-requires-clause-ready c).After-loop-start in
-    let long : length c.args.values.now ≡ length c.loop-start.openings.items = packed_length _ _ _ p in
+    let long : length c.args.values.now ≡ length c.loop-start.openings.items =
+    packed_length _ _ _ p in
     let few = c.requires.count.1 in
     ready_is c.args.scanners c.args.looks _ _ c.requires.scanners (omega arith) c.requires.looks p
 
@@ -51,10 +79,17 @@ pub returns-clause-seats : goal.returns-clause-seats
 returns-clause-seats c =
     let p = all_packed (goal.at.returns-clause-seats c).After-loop-start in
     let is = opening_is c.args.scanners c.args.looks _ _ p in
-    IfOk-weaker c.open.result _ _ (λ r s. (s.0, plan_with c.args.scanners c.args.looks 512 c.loop-start.openings.items, is, s.1, s.2)) c.open.ensures.seats
+    IfOk-weaker c.open.result _ _ (λ r s. (
+      s.0,
+      plan_with c.args.scanners c.args.looks 512 c.loop-start.openings.items,
+      is,
+      s.1,
+      s.2,
+    )) c.open.ensures.seats
 
 pub returns-clause-writers : goal.returns-clause-writers
 returns-clause-writers c =
     let p = all_packed (goal.at.returns-clause-writers c).After-loop-start in
-    let long : length c.args.values.now ≡ length c.loop-start.openings.items = packed_length _ _ _ p in
+    let long : length c.args.values.now ≡ length c.loop-start.openings.items =
+    packed_length _ _ _ p in
     IfOk-weaker c.open.result _ _ (λ r s. let a = s.0 in omega arith) c.open.ensures.counts

@@ -11,7 +11,8 @@ invariant_of-result c =
     let v = c.args.access.seat.me.0 in
     let d = c.requires.pool in
     let sized = c.args.access.sized in
-    let few : buffers v.plan ≤ 34 = let a = sized.few in let b = sized.few_scanners in let e = sized.segments_are in let f = sized.scanners_are in omega arith in
+    let few : buffers v.plan ≤ 34 = let a = sized.few in let b = sized.few_scanners in let e =
+    sized.segments_are in let f = sized.scanners_are in omega arith in
     let none = ap (λ (h : List Entry). count c.args.segment h) c.requires.number.1 in
     record {
       role = c.requires.role.0;
@@ -21,5 +22,7 @@ invariant_of-result c =
       current_inside = omega arith;
       found_pinned_is = ap (λ (x : Pool). x.found_pinned) d;
       counts = ap (λ (x : Pool). length x.counted) d ∙ length-replicate (buffers v.plan) 0;
-      counted_are = λ b lb. get_or-replicate 34 b 0 0 (omega arith) ∙ sym (ap (λ (x : Pool). get_or x.counted b 0) d ∙ get_or-replicate (buffers v.plan) b 0 0 lb);
+      counted_are = λ b lb. get_or-replicate 34 b 0 0 (omega arith)
+          ∙ sym (ap (λ (x : Pool). get_or x.counted b 0) d
+          ∙ get_or-replicate (buffers v.plan) b 0 0 lb);
     }

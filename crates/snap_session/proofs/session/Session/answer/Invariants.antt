@@ -1,8 +1,11 @@
-use Rattle.std.proofs.Common.{[], None, ◌≡◌, ◌≤◌, length}
-use Rattle.snap_session.specs.Talk.{Goes, Stays}
+use Rattle.std.proofs.Common.{[], None, ◌≡◌, ◌≢◌, ◌≤◌, length}
+use Rattle.snap_session.specs.Talk.{Goes, Stays, most_owed}
 use Rattle.snap_session.proofs.session.Session.answer.Given as goal
 
 abbrev pub invariant-loop : goal.invariant-loop
-invariant-loop g l =
-    Goes Stays g.S.Service.gives l.fn.service l.service l.fn.self [] [] l.self
-    × (l.self.asked ≡ None) × (length l.fn.self.owed ≤ 131540 → length l.self.owed ≤ 131540)
+invariant-loop g l = record {
+  goes : Goes Stays g.S.Service.gives l.fn.service l.service l.fn.self [] [] l.self;
+  free : l.self.asked ≡ None;
+  bounded : length l.fn.self.owed ≤ most_owed → length l.self.owed ≤ most_owed;
+  some : l.counter ≢ 0 → l.self.over ≡ None → l.self.owed ≢ [];
+}

@@ -1,5 +1,6 @@
-use Rattle.std.proofs.Common.{◌≡◌, refl, ap, subst, sym, inl, inr, ◌∙◌, []}
-use Rattle.snap_session.specs.Talk.{refused_malformed, refused_too_large, Talk, Goes, Stays}
+use Rattle.std.proofs.Common.{◌≡◌, refl, ap, subst, sym, inl, inr, ◌∙◌, Some, None}
+use Rattle.snap_frame.specs.declared.frame_buffer.Failure.TheVariants.{TooLarge, NoMemory}
+use Rattle.snap_session.specs.Talk.{refused_malformed, refused_too_large}
 use Rattle.snap_frame.specs.Messages.{says}
 use Rattle.snap_session.proofs.Steps.{
   rests,
@@ -10,6 +11,10 @@ use Rattle.snap_session.proofs.Steps.{
   hands,
   came_free,
   owes_free,
+  owes_some,
+  owes_over,
+  asked_of,
+  over_of,
 }
 use Rattle.snap_frame.specs.Stream.{HasLongLength}
 use Rattle.snap_session.proofs.session.Session.answer_one.Goals as goal
@@ -64,21 +69,34 @@ returns-in-NoMemory-clause-goes g c =
     gives_up g.S.Service.gives _ c.args.self.now _ c.hear.new.self c.requires.going h.0 h.1
 
 pub returns-in-Some-clause-wants : goal.returns-in-Some-clause-wants
-returns-in-Some-clause-wants g c =
-    owes_free c.hear.new.self (says c.in-Some.reply) c.owe.new.self c.owe.result c.owe.ensures.owes
-    (c.in-Asked.ensures.5 ∙ c.requires.free)
+returns-in-Some-clause-wants g c = (
+  owes_free c.hear.new.self (says c.in-Some.reply) c.owe.new.self c.owe.result c.owe.ensures.owes
+      (c.in-Asked.ensures.5 ∙ c.requires.free),
+  owes_some c.hear.new.self (says c.in-Some.reply) c.owe.new.self c.owe.result c.owe.ensures.owes,
+)
 
 pub returns-in-Malformed-clause-wants : goal.returns-in-Malformed-clause-wants
-returns-in-Malformed-clause-wants g c =
-    owes_free c.hear.new.self refused_malformed c.owe-in-Malformed.new.self
-    c.owe-in-Malformed.result c.owe-in-Malformed.ensures.owes (c.in-Malformed.ensures.5
-    ∙ c.requires.free)
+returns-in-Malformed-clause-wants g c = (
+  owes_free c.hear.new.self refused_malformed c.owe-in-Malformed.new.self
+      c.owe-in-Malformed.result c.owe-in-Malformed.ensures.owes
+      (c.in-Malformed.ensures.5 ∙ c.requires.free),
+  owes_some c.hear.new.self refused_malformed c.owe-in-Malformed.new.self
+      c.owe-in-Malformed.result c.owe-in-Malformed.ensures.owes,
+)
 
 pub returns-in-TooLarge-clause-wants : goal.returns-in-TooLarge-clause-wants
-returns-in-TooLarge-clause-wants g c =
-    owes_free c.hear.new.self refused_too_large c.owe-in-TooLarge.new.self c.owe-in-TooLarge.result
-    c.owe-in-TooLarge.ensures.owes (ap (λ (z : Talk). z.asked) c.in-TooLarge.ensures.1
-    ∙ c.requires.free)
+returns-in-TooLarge-clause-wants g c = (
+  owes_free c.hear.new.self refused_too_large c.owe-in-TooLarge.new.self c.owe-in-TooLarge.result
+      c.owe-in-TooLarge.ensures.owes (ap asked_of c.in-TooLarge.ensures.1 ∙ c.requires.free),
+  λ going none. absurd (owes_over c.hear.new.self refused_too_large c.owe-in-TooLarge.new.self
+      c.owe-in-TooLarge.result c.owe-in-TooLarge.ensures.owes
+      (λ wrong. let both : Some TooLarge ≡ None = sym (ap over_of c.in-TooLarge.ensures.1)
+      ∙ wrong in
+      cc) going),
+)
 
 pub returns-in-NoMemory-clause-wants : goal.returns-in-NoMemory-clause-wants
-returns-in-NoMemory-clause-wants g c = c.in-NoMemory.ensures.2 ∙ c.requires.free
+returns-in-NoMemory-clause-wants g c = (
+  c.in-NoMemory.ensures.2 ∙ c.requires.free,
+  λ going none. let both : Some NoMemory ≡ None = sym c.in-NoMemory.ensures.1 ∙ going in absurd cc,
+)

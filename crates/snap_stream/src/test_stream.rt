@@ -1,0 +1,55 @@
+//! A stream for tests.
+use std::io::{self, Read, Write};
+
+/// A reader and a writer over memory that moves few bytes a call and fails at a chosen place: for
+/// tests of what reads or writes a stream.
+#[derive(Drop)]
+pub struct TestStream {
+    /// What is read, or was written.
+    pub bytes: Vec<u8>,
+    /// How many bytes have passed.
+    pub passed: usize,
+    /// How many bytes may pass. The call behind them fails.
+    pub passes: usize,
+    /// The most bytes that a call moves.
+    pub step: usize,
+}
+
+impl TestStream {
+    /// How many bytes the next call moves, of those that there are.
+    fn next(&self, there: usize) -> io::Result<usize> {
+        let left = self.passes.saturating_sub(self.passed);
+        let n = there.min(self.step).min(left);
+        if n == 0 && there > 0 {
+            return Err(io::Error::other("the test's fault"));
+        }
+        Ok(n)
+    }
+}
+
+impl Read for TestStream {
+    fn read(&mut self, buf: &mut [u8]) -> io::Result<usize> {
+        let mut left = self.bytes.as_slice();
+        if self.passed <= left.len() {
+            left = &left[self.passed..];
+        }
+        let n = self.next(left.len().min(buf.len()))?;
+        let n = n.min(left.len()).min(buf.len());
+        buf[..n].copy_from_slice(&left[..n]);
+        self.passed = self.passed.saturating_add(n);
+        Ok(n)
+    }
+}
+
+impl Write for TestStream {
+    fn write(&mut self, buf: &[u8]) -> io::Result<usize> {
+        let n = self.next(buf.len())?.min(buf.len());
+        self.bytes.extend_from_slice(&buf[..n])?;
+        self.passed = self.passed.saturating_add(n);
+        Ok(n)
+    }
+
+    fn flush(&mut self) -> io::Result<()> {
+        Ok(())
+    }
+}
