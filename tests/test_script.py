@@ -283,7 +283,7 @@ def test_standard_input_that_fails(snapd, _):
 
 def test_standard_output_that_fails(snapd, _):
     script = lines(["world 1 1", *["show 0"] * 2_000])
-    # Also where the last line can't be read: what was to be said of it is not said of a text that was never written.
+    # A flush that fails counts, whatever the end was to be.
     for it in (script, "world 1 1", "world 1 1\nshow\n"):
         with open("/dev/full", "wb") as full:
             run = snapd("script", stdin=it, stdout=full)
