@@ -42,7 +42,7 @@ pub(crate) const SCRIPT_HELP: &str = "\
 A script is lines of words, which single spaces part. Empty lines are skipped. The first other
 line is `world N S`: a new world of N segments and S scanners, 1 to 16 each. Every other line is
 one event, and for each line one is printed: what the world answers, or `not now` where the event
-may not come.
+may not come. It is printed before more is read, so a script can be typed, and need not end.
 
   Line             Prints            What happens
   world N S        world N S         every segment has number 0 and the empty value
@@ -65,7 +65,8 @@ W is a segment and S a scanner, both counted from 0. HEX is two hexadecimal digi
 KIND is close, body, open, sync or read. FILL says what touched bytes get: `keep` what they had,
 two hexadecimal digits that byte, `at:OFFSET:HEX` these bytes from that place on.
 
-A line that can't be read ends the program with status 2, after the lines before it were done.
+A line that can't be read, or has more than 1048576 bytes, ends the program with status 2, after
+the lines before it were done.
 
 Example: a crash after the gate of a stored value was written, and before it was synced. With
 `crash 00` in place of `crash a5` the memory is the one before the update.
