@@ -31,7 +31,7 @@ use std::alloc::{AllocError, Global};
 /// What stands for a body where none is written.
 static NO_BODY: [u8; BLOCK_LEN] = [0; BLOCK_LEN];
 
-/// The device of one segment, with the order of the store that is under way on it, or of the next
+/// The device of one segment, with the persist of the store that is under way on it, or of the next
 /// one.
 #[derive(Drop)]
 pub struct Drive {

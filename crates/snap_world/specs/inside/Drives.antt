@@ -18,8 +18,8 @@ use Rattle.snap_world.specs.declared.writer.WriterPhase.TheVariants as writer
 abbrev pub device_of : Drive → Device
 device_of d = image_device d.image
 
--- the device of segment i of n is at rest with number k and value u, and the order is that of its
--- next store
+-- the device of segment i of n is at rest with number k and value u, and the persist is that of
+-- its next store
 pub record IsReady (i n k : ℕ) (u : List ℕ) (device : Device)
     (persist : PersistState) : Type 0 where
   pub spare_open : Bool

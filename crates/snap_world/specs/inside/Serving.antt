@@ -23,7 +23,7 @@ pub record IsReadable (d : Drive) : Type 0 where
 abbrev pub AllReadable : List Drive → Type 0
 AllReadable drives = (i : ℕ) (d : Drive) → slice_get drives i ≡ Some d → IsReadable d
 
--- the device is as it was, and the order is that of the store after what was found
+-- the device is as it was, and the persist is that of the store after what was found
 pub record IsResumed (d e : Drive) : Type 0 where
   pub image : e.image ≡ d.image
   pub slot : e.persist.slot ≡ slot_of (d.found.number + 1)

@@ -11,7 +11,7 @@ pub step-requires : goal.step-requires
 step-requires c = record {
   stands =
       ∥∥₁_map c.requires.stands
-          (λ q. (q.0, (is_up c.args.self.now q.0 c.in-Up.is q.1).parts_stand));
+      (λ q. (q.0, (is_up c.args.self.now q.0 c.in-Up.is q.1).parts_stand));
   actors = c.requires.actors;
 }
 
