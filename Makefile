@@ -24,6 +24,7 @@ tests: build
 bench: build
 	cd crates/bench_store && rt run -- "$$(mktemp -d)/F" 1
 	cd crates/bench_world && rt run -- 2 3 8
+	cd crates/bench_memory && rt run -- scan 3 2 50 8
 	python3 bench/run.py
 
 clean:

@@ -7,11 +7,15 @@ not in memory. The runs of the two programs alternate; printed are both medians 
 A whole process is to cost at most 1.3 times the C program's, and a store inside a process at most 1.05 times.
 
 Then it counts events a second of a world and lines a second of a script, each also ten times as long: the cost of an event
-is not to grow with their number. A script of 200 MB is to run with less than 10 MB resident. Last it counts the looks of a scan, alone and beside writers.
+is not to grow with their number. A script of 200 MB is to run with less than 10 MB resident. It counts the looks of a scan, alone and beside writers.
+
+Last it times looks, scans and updates of the memory that threads share against a C program with the same atomic steps and copies, by the
+time of the processor, and counts scans a second beside writers. The largest memory is to have at most 45 MB resident.
 """
 
 import argparse
 import pathlib
+import resource
 import subprocess
 import sys
 import tempfile
@@ -89,10 +93,10 @@ def scripts():
     print(f"\n{'lines of a script':<44} {rates[0]:>12,.0f} {rates[1]:>12,.0f}   a second, at 100 kB and at 1 MB")
 
 
-def most_resident(process):
-    """The most memory that this process has had resident so far, in kB."""
+def resident(process, line="VmRSS:"):
+    """The memory that this process has resident, in kB; at `VmHWM:` the most that it has had so far."""
     status = pathlib.Path(f"/proc/{process.pid}/status").read_text()
-    return int(status.split("VmHWM:")[1].split()[0])
+    return int(status.split(line)[1].split()[0])
 
 
 def endless():
@@ -103,12 +107,12 @@ def endless():
     run.stdin.write(b"world 1 1\n")
     for _ in range(pieces):
         run.stdin.write(piece)
-    resident = most_resident(run)
+    most = resident(run, "VmHWM:")
     run.stdin.close()
     status = run.wait()
     rate = 10_000 * pieces / (time.monotonic() - began)
-    print(f"{'a script of 200 MB of short lines':<44} {rate:>12,.0f} {resident:>12,}   lines a second, and kB resident")
-    return status == 0 and resident < 10_000
+    print(f"{'a script of 200 MB of short lines':<44} {rate:>12,.0f} {most:>12,}   lines a second, and kB resident")
+    return status == 0 and most < 10_000
 
 
 def update(writer, segments):
@@ -142,6 +146,61 @@ def looks():
         second = {(2 * m + 1) * segments + m: m for m in range(segments)}
         schedules = (lambda look: None, lambda look: 0 if look else None, each.get, second.get)
         print(f"  {segments:>2} segments{'':<7}" + "".join(f"{looks_beside(segments, it):>30}" for it in schedules))
+
+
+MEMORY = str(TOP / "crates" / "bench_memory" / "out" / "bench_memory")
+
+
+def worked(*line):
+    """How many seconds the processor worked for one run, whatever else the machine did."""
+    before = resource.getrusage(resource.RUSAGE_CHILDREN)
+    subprocess.run(line, check=True, stdout=subprocess.DEVNULL)
+    after = resource.getrusage(resource.RUSAGE_CHILDREN)
+    return after.ru_utime + after.ru_stime - before.ru_utime - before.ru_stime
+
+
+def memory_ratio(label, limit, baseline, work, segments, rounds, length, tries=7):
+    """Times a round of both programs: the least time of some rounds, without that of none. The runs alternate."""
+    least = {}
+    for _ in range(tries):
+        for program in (MEMORY, baseline):
+            for count in (0, rounds):
+                took = worked(program, work, str(segments), "0", str(count), str(length))
+                least[program, count] = min(took, least.get((program, count), took))
+    mine, bare = ((least[it, rounds] - least[it, 0]) / rounds * 1e9 for it in (MEMORY, baseline))
+    label = f"{label}, {segments} x {length:,} bytes"
+    print(f"{label:<44} {mine:>9,.1f} ns {bare:>9,.1f} ns   {mine / bare:.3f}   (aim {limit})")
+
+
+def memories(folder):
+    """Looks, quiet scans and updates of a memory against C, and scans a second of 16 segments beside writers."""
+    baseline = str(compiled(folder, "baseline_memory"))
+    print(f"\n{'a memory between threads':<44} {'snapd':>12} {'C':>12}   ratio")
+    for length, rounds in ((8, 2_000_000), (4_080, 100_000)):
+        memory_ratio("look and value", 1.3, baseline, "look", 1, rounds, length)
+    for label, work in (("quiet scan", "scan"), ("prepare and show", "update")):
+        for segments, rounds, length in ((1, 1_000_000, 8), (4, 300_000, 8), (16, 100_000, 8), (16, 3_000, 4_080)):
+            memory_ratio(label, 1.5, baseline, work, segments, rounds, length)
+    rates = []
+    for writers in ("0", "1", "15"):
+        idle, _ = seconds(MEMORY, "scan", "16", writers, "0", "8")
+        took, _ = seconds(MEMORY, "scan", "16", writers, "30000", "8")
+        rates.append(f"{30_000 / (took - idle):>12,.0f}")
+    print(f"{'scans a second beside 0, 1 and 15 writers':<44} {' '.join(rates)}")
+
+
+def largest_memory():
+    """The kB resident of a memory for 16 segments and 16 scanners. Whether they are within the aim once its buffers were used."""
+    run = subprocess.Popen([MEMORY, "fill", "16", "0", "0", "4080"], stdin=subprocess.PIPE, stdout=subprocess.PIPE)
+    run.stdout.readline()
+    before, most = resident(run), resident(run, "VmHWM:")
+    run.stdin.write(b"\n")
+    run.stdin.flush()
+    run.stdout.readline()
+    used = resident(run)
+    run.communicate(b"\n")
+    print(f"{'the largest memory, kB resident':<44} opened {before:,} (while opening {most:,}), all used {used:,}   (aim 45,000)")
+    return run.returncode == 0 and used <= 45_000
 
 
 def main():
@@ -182,7 +241,9 @@ def main():
         scripts()
         fits = endless()
         looks()
-        return 0 if few == more and fits else 1
+        memories(folder)
+        small = largest_memory()
+        return 0 if few == more and fits and small else 1
 
 
 if __name__ == "__main__":
