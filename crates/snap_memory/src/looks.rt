@@ -54,7 +54,11 @@ pub fn scan<L: Looker>(seat: &mut L, out: &mut SnapshotBuf)
 }
 
 /// Fills `out` with the values of the last looks, one at each segment, which told these numbers.
-fn read_all<L: Looker>(seat: &mut L, numbers: &[u64; MAX_SEGMENTS], out: &mut SnapshotBuf)
+pub(crate) fn read_all<L: Looker>(
+    seat: &mut L,
+    numbers: &[u64; MAX_SEGMENTS],
+    out: &mut SnapshotBuf,
+)
     requires room { length out.old ≡ segments (L.known seat.old).plan }
     requires looked { (i : ℕ) → i < segments (L.known seat.old).plan
         → looked (L.known seat.old) i ≡ Some (slice_index numbers.now i) }
