@@ -13,6 +13,7 @@ mod scanner;
 mod snapshot;
 mod update;
 
+pub use looks::scan;
 pub use scanner::Scanner;
 pub use snap_register::View;
 pub use snapshot::Snapshot;

@@ -32,8 +32,13 @@ pub(crate) fn gather<L: Looker>(seat: &mut L, numbers: &mut [u64; MAX_SEGMENTS])
     }
 }
 
-/// Fills `out` with the memory of one moment.
-pub(crate) fn scan<L: Looker>(seat: &mut L, out: &mut SnapshotBuf)
+/// Fills `out` with the memory of one moment, by the looks of any kind of seat, also of one that a
+/// caller has put round a seat of the registers. [`Scanner::scan_into`](crate::Scanner::scan_into)
+/// is this scan by a scanner's own seat.
+///
+/// It takes off the looks that it takes; the caller has to see that enough for a scan are left
+/// ([`most_looks`](snap_scan::most_looks)).
+pub fn scan<L: Looker>(seat: &mut L, out: &mut SnapshotBuf)
     requires left { CanScan (L.known seat.old) }
     requires room { length out.old ≡ segments (L.known seat.old).plan }
     ensures seen { Grows (L.known seat.old) (L.known seat.new) }
@@ -49,7 +54,11 @@ pub(crate) fn scan<L: Looker>(seat: &mut L, out: &mut SnapshotBuf)
 }
 
 /// Fills `out` with the values of the last looks, one at each segment, which told these numbers.
-fn read_all<L: Looker>(seat: &mut L, numbers: &[u64; MAX_SEGMENTS], out: &mut SnapshotBuf)
+pub(crate) fn read_all<L: Looker>(
+    seat: &mut L,
+    numbers: &[u64; MAX_SEGMENTS],
+    out: &mut SnapshotBuf,
+)
     requires room { length out.old ≡ segments (L.known seat.old).plan }
     requires looked { (i : ℕ) → i < segments (L.known seat.old).plan
         → looked (L.known seat.old) i ≡ Some (slice_index numbers.now i) }

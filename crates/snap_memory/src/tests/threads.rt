@@ -1,35 +1,69 @@
 //! Writers and scanners in threads of their own, and a plain judge of all that they saw.
-ghost use Rattle.std.specs.Prelude.{◌≡◌};
+ghost use Rattle.std.specs.Prelude.{◌<◌, ◌≤◌};
 
+use crate::tests::staged::wait_for;
 use crate::tests::{open, scan, update};
 use crate::{Scanner, Snapshot};
 use snap_register::{Parts, WriteSeat};
+use snap_scan::MAX_SEGMENTS;
 use std::alloc::{AllocError, Global};
+use std::process::Abort;
 use std::sync::atomic::{AtomicU64, Ordering};
 use std::test::Fail;
-use std::thread::join;
+use std::thread::{Threads, for_each_mut, yield_now};
 
-const SEGMENTS: usize = 3;
+/// Of each segment one number; those of segments that aren't there are 0.
+type Numbers = [u64; MAX_SEGMENTS];
 
-const UPDATES: u64 = 200;
+/// How much there is of everything: updates of each writer, and scans of each scanner.
+#[derive(Clone, Copy)]
+struct Size {
+    segments: usize,
+    scanners: usize,
+    updates: u64,
+    scans: usize,
+}
 
-const SCANS: usize = 300;
-
-/// Of each segment, the number of the last update that began, and of the last one that ended.
+/// How many workers there are, and how many have arrived. Of each segment, the number of the last
+/// update that began, and of the last one that ended.
 #[derive(Drop)]
 struct Course {
-    begun: [AtomicU64; SEGMENTS],
-    ended: [AtomicU64; SEGMENTS],
+    workers: u64,
+    arrived: AtomicU64,
+    begun: Vec<AtomicU64>,
+    ended: Vec<AtomicU64>,
 }
 
 /// A scan: what had ended before it, the numbers that it answered, and what had begun after it.
 #[derive(Drop)]
 struct Seen {
-    ended: [u64; SEGMENTS],
-    numbers: [u64; SEGMENTS],
-    begun: [u64; SEGMENTS],
+    ended: Numbers,
+    numbers: Numbers,
+    begun: Numbers,
     /// Whether each value was the one of its number.
     right: bool,
+}
+
+/// Who works in a thread of its own, and what came of it.
+#[derive(Drop)]
+enum Worker {
+    Writer {
+        seat: WriteSeat,
+        is_done: bool,
+    },
+    Scanner {
+        scanner: Scanner,
+        snapshot: Snapshot,
+        record: Vec<Seen>,
+    },
+}
+
+fn zeros(alloc: Global, count: usize) -> Result<Vec<AtomicU64>, AllocError> {
+    let mut words = Vec::new(alloc);
+    for _ in 0..count {
+        words.push(AtomicU64::new(0))?;
+    }
+    Ok(words)
 }
 
 fn value_of(segment: usize, number: u64) -> [u8; 9] {
@@ -38,46 +72,52 @@ fn value_of(segment: usize, number: u64) -> [u8; 9] {
     [s[0], n[0], n[1], n[2], n[3], n[4], n[5], n[6], n[7]]
 }
 
-fn numbers_of(words: &[AtomicU64; SEGMENTS]) -> [u64; SEGMENTS] {
-    [
-        words[0].load(Ordering::SeqCst),
-        words[1].load(Ordering::SeqCst),
-        words[2].load(Ordering::SeqCst),
-    ]
+fn numbers_of(words: &Vec<AtomicU64>) -> Numbers {
+    let mut numbers = [0; MAX_SEGMENTS];
+    for (number, word) in numbers.iter_mut().zip(words.iter()) {
+        *number = word.load(Ordering::SeqCst);
+    }
+    numbers
 }
 
 /// Shows all updates of the seat's segment. Whether each got its number.
-fn write_all(writer: &mut WriteSeat, course: &Course) -> bool {
+fn write_all(writer: &mut WriteSeat, course: &Course, updates: u64) -> bool {
     let segment = writer.segment();
-    if segment >= SEGMENTS {
+    let (Some(begun), Some(ended)) = (course.begun.get(segment), course.ended.get(segment)) else {
         return false;
-    }
-    for number in 1..UPDATES + 1 {
-        course.begun[segment].store(number, Ordering::SeqCst);
+    };
+    for done in 0..updates {
+        let number = done + 1;
+        begun.store(number, Ordering::SeqCst);
         if update(writer, &value_of(segment, number)) != Some(number) {
             return false;
         }
-        course.ended[segment].store(number, Ordering::SeqCst);
+        ended.store(number, Ordering::SeqCst);
+        yield_now();
     }
     true
 }
 
-fn is_right(snapshot: &Snapshot, i: usize) -> bool {
-    if i >= snapshot.len() {
-        return false;
+/// Whether each value is the one of its number.
+fn are_of_their_numbers(snapshot: &Snapshot) -> bool {
+    for i in 0..snapshot.len() {
+        let right = match snapshot.number(i) {
+            0 => snapshot.value(i).is_empty(),
+            number => snapshot.value(i) == value_of(i, number).as_slice(),
+        };
+        if !right {
+            return false;
+        }
     }
-    match snapshot.number(i) {
-        0 => snapshot.value(i).is_empty(),
-        number => snapshot.value(i) == value_of(i, number).as_slice(),
-    }
+    true
 }
 
-fn number_of(snapshot: &Snapshot, i: usize) -> u64 {
-    if i < snapshot.len() {
-        snapshot.number(i)
-    } else {
-        0
+fn numbers_in(snapshot: &Snapshot) -> Numbers {
+    let mut numbers = [0; MAX_SEGMENTS];
+    for i in 0..snapshot.len().min(MAX_SEGMENTS) {
+        numbers[i] = snapshot.number(i);
     }
+    numbers
 }
 
 fn scan_once(scanner: &mut Scanner, snapshot: &mut Snapshot, course: &Course) -> Seen {
@@ -86,37 +126,41 @@ fn scan_once(scanner: &mut Scanner, snapshot: &mut Snapshot, course: &Course) ->
     let begun = numbers_of(&course.begun);
     Seen {
         ended,
-        numbers: [
-            number_of(snapshot, 0),
-            number_of(snapshot, 1),
-            number_of(snapshot, 2),
-        ],
+        numbers: numbers_in(snapshot),
         begun,
-        right: answered && is_right(snapshot, 0) && is_right(snapshot, 1) && is_right(snapshot, 2),
+        right: answered && are_of_their_numbers(snapshot),
     }
 }
 
-/// Scans again and again, and keeps what it saw.
-fn scan_all(
-    alloc: Global,
-    scanner: &mut Scanner,
-    course: &Course,
-) -> Result<Vec<Seen>, AllocError> {
-    let mut snapshot = Snapshot::new(alloc, SEGMENTS)?;
-    let mut record = Vec::new(alloc);
-    for _ in 0..SCANS {
-        record.push(scan_once(scanner, &mut snapshot, course))?;
+/// Does all that is one worker's, once all are there: its updates, or its scans, whose record it
+/// keeps. It often lets the others go first, so that even few processors mix them.
+fn work(worker: &mut Worker, course: &Course, size: Size) {
+    course.arrived.fetch_add(1, Ordering::SeqCst);
+    wait_for(&course.arrived, course.workers);
+    match worker {
+        Worker::Writer { seat, is_done } => *is_done = write_all(seat, course, size.updates),
+        Worker::Scanner {
+            scanner,
+            snapshot,
+            record,
+        } => {
+            for _ in 0..size.scans {
+                if record.push(scan_once(scanner, snapshot, course)).is_err() {
+                    return;
+                }
+                yield_now();
+            }
+        }
     }
-    Ok(record)
 }
 
-fn is_below(a: &[u64; SEGMENTS], b: &[u64; SEGMENTS]) -> bool {
-    a[0] <= b[0] && a[1] <= b[1] && a[2] <= b[2]
+fn is_below(a: &Numbers, b: &Numbers) -> bool {
+    a.iter().zip(b.iter()).all(|(x, y)| *x <= *y)
 }
 
 /// Whether each scan is right: it has all that ended before it began, and nothing that began after
 /// it ended.
-fn are_right(record: &[Seen]) -> bool {
+fn are_right(record: &Vec<Seen>) -> bool {
     for seen in record {
         if !seen.right || !is_below(&seen.ended, &seen.numbers) {
             return false;
@@ -129,8 +173,8 @@ fn are_right(record: &[Seen]) -> bool {
 }
 
 /// Whether no number fell in a scanner's record.
-fn are_rising(record: &[Seen]) -> bool {
-    let mut last = [0; SEGMENTS];
+fn are_rising(record: &Vec<Seen>) -> bool {
+    let mut last = [0; MAX_SEGMENTS];
     for seen in record {
         if !is_below(&last, &seen.numbers) {
             return false;
@@ -141,7 +185,7 @@ fn are_rising(record: &[Seen]) -> bool {
 }
 
 /// Whether of any two scans one shows no more than the other.
-fn are_ordered(record: &[Seen], other: &[Seen]) -> bool {
+fn are_ordered(record: &Vec<Seen>, other: &Vec<Seen>) -> bool {
     for a in record {
         for b in other {
             if !is_below(&a.numbers, &b.numbers) && !is_below(&b.numbers, &a.numbers) {
@@ -152,52 +196,108 @@ fn are_ordered(record: &[Seen], other: &[Seen]) -> bool {
     true
 }
 
+/// Whether the worker did all that was its to do, and all that it saw is right and ordered with
+/// what every other one saw.
+fn is_sound(worker: &Worker, others: &Vec<Worker>, scans: usize) -> bool {
+    let record = match worker {
+        Worker::Writer { is_done, .. } => return *is_done,
+        Worker::Scanner { record, .. } => record,
+    };
+    for other in others {
+        if let Worker::Scanner { record: other, .. } = other {
+            if !are_ordered(record, other) {
+                return false;
+            }
+        }
+    }
+    record.len() == scans && are_right(record) && are_rising(record)
+}
+
+/// A worker at each of the seats.
+fn workers_at(alloc: Global, parts: Parts, size: Size) -> Result<Vec<Worker>, AllocError> {
+    let mut workers = Vec::new(alloc);
+    for seat in parts.writers {
+        workers.push(Worker::Writer {
+            seat,
+            is_done: false,
+        })?;
+    }
+    for seat in parts.scanners {
+        workers.push(Worker::Scanner {
+            scanner: Scanner::new(seat),
+            snapshot: Snapshot::new(alloc, size.segments)?,
+            record: Vec::with_capacity(alloc, size.scans)?,
+        })?;
+    }
+    Ok(workers)
+}
+
+/// All work at once. Afterwards their whole record is judged, and one scan more by each scanner.
+fn judged_run<R: Abort + Threads + Sync>(
+    rt: &R,
+    alloc: Global,
+    size: Size,
+) -> Result<(), AllocError>
+    requires segments { (0 < size.segments) × (size.segments ≤ 16) }
+    requires scanners { size.scanners ≤ 16 }
+{
+    let parts = open(alloc, size.segments, size.scanners, 1_000_000)?;
+    let mut workers = workers_at(alloc, parts, size)?;
+    let threads = size.segments + size.scanners;
+    let course = Course {
+        workers: threads as u64,
+        arrived: AtomicU64::new(0),
+        begun: zeros(alloc, size.segments)?,
+        ended: zeros(alloc, size.segments)?,
+    };
+    for_each_mut(
+        rt,
+        workers.as_mut_slice(),
+        threads,
+        &|_, worker| { work(worker, &course, size) },
+    );
+    for worker in &workers {
+        assert!(rt; is_sound(worker, &workers, size.scans));
+    }
+    for worker in &mut workers {
+        if let Worker::Scanner {
+            scanner,
+            snapshot,
+            ..
+        } = worker
+        {
+            let last = scan_once(scanner, snapshot, &course);
+            assert!(rt;
+                last.right
+                    && last.numbers[..size.segments]
+                        .iter()
+                        .all(|n| *n == size.updates)
+            );
+        }
+    }
+    Ok(())
+}
+
 #[test]
 fn three_writers_and_two_scanners_in_threads(rt: HostRuntime) -> Result<(), Fail> {
-    let alloc = rt.alloc();
-    let Parts {
-        mut writers,
-        mut scanners,
-    } = open(alloc, SEGMENTS, 2, 100_000)?;
-    let (Some(mut w2), Some(mut w1), Some(mut w0)) = (writers.pop(), writers.pop(), writers.pop())
-    else {
-        panic!(rt; "a seat is missing")
+    let size = Size {
+        segments: 3,
+        scanners: 2,
+        updates: 200,
+        scans: 300,
     };
-    let (Some(a), Some(b)) = (scanners.pop(), scanners.pop()) else {
-        panic!(rt; "a seat is missing")
+    judged_run(&rt, rt.alloc(), size)?;
+    Ok(())
+}
+
+#[test]
+fn sixteen_writers_and_sixteen_scanners_in_threads(rt: HostRuntime) -> Result<(), Fail> {
+    let size = Size {
+        segments: 16,
+        scanners: 16,
+        updates: 1_250,
+        scans: 250,
     };
-    let (mut a, mut b) = (Scanner::new(a), Scanner::new(b));
-    let course = Course {
-        begun: [AtomicU64::new(0), AtomicU64::new(0), AtomicU64::new(0)],
-        ended: [AtomicU64::new(0), AtomicU64::new(0), AtomicU64::new(0)],
-    };
-    let (written, (first, second)) = join(
-        &rt,
-        || {
-            let (x, (y, z)) = join(
-                &rt,
-                || write_all(&mut w0, &course),
-                || join(
-                    &rt,
-                    || write_all(&mut w1, &course),
-                    || write_all(&mut w2, &course),
-                ),
-            );
-            x && y && z
-        },
-        || join(
-            &rt,
-            || scan_all(alloc, &mut a, &course),
-            || scan_all(alloc, &mut b, &course),
-        ),
-    );
-    let (first, second) = (first?, second?);
-    assert!(rt; written);
-    assert!(rt; are_right(&first) && are_right(&second));
-    assert!(rt; are_rising(&first) && are_rising(&second));
-    assert!(rt; are_ordered(&first, &second));
-    let mut snapshot = Snapshot::new(alloc, SEGMENTS)?;
-    let last = scan_once(&mut a, &mut snapshot, &course);
-    assert!(rt; last.right && last.numbers == [UPDATES; SEGMENTS]);
+    judged_run(&rt, rt.alloc(), size)?;
     Ok(())
 }
