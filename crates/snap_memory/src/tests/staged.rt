@@ -33,7 +33,7 @@ struct Staged<'a> {
 }
 
 /// Waits until it is this turn, for a while.
-pub(crate) fn wait_for(turn: &AtomicU64, wanted: u64) -> bool {
+fn wait_for(turn: &AtomicU64, wanted: u64) -> bool {
     for _ in 0..10_000_000 {
         if turn.load(Ordering::SeqCst) == wanted {
             return true;

@@ -1,7 +1,6 @@
 //! Writers and scanners in threads of their own, and a plain judge of all that they saw.
 ghost use Rattle.std.specs.Prelude.{◌<◌, ◌≤◌};
 
-use crate::tests::staged::wait_for;
 use crate::tests::{open, scan, update};
 use crate::{Scanner, Snapshot};
 use snap_register::{Parts, WriteSeat};
@@ -132,11 +131,21 @@ fn scan_once(scanner: &mut Scanner, snapshot: &mut Snapshot, course: &Course) ->
     }
 }
 
+/// Waits for the others, but not for long: where no thread can be made they come after this one.
+fn wait_for_all(course: &Course) {
+    course.arrived.fetch_add(1, Ordering::SeqCst);
+    for _ in 0..10_000 {
+        if course.arrived.load(Ordering::SeqCst) == course.workers {
+            return;
+        }
+        yield_now();
+    }
+}
+
 /// Does all that is one worker's, once all are there: its updates, or its scans, whose record it
 /// keeps. It often lets the others go first, so that even few processors mix them.
 fn work(worker: &mut Worker, course: &Course, size: Size) {
-    course.arrived.fetch_add(1, Ordering::SeqCst);
-    wait_for(&course.arrived, course.workers);
+    wait_for_all(course);
     match worker {
         Worker::Writer { seat, is_done } => *is_done = write_all(seat, course, size.updates),
         Worker::Scanner {
