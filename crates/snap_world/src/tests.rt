@@ -47,9 +47,8 @@ pub(crate) const FIRST_STORE: [Kind; 4] = [
 ];
 
 /// Those of each later one, which closes the spare gate before.
-pub(crate) const LATER_STORE: [Kind; 6] = [
+pub(crate) const LATER_STORE: [Kind; 5] = [
     Kind::Write(Write::Close),
-    Kind::Sync,
     Kind::Write(Write::Body),
     Kind::Sync,
     Kind::Write(Write::Open),
