@@ -1,4 +1,4 @@
-use Rattle.std.proofs.Common.{◌≡◌, ◌⊎◌, ⊎_elim, ℕ, ◌-◌, ◌<◌, length, sym, ◌∙◌, arith}
+use Rattle.std.proofs.Common.{◌≡◌, ⊎_elim, ℕ, ◌-◌, ◌<◌, length, sym, ◌∙◌, arith}
 use Rattle.snap_slot.specs.declared.slot.Slot.TheVariants.{Closed, Open}
 use Rattle.snap_slot.proofs.Recovery.{slots_read}
 use Rattle.snap_slot.proofs.findings.held_in.Goals as goal
