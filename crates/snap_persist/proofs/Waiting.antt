@@ -91,6 +91,10 @@ module _ (i n k : ℕ) (u : List ℕ) where
   spare_is : spare_slot (slot_of k) ≡ t
   spare_is = omega arith
 
+  pub next_closed : (spare_open : Bool) (d : Device) → IsAtRest i n k u spare_open d
+      → IsClosed d.bytes s
+  next_closed spare_open d ready = subst (λ (x : ℕ). IsClosed d.bytes x) next_is ready.next
+
   -- the gate of the spare slot and the body may hold anything
   module _ (spare_open : Bool) (d : Device) (ready : IsAtRest i n k u spare_open d) (b : List ℕ)
       (left : MayLeave (opened (body_at s) BLOCK_LEN (opened (gate_at t) 1 d)) b) where

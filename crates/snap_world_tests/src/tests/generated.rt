@@ -2,8 +2,7 @@
 //! program.
 ghost use Rattle.std.specs.Prelude.{◌<◌};
 
-use crate::event::{Actor, Event, Reply};
-use crate::world::World;
+use snap_world::{Actor, Event, Reply, World};
 use snap_disk::Fill;
 use snap_history::{Update, memory_after};
 use std::alloc::{AllocError, Global};

@@ -2,8 +2,7 @@
 mod generated;
 mod restarts;
 
-use crate::event::{Actor, Event, Kind, Reply};
-use crate::world::World;
+use snap_world::{Actor, Event, Kind, Reply, World};
 use snap_persist::Write;
 use std::alloc::{AllocError, Global};
 use std::process::Abort;

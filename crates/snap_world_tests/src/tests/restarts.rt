@@ -1,7 +1,6 @@
 //! Worked runs of device faults, crashes and restarts.
-use crate::event::{Actor, Event, Kind, Reply};
+use snap_world::{Actor, Event, Kind, Reply, World};
 use crate::tests::{FIRST_STORE, LATER_STORE, answer, begin, calls, expect, looks, show, store};
-use crate::world::World;
 use snap_disk::Fill;
 use snap_persist::Write;
 use std::alloc::{AllocError, Global};
