@@ -1,5 +1,5 @@
 -- Why two syncs are enough for a store.
-use Rattle.std.specs.Prelude.{ℕ, ◌+◌, Bool, List}
+use Rattle.std.specs.Prelude.{ℕ, ◌+◌, Bool, true, List}
 use Rattle.snap_disk.specs.Device.{Device, MayLeave, opened}
 use Rattle.snap_slot.specs.declared.layout.TheConstants.{BLOCK_LEN}
 use Rattle.snap_slot.specs.Layout.{

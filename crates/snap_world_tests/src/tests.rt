@@ -2,8 +2,8 @@
 mod generated;
 mod restarts;
 
-use snap_world::{Actor, Event, Kind, Reply, World};
 use snap_persist::Write;
+use snap_world::{Actor, Event, Kind, Reply, World};
 use std::alloc::{AllocError, Global};
 use std::process::Abort;
 use std::test::Fail;
