@@ -16,9 +16,10 @@ ghost use Rattle.std.specs.Prelude.{
   OnErr,
 };
 ghost use Rattle.std.specs.Option.{option_copied};
-ghost use Rattle.snap_disk.specs.Device.{IsSettled, MayLeave, LeavesOnly};
+ghost use Rattle.snap_disk.specs.Device.{IsSettled, CountsCalls, MayLeave, LeavesOnly};
 ghost use Rattle.snap_slot.specs.Layout.{IsNumber, IsShort, IsFileOf};
 ghost use Rattle.snap_slot.specs.States.{IsEither};
+ghost use Rattle.snap_persist.specs.Stage.{store_calls};
 ghost use Rattle.snap_segment.specs.Segment.{CountsRefusal, IsKept};
 ghost use Rattle.snap_register.specs.Seat.{AreTogether, Meets, IsBelow, own_of};
 ghost use Rattle.snap_register.specs.Seat.{number_in, value_in};
@@ -143,6 +144,9 @@ impl<D: Disk> Writer<D> {
             → OnOk result (Advances self.old self.new value.now) }
         ensures fails { IsJudged self.old number value.now Judgement.Go
             → OnErr result (Fails self.old self.new value.now) }
+        ensures calls { IsJudged self.old number value.now Judgement.Go
+            → CountsCalls result (length (store_calls self.old.segment.spare_open))
+            (D.clock self.old.segment.device) (D.clock self.new.segment.device) }
         ensures left { IsJudged self.old number value.now Judgement.Go
             → TakesLooks self.old.seat self.new.seat }
         ensures below { IsJudged self.old number value.now Judgement.Go → IsBelow self.new.seat }
@@ -254,6 +258,8 @@ impl<D: Disk> Writer<D> {
         ensures answer { IsAnswer (number_of self.old + 1) Judgement.Go result }
         ensures advances { OnOk result (Advances self.old self.new value.now) }
         ensures fails { OnErr result (Fails self.old self.new value.now) }
+        ensures calls { CountsCalls result (length (store_calls self.old.segment.spare_open))
+            (D.clock self.old.segment.device) (D.clock self.new.segment.device) }
         ensures left { TakesLooks self.old.seat self.new.seat }
         ensures below { IsBelow self.new.seat }
         ensures any_time { D.is_honest self.new.segment.device
