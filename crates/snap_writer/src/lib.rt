@@ -7,7 +7,9 @@
 #![tactic(auto)]
 
 mod judgement;
+mod laws;
 mod writer;
 
 pub use judgement::Judgement;
+pub use laws::judge_laws;
 pub use writer::Writer;
