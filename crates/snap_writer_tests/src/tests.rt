@@ -169,9 +169,11 @@ fn put(
     at: u64,
     bytes: &[u8],
 ) -> Result<(), Fail> {
-    assert!(rt;
-        disk.failures() < 9 && at < FILE_LEN && bytes.len() as u64 <= disk.len().saturating_sub(at)
-    );
+    assert!(rt; disk.failures() < 9);
+    assert!(rt; at < FILE_LEN && bytes.len() <= BLOCK_LEN);
+    let end = at + bytes.len() as u64;
+    let length = disk.len();
+    assert!(rt; end <= length);
     disk.write_at(at, bytes)?;
     Ok(())
 }
