@@ -44,27 +44,41 @@ fn seated(
     Ok((Writer::new(segment, seat), Scanner::new(scanner)))
 }
 
-/// The device of a writer whose work is over.
-fn device_of(writer: Writer<MemDisk>) -> MemDisk {
-    let (segment, _) = writer.into_parts();
-    segment.into_device()
-}
-
-/// A scan by a scanner of one segment answers this number and value.
-fn shows(
-    rt: &(impl Abort + AllocGlobal),
-    scanner: &mut Scanner,
+/// The update is answered so.
+fn answers(
+    rt: &impl Abort,
+    writer: &mut Writer<MemDisk>,
     number: u64,
     value: &[u8],
-) -> Result<bool, Fail>
-    ensures { IfOk result (λ _. (scanner.new.table ≡ scanner.old.table)
-        × (scanner.new.plan ≡ scanner.old.plan)) }
+    answer: Result<u64, Refusal>,
+)
+    ensures table { writer.new.seat.table ≡ writer.old.seat.table }
+    ensures plan { writer.new.seat.plan ≡ writer.old.seat.plan }
 {
-    let mut out = Snapshot::new(rt.alloc(), 1)?;
-    assert!(rt; scanner.segments() == 1);
-    scanner.scan_into(&mut out)?;
-    assert!(rt; out.len() == 1);
-    Ok(out.number(0) == number && out.value(0) == value)
+    let answered = writer.update(number, value);
+    assert!(rt; answered == answer);
+}
+
+/// The writer has this number and value, and so many looks left.
+fn stands(rt: &impl Abort, writer: &Writer<MemDisk>, number: u64, value: &[u8], left: u64) {
+    assert!(rt; writer.number() == number && writer.looks_left() == left);
+    assert!(rt; writer.value() == value);
+}
+
+/// A scan of one segment answers this number and value.
+fn shows(rt: &impl Abort, scanner: &mut Scanner, out: &mut Snapshot, number: u64, value: &[u8]) {
+    assert!(rt; scanner.segments() == 1 && out.len() == 1);
+    let scanned = scanner.scan_into(out);
+    assert!(rt; scanned == Ok(()) && out.len() == 1);
+    assert!(rt; out.number(0) == number && out.value(0) == value);
+}
+
+/// Its device was called so often, and failed so often.
+fn called(rt: &impl Abort, writer: Writer<MemDisk>, calls: u64, failures: u64) -> MemDisk {
+    let (segment, _) = writer.into_parts();
+    let disk = segment.into_device();
+    assert!(rt; disk.calls() == calls && disk.failures() == failures);
+    disk
 }
 
 /// A writer at number 0 whose update to 1 and `hi` failed at its fourth call, a sync.
@@ -77,35 +91,41 @@ fn faulted(rt: &(impl Abort + AllocGlobal)) -> Result<(Writer<MemDisk>, Scanner)
     plan.fail_call(disk.calls().saturating_add(6), Fill::Keep)?;
     disk.set_plan(plan);
     let (mut writer, scanner) = seated(rt, disk, 100)?;
-    assert_eq!(rt; writer.update(1, b"hi"), Err(Refusal::DeviceFailed));
+    answers(rt, &mut writer, 1, b"hi", Err(Refusal::DeviceFailed));
     Ok((writer, scanner))
 }
 
 #[test]
 fn stored_and_then_shown(rt: HostRuntime) -> Result<(), Fail> {
+    let mut out = Snapshot::new(rt.alloc(), 1)?;
     let (mut writer, mut scanner) = seated(&rt, fresh(&rt)?, 100)?;
-    assert!(rt; writer.number() == 0 && writer.value().is_empty());
-    assert_eq!(rt; writer.update(1, b"hi"), Ok(1));
-    assert!(rt; writer.number() == 1 && writer.value() == b"hi".as_slice());
+    stands(&rt, &writer, 0, b"", 100);
+    answers(&rt, &mut writer, 1, b"hi", Ok(1));
+    stands(&rt, &writer, 1, b"hi", 98);
     assert!(rt; !writer.is_fenced() && writer.begun().is_none());
-    assert!(rt; writer.looks_left() == 98);
     writer.meet(&mut scanner);
-    assert!(rt; shows(&rt, &mut scanner, 1, b"hi")?);
-    let (segment, seat) = writer.into_parts();
-    assert!(rt; segment.number() == 1 && seat.number() == 1);
-    let mut disk = segment.into_device();
+    shows(&rt, &mut scanner, &mut out, 1, b"hi");
+    Ok(())
+}
+
+#[test]
+fn stored_for_good(rt: HostRuntime) -> Result<(), Fail> {
+    let (mut writer, _) = seated(&rt, fresh(&rt)?, 100)?;
+    answers(&rt, &mut writer, 1, b"hi", Ok(1));
+    // A formatting makes seven calls, an opening two, and the update four.
+    let mut disk = called(&rt, writer, 7 + 2 + 4, 0);
     disk.crash(&Fill::All(0xA5));
     let (writer, _) = seated(&rt, disk, 100)?;
-    assert!(rt; writer.number() == 1 && writer.value() == b"hi".as_slice());
+    stands(&rt, &writer, 1, b"hi", 100);
     Ok(())
 }
 
 #[test]
 fn answers_in_the_order_of_the_rules(rt: HostRuntime) -> Result<(), Fail> {
     let more = [7; MAX_VALUE_LEN + 1];
-    let (mut writer, _) = seated(&rt, fresh(&rt)?, 100)?;
     let longest = &more[1..];
-    assert_eq!(rt; writer.update(1, longest), Ok(1));
+    let (mut writer, _) = seated(&rt, fresh(&rt)?, 100)?;
+    answers(&rt, &mut writer, 1, longest, Ok(1));
     let updates: [(u64, &[u8], Result<u64, Refusal>); 8] = [
         (1, &more, Err(Refusal::TooLong)),
         (2, &more, Err(Refusal::TooLong)),
@@ -117,15 +137,16 @@ fn answers_in_the_order_of_the_rules(rt: HostRuntime) -> Result<(), Fail> {
         (u64::MAX, b"", Err(Refusal::OutOfStep)),
     ];
     for (number, value, answer) in updates {
-        assert_eq!(rt; writer.update(number, value), answer);
-        assert!(rt; writer.number() == 1 && writer.looks_left() == 98);
+        answers(&rt, &mut writer, number, value, answer);
+        stands(&rt, &writer, 1, longest, 98);
     }
-    assert_eq!(rt; writer.update(2, b"yo"), Ok(2));
+    answers(&rt, &mut writer, 2, b"yo", Ok(2));
     Ok(())
 }
 
 #[test]
 fn fault_fences_the_segment(rt: HostRuntime) -> Result<(), Fail> {
+    let mut out = Snapshot::new(rt.alloc(), 1)?;
     let (mut writer, mut scanner) = faulted(&rt)?;
     assert!(rt; writer.is_fenced());
     assert!(rt;
@@ -134,32 +155,43 @@ fn fault_fences_the_segment(rt: HostRuntime) -> Result<(), Fail> {
             .is_some_and(|begun| begun == b"hi".as_slice())
     );
     writer.meet(&mut scanner);
-    assert!(rt; shows(&rt, &mut scanner, 0, b"")?);
-    assert_eq!(rt; writer.update(1, b"hi"), Err(Refusal::Fenced));
-    assert_eq!(rt; writer.update(0, b""), Ok(0));
-    assert_eq!(rt; writer.update(0, b"hi"), Err(Refusal::Conflict));
-    assert_eq!(rt; writer.update(5, b"hi"), Err(Refusal::OutOfStep));
-    let disk = device_of(writer);
-    // A formatting makes seven calls, an opening two, and the update four.
-    assert_eq!(rt; (disk.calls(), disk.failures()), (7 + 2 + 4, 1));
+    shows(&rt, &mut scanner, &mut out, 0, b"");
+    let updates: [(u64, &[u8], Result<u64, Refusal>); 4] = [
+        (1, b"hi", Err(Refusal::Fenced)),
+        (0, b"", Ok(0)),
+        (0, b"hi", Err(Refusal::Conflict)),
+        (5, b"hi", Err(Refusal::OutOfStep)),
+    ];
+    for (number, value, answer) in updates {
+        answers(&rt, &mut writer, number, value, answer);
+    }
+    called(&rt, writer, 7 + 2 + 4, 1);
+    Ok(())
+}
+
+/// After the faulted update the machine crashes, and the client sends the update again.
+fn sent_again(
+    rt: &(impl Abort + AllocGlobal),
+    fill: &Fill,
+    recovered: u64,
+    calls: u64,
+) -> Result<(), Fail> {
+    let (writer, _) = faulted(rt)?;
+    let mut disk = called(rt, writer, 7 + 2 + 4, 1);
+    disk.set_plan(FaultPlan::new(rt.alloc()));
+    disk.crash(fill);
+    let (mut writer, _) = seated(rt, disk, 100)?;
+    assert!(rt; writer.number() == recovered && calls < 9);
+    answers(rt, &mut writer, 1, b"hi", Ok(1));
+    answers(rt, &mut writer, 1, b"yo", Err(Refusal::Conflict));
+    called(rt, writer, 13 + 2 + calls, 1);
     Ok(())
 }
 
 #[test]
 fn the_client_sends_again(rt: HostRuntime) -> Result<(), Fail> {
-    for (fill, recovered, calls) in [(Fill::All(0x00), 0, 4), (Fill::All(0xA5), 1, 0)] {
-        let (writer, _) = faulted(&rt)?;
-        let mut disk = device_of(writer);
-        disk.set_plan(FaultPlan::new(rt.alloc()));
-        disk.crash(&fill);
-        let before = disk.calls().saturating_add(2);
-        let (mut writer, _) = seated(&rt, disk, 100)?;
-        assert_eq!(rt; writer.number(), recovered);
-        assert_eq!(rt; writer.update(1, b"hi"), Ok(1));
-        assert_eq!(rt; writer.update(1, b"yo"), Err(Refusal::Conflict));
-        assert_eq!(rt; device_of(writer).calls().saturating_sub(before), calls);
-    }
-    Ok(())
+    sent_again(&rt, &Fill::All(0x00), 0, 4)?;
+    sent_again(&rt, &Fill::All(0xA5), 1, 0)
 }
 
 /// Writes these bytes into the device.
@@ -178,41 +210,45 @@ fn put(
     Ok(())
 }
 
-#[test]
-fn largest_number(rt: HostRuntime) -> Result<(), Fail> {
-    let mut disk = fresh(&rt)?;
+/// A file of which only the largest number is left, with the empty value.
+fn at_the_end(rt: &(impl Abort + AllocGlobal)) -> Result<MemDisk, Fail> {
+    let mut disk = fresh(rt)?;
     let mut body = [0; BLOCK_LEN];
     encode_body(LAST_NUMBER, b"", &mut body);
     let slot = slot_of(LAST_NUMBER);
-    put(&rt, &mut disk, body_at(slot), &body)?;
-    put(&rt, &mut disk, gate_at(0), &[CLOSED_GATE])?;
-    put(&rt, &mut disk, gate_at(slot), &[OPEN_GATE])?;
-    let before = disk.calls().saturating_add(2);
-    let (mut writer, _) = seated(&rt, disk, 100)?;
-    assert_eq!(rt; writer.number(), 9_223_372_036_854_775_807);
-    assert_eq!(rt;
-        writer.update(9_223_372_036_854_775_808, b"x"),
-        Err(Refusal::Exhausted)
-    );
-    assert_eq!(rt; writer.update(1, b"x"), Err(Refusal::OutOfStep));
-    assert_eq!(rt;
-        writer.update(9_223_372_036_854_775_807, b""),
-        Ok(9_223_372_036_854_775_807)
-    );
-    assert_eq!(rt; device_of(writer).calls().saturating_sub(before), 0);
+    put(rt, &mut disk, body_at(slot), &body)?;
+    put(rt, &mut disk, gate_at(0), &[CLOSED_GATE])?;
+    put(rt, &mut disk, gate_at(slot), &[OPEN_GATE])?;
+    Ok(disk)
+}
+
+#[test]
+fn largest_number(rt: HostRuntime) -> Result<(), Fail> {
+    let (mut writer, _) = seated(&rt, at_the_end(&rt)?, 100)?;
+    stands(&rt, &writer, 9_223_372_036_854_775_807, b"", 100);
+    let updates: [(u64, &[u8], Result<u64, Refusal>); 3] = [
+        (9_223_372_036_854_775_808, b"x", Err(Refusal::Exhausted)),
+        (1, b"x", Err(Refusal::OutOfStep)),
+        (
+            9_223_372_036_854_775_807,
+            b"",
+            Ok(9_223_372_036_854_775_807),
+        ),
+    ];
+    for (number, value, answer) in updates {
+        answers(&rt, &mut writer, number, value, answer);
+    }
+    called(&rt, writer, 7 + 3 + 2, 0);
     Ok(())
 }
 
 #[test]
 fn worn_scanner_and_writer(rt: HostRuntime) -> Result<(), Fail> {
-    let (mut writer, mut scanner) = seated(&rt, fresh(&rt)?, 4)?;
-    assert_eq!(rt; writer.update(1, b"hi"), Ok(1));
-    assert_eq!(rt; writer.looks_left(), 2);
-    assert_eq!(rt; writer.update(2, b"yo"), Err(Refusal::Worn));
-    assert_eq!(rt; writer.update(1, b"hi"), Ok(1));
-    assert!(rt; writer.looks_left() == 2 && !writer.is_fenced());
-    assert!(rt; shows(&rt, &mut scanner, 1, b"hi")?);
-    // A formatting makes seven calls, an opening two, and the one update four.
-    assert_eq!(rt; device_of(writer).calls(), 7 + 2 + 4);
+    let (mut writer, _) = seated(&rt, fresh(&rt)?, 4)?;
+    answers(&rt, &mut writer, 1, b"hi", Ok(1));
+    answers(&rt, &mut writer, 2, b"yo", Err(Refusal::Worn));
+    answers(&rt, &mut writer, 1, b"hi", Ok(1));
+    stands(&rt, &writer, 1, b"hi", 2);
+    called(&rt, writer, 7 + 2 + 4, 0);
     Ok(())
 }
