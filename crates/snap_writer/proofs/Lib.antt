@@ -1,0 +1,4 @@
+pub mod Shown
+pub mod Paired
+pub mod Resting
+pub mod Judging

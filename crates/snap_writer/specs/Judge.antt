@@ -1,0 +1,63 @@
+-- The judge: which rule an update falls under, and what it is answered.
+use Rattle.std.specs.Prelude.{
+  ◌≡◌,
+  ◌≢◌,
+  ℕ,
+  ◌+◌,
+  ◌<◌,
+  ◌≤◌,
+  List,
+  length,
+  IsSome,
+  None,
+  Result,
+  Ok,
+  Err,
+}
+use Rattle.snap_disk.specs.declared.refusal.Refusal.{Refusal}
+use Rattle.snap_disk.specs.declared.refusal.Refusal.TheVariants as refusal
+use Rattle.snap_slot.specs.declared.layout.TheConstants.{MAX_VALUE_LEN, LAST_NUMBER}
+use Rattle.snap_slot.specs.Layout.{IsNumber, IsShort}
+use Rattle.snap_register.specs.Rule.{segments}
+use Rattle.snap_scan.specs.Looks.{most_looks}
+use Rattle.snap_writer.specs.Writer.{WriterState, number_of, value_of}
+use Rattle.snap_writer.specs.declared.judgement.Judgement.{Judgement}
+use Rattle.snap_writer.specs.declared.judgement.Judgement.TheVariants.{
+  TooLong,
+  Stored,
+  Conflict,
+  OutOfStep,
+  Exhausted,
+  Fenced,
+  Worn,
+  Go,
+}
+
+-- the update is one to the number after the last one shown
+abbrev pub IsNext : {D : Type 0} → WriterState D → ℕ → List ℕ → Type 0
+IsNext w k v = IsShort v × (k ≡ number_of w + 1)
+
+-- an update to number k and value v falls under this rule of the writer: the first that applies
+abbrev pub IsJudged : {D : Type 0} → WriterState D → ℕ → List ℕ → Judgement → Type 0
+IsJudged w k v TooLong = MAX_VALUE_LEN < length v
+IsJudged w k v Stored = IsShort v × (k ≡ number_of w) × (v ≡ value_of w)
+IsJudged w k v Conflict = IsShort v × (k ≡ number_of w) × (v ≢ value_of w)
+IsJudged w k v OutOfStep = IsShort v × (k ≢ number_of w) × (k ≢ number_of w + 1)
+IsJudged w k v Exhausted = IsNext w k v × (number_of w ≡ LAST_NUMBER)
+IsJudged w k v Fenced = IsNext w k v × IsNumber k × IsSome w.segment.begun
+IsJudged w k v Worn = IsNext w k v × IsNumber k × (w.segment.begun ≡ None)
+    × (w.seat.left < most_looks (segments w.seat.plan))
+IsJudged w k v Go = IsNext w k v × IsNumber k × (w.segment.begun ≡ None)
+    × (most_looks (segments w.seat.plan) ≤ w.seat.left)
+
+-- what an update to number k is answered under each rule; the last one may meet a device that fails
+abbrev pub IsAnswer : ℕ → Judgement → Result ℕ Refusal → Type 0
+IsAnswer k TooLong answer = answer ≡ Err refusal.TooLong
+IsAnswer k Stored answer = answer ≡ Ok k
+IsAnswer k Conflict answer = answer ≡ Err refusal.Conflict
+IsAnswer k OutOfStep answer = answer ≡ Err refusal.OutOfStep
+IsAnswer k Exhausted answer = answer ≡ Err refusal.Exhausted
+IsAnswer k Fenced answer = answer ≡ Err refusal.Fenced
+IsAnswer k Worn answer = answer ≡ Err refusal.Worn
+IsAnswer k Go (Ok n) = n ≡ k
+IsAnswer k Go (Err why) = why ≡ refusal.DeviceFailed

@@ -1,0 +1,17 @@
+//! What the judge obeys, whatever the writer and the update: the contract of a call that does
+//! nothing.
+ghost use Rattle.std.specs.Prelude.{◌≡◌, ℕ, List};
+ghost use Rattle.snap_slot.specs.Layout.{IsNumber};
+ghost use Rattle.snap_writer.specs.Writer.{WriterState, number_of};
+ghost use Rattle.snap_writer.specs.Judge.{IsJudged};
+ghost use Rattle.snap_writer.specs.declared.judgement.Judgement.{Judgement};
+
+use snap_disk::Disk;
+
+/// Each update falls under a rule of the writer, and under no other.
+pub fn judge_laws<D: Disk>()
+    ensures some { (w : WriterState D) (k : ℕ) (v : List ℕ) → IsNumber (number_of w)
+        → (rule : Judgement) × IsJudged w k v rule }
+    ensures one { (w : WriterState D) (k : ℕ) (v : List ℕ) (a b : Judgement)
+        → IsJudged w k v a → IsJudged w k v b → a ≡ b }
+{}

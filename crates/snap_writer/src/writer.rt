@@ -1,0 +1,283 @@
+//! The only writer of a segment.
+ghost use Rattle.std.specs.Prelude.{
+  ◌≡◌,
+  ◌≢◌,
+  ℕ,
+  ◌+◌,
+  ◌<◌,
+  ◌≤◌,
+  ◌↔◌,
+  List,
+  length,
+  None,
+  IsSome,
+  IsTrue,
+  OnOk,
+  OnErr,
+};
+ghost use Rattle.std.specs.Option.{option_copied};
+ghost use Rattle.snap_disk.specs.Device.{IsSettled, CountsCalls, MayLeave, LeavesOnly};
+ghost use Rattle.snap_slot.specs.Layout.{IsNumber, IsShort, IsFileOf};
+ghost use Rattle.snap_slot.specs.States.{IsEither};
+ghost use Rattle.snap_persist.specs.Stage.{store_calls};
+ghost use Rattle.snap_segment.specs.Segment.{CountsRefusal, IsKept};
+ghost use Rattle.snap_register.specs.Seat.{AreTogether, Meets, IsBelow, own_of};
+ghost use Rattle.snap_register.specs.Seat.{number_in, value_in};
+ghost use Rattle.snap_memory.specs.Scans.{CanScan, TakesLooks};
+ghost use Rattle.snap_writer.specs.Writer.{number_of, value_of};
+ghost use Rattle.snap_writer.specs.Judge.{IsJudged, IsAnswer};
+ghost use Rattle.snap_writer.specs.Update.{IsSameSeat, Advances, Fails};
+
+use crate::judgement::Judgement;
+use snap_disk::{Disk, Refusal};
+use snap_memory::{Scanner, prepare, show};
+use snap_register::{Looker, WriteSeat};
+use snap_scan::most_looks;
+use snap_segment::Segment;
+use snap_slot::{LAST_NUMBER, MAX_VALUE_LEN};
+use std::marker::Model;
+
+/// The only writer of a segment: its file and its seat at the registers.
+///
+/// The file's number and value are those that the writer showed last. It waits for nobody, and takes
+/// no memory.
+#[derive(Drop)]
+pub struct Writer<D: Disk> {
+    segment: Segment<D>,
+    seat: WriteSeat,
+}
+
+impl<D: Disk> Model for Writer<D> {
+    ghost use Rattle.snap_writer.specs.Writer.{WriterState, IsPaired};
+
+    ghost Value = { WriterState D };
+
+    ghost view = { λ w. record { segment = w.segment; seat = w.seat } };
+
+    ghost invariant = { λ w. IsPaired (record { segment = w.segment; seat = w.seat }) };
+}
+
+impl<D: Disk> Writer<D> {
+    /// The writer with this file and this seat, which have the same number and value.
+    pub fn new(segment: Segment<D>, seat: WriteSeat) -> Writer<D>
+        requires number { segment.number ≡ number_in seat seat.seen (own_of seat) }
+        requires value { segment.value ≡ value_in seat seat.seen (own_of seat) }
+        ensures segment { result.segment ≡ segment }
+        ensures seat { result.seat ≡ seat }
+    {
+        // that it writes no other segment
+        let _own = seat.segment();
+        Writer { segment, seat }
+    }
+
+    /// The number that was shown last: how many values were stored since the file was formatted.
+    pub fn number(&self) -> u64
+        ensures number { result ≡ number_of self.now }
+        ensures stored { result ≡ self.now.segment.number }
+        ensures low { IsNumber result }
+    {
+        self.segment.number()
+    }
+
+    /// The value that was shown last, at most [`MAX_VALUE_LEN`] bytes.
+    pub fn value(&self) -> &[u8]
+        ensures value { result.now ≡ value_of self.now }
+        ensures stored { result.now ≡ self.now.segment.value }
+        ensures size { IsShort result.now }
+    {
+        self.segment.value()
+    }
+
+    /// Whether a store has failed since the file was opened. If none has, no place of the device is
+    /// open, and it holds the number and the value that were shown last; else a crash leaves these,
+    /// or one number more with the value whose store failed.
+    pub fn is_fenced(&self) -> bool
+        ensures fence { IsTrue result ↔ IsSome self.now.segment.begun }
+        ensures kept { D.is_honest self.now.segment.device
+            → IsKept self.now.segment.index self.now.segment.count
+            (number_of self.now) (value_of self.now) self.now.segment.begun
+            self.now.segment.spare_open (D.device self.now.segment.device) }
+    {
+        self.segment.is_fenced()
+    }
+
+    /// The value whose store failed, where one did.
+    pub fn begun(&self) -> Option<&[u8]>
+        ensures { option_copied result ≡ self.now.segment.begun }
+    {
+        self.segment.begun()
+    }
+
+    /// How many looks its seat may still take. An update takes off those of its scan.
+    pub fn looks_left(&self) -> u64
+        ensures { result ≡ self.now.seat.left }
+    {
+        self.seat.looks_left()
+    }
+
+    /// Stores `value` as the number `number` and then shows it, and answers the number. An update
+    /// that was shown last is answered again, so a caller who doesn't know whether it arrived sends
+    /// the same again, also to another writer of the file after a restart.
+    ///
+    /// The first of these that applies decides. Refused as `TooLong` above [`MAX_VALUE_LEN`] bytes;
+    /// answered as before where number and value are those shown last; `Conflict` at that number
+    /// with another value; `OutOfStep` at any number but the next; `Exhausted` where the last one is
+    /// [`LAST_NUMBER`]; `Fenced` on a fenced writer; `Worn` where fewer looks are left than a scan
+    /// might take ([`most_looks`]). All of these make no device call and change nothing. Else it
+    /// scans, stores and shows. `DeviceFailed` where a device call failed: the number, the value and
+    /// what scans show stay as they were, and the writer is fenced from then on.
+    pub fn update(&mut self, number: u64, value: &[u8]) -> Result<u64, Refusal>
+        ensures count { CountsRefusal result (D.failure_count self.old.segment.device)
+            (D.failure_count self.new.segment.device) }
+        ensures honest { D.is_honest self.new.segment.device
+            → D.is_honest self.old.segment.device }
+        ensures same_seat { IsSameSeat self.old.seat self.new.seat }
+
+        // What is answered, and that only one rule does anything.
+        ensures judged { (rule : Judgement) → IsJudged self.old number value.now rule
+            → IsAnswer number rule result }
+        ensures unchanged { (rule : Judgement) → IsJudged self.old number value.now rule
+            → rule ≢ Judgement.Go → self.new ≡ self.old }
+
+        // What that one does.
+        ensures advances { IsJudged self.old number value.now Judgement.Go
+            → OnOk result (Advances self.old self.new value.now) }
+        ensures fails { IsJudged self.old number value.now Judgement.Go
+            → OnErr result (Fails self.old self.new value.now) }
+        ensures calls { IsJudged self.old number value.now Judgement.Go
+            → CountsCalls result (length (store_calls self.old.segment.spare_open))
+            (D.clock self.old.segment.device) (D.clock self.new.segment.device) }
+        ensures left { IsJudged self.old number value.now Judgement.Go
+            → TakesLooks self.old.seat self.new.seat }
+        ensures below { IsJudged self.old number value.now Judgement.Go → IsBelow self.new.seat }
+
+        // A crash at any time during the call leaves the number and value that were shown last, or
+        // the begun ones.
+        ensures any_time { D.is_honest self.new.segment.device → self.old.segment.begun ≡ None
+            → LeavesOnly D.clock D.might_have_left self.old.segment.device self.new.segment.device
+            (IsEither self.old.segment.index self.old.segment.count
+            (number_of self.old) (value_of self.old) value.now) }
+
+        // Once a new update was stored, no place is open, and a crash leaves the begun ones.
+        ensures last { D.is_honest self.new.segment.device
+            → IsJudged self.old number value.now Judgement.Go
+            → OnOk result (IsSettled (D.device self.new.segment.device)
+            × ((b : List ℕ) → MayLeave (D.device self.new.segment.device) b
+            → IsFileOf self.old.segment.index self.old.segment.count number value.now b)) }
+
+        // After a fault it leaves either.
+        ensures either { D.is_honest self.new.segment.device
+            → IsJudged self.old number value.now Judgement.Go
+            → OnErr result ((b : List ℕ) → MayLeave (D.device self.new.segment.device) b
+            → IsEither self.old.segment.index self.old.segment.count
+            (number_of self.old) (value_of self.old) value.now b) }
+    {
+        match self.judge(number, value) {
+            Judgement::TooLong => Err(Refusal::TooLong),
+            Judgement::Stored => Ok(number),
+            Judgement::Conflict => Err(Refusal::Conflict),
+            Judgement::OutOfStep => Err(Refusal::OutOfStep),
+            Judgement::Exhausted => Err(Refusal::Exhausted),
+            Judgement::Fenced => Err(Refusal::Fenced),
+            Judgement::Worn => Err(Refusal::Worn),
+            Judgement::Go => self.advance(value),
+        }
+    }
+
+    /// Afterwards the scanner and the writer have seen the same, so the scanner's next scan has all
+    /// that the writer showed. It is no look.
+    pub fn meet(&mut self, scanner: &mut Scanner)
+        requires together { AreTogether scanner.old self.old.seat }
+        ensures scanner { Meets scanner.old scanner.new }
+        ensures writer { Meets self.old.seat self.new.seat }
+        ensures met { scanner.new.seen ≡ self.new.seat.seen }
+        ensures below { IsBelow scanner.new }
+        ensures segment { self.new.segment ≡ self.old.segment }
+    {
+        scanner.meet(&mut self.seat);
+    }
+
+    /// The file and the seat, as they are: with the same number and value.
+    pub fn into_parts(self) -> (Segment<D>, WriteSeat)
+        ensures segment { result.0 ≡ self.segment }
+        ensures seat { result.1 ≡ self.seat }
+        ensures number { self.segment.number ≡ number_of self }
+        ensures value { self.segment.value ≡ value_of self }
+    {
+        let Writer { segment, seat } = self;
+        (segment, seat)
+    }
+
+    // The rule that an update falls under. Lengths are judged before numbers, and a repeat before
+    // the fence. Whatever it is, nothing was called, so the file is as it rests.
+    fn judge(&self, number: u64, value: &[u8]) -> Judgement
+        ensures rule { IsJudged self.now number value.now result }
+        ensures kept { D.is_honest self.now.segment.device
+            → IsKept self.now.segment.index self.now.segment.count
+            (number_of self.now) (value_of self.now) self.now.segment.begun
+            self.now.segment.spare_open (D.device self.now.segment.device) }
+    {
+        let fenced = self.segment.is_fenced();
+        if value.len() > MAX_VALUE_LEN {
+            return Judgement::TooLong;
+        }
+        let shown = self.segment.number();
+        if number == shown {
+            return if value == self.segment.value() {
+                Judgement::Stored
+            } else {
+                Judgement::Conflict
+            };
+        }
+        if number != shown + 1 {
+            return Judgement::OutOfStep;
+        }
+        if shown == LAST_NUMBER {
+            return Judgement::Exhausted;
+        }
+        if fenced {
+            return Judgement::Fenced;
+        }
+        if self.seat.looks_left() < most_looks(self.seat.segments()) as u64 {
+            return Judgement::Worn;
+        }
+        Judgement::Go
+    }
+
+    // Scans, stores and shows.
+    fn advance(&mut self, value: &[u8]) -> Result<u64, Refusal>
+        requires size { IsShort value.now }
+        requires next { IsNumber (number_of self.old + 1) }
+        requires open { self.old.segment.begun ≡ None }
+        requires left { CanScan self.old.seat }
+        ensures count { CountsRefusal result (D.failure_count self.old.segment.device)
+            (D.failure_count self.new.segment.device) }
+        ensures honest { D.is_honest self.new.segment.device
+            → D.is_honest self.old.segment.device }
+        ensures same_seat { IsSameSeat self.old.seat self.new.seat }
+        ensures answer { IsAnswer (number_of self.old + 1) Judgement.Go result }
+        ensures advances { OnOk result (Advances self.old self.new value.now) }
+        ensures fails { OnErr result (Fails self.old self.new value.now) }
+        ensures calls { CountsCalls result (length (store_calls self.old.segment.spare_open))
+            (D.clock self.old.segment.device) (D.clock self.new.segment.device) }
+        ensures left { TakesLooks self.old.seat self.new.seat }
+        ensures below { IsBelow self.new.seat }
+        ensures any_time { D.is_honest self.new.segment.device
+            → LeavesOnly D.clock D.might_have_left self.old.segment.device self.new.segment.device
+            (IsEither self.old.segment.index self.old.segment.count
+            (number_of self.old) (value_of self.old) value.now) }
+        ensures last { D.is_honest self.new.segment.device
+            → OnOk result (IsSettled (D.device self.new.segment.device)
+            × ((b : List ℕ) → MayLeave (D.device self.new.segment.device) b
+            → IsFileOf self.old.segment.index self.old.segment.count
+            (number_of self.old + 1) value.now b)) }
+        ensures either { D.is_honest self.new.segment.device
+            → OnErr result ((b : List ℕ) → MayLeave (D.device self.new.segment.device) b
+            → IsEither self.old.segment.index self.old.segment.count
+            (number_of self.old) (value_of self.old) value.now b) }
+    {
+        let view = prepare(&mut self.seat);
+        self.segment.store(value)?;
+        Ok(show(&mut self.seat, value, view))
+    }
+}
