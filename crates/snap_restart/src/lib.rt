@@ -1,0 +1,10 @@
+//! A restart: all files of a memory are opened at once, with a report of what was found, and closed
+//! at once. Nothing is served that was not recovered from every file and synced.
+#![tactic(auto)]
+
+mod keep;
+mod opening;
+mod report;
+
+pub use opening::Stopped;
+pub use report::{Recovered, Report};
