@@ -1,0 +1,3 @@
+pub mod Shown
+pub mod Paired
+pub mod Resting

@@ -1,5 +1,5 @@
 -- A writer as its callers see it.
-use Rattle.std.specs.Prelude.{ℕ, List}
+use Rattle.std.specs.Prelude.{◌≡◌, ℕ, ◌+◌, List}
 use Rattle.snap_segment.specs.Segment.{SegmentState}
 use Rattle.snap_register.specs.Seat.{Known, own_of, number_in, value_in}
 
@@ -15,3 +15,10 @@ number_of w = number_in w.seat w.seat.seen (own_of w.seat)
 
 abbrev pub value_of : {D : Type 0} → WriterState D → List ℕ
 value_of w = value_in w.seat w.seat.seen (own_of w.seat)
+
+-- the file has the number and the value that were shown last, of the one segment that the seat
+-- writes
+pub record IsPaired {D : Type 0} (w : WriterState D) : Type 0 where
+  pub number_is : w.segment.number ≡ number_of w
+  pub value_is : w.segment.value ≡ value_of w
+  pub alone : w.seat.high ≡ w.seat.low + 1

@@ -47,16 +47,13 @@ pub struct Writer<D: Disk> {
 }
 
 impl<D: Disk> Model for Writer<D> {
-    ghost use Rattle.std.specs.Prelude.{◌≡◌};
-    ghost use Rattle.snap_register.specs.Seat.{own_of, number_in, value_in};
-    ghost use Rattle.snap_writer.specs.Writer.{WriterState};
+    ghost use Rattle.snap_writer.specs.Writer.{WriterState, IsPaired};
 
     ghost Value = { WriterState D };
 
     ghost view = { λ w. record { segment = w.segment; seat = w.seat } };
 
-    ghost invariant = { λ w. (w.segment.number ≡ number_in w.seat w.seat.seen (own_of w.seat))
-        × (w.segment.value ≡ value_in w.seat w.seat.seen (own_of w.seat)) };
+    ghost invariant = { λ w. IsPaired (record { segment = w.segment; seat = w.seat }) };
 }
 
 impl<D: Disk> Writer<D> {
@@ -67,12 +64,15 @@ impl<D: Disk> Writer<D> {
         ensures segment { result.segment ≡ segment }
         ensures seat { result.seat ≡ seat }
     {
+        // that it writes no other segment
+        let _own = seat.segment();
         Writer { segment, seat }
     }
 
     /// The number that was shown last: how many values were stored since the file was formatted.
     pub fn number(&self) -> u64
         ensures number { result ≡ number_of self.now }
+        ensures stored { result ≡ self.now.segment.number }
         ensures low { IsNumber result }
     {
         self.segment.number()
@@ -81,6 +81,7 @@ impl<D: Disk> Writer<D> {
     /// The value that was shown last, at most [`MAX_VALUE_LEN`] bytes.
     pub fn value(&self) -> &[u8]
         ensures value { result.now ≡ value_of self.now }
+        ensures stored { result.now ≡ self.now.segment.value }
         ensures size { IsShort result.now }
     {
         self.segment.value()

@@ -1,0 +1,52 @@
+use Rattle.std.proofs.Common.{rules, ◌≡◌, ℕ, ◌+◌, ◌^◌, ◌<◌, ap, subst, sym, arith}
+use Rattle.snap_register.specs.Seat.{own_of, number_in}
+use Rattle.snap_segment.specs.Segment.{SegmentState}
+use Rattle.snap_writer.specs.Writer.{WriterState}
+use Rattle.snap_writer.specs.Update.{IsSameSeat, EndsWith}
+use Rattle.snap_writer.proofs.Shown.{number_grown, number_shown, same_shown, ends_with}
+use Rattle.snap_writer.proofs.Paired.{paired_grown, paired_shown}
+use Rattle.snap_writer.proofs.writer.Writer.advance.Goals as goal
+use Rattle.snap_writer.proofs.writer.Writer.advance.Goals.{After-show}
+
+same : (g : _) (c : After-show g) → IsSameSeat c.self.inside.seat c.show.new.seat
+same g c = same_shown c.self.inside.seat c.prepare-view.new.seat c.show.new.seat _
+    c.prepare-view.ensures.seen c.show.ensures.shown
+
+ends : (g : _) (c : After-show g)
+    → EndsWith c.self.inside.seat c.show.new.seat c.args.value.now
+ends g c = ends_with c.self.inside.seat c.prepare-view.new.seat c.show.new.seat _
+    c.prepare-view.ensures.seen c.self.invariant.alone c.show.ensures.shown
+
+pub invariant_of-self : goal.invariant_of-self
+invariant_of-self g c =
+    let number : c.store.new.self.number ≡ c.self.inside.segment.number = search rules in
+    let value : c.store.new.self.value ≡ c.self.inside.segment.value = search rules in
+    paired_grown c.self.inside.segment c.store.new.self c.self.inside.seat c.prepare-view.new.seat
+    c.self.invariant c.prepare-view.ensures.seen number value
+
+pub show-requires-clause-next : goal.show-requires-clause-next
+show-requires-clause-next g c =
+    let scanned = number_grown c.self.inside.seat c.prepare-view.new.seat
+    c.prepare-view.ensures.seen c.self.invariant.alone in
+    let next = c.requires.next in
+    search rules
+
+pub invariant_of-self-2 : goal.invariant_of-self-2
+invariant_of-self-2 g c =
+    let number : c.store.new.self.number ≡ c.self.inside.segment.number + 1 = search rules in
+    let value : c.store.new.self.value ≡ c.args.value.now = search rules in
+    paired_shown c.self.inside.segment c.store.new.self c.self.inside.seat c.show.new.seat
+    c.args.value.now c.self.invariant (same g c) (ends g c) number value
+
+pub returns-clause-answer : goal.returns-clause-answer
+returns-clause-answer g c =
+    let shown = number_shown c.self.inside.seat c.show.new.seat _ (same g c) (ends g c) in
+    let number = c.show.ensures.number in
+    search rules
+
+pub returns-clause-advances : goal.returns-clause-advances
+returns-clause-advances g c =
+    let shown : EndsWith c.args.self.now.seat c.show.new.seat c.args.value.now =
+    subst (λ (w : WriterState _). EndsWith w.seat c.show.new.seat c.args.value.now) c.self.view_is
+    (ends g c) in
+    record { stored = search rules; shown = shown }
