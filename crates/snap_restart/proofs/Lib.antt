@@ -1,4 +1,4 @@
-pub mod Pushing
+pub mod Meetings
 pub mod Reporting
 pub mod Returning
 pub mod Splicing

@@ -1,7 +1,7 @@
 -- The lines of a report, one after another.
 use Rattle.std.proofs.Common.{◌≡◌, ℕ, ◌+◌, List, [], ◌∷◌, ◌++◌, length, ◌≤◌, take, slice_get, Some, ap, sym, ◌∙◌, arith, append-nil, append_assoc}
 use Rattle.std.proofs.lemmas.List.{length-take-le, take_all}
-use Rattle.snap_restart.proofs.Pushing.{take_next}
+use Rattle.snap_register.proofs.Pushing.{take_next}
 use Rattle.std.proofs.lemmas.Option.{slice_get_within}
 use Rattle.snap_restart.specs.declared.report.Recovered.{Recovered}
 use Rattle.std.specs.Prelude.{codes}

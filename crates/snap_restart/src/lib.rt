@@ -2,6 +2,7 @@
 //! at once. Nothing is served that was not recovered from every file and synced.
 #![tactic(auto)]
 
+mod closing;
 mod keep;
 mod opening;
 mod report;

@@ -4,7 +4,7 @@ use Rattle.std.proofs.lemmas.Option.{slice_get_within}
 use Rattle.std.specs.Vec.Iter.{into_iter_items}
 use Rattle.snap_segment.specs.Segment.{SegmentState}
 use Rattle.snap_history.specs.Pairs.{Pairs}
-use Rattle.snap_restart.proofs.Pushing.{Pairs-push}
+use Rattle.snap_register.proofs.Pushing.{Pairs-push}
 use Rattle.snap_restart.specs.Opened.{IsOpened, IsReturned}
 use Rattle.snap_restart.proofs.Returning.{get_dropped, rest_dropped, take_dropped, all_dropped}
 use Rattle.snap_restart.proofs.Stopping.{back_later, returned_here, stopped_at}
