@@ -2,4 +2,5 @@ pub mod Meetings
 pub mod Reporting
 pub mod Returning
 pub mod Splicing
+pub mod Starting
 pub mod Stopping

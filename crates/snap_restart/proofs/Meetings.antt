@@ -187,3 +187,32 @@ module _ {D : Type 0} where
             w.segment.begun w.segment.spare_open (device w.segment.device))
             (λ t. (number_is t, value_is t)) (kept hon);
       }
+
+-- ---- devices that come back
+
+module _ {D : Type 0} (device : D → Device) (honest : D → Type 0) where
+  -- a writer's device, taken out of its segment
+  pub rests_moved : (w : WriterState D) (t : SegmentState D) (d : D) → t ≡ w.segment → d ≡ t.device
+      → w.segment.number ≡ number_of w → w.segment.value ≡ value_of w
+      → (honest d → IsKept t.index t.count t.number t.value t.begun t.spare_open (device d))
+      → Rests device honest w
+  rests_moved w t d same is number value kept =
+      let here : honest t.device → IsKept t.index t.count t.number t.value t.begun t.spare_open
+      (device t.device) = subst (λ (x : D). honest x → IsKept t.index t.count t.number t.value t.begun
+      t.spare_open (device x)) is kept in
+      record {
+        number_is = number;
+        value_is = value;
+        kept = subst (λ (s : SegmentState D). honest s.device → IsKept s.index s.count s.number
+            s.value s.begun s.spare_open (device s.device)) same here;
+      }
+
+  -- one writer more
+  pub rests_more : (ws : List (WriterState D)) (k : ℕ) (w : WriterState D)
+      → slice_get ws k ≡ Some w → ((i : ℕ) (x : WriterState D) → slice_get ws i ≡ Some x → i < k
+      → Rests device honest x) → Rests device honest w → (i : ℕ) (x : WriterState D)
+      → slice_get ws i ≡ Some x → i < k + 1 → Rests device honest x
+  rests_more ws k w there before this i x at low = dite (ℕ_discrete i k)
+      (λ e. let same : w ≡ x = cc (at, there, e) in
+      subst (λ (y : WriterState D). Rests device honest y) same this)
+      (λ other. before i x at (omega arith))

@@ -3,6 +3,7 @@
 use Rattle.std.specs.Prelude.{◌≡◌, ℕ, ◌+◌, ◌<◌, ◌≤◌, List, length, slice_get, Some}
 use Rattle.atomic_table.specs.Seated.{TableId}
 use Rattle.snap_disk.specs.Device.{Device}
+use Rattle.snap_slot.specs.declared.layout.TheConstants.{MAX_COUNT}
 use Rattle.snap_segment.specs.Segment.{SegmentState, IsKept}
 use Rattle.snap_history.specs.History.{Update, IsBeginning, updates_of}
 use Rattle.snap_register.specs.declared.plan.Plan.{Plan}
@@ -17,12 +18,15 @@ pub record IsSeatAt (table : TableId) (plan : Plan) (low high : ℕ) (a : Known)
   pub low_is : a.low ≡ low
   pub high_is : a.high ≡ high
 
--- the writers of all segments of one opening, in order, and scanners of it, of which there is one
+-- the writers of all segments of one opening, in order, and its scanners: at least one is here
 pub record AreBack {D : Type 0} (writers : List (WriterState D)) (scanners : List Known)
     : Type 0 where
   pub table : TableId
   pub plan : Plan
   pub all : length writers ≡ segments plan
+  pub some : 0 < length writers
+  pub few : length writers ≤ MAX_COUNT
+  pub some_scanner : 0 < length scanners
   pub writers_are : (i : ℕ) (w : WriterState D) → slice_get writers i ≡ Some w
       → IsSeatAt table plan i (i + 1) w.seat
   pub scanners_are : (k : ℕ) (b : Known) → slice_get scanners k ≡ Some b

@@ -1,7 +1,7 @@
 -- Devices before and after an opening of all files. What is said is over any kind D of device: its
 -- bytes and open places, its failure count, whether it is honest, its clock, and what a crash at a
 -- time of the clock or later could have left.
-use Rattle.std.specs.Prelude.{◌≡◌, ◌≢◌, ℕ, ◌+◌, ◌^◌, ◌<◌, ◌≤◌, List, length, map, None, Some, slice_get}
+use Rattle.std.specs.Prelude.{◌≡◌, ◌≢◌, ℕ, ◌+◌, ◌^◌, ◌<◌, ◌≤◌, List, [], length, map, None, Some, slice_get}
 use Rattle.snap_disk.specs.declared.refusal.Refusal.{Refusal}
 use Rattle.snap_disk.specs.declared.refusal.Refusal.TheVariants.{NoMemory}
 use Rattle.snap_disk.specs.Device.{Device, MayLeave, LeavesOnly}
@@ -12,6 +12,10 @@ use Rattle.snap_segment.specs.Segment.{SegmentState}
 use Rattle.snap_segment.specs.Open.{CountsFailed}
 use Rattle.snap_segment.specs.Refusals.{IsOpenRefusal}
 use Rattle.snap_history.specs.Pairs.{Pairs}
+use Rattle.snap_register.specs.Seat.{Known, own_of, number_in, value_in}
+use Rattle.snap_writer.specs.Writer.{WriterState}
+use Rattle.snap_restart.specs.declared.report.Recovered.{Recovered}
+use Rattle.snap_restart.specs.declared.store.TheConstants.{LOOKS}
 
 -- the bytes are the file of segment i of n, with some number and value
 abbrev pub IsOpenable : (i n : ℕ) → List ℕ → Type 0
@@ -61,3 +65,26 @@ pub record IsStopped {D : Type 0} (device : D → Device) (failures : D → ℕ)
   pub refused : why ≢ NoMemory → k < length olds
   pub returned : Pairs (IsReturned device failures honest clock might_have_left (length olds) k why)
       olds news
+
+-- the seat has seen no update, and has all its looks
+abbrev pub IsFresh : Known → Type 0
+IsFresh a = (a.seen ≡ []) × (a.left ≡ LOOKS)
+
+-- so it is with each writer and each scanner
+pub record AreFresh {D : Type 0} (writers : List (WriterState D)) (scanners : List Known)
+    : Type 0 where
+  pub writers_are : (i : ℕ) (w : WriterState D) → slice_get writers i ≡ Some w → IsFresh w.seat
+  pub scanners_are : (k : ℕ) (b : Known) → slice_get scanners k ≡ Some b → IsFresh b
+
+-- the seat starts with the segment's number and value
+pub record Starts {D : Type 0} (s : SegmentState D) (a : Known) : Type 0 where
+  pub number_is : s.number ≡ number_in a a.seen (own_of a)
+  pub value_is : s.value ≡ value_in a a.seen (own_of a)
+
+-- what was recovered of a segment
+abbrev pub recovered : {D : Type 0} → SegmentState D → Recovered
+recovered s = record { number = s.number; length = length s.value; spare_open = s.spare_open }
+
+-- the number and the value of a segment
+abbrev pub contents : {D : Type 0} → SegmentState D → ℕ × List ℕ
+contents s = (s.number, s.value)

@@ -29,7 +29,6 @@ use snap_writer::Writer;
 
 /// Tells what all of them have seen: beginnings of one history. The files stay as they are.
 pub(crate) fn gather<D: Disk>(writers: &mut Vec<Writer<D>>, scanners: &mut Vec<Scanner>)
-    requires some { (0 < length writers.old.items) × (0 < length scanners.old.items) }
     requires back { AreBack writers.old.items scanners.old.items }
     ensures met { Pairs (λ _. HasMet) writers.old.items writers.new.items }
     ensures history { (h : List Update) × IsHistory h writers.old.items scanners.old.items }

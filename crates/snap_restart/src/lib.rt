@@ -6,6 +6,8 @@ mod closing;
 mod keep;
 mod opening;
 mod report;
+mod store;
 
 pub use opening::Stopped;
 pub use report::{Recovered, Report};
+pub use store::{LOOKS, Store, open_all};
