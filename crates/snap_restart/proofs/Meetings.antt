@@ -1,14 +1,14 @@
 -- What a scanner knows that meets all writers twice, and what their devices then hold.
-use Rattle.std.proofs.Common.{◌≡◌, ℕ, zero, suc, ◌+◌, ◌<◌, ◌≤◌, List, [], ◌∷◌, length, map, slice_get, Some, refl, ap, sym, subst, ◌∙◌, arith}
+use Rattle.std.proofs.Common.{◌≡◌, ℕ, zero, suc, ◌+◌, ◌<◌, ◌≤◌, List, [], ◌∷◌, length, map, slice_get, slice_set, Some, refl, ap, sym, subst, ◌∙◌, arith}
 use mathlib.Core.Logic.{dite}
 use native.Mathlib.Decide.{ℕ_discrete}
-use Rattle.std.proofs.lemmas.Option.{same_Some}
+use Rattle.std.proofs.lemmas.Option.{same_Some, slice_get_within}
 use Rattle.snap_disk.specs.Device.{Device}
 use Rattle.snap_segment.specs.Segment.{SegmentState, IsKept}
 use Rattle.snap_history.specs.History.{Update, IsBeginning, updates_of, number_after, value_after}
 use Rattle.snap_history.specs.Pairs.{Pairs}
 use Rattle.snap_history.proofs.Beginnings.{beginning-self, beginning-trans, number-beginning}
-use Rattle.snap_history.proofs.Pairing.{partner}
+use Rattle.snap_history.proofs.Pairing.{partner, element, Pairs-right}
 use Rattle.snap_register.specs.History.{starts}
 use Rattle.snap_register.specs.Seat.{Known, Grows, AreTogether, own_of, number_in, value_in}
 use Rattle.snap_memory.proofs.Gathering.{grows_self, grows_more}
@@ -113,6 +113,27 @@ module _ {D : Type 0} where
         heard = beginning-trans x.seat.seen scanner.seen met.seen t.heard more.later;
         no_more = t.no_more;
       })
+
+  -- the seats of one opening are together, also after they have seen more
+  pub together_after : (w0 w1 : List (WriterState D)) (scanners : List Known) (b s : Known)
+      → AreBack w0 scanners → slice_get scanners 0 ≡ Some b → Pairs (λ _. HasMet) w0 w1 → Grows b s
+      → (i : ℕ) (w : WriterState D) → slice_get w1 i ≡ Some w → AreTogether s w.seat
+  together_after w0 w1 scanners b s back at_b p g i w at =
+      let size : length w0 ≡ length w1 = p.size in
+      let inside : i < length w1 = slice_get_within w1 i w at in
+      let x = element w0 i (omega arith) in
+      let met = p.each i x.0 w x.1 at in
+      let a = back.writers_are i x.0 x.1 in
+      let r = back.scanners_are 0 b at_b in
+      together_grown b x.0.seat s w.seat
+      (record { table = a.table_is ∙ sym r.table_is; plan = a.plan_is ∙ sym r.plan_is }) g met.grows
+
+  -- the first writer alone took part
+  pub first_met : (w0 : List (WriterState D)) (x y : WriterState D) → slice_get w0 0 ≡ Some x
+      → HasMet x y → Pairs (λ _. HasMet) w0 (slice_set w0 0 y)
+  first_met w0 x y at met = Pairs-right (λ _. HasMet) w0 w0 0 y (slice_get_within w0 0 x at)
+      (λ a ea. subst (λ (z : WriterState D). HasMet z y) (same_Some x a (sym at ∙ ea)) met)
+      (pairs_self HasMet met_self w0)
 
   -- after the first round the scanner has seen it all, which the second one shows
   pub history_told : (w0 w1 w2 : List (WriterState D)) (scanners : List Known)

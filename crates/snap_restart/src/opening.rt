@@ -25,6 +25,7 @@ ghost use Rattle.snap_restart.specs.Opened.{IsOpened, IsStopped};
 use crate::keep::keep;
 use snap_disk::{Disk, Refusal};
 use snap_segment::Segment;
+use snap_slot::MAX_COUNT;
 use std::alloc::Global;
 use std::vec::IntoIter;
 
@@ -40,7 +41,7 @@ pub struct Stopped<D> {
 }
 
 /// Opens each file as that of its segment, in order, up to the first refusal. The second list is
-/// empty, with room for all devices.
+/// empty, with room for the devices of any store.
 pub(crate) fn open_segments<D: Disk + Drop>(
     alloc: Global,
     devices: Vec<D>,
@@ -50,14 +51,13 @@ pub(crate) fn open_segments<D: Disk + Drop>(
     ensures opened { IfOk result (λ r.
         Pairs (IsOpened D.device D.failure_count D.is_honest D.clock D.might_have_left
         (length devices.items)) devices.items r.0.items) }
-    ensures emptied { IfOk result (λ r. (r.1.items ≡ [])
-        × (length devices.items ≤ vec_capacity r.1)) }
+    ensures emptied { IfOk result (λ r. (r.1.items ≡ []) × (MAX_COUNT ≤ vec_capacity r.1)) }
     ensures stopped { IfErr result (λ e.
         IsStopped D.device D.failure_count D.is_honest D.clock D.might_have_left
         devices.items e.devices.items e.refusal e.segment) }
 {
     let count = devices.len();
-    let Ok(emptied) = Vec::with_capacity(alloc, count) else {
+    let Ok(emptied) = Vec::with_capacity(alloc, MAX_COUNT as usize) else {
         return Err(unopened(devices));
     };
     let Ok(mut segments) = Vec::with_capacity(alloc, count) else {

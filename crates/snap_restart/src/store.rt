@@ -39,7 +39,6 @@ use snap_disk::{Disk, Refusal};
 use snap_memory::Scanner;
 use snap_register::{Parts, ReadSeat, Registers, WriteSeat};
 use snap_segment::Segment;
-use snap_slot::MAX_COUNT;
 use snap_writer::Writer;
 use std::alloc::{AllocError, Global};
 
