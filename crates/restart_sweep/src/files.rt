@@ -3,10 +3,9 @@ use snap_disk::{Disk, FILE_LEN, FaultPlan, Fill, MemDisk, Refusal};
 use snap_restart::open_all;
 use snap_segment::{Segment, format};
 use std::alloc::Global;
-use std::fmt;
-use std::io;
 use std::io::ErrorKind;
 use std::string::String;
+use std::{fmt, io};
 
 /// What stands at the touched places: the bytes that were there, or the byte of a closed or an open
 /// gate.
@@ -62,7 +61,10 @@ fn with_hi(alloc: Global, disk: MemDisk, index: u8, fails: Option<u64>) -> io::R
     if let Some(call) = fails {
         let mut plan = FaultPlan::new(alloc);
         // An opening makes two calls.
-        plan.fail_call(disk.calls().saturating_add(2).saturating_add(call), Fill::Keep)?;
+        plan.fail_call(
+            disk.calls().saturating_add(2).saturating_add(call),
+            Fill::Keep,
+        )?;
         disk.set_plan(plan);
     }
     if disk.failures() != 0 || index >= 3 {

@@ -31,12 +31,7 @@ fn main(rt: HostRuntime) -> io::Result<()> {
 
 /// What the opening answered whose call failed with the first garbage, and what the files are
 /// opened as after a crash with the second.
-fn cell(
-    alloc: Global,
-    call: u64,
-    fault: Garbage,
-    crash: Garbage,
-) -> io::Result<(String, String)> {
+fn cell(alloc: Global, call: u64, fault: Garbage, crash: Garbage) -> io::Result<(String, String)> {
     let mut devices = three_files(alloc)?;
     for (index, disk) in devices.iter_mut().enumerate() {
         plan_fault(alloc, disk, index as u64, call, fault)?;

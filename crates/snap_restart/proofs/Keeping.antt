@@ -1,5 +1,5 @@
 -- Writers that did something are back as they were.
-use Rattle.std.proofs.Common.{◌≡◌, ℕ, ◌+◌, ◌<◌, ◌≤◌, List, length, slice_get, slice_set, Some, ap, sym, subst, ◌∙◌}
+use Rattle.std.proofs.Common.{◌≡◌, ℕ, ◌+◌, ◌<◌, ◌≤◌, List, length, slice_get, slice_set, Some, sym, subst, ◌∙◌}
 use mathlib.Core.Logic.{dite}
 use native.Mathlib.Decide.{ℕ_discrete}
 use Rattle.std.proofs.lemmas.List.{length-set}
@@ -15,7 +15,7 @@ use Rattle.snap_restart.specs.Closed.{AreBack, IsSeatAt}
 pub back_updated : {D : Type 0} (ws : List (WriterState D)) (rs : List Known) (i : ℕ)
     (x y : WriterState D) → AreBack ws rs → slice_get ws i ≡ Some x → IsSameSeat x.seat y.seat
     → AreBack (slice_set ws i y) rs
-back_updated ws rs i x y back at same =
+back_updated {D = D} ws rs i x y back at same =
     let size : length (slice_set ws i y) ≡ length ws = length-set ws i y in
     let inside : i < length ws = slice_get_within ws i x at in
     record {

@@ -1,3 +1,4 @@
+pub mod Keeping
 pub mod Meetings
 pub mod Reporting
 pub mod Returning

@@ -1,16 +1,16 @@
 -- What a scanner knows that meets all writers twice, and what their devices then hold.
-use Rattle.std.proofs.Common.{◌≡◌, ℕ, zero, suc, ◌+◌, ◌<◌, ◌≤◌, List, [], ◌∷◌, length, map, slice_get, slice_set, Some, refl, ap, sym, subst, ◌∙◌, arith}
+use Rattle.std.proofs.Common.{◌≡◌, ℕ, suc, ◌+◌, ◌<◌, ◌≤◌, List, [], ◌∷◌, length, map, slice_get, slice_set, Some, refl, ap, sym, subst, ◌∙◌, arith}
 use mathlib.Core.Logic.{dite}
 use native.Mathlib.Decide.{ℕ_discrete}
 use Rattle.std.proofs.lemmas.Option.{same_Some, slice_get_within}
 use Rattle.snap_disk.specs.Device.{Device}
 use Rattle.snap_segment.specs.Segment.{SegmentState, IsKept}
-use Rattle.snap_history.specs.History.{Update, IsBeginning, updates_of, number_after, value_after}
+use Rattle.snap_history.specs.History.{Update, IsBeginning, updates_of}
 use Rattle.snap_history.specs.Pairs.{Pairs}
 use Rattle.snap_history.proofs.Beginnings.{beginning-self, beginning-trans, number-beginning}
 use Rattle.snap_history.proofs.Pairing.{partner, element, Pairs-right}
 use Rattle.snap_register.specs.History.{starts}
-use Rattle.snap_register.specs.Seat.{Known, Grows, AreTogether, own_of, number_in, value_in}
+use Rattle.snap_register.specs.Seat.{Known, Grows, AreTogether, number_in, value_in}
 use Rattle.snap_memory.proofs.Gathering.{grows_self, grows_more}
 use Rattle.snap_memory.proofs.Answering.{same_value}
 use Rattle.snap_writer.specs.Writer.{WriterState, number_of, value_of}

@@ -1,5 +1,5 @@
 -- Seats of new registers, beside the segments that they were opened with.
-use Rattle.std.proofs.Common.{◌≡◌, ℕ, ◌+◌, ◌<◌, ◌≤◌, List, [], ◌∷◌, length, map, slice_get, Some, refl, ap, sym, subst, ◌∙◌, arith}
+use Rattle.std.proofs.Common.{◌≡◌, ℕ, ◌+◌, ◌<◌, ◌≤◌, List, [], ◌∷◌, length, map, slice_get, Some, refl, ap, sym, ◌∙◌, arith}
 use Rattle.std.specs.Prelude.{option_map}
 use Rattle.std.proofs.lemmas.List.{length-map}
 use Rattle.std.proofs.lemmas.Option.{slice_get-map}
@@ -8,10 +8,9 @@ use Rattle.snap_slot.specs.declared.layout.TheConstants.{MAX_COUNT}
 use Rattle.snap_segment.specs.Segment.{SegmentState}
 use Rattle.snap_history.specs.History.{number_after, value_after}
 use Rattle.snap_history.specs.Pairs.{Pairs}
-use Rattle.snap_history.proofs.Pairing.{element}
 use Rattle.snap_register.specs.declared.plan.Plan.{Plan}
 use Rattle.snap_register.specs.History.{starts}
-use Rattle.snap_register.specs.Seat.{Known, own_of, number_in, value_in}
+use Rattle.snap_register.specs.Seat.{Known, own_of, number_in}
 use Rattle.snap_register.specs.Parts.{IsNewSeat, IsOpening, AreWriters, AreReaders}
 use Rattle.snap_writer.specs.Writer.{WriterState, IsPaired}
 use Rattle.snap_restart.specs.declared.store.TheConstants.{LOOKS}

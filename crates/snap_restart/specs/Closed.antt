@@ -4,7 +4,7 @@ use Rattle.std.specs.Prelude.{◌≡◌, ℕ, ◌+◌, ◌<◌, ◌≤◌, List,
 use Rattle.atomic_table.specs.Seated.{TableId}
 use Rattle.snap_disk.specs.Device.{Device}
 use Rattle.snap_slot.specs.declared.layout.TheConstants.{MAX_COUNT}
-use Rattle.snap_segment.specs.Segment.{SegmentState, IsKept}
+use Rattle.snap_segment.specs.Segment.{IsKept}
 use Rattle.snap_history.specs.History.{Update, IsBeginning, updates_of}
 use Rattle.snap_register.specs.declared.plan.Plan.{Plan}
 use Rattle.snap_register.specs.Rule.{segments}

@@ -1,7 +1,7 @@
 -- Devices before and after an opening of all files. What is said is over any kind D of device: its
 -- bytes and open places, its failure count, whether it is honest, its clock, and what a crash at a
 -- time of the clock or later could have left.
-use Rattle.std.specs.Prelude.{◌≡◌, ◌≢◌, ℕ, ◌+◌, ◌^◌, ◌<◌, ◌≤◌, List, [], length, map, None, Some, slice_get}
+use Rattle.std.specs.Prelude.{◌≡◌, ◌≢◌, ℕ, ◌+◌, ◌<◌, ◌≤◌, List, [], length, None, Some, slice_get}
 use Rattle.snap_disk.specs.declared.refusal.Refusal.{Refusal}
 use Rattle.snap_disk.specs.declared.refusal.Refusal.TheVariants.{NoMemory}
 use Rattle.snap_disk.specs.Device.{Device, MayLeave, LeavesOnly}

@@ -67,10 +67,7 @@ fn meet_all<D: Disk>(writers: &mut Vec<Writer<D>>, scanner: &mut Scanner)
 }
 
 /// Puts the devices of the writers into the list, in order.
-pub(crate) fn release_all<D: Disk + Drop>(
-    writers: Vec<Writer<D>>,
-    mut devices: Vec<D>,
-) -> Vec<D>
+pub(crate) fn release_all<D: Disk + Drop>(writers: Vec<Writer<D>>, mut devices: Vec<D>) -> Vec<D>
     requires empty { devices.items ≡ [] }
     requires room { length writers.items ≤ vec_capacity devices }
     ensures devices { result.items ≡ map (λ w. w.segment.device) writers.items }

@@ -94,7 +94,10 @@ fn sent_again(rt: &(impl Abort + AllocGlobal), fill: Fill) -> Result<u64, Fail> 
     // An opening makes two calls, and the last sync is a store's fourth.
     plan_fault(rt.alloc(), &mut devices[0], 5, Fill::Keep)?;
     let (mut store, _) = opened(rt, devices).map_err(|stopped| stopped.refusal)?;
-    assert_eq!(rt; update(rt, &mut store, 1, b"hi"), Err(Refusal::DeviceFailed));
+    assert_eq!(rt;
+        update(rt, &mut store, 1, b"hi"),
+        Err(Refusal::DeviceFailed)
+    );
     let mut devices = store.close();
     for disk in &mut devices {
         disk.crash(&fill);

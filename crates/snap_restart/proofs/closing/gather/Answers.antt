@@ -1,6 +1,5 @@
-use Rattle.std.proofs.Common.{rules, ◌≡◌, ℕ, ◌<◌, List, length, Some, slice_get, slice_set, ap, sym, subst, ◌∙◌, arith}
+use Rattle.std.proofs.Common.{◌≡◌, ℕ, ◌<◌, length, Some, slice_get, slice_set, ap, sym, subst, ◌∙◌, arith}
 use Rattle.std.proofs.lemmas.Option.{slice_get-get_or, slice_get_within, same_Some}
-use Rattle.snap_history.specs.Pairs.{Pairs}
 use Rattle.snap_history.proofs.Lists.{get-set_same}
 use Rattle.snap_history.proofs.Pairing.{element}
 use Rattle.snap_register.specs.Seat.{Known, Grows}

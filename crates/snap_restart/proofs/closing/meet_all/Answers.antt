@@ -1,8 +1,7 @@
-use Rattle.std.proofs.Common.{rules, ◌≡◌, ℕ, ◌<◌, ◌≤◌, length, Some, slice_get, slice_set, ap, sym, ◌∙◌, arith}
+use Rattle.std.proofs.Common.{rules, ◌≡◌, ◌<◌, ◌≤◌, length, Some, slice_get, ap, ◌∙◌, arith}
 use Rattle.std.proofs.lemmas.List.{length-set}
 use Rattle.std.proofs.lemmas.Option.{slice_get_within, slice_get-get_or}
 use Rattle.snap_history.proofs.Pairing.{element, Pairs-right}
-use Rattle.snap_register.specs.Seat.{Grows}
 use Rattle.snap_memory.proofs.Gathering.{grows_more}
 use Rattle.snap_writer.specs.Writer.{WriterState}
 use Rattle.snap_restart.specs.Closed.{HasMet}

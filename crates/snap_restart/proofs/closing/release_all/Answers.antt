@@ -1,4 +1,4 @@
-use Rattle.std.proofs.Common.{rules, ◌≡◌, ℕ, zero, ◌+◌, ◌∷◌, ◌++◌, ◌≤◌, ◌<◌, List, [], length, map, take, drop, slice_get, Some, ap, sym, ◌∙◌, arith}
+use Rattle.std.proofs.Common.{◌≡◌, ℕ, ◌+◌, ◌∷◌, ◌++◌, ◌≤◌, ◌<◌, [], length, map, take, drop, ap, sym, ◌∙◌, arith}
 use Rattle.std.proofs.lemmas.List.{length_push}
 use Rattle.std.proofs.lemmas.Option.{slice_get_within}
 use Rattle.std.specs.Vec.Iter.{into_iter_items}
@@ -19,7 +19,7 @@ writers-preserved g c =
     record {
       rest = rest_dropped k ws w _ head ∙ ap (λ (n : ℕ). drop n ws) on;
       long = (let was = inv.long in let gone = c.in-Some.ensures.steps.1 in
-      let short = ap length c.in-Some.ensures.steps.0 in omega arith);
+          let short = ap length c.in-Some.ensures.steps.0 in omega arith);
       devices = c.keep.ensures.items
           ∙ ((λ i. inv.devices i ++ (c.into_device.ensures.device
           ∙ ap (λ s. s.device) c.into_parts-segment.ensures.segment) i ∷ [])

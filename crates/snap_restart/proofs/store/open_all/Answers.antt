@@ -3,7 +3,6 @@ use Rattle.snap_disk.specs.declared.refusal.Refusal.TheVariants.{NoMemory}
 use Rattle.snap_segment.specs.Segment.{SegmentState}
 use Rattle.snap_history.specs.Pairs.{Pairs}
 use Rattle.snap_register.specs.Seat.{Known}
-use Rattle.snap_writer.specs.Writer.{WriterState}
 use Rattle.snap_restart.specs.Opened.{AreFresh, IsOpened, IsStopped, recovered}
 use Rattle.snap_restart.specs.Closed.{AreBack}
 use Rattle.snap_restart.proofs.Stopping.{stopped_last}

@@ -1,4 +1,4 @@
-use Rattle.std.proofs.Common.{◌≡◌, ap, sym, ◌∙◌}
+use Rattle.std.proofs.Common.{ap, sym, ◌∙◌}
 use Rattle.snap_segment.specs.Segment.{SegmentState}
 use Rattle.snap_writer.specs.Writer.{WriterState}
 use Rattle.snap_restart.specs.Closed.{HasMet}
@@ -14,8 +14,9 @@ returns-clause-devices g c = c.release_all.ensures.devices
 pub returns-clause-history : goal.returns-clause-history
 returns-clause-history g c =
     let history = c.gather.ensures.history in (
-    history.0,
-    history.1,
-    holds_after g.D.Disk.device g.D.Disk.is_honest history.0 c.args.self.writers.items
-    c.gather.new.writers.items c.args.self.scanners.items c.requires.back history.1
-    c.gather.ensures.met c.release_all.ensures.rests)
+      history.0,
+      history.1,
+      holds_after g.D.Disk.device g.D.Disk.is_honest history.0 c.args.self.writers.items
+          c.gather.new.writers.items c.args.self.scanners.items c.requires.back history.1
+          c.gather.ensures.met c.release_all.ensures.rests,
+    )
