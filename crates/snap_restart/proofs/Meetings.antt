@@ -1,0 +1,239 @@
+-- What a scanner knows that meets all writers twice, and what their devices then hold.
+use Rattle.std.proofs.Common.{◌≡◌, ℕ, suc, ◌+◌, ◌<◌, ◌≤◌, List, [], ◌∷◌, length, map, slice_get, slice_set, Some, refl, ap, sym, subst, ◌∙◌, arith}
+use mathlib.Core.Logic.{dite}
+use native.Mathlib.Decide.{ℕ_discrete}
+use Rattle.std.proofs.lemmas.Option.{same_Some, slice_get_within}
+use Rattle.snap_disk.specs.Device.{Device}
+use Rattle.snap_segment.specs.Segment.{SegmentState, IsKept}
+use Rattle.snap_history.specs.History.{Update, IsBeginning, updates_of}
+use Rattle.snap_history.specs.Pairs.{Pairs}
+use Rattle.snap_history.proofs.Beginnings.{beginning-self, beginning-trans, number-beginning}
+use Rattle.snap_history.proofs.Pairing.{partner, element, Pairs-right}
+use Rattle.snap_register.specs.History.{starts}
+use Rattle.snap_register.specs.Seat.{Known, Grows, AreTogether, number_in, value_in}
+use Rattle.snap_memory.proofs.Gathering.{grows_self, grows_more}
+use Rattle.snap_memory.proofs.Answering.{same_value}
+use Rattle.snap_writer.specs.Writer.{WriterState, number_of, value_of}
+use Rattle.snap_writer.proofs.Shown.{number_grown, value_grown}
+use Rattle.snap_restart.specs.Closed.{AreBack, IsHistory, HoldsAfter, HasMet, IsTold, Rests}
+
+-- ---- lists side by side
+
+pub pairs_self : {A : Type 0} (R : A → A → Type 0) → ((a : A) → R a a) → (xs : List A)
+    → Pairs (λ _. R) xs xs
+pairs_self R same xs = record {
+  size = refl;
+  each = λ i a b ea eb. subst (R a) (same_Some a b (sym ea ∙ eb)) (same a);
+}
+
+pub pairs_more : {A : Type 0} (R : A → A → Type 0)
+    → ((a b c : A) → R a b → R b c → R a c) → (xs ys zs : List A) → Pairs (λ _. R) xs ys
+    → Pairs (λ _. R) ys zs → Pairs (λ _. R) xs zs
+pairs_more R more xs ys zs p q = record {
+  size = p.size ∙ q.size;
+  each = λ i a c ea ec. (
+      let b = partner (λ _. R) xs ys i a p ea in
+      more a b.0 c b.2 (q.each i b.0 c b.1 ec));
+}
+
+pub pairs_mapped : {A B : Type 0} (R : A → A → Type 0) (f : A → B)
+    → ((a b : A) → R a b → f a ≡ f b) → (xs ys : List A) → Pairs (λ _. R) xs ys
+    → map f xs ≡ map f ys
+pairs_mapped R f same [] [] p = refl
+pairs_mapped R f same [] (y ∷ ys) p = let s = p.size in absurd (omega arith)
+pairs_mapped R f same (x ∷ xs) [] p = let s = p.size in absurd (omega arith)
+pairs_mapped R f same (x ∷ xs) (y ∷ ys) p =
+    let s = p.size in
+    let rest : Pairs (λ _. R) xs ys = record {
+      size = omega arith;
+      each = λ i a b ea eb. p.each (suc i) a b ea eb;
+    } in
+    let first : f x ≡ f y = same x y (p.each 0 x y refl refl) in
+    let others = pairs_mapped R f same xs ys rest in
+    λ t. first t ∷ others t
+
+-- ---- meetings
+
+pub together_grown : (a b c d : Known) → AreTogether a b → Grows a c → Grows b d → AreTogether c d
+together_grown a b c d t g h = record {
+  table = h.table ∙ t.table ∙ sym g.table;
+  plan = h.plan ∙ t.plan ∙ sym g.plan;
+}
+
+-- a scanner more was heard
+pub heard_step : (olds : List Known) (k : ℕ) (b met seat grown : Known) → slice_get olds k ≡ Some b
+    → ((i : ℕ) (x : Known) → slice_get olds i ≡ Some x → i < k → IsBeginning x.seen seat.seen)
+    → Grows b met → Grows seat grown → met.seen ≡ grown.seen
+    → (i : ℕ) (x : Known) → slice_get olds i ≡ Some x → i < k + 1 → IsBeginning x.seen grown.seen
+heard_step olds k b met seat grown there before g more is i x at low = dite (ℕ_discrete i k)
+    (λ e. let same : b ≡ x = cc (at, there, e) in
+    subst (λ (z : Known). IsBeginning z.seen grown.seen) same
+    (subst (IsBeginning b.seen) is g.later))
+    (λ other. beginning-trans x.seen seat.seen grown.seen (before i x at (omega arith)) more.later)
+
+-- the scanner met this writer now
+pub told_now : (start scanner met a grown : Known) → Grows start scanner → Grows scanner met
+    → Grows a grown → met.seen ≡ grown.seen → IsTold a start met
+told_now start scanner met a grown first more g is = record {
+  heard = subst (IsBeginning a.seen) (sym is) g.later;
+  no_more = λ j l h. (
+      let own : number_in a grown.seen j ≡ number_in a a.seen j = g.own j l h in
+      let later = beginning-trans start.seen scanner.seen met.seen first.later more.later in
+      let rises : number_in a start.seen j ≤ number_in a met.seen j =
+      number-beginning (starts a.plan) start.seen met.seen j later in
+      let same : number_in a met.seen j ≡ number_in a grown.seen j =
+      ap (λ (h : List Update). number_in a h j) is in
+      omega arith);
+}
+
+module _ {D : Type 0} where
+  pub met_self : (w : WriterState D) → HasMet w w
+  met_self w = record { segment_is = refl; grows = grows_self w.seat }
+
+  pub met_more : (a b c : WriterState D) → HasMet a b → HasMet b c → HasMet a c
+  met_more a b c f g = record {
+    segment_is = g.segment_is ∙ f.segment_is;
+    grows = grows_more a.seat b.seat c.seat f.grows g.grows;
+  }
+
+  pub told_step : (olds : List (WriterState D)) (k : ℕ) (w : WriterState D)
+      (start scanner met grown : Known) → slice_get olds k ≡ Some w
+      → ((i : ℕ) (x : WriterState D) → slice_get olds i ≡ Some x → i < k
+      → IsTold x.seat start scanner) → Grows start scanner → Grows scanner met
+      → Grows w.seat grown → met.seen ≡ grown.seen → (i : ℕ) (x : WriterState D)
+      → slice_get olds i ≡ Some x → i < k + 1 → IsTold x.seat start met
+  told_step olds k w start scanner met grown there before first more g is i x at low =
+      dite (ℕ_discrete i k)
+      (λ e. let same : w ≡ x = cc (at, there, e) in
+      subst (λ (z : WriterState D). IsTold z.seat start met) same
+      (told_now start scanner met w.seat grown first more g is))
+      (λ other.
+      let t = before i x at (omega arith) in
+      record {
+        heard = beginning-trans x.seat.seen scanner.seen met.seen t.heard more.later;
+        no_more = t.no_more;
+      })
+
+  -- the seats of one opening are together, also after they have seen more
+  pub together_after : (w0 w1 : List (WriterState D)) (scanners : List Known) (b s : Known)
+      → AreBack w0 scanners → slice_get scanners 0 ≡ Some b → Pairs (λ _. HasMet) w0 w1 → Grows b s
+      → (i : ℕ) (w : WriterState D) → slice_get w1 i ≡ Some w → AreTogether s w.seat
+  together_after w0 w1 scanners b s back at_b p g i w at =
+      let size : length w0 ≡ length w1 = p.size in
+      let inside : i < length w1 = slice_get_within w1 i w at in
+      let x = element w0 i (omega arith) in
+      let met = p.each i x.0 w x.1 at in
+      let a = back.writers_are i x.0 x.1 in
+      let r = back.scanners_are 0 b at_b in
+      together_grown b x.0.seat s w.seat
+      (record { table = a.table_is ∙ sym r.table_is; plan = a.plan_is ∙ sym r.plan_is }) g met.grows
+
+  -- the first writer alone took part
+  pub first_met : (w0 : List (WriterState D)) (x y : WriterState D) → slice_get w0 0 ≡ Some x
+      → HasMet x y → Pairs (λ _. HasMet) w0 (slice_set w0 0 y)
+  first_met w0 x y at met = Pairs-right (λ _. HasMet) w0 w0 0 y (slice_get_within w0 0 x at)
+      (λ a ea. subst (λ (z : WriterState D). HasMet z y) (same_Some x a (sym at ∙ ea)) met)
+      (pairs_self HasMet met_self w0)
+
+  -- after the first round the scanner has seen it all, which the second one shows
+  pub history_told : (w0 w1 w2 : List (WriterState D)) (scanners : List Known)
+      (first : WriterState D) (s1 s2 s3 : Known) → AreBack w0 scanners
+      → Pairs (λ _. HasMet) w0 w1 → Pairs (λ _. HasMet) w1 w2
+      → ((i : ℕ) (w : WriterState D) → slice_get w1 i ≡ Some w → IsTold w.seat s1 s2)
+      → ((i : ℕ) (w : WriterState D) → slice_get w2 i ≡ Some w → IsTold w.seat s2 s3)
+      → slice_get w1 0 ≡ Some first
+      → ((k : ℕ) (b : Known) → slice_get scanners k ≡ Some b → IsBeginning b.seen first.seat.seen)
+      → (h : List Update) × IsHistory h w0 scanners
+  history_told w0 w1 w2 scanners first s1 s2 s3 back p q t u at_first heard = (
+    s2.seen,
+    record {
+      writers_saw = λ i w at. (
+          let a = back.writers_are i w at in
+          let x = partner (λ _. HasMet) w0 w1 i w p at in
+          let y = partner (λ _. HasMet) w1 w2 i x.0 q x.1 in
+          let met = met_more w x.0 y.0 x.2 y.2 in
+          let saw : IsBeginning w.seat.seen s2.seen =
+          beginning-trans w.seat.seen x.0.seat.seen s2.seen x.2.grows.later (t i x.0 x.1).heard in
+          let low : w.seat.low ≡ i = a.low_is in
+          let high : w.seat.high ≡ i + 1 = a.high_is in
+          let low' : y.0.seat.low ≡ w.seat.low = met.grows.low in
+          let high' : y.0.seat.high ≡ w.seat.high = met.grows.high in
+          let own : number_in w.seat y.0.seat.seen i ≡ number_in w.seat w.seat.seen i =
+          met.grows.own i (omega arith) (omega arith) in
+          let none : number_in y.0.seat s2.seen i ≤ number_in y.0.seat y.0.seat.seen i =
+          (u i y.0 y.1).no_more i (omega arith) (omega arith) in
+          let rises : number_in w.seat w.seat.seen i ≤ number_in w.seat s2.seen i =
+          number-beginning (starts w.seat.plan) w.seat.seen s2.seen i saw in
+          let all : updates_of i s2.seen ≡ updates_of i w.seat.seen = omega arith in
+          (saw, all));
+      scanners_saw = λ k b at. beginning-trans b.seen first.seat.seen s2.seen (heard k b at)
+          (t 0 first at_first).heard;
+    },
+  )
+
+  -- the devices that come back hold the history's numbers and values
+  pub holds_after : (device : D → Device) (honest : D → Type 0) (h : List Update)
+      (writers met : List (WriterState D)) (scanners : List Known) → AreBack writers scanners
+      → IsHistory h writers scanners → Pairs (λ _. HasMet) writers met
+      → ((i : ℕ) (w : WriterState D) → slice_get met i ≡ Some w → Rests device honest w)
+      → (i : ℕ) (w : WriterState D) → slice_get writers i ≡ Some w → HoldsAfter device honest h i w
+  holds_after device honest h writers met scanners back history p rest i w at =
+      let x = partner (λ _. HasMet) writers met i w p at in
+      let r = rest i x.0 x.1 in
+      let a = back.writers_are i w at in
+      let low : w.seat.low ≡ i = a.low_is in
+      let high : w.seat.high ≡ i + 1 = a.high_is in
+      let saw = history.writers_saw i w at in
+      let all : updates_of i h ≡ updates_of i w.seat.seen = saw.1 in
+      let same : x.0.segment ≡ w.segment = x.2.segment_is in
+      let now : w.segment.number ≡ number_in w.seat w.seat.seen i =
+      ap (λ (s : SegmentState D). s.number) (sym same) ∙ (r.number_is
+      ∙ (number_grown w.seat x.0.seat x.2.grows (omega arith)
+      ∙ ap (number_in w.seat w.seat.seen) low)) in
+      let value_now : w.segment.value ≡ value_in w.seat w.seat.seen i =
+      ap (λ (s : SegmentState D). s.value) (sym same) ∙ (r.value_is
+      ∙ (value_grown w.seat x.0.seat x.2.grows (omega arith)
+      ∙ ap (value_in w.seat w.seat.seen) low)) in
+      let number_is : w.segment.number ≡ number_in w.seat h i = omega arith in
+      let value_is : w.segment.value ≡ value_in w.seat h i = value_now
+      ∙ same_value (starts w.seat.plan) h w.seat.seen h i saw.0 (beginning-self h) (omega arith) in
+      let kept : honest w.segment.device → IsKept w.segment.index w.segment.count w.segment.number
+      w.segment.value w.segment.begun w.segment.spare_open (device w.segment.device) =
+      subst (λ (s : SegmentState D). honest s.device → IsKept s.index s.count s.number s.value s.begun
+      s.spare_open (device s.device)) same r.kept in
+      record {
+        number_is = number_is;
+        value_is = value_is;
+        file = λ hon. subst (λ (y : ℕ × List ℕ). IsKept w.segment.index w.segment.count y.0 y.1
+            w.segment.begun w.segment.spare_open (device w.segment.device))
+            (λ t. (number_is t, value_is t)) (kept hon);
+      }
+
+-- ---- devices that come back
+
+module _ {D : Type 0} (device : D → Device) (honest : D → Type 0) where
+  -- a writer's device, taken out of its segment
+  pub rests_moved : (w : WriterState D) (t : SegmentState D) (d : D) → t ≡ w.segment → d ≡ t.device
+      → w.segment.number ≡ number_of w → w.segment.value ≡ value_of w
+      → (honest d → IsKept t.index t.count t.number t.value t.begun t.spare_open (device d))
+      → Rests device honest w
+  rests_moved w t d same is number value kept =
+      let here : honest t.device → IsKept t.index t.count t.number t.value t.begun t.spare_open
+      (device t.device) = subst (λ (x : D). honest x → IsKept t.index t.count t.number t.value t.begun
+      t.spare_open (device x)) is kept in
+      record {
+        number_is = number;
+        value_is = value;
+        kept = subst (λ (s : SegmentState D). honest s.device → IsKept s.index s.count s.number
+            s.value s.begun s.spare_open (device s.device)) same here;
+      }
+
+  -- one writer more
+  pub rests_more : (ws : List (WriterState D)) (k : ℕ) (w : WriterState D)
+      → slice_get ws k ≡ Some w → ((i : ℕ) (x : WriterState D) → slice_get ws i ≡ Some x → i < k
+      → Rests device honest x) → Rests device honest w → (i : ℕ) (x : WriterState D)
+      → slice_get ws i ≡ Some x → i < k + 1 → Rests device honest x
+  rests_more ws k w there before this i x at low = dite (ℕ_discrete i k)
+      (λ e. let same : w ≡ x = cc (at, there, e) in
+      subst (λ (y : WriterState D). Rests device honest y) same this)
+      (λ other. before i x at (omega arith))

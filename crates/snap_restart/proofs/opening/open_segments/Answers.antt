@@ -1,0 +1,75 @@
+use Rattle.std.proofs.Common.{rules, ◌≡◌, ℕ, ◌+◌, ◌∷◌, ◌++◌, ◌<◌, ◌-◌, ◌^◌, List, [], length, take, drop, subst, ap, sym, ◌∙◌, arith}
+use Rattle.std.proofs.lemmas.List.{length_push, length-take-le}
+use Rattle.std.proofs.lemmas.Option.{slice_get_within}
+use Rattle.std.specs.Vec.Iter.{into_iter_items}
+use Rattle.snap_segment.specs.Segment.{SegmentState}
+use Rattle.snap_history.specs.Pairs.{Pairs}
+use Rattle.snap_register.proofs.Pushing.{Pairs-push}
+use Rattle.snap_restart.specs.Opened.{IsOpened, IsReturned}
+use Rattle.snap_restart.proofs.Returning.{get_dropped, rest_dropped, take_dropped, all_dropped}
+use Rattle.snap_restart.proofs.Stopping.{back_later, returned_here, stopped_at}
+use Rattle.snap_restart.proofs.opening.open_segments.Goals as goal
+
+pub open-requires-clause-headroom : goal.open-requires-clause-headroom
+open-requires-clause-headroom g c = all_dropped (λ d. g.D.Disk.failure_count d < 2 ^ 64 - 1) (length c.opening.segments.items) c.args.devices.items c.in-Some.device (into_iter_items c.next.new.self) c.requires.headroom (sym c.opening.invariant.rest ∙ c.in-Some.ensures.cases.0)
+
+pub opening-preserved : goal.opening-preserved
+opening-preserved g c =
+    let ds = c.args.devices.items in
+    let inv = c.opening.invariant in
+    let ss = c.opening.segments.items in
+    let k : ℕ = length ss in
+    let d = c.in-Some.device in
+    let s = c.in-Ok-open.segment in
+    let o = c.in-Ok-open.ensures in
+    let head = sym inv.rest ∙ c.in-Some.ensures.cases.0 in
+    let low = slice_get_within ds k d (get_dropped k ds d _ head) in
+    let index : c.len-index.result ≡ k = search rules in
+    let Opened = IsOpened g.D.Disk.device g.D.Disk.failure_count g.D.Disk.is_honest g.D.Disk.clock g.D.Disk.might_have_left in
+    let here : Opened c.len-count.result c.len-index.result d s = record {
+      index_is = o.opened.0;
+      count_is = o.opened.1;
+      unfenced = o.opened.2;
+      failures_same = o.count_ok;
+      calls = o.calls_ok;
+      found = o.holds;
+      rests = o.at_rest;
+      back = back_later g.D.Disk.device g.D.Disk.failure_count g.D.Disk.is_honest g.D.Disk.clock g.D.Disk.might_have_left g.met.D.Disk.counts_now d s.device o.honest_ok o.any_time_ok;
+    } in
+    let long : length (take k ds) ≡ k = length-take-le k ds inv.within in
+    let placed : Opened (length ds) (length (take k ds)) d s = subst (λ (p : ℕ × ℕ). Opened p.0 p.1 d s) (λ i. (inv.count i, (index ∙ sym long) i)) here in
+    let more = Pairs-push (Opened (length ds)) (take k ds) ss d s inv.opened placed in
+    let count : length c.keep.new.items.items ≡ k + 1 = ap length c.keep.ensures.items ∙ length_push ss s in
+    record {
+      rest = rest_dropped k ds d _ head ∙ ap (λ (n : ℕ). drop n ds) (sym count);
+      long = (let was = inv.long in let gone = c.in-Some.ensures.cases.1 in let short = ap length c.in-Some.ensures.cases.0 in omega arith);
+      opened = subst (λ (l : List (SegmentState _)). Pairs (Opened (length ds)) (take (length c.keep.new.items.items) ds) l) (sym c.keep.ensures.items)
+          (subst (λ l. Pairs (Opened (length ds)) l (ss ++ s ∷ [])) (sym (take_dropped k ds d _ head) ∙ ap (λ (n : ℕ). take n ds) (sym count)) more);
+      within = omega arith;
+      count = inv.count;
+      room = (let r = c.keep.ensures.room in let was = inv.room in omega arith);
+      emptied = inv.emptied;
+      space = inv.space;
+    }
+
+pub returns-in-Err-clause-stopped : goal.returns-in-Err-clause-stopped
+returns-in-Err-clause-stopped g c =
+    let ds = c.args.devices.items in
+    let inv = c.opening.invariant in
+    let ss = c.opening.segments.items in
+    let k : ℕ = length ss in
+    let d = c.in-Some.device in
+    let e = c.in-Err.device in
+    let why = c.in-Err.refusal in
+    let o = c.in-Err.ensures in
+    let head = sym inv.rest ∙ c.in-Some.ensures.cases.0 in
+    let low = slice_get_within ds k d (get_dropped k ds d _ head) in
+    let index : c.len-index.result ≡ k = search rules in
+    let Returned = IsReturned g.D.Disk.device g.D.Disk.failure_count g.D.Disk.is_honest g.D.Disk.clock g.D.Disk.might_have_left in
+    let back = back_later g.D.Disk.device g.D.Disk.failure_count g.D.Disk.is_honest g.D.Disk.clock g.D.Disk.might_have_left g.met.D.Disk.counts_now d e o.honest_err o.any_time_err in
+    let here = returned_here g.D.Disk.device g.D.Disk.failure_count g.D.Disk.is_honest g.D.Disk.clock g.D.Disk.might_have_left c.len-count.result c.len-index.result why d e back o.count_err o.refused in
+    let placed : Returned (length ds) c.len-index.result why c.len-index.result d e = subst (λ (n : ℕ). Returned n c.len-index.result why c.len-index.result d e) inv.count here in
+    stopped_at g.D.Disk.device g.D.Disk.failure_count g.D.Disk.is_honest g.D.Disk.clock g.D.Disk.might_have_left g.met.D.Disk.only_now why ds c.returned.result.items ss d e (into_iter_items c.next.new.self) c.len-index.result
+    index (ap (λ (n : ℕ). drop n ds) index ∙ head) (omega arith)
+    (subst (λ (n : ℕ). Pairs (IsOpened g.D.Disk.device g.D.Disk.failure_count g.D.Disk.is_honest g.D.Disk.clock g.D.Disk.might_have_left (length ds)) (take n ds) ss) (sym index) inv.opened)
+    o.refusals placed c.returned.ensures

@@ -1,0 +1,22 @@
+use Rattle.std.proofs.Common.{ap, sym, ◌∙◌}
+use Rattle.snap_segment.specs.Segment.{SegmentState}
+use Rattle.snap_writer.specs.Writer.{WriterState}
+use Rattle.snap_restart.specs.Closed.{HasMet}
+use Rattle.snap_restart.proofs.Meetings.{pairs_mapped, holds_after}
+use Rattle.snap_restart.proofs.store.Store.close.Goals as goal
+
+pub returns-clause-devices : goal.returns-clause-devices
+returns-clause-devices g c = c.release_all.ensures.devices
+    ∙ sym (pairs_mapped HasMet (λ (w : WriterState g.row.D.Denot). w.segment.device)
+    (λ a b m. ap (λ (s : SegmentState g.row.D.Denot). s.device) (sym m.segment_is))
+    c.args.self.writers.items c.gather.new.writers.items c.gather.ensures.met)
+
+pub returns-clause-history : goal.returns-clause-history
+returns-clause-history g c =
+    let history = c.gather.ensures.history in (
+      history.0,
+      history.1,
+      holds_after g.D.Disk.device g.D.Disk.is_honest history.0 c.args.self.writers.items
+          c.gather.new.writers.items c.args.self.scanners.items c.requires.back history.1
+          c.gather.ensures.met c.release_all.ensures.rests,
+    )

@@ -1,0 +1,90 @@
+-- Devices before and after an opening of all files. What is said is over any kind D of device: its
+-- bytes and open places, its failure count, whether it is honest, its clock, and what a crash at a
+-- time of the clock or later could have left.
+use Rattle.std.specs.Prelude.{◌≡◌, ◌≢◌, ℕ, ◌+◌, ◌<◌, ◌≤◌, List, [], length, None, Some, slice_get}
+use Rattle.snap_disk.specs.declared.refusal.Refusal.{Refusal}
+use Rattle.snap_disk.specs.declared.refusal.Refusal.TheVariants.{NoMemory}
+use Rattle.snap_disk.specs.Device.{Device, MayLeave, LeavesOnly}
+use Rattle.snap_slot.specs.Layout.{Head, Holds}
+use Rattle.snap_slot.specs.States.{IsAtRest}
+use Rattle.snap_slot.specs.Findings.{IsNoOpening}
+use Rattle.snap_segment.specs.Segment.{SegmentState}
+use Rattle.snap_segment.specs.Open.{CountsFailed}
+use Rattle.snap_segment.specs.Refusals.{IsOpenRefusal}
+use Rattle.snap_history.specs.Pairs.{Pairs}
+use Rattle.snap_register.specs.Seat.{Known, own_of, number_in, value_in}
+use Rattle.snap_writer.specs.Writer.{WriterState}
+use Rattle.snap_restart.specs.declared.report.Recovered.{Recovered}
+use Rattle.snap_restart.specs.declared.store.TheConstants.{LOOKS}
+
+-- the bytes are the file of segment i of n, with some number and value
+abbrev pub IsOpenable : (i n : ℕ) → List ℕ → Type 0
+IsOpenable i n b = Head b i n × ((k : ℕ) × (v : List ℕ) × Holds b k v)
+
+-- whatever a crash at any time since d leaves of the device, and one now, a crash of d could leave
+pub record IsBack {D : Type 0} (device : D → Device) (honest : D → Type 0) (clock : D → ℕ)
+    (might_have_left : D → ℕ → List ℕ → Type 0) (d e : D) : Type 0 where
+  pub honest_then : honest e → honest d
+  pub any_time : honest e → LeavesOnly clock might_have_left d e (MayLeave (device d))
+  pub now : honest e → (b : List ℕ) → MayLeave (device e) b → MayLeave (device d) b
+
+-- segment i of n was opened on device d: it isn't fenced, no place is open, and it holds the number
+-- and the value that the bytes held
+pub record IsOpened {D : Type 0} (device : D → Device) (failures : D → ℕ) (honest : D → Type 0)
+    (clock : D → ℕ) (might_have_left : D → ℕ → List ℕ → Type 0) (n i : ℕ) (d : D)
+    (s : SegmentState D) : Type 0 where
+  pub index_is : s.index ≡ i
+  pub count_is : s.count ≡ n
+  pub unfenced : s.begun ≡ None
+  pub failures_same : failures s.device ≡ failures d
+  pub calls : clock s.device ≡ clock d + 2
+  pub found : honest s.device → Head (device d).bytes i n × Holds (device d).bytes s.number s.value
+  pub rests : honest s.device → IsAtRest i n s.number s.value s.spare_open (device s.device)
+  pub back : IsBack device honest clock might_have_left d s.device
+
+-- device e is what came back for device d, of segment i, where the opening of n segments was
+-- refused at segment k
+pub record IsReturned {D : Type 0} (device : D → Device) (failures : D → ℕ) (honest : D → Type 0)
+    (clock : D → ℕ) (might_have_left : D → ℕ → List ℕ → Type 0) (n k : ℕ) (why : Refusal)
+    (i : ℕ) (d e : D) : Type 0 where
+  pub back : IsBack device honest clock might_have_left d e
+  -- those before were opened
+  pub before : i < k → (failures e ≡ failures d) × (honest e → IsOpenable i n (device d).bytes)
+  -- this one was refused, save for want of memory by what its bytes are or by a fault
+  pub here : i ≡ k → CountsFailed why (failures d) (failures e)
+      × (why ≢ NoMemory → honest e → IsNoOpening i n (device d).bytes why)
+  -- and those behind it weren't touched
+  pub behind : k < i → e ≡ d
+
+-- the opening of these devices was refused at segment k, and they came back in order
+pub record IsStopped {D : Type 0} (device : D → Device) (failures : D → ℕ) (honest : D → Type 0)
+    (clock : D → ℕ) (might_have_left : D → ℕ → List ℕ → Type 0) (olds news : List D)
+    (why : Refusal) (k : ℕ) : Type 0 where
+  pub kind : IsOpenRefusal why
+  pub within : k ≤ length olds
+  pub refused : why ≢ NoMemory → k < length olds
+  pub returned : Pairs (IsReturned device failures honest clock might_have_left (length olds) k why)
+      olds news
+
+-- the seat has seen no update, and has all its looks
+abbrev pub IsFresh : Known → Type 0
+IsFresh a = (a.seen ≡ []) × (a.left ≡ LOOKS)
+
+-- so it is with each writer and each scanner
+pub record AreFresh {D : Type 0} (writers : List (WriterState D)) (scanners : List Known)
+    : Type 0 where
+  pub writers_are : (i : ℕ) (w : WriterState D) → slice_get writers i ≡ Some w → IsFresh w.seat
+  pub scanners_are : (k : ℕ) (b : Known) → slice_get scanners k ≡ Some b → IsFresh b
+
+-- the seat starts with the segment's number and value
+pub record Starts {D : Type 0} (s : SegmentState D) (a : Known) : Type 0 where
+  pub number_is : s.number ≡ number_in a a.seen (own_of a)
+  pub value_is : s.value ≡ value_in a a.seen (own_of a)
+
+-- what was recovered of a segment
+abbrev pub recovered : {D : Type 0} → SegmentState D → Recovered
+recovered s = record { number = s.number; length = length s.value; spare_open = s.spare_open }
+
+-- the number and the value of a segment
+abbrev pub contents : {D : Type 0} → SegmentState D → ℕ × List ℕ
+contents s = (s.number, s.value)

@@ -1,0 +1,63 @@
+//! What a restart found, as text (docs/FORMATS.md).
+ghost use Rattle.std.specs.Prelude.{Some};
+ghost use Rattle.snap_restart.specs.Report.{recovered_text, report_text};
+
+use std::fmt;
+
+/// What was recovered of one segment.
+#[derive(Clone, Copy, Debug, PartialEq, Eq)]
+pub struct Recovered {
+    /// How many values were stored since its file was formatted.
+    pub number: u64,
+    /// How many bytes its value has.
+    pub length: usize,
+    /// Whether the slot that its next number takes is open.
+    pub spare_open: bool,
+}
+
+/// What was recovered of each segment, in order. Its text has a line for each of them, and then one
+/// with their count.
+#[derive(Debug, Drop)]
+pub struct Report {
+    pub segments: Vec<Recovered>,
+}
+
+impl fmt::Display for Report {
+    ghost output = { λ report. Some (report_text report) };
+
+    fn fmt<W: fmt::Write>(&self, f: &mut fmt::Formatter<W>) -> fmt::Result {
+        for (index, segment) in self.segments.iter().enumerate() {
+            let found = Line {
+                index,
+                segment: *segment,
+            };
+            writeln!(f, "{found}")?;
+        }
+        writeln!(f, "segments {}", self.segments.len())
+    }
+}
+
+/// The line of one segment.
+#[derive(Drop)]
+struct Line {
+    index: usize,
+    segment: Recovered,
+}
+
+impl fmt::Display for Line {
+    ghost output = { λ found. Some (recovered_text found.index found.segment) };
+
+    fn fmt<W: fmt::Write>(&self, f: &mut fmt::Formatter<W>) -> fmt::Result {
+        let Recovered {
+            number,
+            length,
+            spare_open,
+        } = self.segment;
+        let spare = if spare_open { "open" } else { "closed" };
+        let index = self.index;
+        write!(
+            f,
+            "segment {index} number {number} length {length} spare {spare}"
+        )
+    }
+}

@@ -1,0 +1,268 @@
+//! A store: the writers and scanners of all files that were opened at once.
+ghost use Rattle.std.specs.Prelude.{
+  ◌≡◌,
+  ℕ,
+  ◌+◌,
+  ◌-◌,
+  ◌^◌,
+  ◌<◌,
+  ◌≤◌,
+  List,
+  [],
+  length,
+  map,
+  slice_get,
+  Some,
+  All,
+  IfOk,
+  IfErr,
+  vec_capacity,
+};
+ghost use Rattle.atomic_table.specs.Seated.{TableId};
+ghost use Rattle.snap_slot.specs.declared.layout.TheConstants.{MAX_COUNT};
+ghost use Rattle.snap_slot.specs.Layout.{IsNumber, IsShort};
+ghost use Rattle.snap_history.specs.declared.limits.TheConstants.{MAX_SCANNERS};
+ghost use Rattle.snap_history.specs.History.{Update};
+ghost use Rattle.snap_history.specs.Pairs.{Pairs};
+ghost use Rattle.snap_register.specs.declared.plan.Plan.{Plan};
+ghost use Rattle.snap_register.specs.Parts.{IsOpening, AreWriters, AreReaders};
+ghost use Rattle.snap_writer.specs.Writer.{IsPaired};
+ghost use Rattle.snap_restart.specs.Closed.{AreBack, IsHistory, HoldsAfter};
+ghost use Rattle.snap_restart.specs.Opened.{IsOpened, IsStopped, AreFresh, Starts};
+ghost use Rattle.snap_restart.specs.Opened.{recovered, contents};
+
+use crate::closing::{gather, release_all};
+use crate::keep::keep;
+use crate::opening::{Stopped, open_segments, release};
+use crate::report::{Recovered, Report};
+use snap_disk::{Disk, Refusal};
+use snap_memory::Scanner;
+use snap_register::{Parts, ReadSeat, Registers, WriteSeat};
+use snap_segment::Segment;
+use snap_writer::Writer;
+use std::alloc::{AllocError, Global};
+
+/// How many looks each writer and each scanner may take between an opening and the next: at a
+/// million a second, enough for 35 years.
+pub const LOOKS: u64 = 1 << 50;
+
+/// The writers and the scanners of one opening.
+///
+/// They may be taken out. Once all of them are back, the writers in order of their segments, the
+/// store can be closed.
+#[derive(Drop)]
+pub struct Store<D: Disk> {
+    pub writers: Vec<Writer<D>>,
+    pub scanners: Vec<Scanner>,
+    /// With room for all devices, so that closing takes no memory.
+    devices: Vec<D>,
+    ghost empty: { devices.items ≡ [] },
+    ghost room: { MAX_COUNT ≤ vec_capacity devices },
+}
+
+impl<D: Disk + Drop> Store<D> {
+    /// Gives the devices back, in order of their segments. It takes no memory and makes no device
+    /// call.
+    ///
+    /// All that writers and scanners have seen are beginnings of one history, and each device holds
+    /// the number and the value of its segment after it; of a fenced one a crash may leave one
+    /// number more, with the value whose store failed.
+    pub fn close(self) -> Vec<D>
+        requires back { AreBack self.writers.items self.scanners.items }
+        ensures devices { result.items ≡ map (λ w. w.segment.device) self.writers.items }
+        ensures history { (h : List Update)
+            × IsHistory h self.writers.items self.scanners.items
+            × ((i : ℕ) (w : _) → slice_get self.writers.items i ≡ Some w
+            → HoldsAfter D.device D.is_honest h i w) }
+    {
+        let Store {
+            mut writers,
+            mut scanners,
+            devices,
+        } = self;
+        gather(&mut writers, &mut scanners);
+        release_all(writers, devices)
+    }
+}
+
+/// Opens all files, in order of their segments, and then the registers, so that each writer starts
+/// with the number and the value of its file. Each of them is synced before it is read, so what is
+/// served then stands after any later crash.
+///
+/// The first refusal of a file ends it. `NoMemory` may also come before or after the files. All
+/// devices then come back, in order, and a crash leaves of each only what one before could leave.
+pub fn open_all<D: Disk + Drop>(
+    alloc: Global,
+    devices: Vec<D>,
+    scanners: usize,
+) -> Result<(Store<D>, Report), Stopped<D>>
+    requires count { (0 < length devices.items) × (length devices.items ≤ MAX_COUNT) }
+    requires scanners { (0 < scanners) × (scanners ≤ MAX_SCANNERS) }
+    requires headroom { All (λ d. D.failure_count d < 2 ^ 64 - 1) devices.items }
+
+    // Each file was opened, and its number and value are those of its writer.
+    ensures opened { IfOk result (λ r.
+        Pairs (IsOpened D.device D.failure_count D.is_honest D.clock D.might_have_left
+        (length devices.items)) devices.items (map (λ w. w.segment) r.0.writers.items)) }
+    ensures starts { IfOk result (λ r. (i : ℕ) (w : _)
+        → slice_get r.0.writers.items i ≡ Some w → IsPaired w) }
+
+    // Nobody has seen an update or taken a look, and the store can be closed as it is.
+    ensures fresh { IfOk result (λ r. AreFresh r.0.writers.items r.0.scanners.items) }
+    ensures scanners { IfOk result (λ r. length r.0.scanners.items ≡ scanners) }
+    ensures back { IfOk result (λ r. AreBack r.0.writers.items r.0.scanners.items) }
+    ensures report { IfOk result (λ r.
+        r.1.segments.items ≡ map (λ w. recovered w.segment) r.0.writers.items) }
+
+    // After a refusal no writer exists, and all devices come back.
+    ensures stopped { IfErr result (λ e.
+        IsStopped D.device D.failure_count D.is_honest D.clock D.might_have_left
+        devices.items e.devices.items e.refusal e.segment) }
+{
+    let (segments, mut emptied) = match open_segments(alloc, devices) {
+        Ok(opened) => opened,
+        Err(stopped) => return Err(stopped),
+    };
+    let count = segments.len();
+    match prepare(alloc, &segments, scanners) {
+        Ok(
+            Ready {
+                parts,
+                writers,
+                scanners,
+                report,
+            },
+        ) => {
+            let Parts {
+                writers: writer_seats,
+                scanners: scanner_seats,
+            } = parts;
+            let store = Store {
+                writers: seat_writers(segments, writer_seats, writers),
+                scanners: seat_scanners(scanner_seats, scanners),
+                devices: emptied,
+            };
+            Ok((store, report))
+        }
+        Err(_) => {
+            release(segments, &mut emptied);
+            Err(Stopped {
+                devices: emptied,
+                refusal: Refusal::NoMemory,
+                segment: count,
+            })
+        }
+    }
+}
+
+/// All memory that an open store has but that of its files.
+#[derive(Drop)]
+struct Ready<D: Disk> {
+    parts: Parts,
+    /// Empty, with room for all writers.
+    writers: Vec<Writer<D>>,
+    /// Empty, with room for all scanners.
+    scanners: Vec<Scanner>,
+    report: Report,
+}
+
+// Takes it.
+fn prepare<D: Disk + Drop>(
+    alloc: Global,
+    segments: &Vec<Segment<D>>,
+    scanners: usize,
+) -> Result<Ready<D>, AllocError>
+    requires count { (0 < length segments.now.items)
+        × (length segments.now.items ≤ MAX_COUNT) }
+    requires scanners { scanners ≤ MAX_SCANNERS }
+    ensures counts { IfOk result (λ r.
+        (length r.parts.writers.items ≡ length segments.now.items)
+        × (length r.parts.scanners.items ≡ scanners)) }
+    ensures seats { IfOk result (λ r. (z : TableId) × (p : Plan)
+        × IsOpening p LOOKS (map contents segments.now.items)
+        × AreWriters z p r.parts.writers.items × AreReaders z p r.parts.scanners.items) }
+    ensures writers { IfOk result (λ r. (r.writers.items ≡ [])
+        × (length segments.now.items ≤ vec_capacity r.writers)) }
+    ensures scanners { IfOk result (λ r. (r.scanners.items ≡ [])
+        × (scanners ≤ vec_capacity r.scanners)) }
+    ensures report { IfOk result (λ r.
+        r.report.segments.items ≡ map recovered segments.now.items) }
+{
+    let values = values_of(alloc, segments)?;
+    let parts = Registers::open(alloc, &values, scanners, LOOKS)?;
+    Ok(Ready {
+        parts,
+        writers: Vec::with_capacity(alloc, segments.len())?,
+        scanners: Vec::with_capacity(alloc, scanners)?,
+        report: report_of(alloc, segments)?,
+    })
+}
+
+// The numbers and the values, in order.
+fn values_of<D: Disk>(
+    alloc: Global,
+    segments: &Vec<Segment<D>>,
+) -> Result<Vec<(u64, Vec<u8>)>, AllocError>
+    ensures contents { IfOk result (λ v.
+        map (λ x. (x.0, x.1.items)) v.items ≡ map contents segments.now.items) }
+    ensures numbers { IfOk result (λ v. (i : ℕ) (x : _) → slice_get v.items i ≡ Some x
+        → IsNumber x.0) }
+    ensures sizes { IfOk result (λ v. (i : ℕ) (x : _) → slice_get v.items i ≡ Some x
+        → IsShort x.1.items) }
+{
+    let mut values = Vec::new(alloc);
+    for segment in segments {
+        let value = segment.value().to_vec(alloc)?;
+        values.push((segment.number(), value))?;
+    }
+    Ok(values)
+}
+
+// What was recovered of each segment.
+fn report_of<D: Disk>(alloc: Global, segments: &Vec<Segment<D>>) -> Result<Report, AllocError>
+    ensures { IfOk result (λ r. r.segments.items ≡ map recovered segments.now.items) }
+{
+    let mut lines = Vec::new(alloc);
+    for segment in segments {
+        lines.push(Recovered {
+            number: segment.number(),
+            length: segment.value().len(),
+            spare_open: segment.spare_open(),
+        })?;
+    }
+    Ok(Report { segments: lines })
+}
+
+// Puts each writer at its seat.
+fn seat_writers<D: Disk + Drop>(
+    segments: Vec<Segment<D>>,
+    seats: Vec<WriteSeat>,
+    mut writers: Vec<Writer<D>>,
+) -> Vec<Writer<D>>
+    requires starts { Pairs (λ _. Starts) segments.items seats.items }
+    requires empty { writers.items ≡ [] }
+    requires room { length segments.items ≤ vec_capacity writers }
+    ensures segments { map (λ w. w.segment) result.items ≡ segments.items }
+    ensures seats { map (λ w. w.seat) result.items ≡ seats.items }
+{
+    let mut rest = seats.into_iter();
+    'writers: for segment in segments {
+        let Some(seat) = rest.next() else {
+            unreachable!();
+        };
+        keep(&mut writers, Writer::new(segment, seat));
+    }
+    writers
+}
+
+// Puts each scanner at its seat.
+fn seat_scanners(seats: Vec<ReadSeat>, mut scanners: Vec<Scanner>) -> Vec<Scanner>
+    requires empty { scanners.items ≡ [] }
+    requires room { length seats.items ≤ vec_capacity scanners }
+    ensures { result.items ≡ seats.items }
+{
+    'scanners: for seat in seats {
+        keep(&mut scanners, Scanner::new(seat));
+    }
+    scanners
+}
