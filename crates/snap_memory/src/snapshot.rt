@@ -1,5 +1,6 @@
 //! The answer of a scan, in room that is made once and filled again and again.
-ghost use Rattle.std.specs.Prelude.{◌≡◌, ℕ, ◌<◌, List, length, slice_get, Some, IfOk};
+ghost use Rattle.std.specs.Prelude.{◌≡◌, ℕ, ◌<◌, List, [], length, slice_get, Some};
+ghost use Rattle.std.specs.Prelude.{IfOk, replicate};
 
 use snap_register::SnapshotBuf;
 use std::alloc::{AllocError, Global};
@@ -25,6 +26,7 @@ impl Snapshot {
     /// Where memory runs out it answers the `AllocError`, and nothing is kept.
     pub fn new(alloc: Global, n: usize) -> Result<Snapshot, AllocError>
         ensures size { IfOk result (λ s. length s ≡ n) }
+        ensures values { IfOk result (λ s. s ≡ replicate n (0, [])) }
     {
         Ok(Snapshot {
             buf: SnapshotBuf::new(alloc, n)?,

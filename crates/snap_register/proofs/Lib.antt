@@ -1,5 +1,6 @@
 pub mod Lines
 pub mod Places
+pub mod Spots
 pub mod Sums
 pub mod Blocks
 pub mod Keeps

@@ -1,9 +1,11 @@
 -- What a call changes of a seat at its table.
-use Rattle.std.specs.Prelude.{◌≡◌, ℕ, ◌<◌, List, slice_index}
+use Rattle.std.specs.Prelude.{◌≡◌, ℕ, ◌-◌, ◌<◌, List, [], length, slice_index}
+use Rattle.atomic_table.specs.Table.{Me}
 use Rattle.snap_register.specs.declared.access.Access.{Access}
 use Rattle.snap_register.specs.declared.plan.Pool.{Pool}
 use Rattle.snap_register.specs.declared.plan.SeatView.{SeatView}
-use Rattle.snap_register.specs.Rule.{segments, buffers, IsWriter}
+use Rattle.snap_register.specs.Held.{held}
+use Rattle.snap_register.specs.Rule.{segments, buffers, width, cell, IsWriter, Learns}
 
 -- the seat writes the segment i alone, which there is
 abbrev pub Owns : SeatView → ℕ → Type 0
@@ -16,6 +18,25 @@ IsFree v b = (b ≡ v.pool.free_buffer) × (b < buffers v.plan)
 -- the seat pins a buffer of the register j
 abbrev pub HasPin : SeatView → ℕ → Type 0
 HasPin v j = (j < segments v.plan) × (0 < slice_index v.pins j)
+
+-- the word q of the record that the seat pins on the register j lies at this place
+pub record LiesAt (v : SeatView) (j q place : ℕ) : Type 0 where
+  pub pinned : HasPin v j
+  pub inside : q < length (held v j)
+  pub is : place ≡ cell v.plan j (slice_index v.pins j - 1) q
+
+-- the next word of the own register's free buffer, to which it is stored, lies at this place
+pub record IsNext (v : SeatView) (place : ℕ) : Type 0 where
+  pub own : ℕ
+  pub owns : Owns v own
+  pub free : v.pool.free_buffer < buffers v.plan
+  pub inside : length v.pool.draft < width v.plan
+  pub is : place ≡ cell v.plan own v.pool.free_buffer (length v.pool.draft)
+
+-- the seat has seen all that stands in the history, and what it was told
+abbrev pub HasHeard : {S : Type 0} → Me S SeatView → Me S SeatView → Type 0
+HasHeard m n = Learns m.0 n.0 × (n.1 ≡ m.1)
+    × (n.0 ≡ record m.0 { seen = n.0.seen; received = []; seen_end = m.0.high })
 
 -- it is the same seat of the same table, with as many looks left
 abbrev pub IsSameSeat : Access → Access → Type 0

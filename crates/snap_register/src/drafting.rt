@@ -7,7 +7,7 @@ ghost use Rattle.snap_register.specs.Rule.{segments, width};
 ghost use Rattle.snap_register.specs.Packing.{IsWhole, IsBlock, AreBlocks, bytes_at, piece};
 ghost use Rattle.snap_register.specs.Packing.{size_at, words_for};
 ghost use Rattle.snap_register.specs.Held.{held, taken, CanTake};
-ghost use Rattle.snap_register.specs.Steps.{Owns, IsFree, HasPin, HasDrafted};
+ghost use Rattle.snap_register.specs.Steps.{Owns, IsFree, IsNext, HasPin, HasDrafted};
 
 use crate::access::Access;
 use crate::packing::{block_size, tail_word, word_of};
@@ -26,12 +26,13 @@ impl Access {
         ensures size { (result ≡ length self.new.seat.me.0.pool.draft)
             × (result ≡ size_at self.new.seat.me.0.pool.draft 0) × (result ≤ BLOCK_WORDS) }
     {
-        self.draft(i, b, 0, number);
-        self.draft(i, b, 1, value.len() as u64);
+        let first = self.cell(i, b, 0);
+        self.draft(first, number);
+        self.draft(first + 1, value.len() as u64);
         let whole = value.len() / 8;
         for q in 0..whole {
             let from = 8 * q;
-            self.draft(i, b, 2 + q, word_of(&value[from..from + 8]));
+            self.draft(first + 2 + q, word_of(&value[from..from + 8]));
         }
         self.draft_tail(i, b, value, whole);
         block_size(value.len())
@@ -54,7 +55,8 @@ impl Access {
     {
         let from = 8 * whole;
         if from < value.len() {
-            self.draft(i, b, 2 + whole, tail_word(&value[from..value.len()]));
+            let place = self.cell(i, b, 2 + whole);
+            self.draft(place, tail_word(&value[from..value.len()]));
         }
     }
 
@@ -126,23 +128,21 @@ impl Access {
         ensures size { (result ≡ size_at (held self.old.seat.me.0 j) from)
             × (result ≤ BLOCK_WORDS) }
     {
+        let source = self.place(j, from);
+        let target = self.cell(i, b, to);
         let count = self.size_at(j, from);
         for q in 0..count {
-            let word = self.read(j, from + q);
-            self.draft(i, b, to + q, word);
+            let word = self.load(source + q);
+            self.draft(target + q, word);
         }
         count
     }
 
-    // Stores the next word of the free buffer b of the own register i.
-    fn draft(&mut self, i: usize, b: usize, q: usize, x: u64)
-        requires own { Owns self.old.seat.me.0 i }
-        requires buffer { IsFree self.old.seat.me.0 b }
-        requires place { (q ≡ length self.old.seat.me.0.pool.draft)
-            × (q < width self.old.seat.me.0.plan) }
+    // Stores the next word of the free buffer of the own register, which lies at this place.
+    fn draft(&mut self, place: usize, x: u64)
+        requires place { IsNext self.old.seat.me.0 place }
         ensures { HasDrafted self.old self.new (self.old.seat.me.0.pool.draft ++ x ∷ []) }
     {
-        let at = self.cell(i, b, q);
-        self.table.shared.store::<Draft>(&mut self.seat, at, x);
+        self.table.shared.store::<Draft>(&mut self.seat, place, x);
     }
 }

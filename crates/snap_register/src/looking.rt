@@ -1,13 +1,13 @@
 //! Looks: a seat gives its old pin back, pins the current buffer, and reads what is pinned.
-ghost use Rattle.std.specs.Prelude.{◌≡◌, ℕ, ◌+◌, ◌<◌, ◌≤◌, length, slice_index, slice_get};
-ghost use Rattle.std.specs.Prelude.{slice_set, take, Some};
+ghost use Rattle.std.specs.Prelude.{◌≡◌, ℕ, ◌+◌, ◌^◌, ◌<◌, ◌≤◌, length, slice_index};
+ghost use Rattle.std.specs.Prelude.{slice_get, slice_set, take, Some};
 ghost use Rattle.snap_slot.specs.declared.layout.TheConstants.{MAX_VALUE_LEN};
 ghost use Rattle.snap_register.specs.declared.packing.TheConstants.{BLOCK_WORDS};
 ghost use Rattle.snap_register.specs.History.{number};
 ghost use Rattle.snap_register.specs.Rule.{segments, Learns, IsLegal};
 ghost use Rattle.snap_register.specs.Packing.{IsWhole, size_at, value_at};
 ghost use Rattle.snap_register.specs.Held.{held, view_in, IsPinned, HasLookedFrom};
-ghost use Rattle.snap_register.specs.Steps.{HasPin, IsSame};
+ghost use Rattle.snap_register.specs.Steps.{HasPin, LiesAt, IsSame};
 
 use crate::access::{Access, PIN_RANGE};
 use crate::packing::block_size;
@@ -69,6 +69,29 @@ impl Access {
         self.left -= 1;
     }
 
+    /// Where the word q of the pinned record of j lies. The words behind it lie behind it.
+    pub(crate) fn place(&self, j: usize, q: usize) -> usize
+        requires pinned { HasPin self.now.seat.me.0 j }
+        requires word { q < length (held self.now.seat.me.0 j) }
+        ensures place { LiesAt self.now.seat.me.0 j q result }
+        ensures fits { result + length (held self.now.seat.me.0 j) < 2 ^ 64 + q }
+    {
+        let _words = self.words;
+        let b = (self.pins[j] - 1) as usize;
+        self.cell(j, b, q)
+    }
+
+    /// The word at this place, which is of a pinned record.
+    pub(crate) fn load(&mut self, place: usize) -> u64
+        requires place { (j : ℕ) × (q : ℕ) × LiesAt self.old.seat.me.0 j q place }
+        ensures word { (j q : ℕ) → LiesAt self.old.seat.me.0 j q place
+            → result ≡ slice_index (held self.old.seat.me.0 j) q }
+        ensures legal { IsLegal self.old.seat.me.0.plan self.old.seat.me.0.seen }
+        ensures same { IsSame self.old self.new }
+    {
+        self.table.shared.load::<Read>(&mut self.seat, place)
+    }
+
     /// The word q of the pinned record of j.
     pub(crate) fn read(&mut self, j: usize, q: usize) -> u64
         requires pinned { HasPin self.old.seat.me.0 j }
@@ -77,9 +100,8 @@ impl Access {
         ensures legal { IsLegal self.old.seat.me.0.plan self.old.seat.me.0.seen }
         ensures same { IsSame self.old self.new }
     {
-        let b = (self.pins[j] - 1) as usize;
-        let at = self.cell(j, b, q);
-        self.table.shared.load::<Read>(&mut self.seat, at)
+        let place = self.place(j, q);
+        self.load(place)
     }
 
     /// How many words the block at this place of the pinned record of j takes.
@@ -115,9 +137,10 @@ impl Access {
             × (result ≤ MAX_VALUE_LEN) }
         ensures same { IsSame self.old self.new }
     {
+        let first = self.place(j, at);
         let length = self.read(j, at + 1) as usize;
         for q in 0..(length + 7) / 8 {
-            let word = self.read(j, at + 2 + q);
+            let word = self.load(first + 2 + q);
             let to = 8 * q;
             out[to..to + 8].copy_from_slice(&word.to_le_bytes());
         }

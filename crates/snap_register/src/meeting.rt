@@ -1,11 +1,12 @@
 //! Meetings: two seats tell one another what they have seen.
-ghost use Rattle.std.specs.Prelude.{◌≡◌, ℕ};
+ghost use Rattle.std.specs.Prelude.{◌≡◌, ℕ, ◌<◌, false};
 ghost use mathlib.Core.List.{IsPrefix};
 ghost use Rattle.snap_register.specs.History.{only};
 ghost use Rattle.snap_register.specs.Rule.{Has, IsBelow};
+ghost use Rattle.snap_register.specs.Steps.{HasHeard};
 
 use crate::access::Access;
-use crate::setup::{Glance, JoinAnswer, JoinMessage, SplitMessenger};
+use crate::setup::{Glance, JoinAnswer, JoinMessage, SplitMessenger, TableSeat, WordTable};
 
 impl Access {
     /// Afterwards this seat, which writes nothing, has seen what the other has: all that either had
@@ -42,7 +43,7 @@ impl Access {
             .table
             .shared
             .join_seat::<JoinMessage>(&mut other.seat, messenger);
-        other.table.shared.load::<Glance>(&mut other.seat, 0);
+        hear(&other.table, &mut other.seat);
         let answer = other
             .table
             .shared
@@ -51,4 +52,15 @@ impl Access {
             .shared
             .join_seat::<JoinAnswer>(&mut self.seat, answer);
     }
+}
+
+// The seat sees all that stands in the history at this moment, and what it was told.
+fn hear(table: &WordTable, seat: &mut TableSeat)
+    requires own { seat.old.table_id ≡ table.now.shared.table_id }
+    requires words { 0 < table.now.shared.table_id.words }
+    requires here { seat.old.me.0.spent ≡ false }
+    ensures { (seat.new.table_id ≡ seat.old.table_id) × (seat.new.id ≡ seat.old.id)
+        × HasHeard seat.old.me seat.new.me }
+{
+    table.shared.load::<Glance>(seat, 0);
 }

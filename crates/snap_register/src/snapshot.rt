@@ -1,5 +1,6 @@
 //! Room for the numbers and values of all segments, which is made once and filled again and again.
-ghost use Rattle.std.specs.Prelude.{◌≡◌, ◌≢◌, ℕ, ◌<◌, List, length, slice_get, Some, IfOk};
+ghost use Rattle.std.specs.Prelude.{◌≡◌, ◌≢◌, ℕ, ◌<◌, List, [], length, slice_get, Some};
+ghost use Rattle.std.specs.Prelude.{IfOk, replicate};
 ghost use Rattle.snap_register.specs.Rule.{segments};
 ghost use Rattle.snap_register.specs.Seat.{looked, IsValue};
 
@@ -73,6 +74,7 @@ impl SnapshotBuf {
     /// Where memory runs out it answers the `AllocError`, and nothing is kept.
     pub fn new(alloc: Global, n: usize) -> Result<SnapshotBuf, AllocError>
         ensures size { IfOk result (λ s. length s ≡ n) }
+        ensures values { IfOk result (λ s. s ≡ replicate n (0, [])) }
     {
         let mut segments = Vec::new(alloc);
         for _ in 0..n {

@@ -1,4 +1,4 @@
-use Rattle.std.proofs.Common.{◌≡◌, ℕ, ◌+◌, sym, ap, ◌∙◌}
+use Rattle.std.proofs.Common.{◌≡◌, ◌+◌, sym, ap, ◌∙◌}
 use Rattle.snap_register.specs.Parts.{IsNewSeat}
 use Rattle.snap_register.specs.Seat.{Known}
 use Rattle.snap_memory.proofs.Popped.{last_has}

@@ -1,60 +1,76 @@
-use Rattle.std.proofs.Common.{
-  ◌≡◌,
-  ℕ,
-  ◌+◌,
-  ◌<◌,
-  ◌≤◌,
-  ◌++◌,
-  ◌∷◌,
-  [],
-  List,
-  length,
-  get_or,
-  ap,
-  sym,
-  ◌∙◌,
-  arith,
-  append_assoc,
-  length-append,
-}
+use Rattle.std.proofs.Common.{◌≡◌, ℕ, ◌+◌, ◌<◌, ◌≤◌, ◌++◌, ◌∷◌, [], List, length, get_or, refl, ap, sym, subst, ◌∙◌, arith, append_assoc}
 use Rattle.atomic_table.specs.Table.{Me}
 use Rattle.snap_register.specs.declared.plan.SeatView.{SeatView}
 use Rattle.snap_register.specs.Held.{held}
-use Rattle.snap_register.specs.Packing.{piece}
+use Rattle.snap_register.specs.Packing.{piece, size_at}
 use Rattle.snap_register.specs.Rule.{width}
 use Rattle.snap_register.proofs.Blocks.{piece_more, piece_length}
+use Rattle.snap_register.specs.Steps.{LiesAt, IsNext}
 use Rattle.snap_register.proofs.Drafts.{DraftedBy}
+use Rattle.snap_register.proofs.Spots.{lies_more, next_more}
 use Rattle.snap_register.proofs.access.Access.copy_block.Goals as goal
+use Rattle.snap_register.proofs.access.Access.copy_block.Goals.{In-loop-q}
 
-pub draft-requires-clause-place : goal.draft-requires-clause-place
-draft-requires-clause-place c =
-    let first = c.size_at-count.ensures.same.2 in
-    let inv = c.loop-q.invariant in
-    let now = c.read-word.ensures.same.2 ∙ inv.me in
-    let d : List ℕ = c.size_at-count.new.self.seat.me.0.pool.draft in
-    let p : List ℕ = piece (held c.size_at-count.new.self.seat.me.0 c.args.j) c.args.from
-    c.loop-q.q in
-    let is : c.read-word.new.self.seat.me.0.pool.draft ≡ d ++ p =
-    ap (λ (m : Me (Unit {0}) SeatView). m.0.pool.draft) now in
-    let long : length c.read-word.new.self.seat.me.0.pool.draft ≡ length d + length p =
-    ap length is ∙ length-append d p in
-    let old : length d ≡ length c.args.self.now.seat.me.0.pool.draft =
-    ap (λ (m : Me (Unit {0}) SeatView). length m.0.pool.draft) first in
-    let lp : length p ≡ c.loop-q.q =
-    piece_length (held c.size_at-count.new.self.seat.me.0 c.args.j) c.args.from c.loop-q.q in
-    let wide : width c.read-word.new.self.seat.me.0.plan ≡ width c.args.self.now.seat.me.0.plan =
-    ap (λ (m : Me (Unit {0}) SeatView). width m.0.plan) now
-    ∙ ap (λ (m : Me (Unit {0}) SeatView). width m.0.plan) first in
-    let to = c.requires.place.0 in
-    let fits = c.requires.place.1 in
+-- where the next word of the block lies
+lies : (c : In-loop-q)
+    → LiesAt c.loop-q.self.seat.me.0 c.args.j (c.args.from + c.loop-q.q)
+    (c.place-source.result + c.loop-q.q)
+lies c =
+    let a = c.args.self.now.seat.me in
+    let b = c.size_at-count.new.self.seat.me in
+    let w : List ℕ = held a.0 c.args.j in
+    let from : ℕ = c.args.from in
+    let q : ℕ = c.loop-q.q in
+    let first : ℕ = c.place-source.result in
+    let told : c.size_at-count.result ≡ size_at w from = c.size_at-count.ensures.size.0 in
+    let lt = c.loop-q-test.true in
+    let inside : from + size_at w from ≤ length w = c.requires.block.inside in
+    let lt' : from + q < length w = omega arith in
+    let here : LiesAt b.0 c.args.j (from + q) (first + q) =
+    subst (λ (m : Me (Unit {0}) SeatView). LiesAt m.0 c.args.j (from + q) (first + q))
+    (sym c.size_at-count.ensures.same.2)
+    (lies_more a.0 c.args.j from q (from + q) first (first + q) c.place-source.ensures.place lt'
+    refl refl) in
+    subst (λ (m : Me (Unit {0}) SeatView). LiesAt m.0 c.args.j (from + q) (first + q))
+    (sym c.loop-q.invariant.me)
+    (record { pinned = here.pinned; inside = here.inside; is = here.is })
+
+pub load-word-requires : goal.load-word-requires
+load-word-requires c = record {
+  place = (
+    c.args.j,
+    c.args.from + c.loop-q.q,
+    lies (goal.at.load-word-requires c).In-loop-q,
+  );
+}
+
+pub draft-requires : goal.draft-requires
+draft-requires c =
+    let a = c.args.self.now.seat.me in
+    let q : ℕ = c.loop-q.q in
+    let target : ℕ = c.cell-target.result in
+    let now = c.load-word.ensures.same.2 ∙ c.loop-q.invariant.me in
     let small = c.size_at-count.ensures.size.1 in
     let lt = c.loop-q-test.true in
-    let wide' : ℕ = width c.read-word.new.self.seat.me.0.plan in
-    let wide'' : ℕ = width c.args.self.now.seat.me.0.plan in
-    let same : wide' ≡ wide'' = wide in
-    let fits' : c.args.to + 512 ≤ wide'' = fits in
-    let goal : c.args.to + c.loop-q.q < wide' = omega arith in
-    (omega arith, goal)
+    let wide : ℕ = width a.0.plan in
+    let fits : c.args.to + 512 ≤ wide = c.requires.place.1 in
+    let inside : c.args.to + q < wide = omega arith in
+    let there : IsNext (record a.0 {
+      pool =
+          record a.0.pool { draft = a.0.pool.draft ++ piece (held a.0 c.args.j) c.args.from q };
+    }) (target + q) = next_more a.0 c.args.i c.args.b c.args.to q target (target + q)
+    (piece (held a.0 c.args.j) c.args.from q) c.requires.own c.requires.buffer c.requires.place.0
+    (piece_length (held a.0 c.args.j) c.args.from q) inside c.cell-target.ensures.0 refl in
+    record {
+      place = subst (λ (m : Me (Unit {0}) SeatView). IsNext m.0 (target + q)) (sym now)
+          (subst (λ (m : Me (Unit {0}) SeatView).
+          IsNext (record m.0 {
+            pool = record m.0.pool {
+              draft =
+                  m.0.pool.draft ++ piece (held m.0 c.args.j) c.args.from q;
+            };
+          }) (target + q)) (sym c.size_at-count.ensures.same.2) there);
+    }
 
 pub loop-q-preserved : goal.loop-q-preserved
 loop-q-preserved c =
@@ -64,12 +80,13 @@ loop-q-preserved c =
     let q : ℕ = c.loop-q.q in
     let d : List ℕ = a.0.pool.draft in
     let p : List ℕ = piece w c.args.from q in
-    let x : ℕ = c.read-word.result in
+    let x : ℕ = c.load-word.result in
     let step = c.draft.ensures in
-    let same = c.read-word.ensures.same in
-    let now : DraftedBy (Unit {0}) a (d ++ p) c.read-word.new.self.seat.me = same.2 ∙ inv.me in
+    let same = c.load-word.ensures.same in
+    let now : DraftedBy (Unit {0}) a (d ++ p) c.load-word.new.self.seat.me = same.2 ∙ inv.me in
     let word : x ≡ get_or w (c.args.from + q) 0 =
-    c.read-word.ensures.word
+    c.load-word.ensures.word c.args.j (c.args.from + q)
+    (lies (goal.at.loop-q-preserved c).In-loop-q)
     ∙ ap (λ (m : Me (Unit {0}) SeatView).
     get_or (held m.0 c.args.j) (c.args.from + q) 0) inv.me in
     let more : (d ++ p) ++ x ∷ [] ≡ d ++ piece w c.args.from (q + 1) =

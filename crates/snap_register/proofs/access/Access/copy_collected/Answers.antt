@@ -41,7 +41,8 @@ loop-k-preserved c =
     let same : held m.0 k ≡ held a.0 k = held_drafted (Unit {0}) a m k inv.me in
     let plan = ap (λ (x : Me (Unit {0}) SeatView). x.0.plan) inv.me in
     let lk : k < segments a.0.plan =
-    subst (λ (z : ℕ). k < z) c.args.self.now.sized.segments_are c.loop-k-test.true in
+    let count = c.args.self.now.sized.segments_are in let last = c.loop-k-test.true in omega arith
+    in
     let read : IsWhole (held m.0 k) 0 =
     (c.loop-k.self.seated.readable k
     (subst (λ (p : Plan). k < segments p) (sym plan) lk)).own.whole in

@@ -7,7 +7,6 @@ use Rattle.snap_register.specs.declared.plan.Plan.{Plan}
 use Rattle.snap_register.specs.declared.plan.SeatView.{SeatView}
 use Rattle.snap_register.specs.Rule.{Learns, IsLegal, with_received}
 use Rattle.snap_register.specs.Setup.{IsSized}
-use Rattle.snap_register.proofs.Keeps.{glances}
 use Rattle.snap_register.proofs.Joining.{shares, tells, adopts}
 use Rattle.snap_register.proofs.Later.{seated_shown, some_words}
 use Rattle.snap_register.proofs.access.Access.meet.Goals as goal
@@ -40,22 +39,23 @@ join_seat-requires c =
           get_or m.0.pins i 0) c.split_seat-messenger.ensures.4),
     )
 
-pub load-requires : goal.load-requires
-load-requires c =
+pub hear-requires : goal.hear-requires
+hear-requires c =
     let them = c.args.other.now in
-    let own : them.seat.table_id ≡ c.deref-3.result.now.shared.table_id = search rules in (
-      c.join_seat.ensures.0 ∙ own,
-      subst (λ (t : TableId). 0 < t.words) own
-          (some_words (Unit {0}) _ _ _ _ _ _ _ _ them.sized them.seated),
-      glances (Unit {0}) _ _ _ _ _
-          (ap (λ (m : Me (Unit {0}) SeatView). m.0.spent) c.join_seat.ensures.2 ∙ them.seated.here),
-    )
+    let own : them.seat.table_id ≡ c.deref-3.result.now.shared.table_id = search rules in
+    record {
+      own = c.join_seat.ensures.0 ∙ own;
+      words = subst (λ (t : TableId). 0 < t.words) own
+          (some_words (Unit {0}) _ _ _ _ _ _ _ _ them.sized them.seated);
+      here =
+          ap (λ (m : Me (Unit {0}) SeatView). m.0.spent) c.join_seat.ensures.2 ∙ them.seated.here;
+    }
 
 pub split_seat-answer-requires : goal.split_seat-answer-requires
 split_seat-answer-requires c =
     let them = c.args.other.now in
     let own : them.seat.table_id ≡ c.deref-4.result.now.shared.table_id = search rules in (
-      c.load.ensures.0 ∙ (c.join_seat.ensures.0 ∙ own),
+      c.hear.ensures.0 ∙ (c.join_seat.ensures.0 ∙ own),
       subst (λ (t : TableId). 0 < t.words) own
           (some_words (Unit {0}) _ _ _ _ _ _ _ _ them.sized them.seated),
       shares (Unit {0}) _ _ _,
@@ -69,7 +69,7 @@ join_seat-requires-2 c =
     let same = c.split_seat-messenger.ensures.2 in (
       c.split_seat-messenger.ensures.0 ∙ own,
       c.split_seat-answer.ensures.3
-          ∙ (c.load.ensures.0 ∙ (c.join_seat.ensures.0 ∙ (c.requires.0 ∙ own))),
+          ∙ (c.hear.ensures.0 ∙ (c.join_seat.ensures.0 ∙ (c.requires.0 ∙ own))),
       ap (λ (m : Me (Unit {0}) SeatView). m.1) c.split_seat-answer.ensures.4,
       subst (λ (t : TableId). 0 < t.words) own
           (some_words (Unit {0}) _ _ _ _ _ _ _ _ me.sized me.seated),
@@ -88,7 +88,7 @@ told_by c = subst (λ (m : Me (Unit {0}) SeatView).
     Learns (with_received c.args.other.now.seat.me.0 c.split_seat-messenger.result.me.0) m.0)
     (sym c.split_seat-answer.ensures.2)
     (subst (λ (m : Me (Unit {0}) SeatView).
-    Learns m.0 c.load.new.seat.me.0) c.join_seat.ensures.2 c.load.ensures.2.0)
+    Learns m.0 c.hear.new.seat.me.0) c.join_seat.ensures.2 c.hear.ensures.2.0)
 
 other_is : (c : After-split_seat-answer)
     → c.split_seat-answer.new.seat.me.0 ≡ record c.args.other.now.seat.me.0 {
@@ -98,9 +98,9 @@ other_is : (c : After-split_seat-answer)
 other_is c =
     let them = c.args.other.now in
     let v : SeatView = them.seat.me.0 in
-    let s : List Entry = c.load.new.seat.me.0.seen in
+    let s : List Entry = c.hear.new.seat.me.0.seen in
     let split = c.split_seat-answer.ensures.2 in
-    let loaded : c.load.new.seat.me.0 ≡ record v { seen = s } = c.load.ensures.2.2
+    let loaded : c.hear.new.seat.me.0 ≡ record v { seen = s } = c.hear.ensures.2.2
     ∙ (ap (λ (m : Me (Unit {0}) SeatView). record m.0 {
       seen = s;
       received = [];
@@ -119,13 +119,13 @@ other_is c =
 other_alone : (c : After-split_seat-answer)
     → c.split_seat-answer.new.seat.me.1 ≡ c.args.other.now.seat.me.1
 other_alone c = ap (λ (m : Me (Unit {0}) SeatView). m.1) c.split_seat-answer.ensures.2
-    ∙ (c.load.ensures.2.1 ∙ ap (λ (m : Me (Unit {0}) SeatView). m.1) c.join_seat.ensures.2)
+    ∙ (c.hear.ensures.2.1 ∙ ap (λ (m : Me (Unit {0}) SeatView). m.1) c.join_seat.ensures.2)
 
 pub invariant_of-other : goal.invariant_of-other
 invariant_of-other c =
     let a = (goal.at.invariant_of-other c).After-split_seat-answer in
     let them = c.args.other.now in
-    let table = c.split_seat-answer.ensures.0 ∙ (c.load.ensures.0 ∙ c.join_seat.ensures.0) in
+    let table = c.split_seat-answer.ensures.0 ∙ (c.hear.ensures.0 ∙ c.join_seat.ensures.0) in
     record {
       own = table ∙ them.own;
       sized = subst (λ (p : Plan).

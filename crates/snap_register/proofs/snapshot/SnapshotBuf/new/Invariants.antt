@@ -1,5 +1,6 @@
-use Rattle.std.proofs.Common.{◌≡◌, length}
+use Rattle.std.proofs.Common.{◌≡◌, []}
+use Rattle.std.specs.Prelude.{replicate}
 use Rattle.snap_register.proofs.snapshot.SnapshotBuf.new.Given as goal
 
 abbrev pub invariant-loop : goal.invariant-loop
-invariant-loop l = length l.segments.items ≡ l.counter
+invariant-loop l = l.segments.items ≡ replicate l.counter (0, [])
