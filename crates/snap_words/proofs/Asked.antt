@@ -234,9 +234,12 @@ migration_fault words of same gone gone_file why (inr (inr is)) =
     path_fault words of (codes "new") (same (codes "new")) (λ what its. gone_file what (inr its)) why
     is
 
-same_first : {A B : Type 0} (o : Option (A × B)) (a a' : A) (b b' : B) → o ≡ Some (a, b)
+same_first : (o : Option (Text × List Row)) (a a' : Text) (b b' : List Row) → o ≡ Some (a, b)
     → o ≡ Some (a', b') → a ≡ a'
-same_first o a a' b b' is is' = cc
+same_first o a a' b b' is is' =
+    let first : Some a ≡ Some a' =
+    ap (option_map (λ (p : Text × List Row). p.0)) (sym is ∙ is') in
+    cc
 
 none_of : (command name : Text) → command ≡ name → command ≢ codes "format"
     → command ≢ codes "put" → command ≢ codes "get" → command ≢ codes "check"

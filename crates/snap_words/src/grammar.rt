@@ -5,8 +5,9 @@ ghost use Rattle.clap.specs.declared.builder.Command.TheViews.{out-Command};
 ghost use Rattle.snap_words.specs.Grammar.{file_rule, filed, grammar_of, number_rule, paired};
 ghost use Rattle.snap_words.specs.Grammar.{placed, program_of};
 
-use crate::help::{CHECK_HELP, FORMAT_HELP, GET_HELP, MIGRATE_HELP, PROGRAM_HELP, PUT_HELP};
-use crate::help::{SCRIPT_HELP};
+use crate::help::{
+    CHECK_HELP, FORMAT_HELP, GET_HELP, MIGRATE_HELP, PROGRAM_HELP, PUT_HELP, SCRIPT_HELP,
+};
 use clap::{Arg, ArgAction, Command, value_parser};
 use std::alloc::{AllocError, Global};
 
@@ -119,7 +120,12 @@ fn pair_command<'a>(alloc: Global, name: &'a str) -> Result<Command<'a>, AllocEr
     ensures app { IfOk result (λ command. app_of command ≡ paired (new_app name.entry.now)) }
     ensures local { IfOk result (λ command. (out-Command command).has_globals ≡ false) }
 {
-    let old = file_word(alloc, "old", "OLD", "The path of the file of the old format");
+    let old = file_word(
+        alloc,
+        "old",
+        "OLD",
+        "The path of the file of the old format",
+    );
     let command = Command::new(alloc, name).arg(old)?;
     let new = file_word(alloc, "new", "NEW", "The path of the new file");
     let command = command.arg(new)?;

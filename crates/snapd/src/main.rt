@@ -104,9 +104,7 @@ fn run_migration(rt: &HostRuntime, order: &Migration<'_>) -> Status
         Err(PairFault::WrongFile(which)) => {
             let why = Refusal::WrongFile;
             let refused = MigrationFailure::OfFile { which, why };
-            return refused
-                .report(rt.alloc(), order, &mut rt.stderr())
-                .status;
+            return refused.report(rt.alloc(), order, &mut rt.stderr()).status;
         }
     };
     let (_old, _new, ended) = act_pair(

@@ -114,7 +114,7 @@ returns-then-eq-2-clause-asked g c =
     let words = map g.S.AsStr.text c.args.words.now in
     let found = c.in-Some.ensures in
     let carried = c.in_ok-migration.ensures in
-    let is_migrate : c.in-Some.command.now ≡ codes "migrate" = c.eq-2.ensures.0 c.if-eq-2.true in
+    let is_migrate : c.in-Some.command.now ≡ codes "migrate" = grind (common_steps) in
     let command = asked_pair _ _ c.in-Ok.ensures c.in-Ok-try_get_matches_from.matches
     c.in-Some.matches.now c.in-Ok-try_get_matches_from.ensures.matches c.in-Some.command.now
     c.in_ok-migration.field-0.old.now c.in_ok-migration.field-0.new.now (sym found.name)
