@@ -4,7 +4,8 @@
 
 The files lie in FOLDER, by default a fresh folder beside this repository's own files, so that they are on a disk and
 not in memory. The runs of the two programs alternate; printed are both medians and the median of the ratios of each pair.
-A whole process is to cost at most 1.3 times the C program's, and a store inside a process at most 1.05 times.
+A whole process is to cost at most 1.3 times the C program's, and a store inside a process at most 1.05 times. The same stores are
+timed against those of the old format, which synced three times a store, in C: where syncs are most of the time, two thirds of it.
 
 Then it counts events a second of a world and lines a second of a script, each also ten times as long: the cost of an event
 is not to grow with their number. A script of 200 MB is to run with less than 10 MB resident. It counts the looks of a scan, alone and beside writers.
@@ -82,7 +83,7 @@ def worlds():
 def scripts():
     """Lines a second of `snapd script` on a megabyte of short lines, and on a tenth of that."""
     snapd = str(TOP / "bin" / "snapd")
-    update = b"begin 0 61\nlook w0\nlook w0\n" + b"call 0\n" * 6 + b"show 0\nack 0\nscan 0\nlook s0\nlook s0\nanswer 0\n"
+    update = b"begin 0 61\nlook w0\nlook w0\n" + b"call 0\n" * 5 + b"show 0\nack 0\nscan 0\nlook s0\nlook s0\nanswer 0\n"
     head = b"world 1 1\n"
     idle, _ = seconds(snapd, "script", stdin=head)
     rates = []
@@ -116,8 +117,8 @@ def endless():
 
 
 def update(writer, segments):
-    """The lines of one update while nobody else writes. A store whose spare gate is closed answers the last calls `not now`."""
-    return [f"begin {writer} 61"] + [f"look w{writer}"] * (2 * segments) + [f"call {writer}"] * 6 + [f"show {writer}", f"ack {writer}"]
+    """The lines of one update while nobody else writes. A store whose spare gate is closed answers the last call `not now`."""
+    return [f"begin {writer} 61"] + [f"look w{writer}"] * (2 * segments) + [f"call {writer}"] * 5 + [f"show {writer}", f"ack {writer}"]
 
 
 def looks_beside(segments, writer_before):
@@ -215,8 +216,8 @@ def main():
         file, value, fresh, used, empty = (folder / name for name in ("F", "value", "fresh", "used", "empty"))
         value.write_bytes(b"v" * 1_000)
         empty.write_bytes(b"")
-        fresh.write_bytes(layout.image([(0, b""), None]))
-        used.write_bytes(layout.image([(2, b"v" * 1_000), (1, b"v" * 1_000)]))
+        fresh.write_bytes(layout.holding((0, b"")))
+        used.write_bytes(layout.holding((1, b"v" * 1_000), (2, b"v" * 1_000)))
         print(f"{'':<44} {'snapd':>12} {'C':>12}   ratio")
         for label, start, command in [
             ("put, spare gate closed, whole process", fresh, "put"),
@@ -235,6 +236,12 @@ def main():
             file,
             value,
         )
+        old = [baseline, "old", file, str(STORES)]
+        for label, limit, program in [
+            (f"{STORES} stores, beside the old format in C", 0.7, [many, file, str(STORES)]),
+            (f"{STORES} stores in C, beside the old format", 0.667, [baseline, "store", file, str(STORES)]),
+        ]:
+            ratio(label, limit, timer, max(5, words.runs // 5), empty, program, old, file, value)
         few, more = allocations(many, folder, 1), allocations(many, folder, STORES)
         print(f"allocations with 1 store and with {STORES}: {few} and {more}")
         worlds()

@@ -33,8 +33,9 @@ class Run:
             assert part in self.errors, f"{part!r} isn't in {self.errors!r}"
         return self
 
-    def refused(self, number, name):
-        return self.gave(3, errors=f"snapd: refused {number} {name}\n")
+    def refused(self, number, name, *more):
+        """The line of a refusal, and the lines behind it."""
+        return self.gave(3, errors="".join(f"snapd: {line}\n" for line in (f"refused {number} {name}", *more)))
 
 
 class Program:

@@ -14,11 +14,11 @@ class Write:
 SYNC = "sync"
 
 
-def run(snapd: Program, *words, fault=None, **more):
-    """The run, and the calls on the file `F` that succeeded: writes, lengths and syncs in order."""
+def run(snapd: Program, *words, fault=None, file="F", **more):
+    """The run, and the calls on the file that succeeded: writes, lengths and syncs in order."""
     log = snapd.file("calls.log")
     log.unlink(missing_ok=True)
-    env = {"LD_PRELOAD": library("recorder"), "RECORDER_FILE": "F", "RECORDER_LOG": str(log)}
+    env = {"LD_PRELOAD": library("recorder"), "RECORDER_FILE": file, "RECORDER_LOG": str(log)}
     if fault is not None:
         env["RECORDER_FAULT"] = fault
     done = snapd(*words, env=env, **more)

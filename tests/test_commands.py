@@ -10,12 +10,14 @@ from program import Skipped
 
 def test_first_run(snapd, _):
     snapd("format", "F").gave(0, "formatted 0 of 1\n")
-    assert snapd.file().read_bytes() == layout.image([(0, b""), None])
+    assert snapd.file().read_bytes() == layout.image([(0, b"")])
     snapd("get", "F").gave(0, b"")
     snapd("put", "F", stdin="hi").gave(0, "stored 1\n")
     snapd("get", "F").gave(0, b"hi")
     snapd("check", "F").gave(
-        0, "header index 0 count 1\nslot 0 open number 0 length 0\nslot 1 open number 1 length 2\nanswer number 1\n"
+        0,
+        "header index 0 count 1\n"
+        "slot 0 open number 0 length 0\nslot 1 open number 1 length 2\nslot 2 closed\nanswer number 1\n",
     )
     data = snapd.file().read_bytes()
     snapd("format", "F").refused(12, "AlreadyFormatted")
@@ -46,15 +48,23 @@ def test_longest_value_and_one_more(snapd, _):
 def test_a_hundred_stores(snapd, _):
     """`get` and `check` after each store, against the file as the format gives it."""
     file = snapd.formatted()
-    before = (0, b"")
+    stored = [(0, b"")]
     for number in range(1, 101):
         value = f"step {number}\n".encode() * (number % 7)
         snapd("put", "F", stdin=value).gave(0, f"stored {number}\n")
         snapd("get", "F").gave(0, value)
-        slots = [(number, value), before] if number % 2 == 0 else [before, (number, value)]
-        assert file.read_bytes() == layout.image(slots)
-        snapd("check", "F").gave(0, layout.findings(file.read_bytes()))
-        before = (number, value)
+        stored.append((number, value))
+        data = file.read_bytes()
+        # The two newest are open. Behind the closed gate stands what a store left there, two numbers before.
+        assert data == closed_behind(layout.holding(*stored[-3:]), (number + 1) % 3), number
+        snapd("check", "F").gave(0, layout.findings(data))
+
+
+def closed_behind(data, slot):
+    """The file with the gate of this slot closed, and its body as it is."""
+    data = bytearray(data)
+    data[layout.gate_at(slot)] = 0
+    return bytes(data)
 
 
 def test_all_places_of_sixteen(snapd, _):
@@ -80,11 +90,12 @@ def test_input_in_pieces(snapd, _):
 
 
 def test_wrong_lengths(snapd, _):
-    for length in (1, 20_479, 20_481, 28_672):
+    for length in (1, 20_479, 20_480, 20_481, 28_671, 28_673):
         data = b"\xa5" * length
         snapd.file().write_bytes(data)
+        more = [layout.advice("F")] if length == layout.OLD.length else []
         for command in ("format", "put", "get", "check"):
-            snapd(command, "F").refused(14, "WrongFile")
+            snapd(command, "F").refused(14, "WrongFile", *more)
         snapd("put", "F", stdin=b"v" * 4_081).refused(3, "TooLong")
         assert snapd.file().read_bytes() == data
     snapd.file().write_bytes(b"")
@@ -103,13 +114,14 @@ def test_unformatted(snapd, _):
     snapd("check", "F").gave(3, "header unformatted\n")
     assert snapd.file().read_bytes() == zeros
     snapd("format", "F", "--index", 2, "--count", 3).gave(0, "formatted 2 of 3\n")
-    assert snapd.file().read_bytes() == layout.image([(0, b""), None], 2, 3)
+    assert snapd.file().read_bytes() == layout.image([(0, b"")], 2, 3)
 
 
 def test_paths_that_fail(snapd, _):
     snapd.file("folder").mkdir()
     for command in ("put", "get", "check"):
         snapd(command, "nowhere").failed_with(1, "nowhere: No such file or directory")
+        snapd(command, "nowhere/F").failed_with(1, "nowhere/F: No such file or directory")
     snapd("put", "nowhere", stdin=b"v" * 4_081).failed_with(1, "nowhere: No such file or directory")
     snapd("format", "nowhere/F").failed_with(1, "nowhere/F: No such file or directory")
     for command in ("format", "put", "get", "check"):
@@ -155,11 +167,17 @@ def test_wrong_words(snapd, _):
         (["put", "F", "--count", "0"], ["the count 0 is not from 1 to 16"]),
         (["put", "F", "--count", "17"], ["the count 17 is not from 1 to 16"]),
         (["check", "F", "--index", "0"], ["unexpected argument '--index'"]),
+        (["migrate"], ["<OLD>", "<NEW>"]),
+        (["migrate", "F"], ["<NEW>"]),
+        (["migrate", "F", "G", "H"], ["unexpected argument 'H'"]),
+        (["migrate", "F", "G", "--index", "x"], ["invalid value 'x'"]),
+        (["migrate", "F", "G", "--index", "1"], ["the index 1 is not below the count 1"]),
+        (["migrate", "F", "G", "--count", "17"], ["the count 17 is not from 1 to 16"]),
         (["get", "F", "--index", "0", "--index", "0"], ["--index"]),
     ]:
         run = snapd(*words).failed_with(2, *parts)
         assert "--help" in run.errors, run.errors
-        assert not snapd.file().exists(), f"{words} made a file"
+        assert not snapd.file().exists() and not snapd.file("G").exists(), f"{words} made a file"
     assert snapd("get", b"\xff".decode("utf-8", "surrogateescape")).failed_with(2, "UTF-8")
     # Words are judged before paths.
     snapd("get", "nowhere", "--count", 0).failed_with(2)
@@ -169,15 +187,17 @@ def test_help_and_version(snapd, _):
     for words in (["--help"], ["-h"], ["help"]):
         text = snapd(*words)
         assert text.status == 0 and text.errors == "", text
-        for command in ("format", "put", "get", "check"):
+        for command in ("format", "put", "get", "check", "migrate", "script"):
             assert command in text.output.decode()
         assert "Example:" in text.output.decode()
-    for command in ("format", "put", "get", "check"):
+    for command in ("format", "put", "get", "check", "migrate"):
         for words in ([command, "--help"], [command, "-h"], ["help", command]):
             text = snapd(*words)
             assert text.status == 0 and text.errors == "", text
             printed = text.output.decode()
-            assert f"snapd {command}" in printed and "FILE" in printed and "Example:" in printed, printed
+            paths = ("<OLD>", "<NEW>") if command == "migrate" else ("<FILE>",)
+            assert f"snapd {command}" in printed and "Example:" in printed, printed
+            assert all(path in printed for path in paths), printed
             if command != "check":
                 assert "[default: 0]" in printed and "[default: 1]" in printed, printed
         version = snapd(command, "--version")

@@ -1,6 +1,6 @@
 """Crashes, replayed from outside.
 
-How it works. A real `put` (or `format`) is run once, and its writes and syncs on the file are recorded with their bytes.
+How it works. A real `put` (or `format`, or a migration: tests/test_migrate.py) is run once, and its writes and syncs on the file are recorded with their bytes.
 Then the machine is made to crash at every point of that record: each write before the last sync has reached the disk,
 and each write after it is pending. A disk may have kept any part of what is pending, so many files are made, in
 which the pending ranges hold
@@ -81,18 +81,21 @@ def outcomes(before, calls, random):
 
 def test_every_point_of_a_put(snapd, random):
     for slots, value in [
-        ([(0, b""), None], b"hi"),
+        ([(0, b"")], b"hi"),
         ([(0, b""), (1, b"hi")], b"yo"),
+        ([(1, b"hi"), (2, b"yo")], b""),
+        ([(2, b"yo"), (3, b"third")], b"n" * 4_080),
         ([(6, b"old" * 100), (5, b"older")], b"n" * 4_080),
         ([(6, b"o" * 4_080), (7, b"e" * 4_080)], b""),
     ]:
-        before = layout.image(slots)
+        before = layout.holding(*slots)
         was = layout.answer_of(before)
         will = (was[0] + 1, value)
         snapd.file().write_bytes(before)
         done, calls = recorder.run(snapd, "put", "F", stdin=value)
         done.gave(0, f"stored {will[0]}\n")
-        assert len([call for call in calls if call == SYNC]) == (3 if slots[1] is None else 4), calls
+        # One sync to open the file, and two for the store.
+        assert [call for call in calls if call == SYNC] == [SYNC] * 3, calls
         seen = set()
         for data, is_done in outcomes(before, calls, random):
             snapd.file().write_bytes(data)
@@ -139,6 +142,11 @@ def test_crash_upon_crash(snapd, random):
         was = answer
 
 
+# What the file holds before a `put`, and how many calls it makes: two open the file, and the store makes four, or five where
+# the number before is open too.
+STORES = [([(0, b"")], 6), ([(0, b""), (1, b"one")], 7), ([(2, b"two"), (1, b"one")], 7), ([(2, b"two")], 6)]
+
+
 def calls_of(snapd, before, *words, **more):
     """How many calls a run makes on the file."""
     count = 1
@@ -154,8 +162,8 @@ def calls_of(snapd, before, *words, **more):
 def test_every_call_fails(snapd, _):
     """Each call on the file in turn fails, or takes no byte: refused 13, and the file holds the old value or the new.
     A call that moves only some bytes, or that a signal interrupts, is gone on with."""
-    for slots, calls in (([(0, b""), None], 6), ([(2, b"two"), (1, b"one")], 8)):
-        before = layout.image(slots)
+    for slots, calls in STORES:
+        before = layout.holding(*slots)
         was = layout.answer_of(before)
         will = (was[0] + 1, b"new")
         # A sync and a read to open the file, and then the calls of the store.
@@ -182,8 +190,8 @@ def test_every_call_fails(snapd, _):
 
 def test_killed_at_every_call(snapd, _):
     """The process is killed before each call on the file, or in the middle of a write."""
-    for slots, calls in (([(0, b""), None], 6), ([(2, b"two"), (1, b"one")], 8)):
-        before = layout.image(slots)
+    for slots, calls in STORES:
+        before = layout.holding(*slots)
         was = layout.answer_of(before)
         will = (was[0] + 1, b"new" * 1_000)
         for call in range(1, calls + 1):

@@ -22,16 +22,25 @@ def is_refused(snapd, data, number, name, lines):
     assert snapd.file().read_bytes() == data
 
 
-WHOLE = layout.image([(4, b"four"), (3, b"three")])
 HEADER = "header index 0 count 1"
-FOUR, THREE = "slot 0 open number 4 length 4", "slot 1 open number 3 length 5"
+# The newest value lies in slot 1, and the one before it in slot 0; slot 2 is closed.
+WHOLE = layout.holding((3, b"three"), (4, b"four"))
+THREE, FOUR, SHUT = "slot 0 open number 3 length 5", "slot 1 open number 4 length 4", "slot 2 closed"
+SLOTS = [THREE, FOUR, SHUT]
+
+
+def with_slot(slot, line):
+    """The lines of the slots with this one in its place."""
+    return [line if it == slot else was for it, was in enumerate(SLOTS)]
 
 
 def test_bad_slots(snapd, _):
     """Each reason in each slot, at the first and the last byte that it speaks of."""
     longest = (layout.MAX_VALUE + 1).to_bytes(4, "big")
-    for slot, number, length in ((0, 4, 4), (1, 3, 5)):
+    for slot, number, length in ((0, 3, 5), (1, 4, 4), (2, 5, 4)):
         gate, body = gate_at(slot), body_at(slot)
+        # Slot 2 is open and well-formed, so that it is looked at.
+        whole = WHOLE if slot < 2 else changed(WHOLE, (gate, bytes([OPEN])), (body, layout.body(5, b"five")))
         for why, places in {
             "gate": [(gate + 1, b"\1"), (gate + BLOCK - 1, b"\xa5")],
             "length": [(body + 8, longest), (body + 8, b"\xff")],
@@ -39,9 +48,8 @@ def test_bad_slots(snapd, _):
             "number": [(body, b"\x80"), (body + 7, bytes([number ^ 1])), (body, b"\xff" * 8)],
         }.items():
             for place in places:
-                bad = f"slot {slot} bad {why}"
-                lines = [HEADER, bad if slot == 0 else FOUR, bad if slot == 1 else THREE, "answer none"]
-                is_refused(snapd, changed(WHOLE, place), 10, "Damaged", lines)
+                lines = [HEADER, *with_slot(slot, f"slot {slot} bad {why}"), "answer none"]
+                is_refused(snapd, changed(whole, place), 10, "Damaged", lines)
 
 
 def test_first_reason(snapd, _):
@@ -55,19 +63,42 @@ def test_first_reason(snapd, _):
         ((number, zeros, length, bad_gate), "gate"),
         ((bad_gate, (gate, b"\0")), "gate"),
     ]:
-        is_refused(snapd, changed(WHOLE, *places), 10, "Damaged", [HEADER, f"slot 0 bad {why}", THREE, "answer none"])
+        is_refused(snapd, changed(WHOLE, *places), 10, "Damaged", [HEADER, *with_slot(0, f"slot 0 bad {why}"), "answer none"])
+    # And behind a closed gate of the slot that nothing was stored in.
+    bad_gate = changed(WHOLE, (gate_at(2) + BLOCK - 1, b"\1"))
+    is_refused(snapd, bad_gate, 10, "Damaged", [HEADER, *with_slot(2, "slot 2 bad gate"), "answer none"])
 
 
 def test_damaged_slots(snapd, _):
     """Slots that are well-formed one by one and give no answer together."""
-    for slots, lines in [
-        ([(4, b"a"), (7, b"b")], ["slot 0 open number 4 length 1", "slot 1 open number 7 length 1"]),
-        ([(8, b"a"), (7 - 2, b"b")], ["slot 0 open number 8 length 1", "slot 1 open number 5 length 1"]),
-        ([None, None], ["slot 0 closed", "slot 1 closed"]),
-    ]:
-        is_refused(snapd, layout.image(slots), 10, "Damaged", [HEADER, *lines, "answer none"])
-    misplaced = layout.image([(3, b"a"), None])
-    is_refused(snapd, misplaced, 10, "Damaged", [HEADER, "slot 0 bad number", "slot 1 closed", "answer none"])
+    for numbers in [(), (4, 6), (1, 6), (4, 8), (3, 8), (3, 4, 5), (5, 6, 7), (4, 5, 9)]:
+        data = layout.holding(*[(number, b"a") for number in numbers])
+        lines = [f"slot {slot} closed" for slot in range(3)]
+        for number in numbers:
+            lines[number % 3] = f"slot {number % 3} open number {number} length 1"
+        is_refused(snapd, data, 10, "Damaged", [HEADER, *lines, "answer none"])
+    for slot, number in ((0, 4), (1, 3), (2, 3), (0, 2)):
+        misplaced = layout.image([(number, b"a") if it == slot else None for it in range(3)])
+        lines = [f"slot {it} {'bad number' if it == slot else 'closed'}" for it in range(3)]
+        is_refused(snapd, misplaced, 10, "Damaged", [HEADER, *lines, "answer none"])
+
+
+def test_any_two_slots_answer(snapd, _):
+    """Alone, or with the number before, wherever the two lie."""
+    for number in range(1, 8):
+        for values in ([(number, b"new")], [(number, b"new"), (number - 1, b"old")]):
+            data = layout.holding(*values)
+            snapd.file().write_bytes(data)
+            snapd("get", "F").gave(0, "new")
+            snapd("check", "F").gave(0, layout.findings(data))
+            snapd("put", "F", stdin="next").gave(0, f"stored {number + 1}\n")
+            left = layout.holding(*values[:1], (number + 1, b"next"))
+            was = snapd.file().read_bytes()
+            # The slot of the number before is closed now. Its body stays.
+            shut = (number + 2) % 3
+            body = slice(body_at(shut), body_at(shut) + BLOCK)
+            assert was[: body.start] + left[body] + was[body.stop :] == left
+            assert was[body] == data[body]
 
 
 def test_closed_slots_are_not_looked_at(snapd, _):
@@ -75,17 +106,23 @@ def test_closed_slots_are_not_looked_at(snapd, _):
     for byte in (0x00, 0x01, 0x5A, 0xA4, 0xFF):
         data = changed(WHOLE, (gate_at(0), bytes([byte])), (body_at(0), b"\xff" * BLOCK))
         snapd.file().write_bytes(data)
-        snapd("get", "F").gave(0, b"three")
-        snapd("check", "F").gave(0, f"{HEADER}\nslot 0 closed\n{THREE}\nanswer number 3\n")
+        snapd("get", "F").gave(0, b"four")
+        snapd("check", "F").gave(0, f"{HEADER}\nslot 0 closed\n{FOUR}\n{SHUT}\nanswer number 4\n")
         assert snapd.file().read_bytes() == data
-        snapd("put", "F", stdin="fresh").gave(0, "stored 4\n")
-        assert layout.answer_of(snapd.file().read_bytes()) == (4, b"fresh")
+        snapd("put", "F", stdin="fresh").gave(0, "stored 5\n")
+        assert layout.answer_of(snapd.file().read_bytes()) == (5, b"fresh")
+        # Nor where the next number is to lie.
+        data = changed(WHOLE, (gate_at(2), bytes([byte])), (body_at(2), b"\xff" * BLOCK))
+        snapd.file().write_bytes(data)
+        snapd("get", "F").gave(0, b"four")
+        snapd("put", "F", stdin="fresh").gave(0, "stored 5\n")
+        snapd("get", "F").gave(0, b"fresh")
 
 
 def test_headers(snapd, _):
     for byte in (0x00, 0x01, 0xA4, 0xFF):
         is_refused(snapd, changed(WHOLE, (BLOCK - 1, bytes([byte]))), 11, "Unformatted", ["header unformatted"])
-    wrong = [(0, b"T"), (7, b"2"), (8, b"\1"), (9, b"\0"), (9, b"\x11"), (10, b"\1"), (BLOCK - 2, b"\1")]
+    wrong = [(0, b"T"), (7, b"1"), (7, b"3"), (8, b"\1"), (9, b"\0"), (9, b"\x11"), (10, b"\1"), (BLOCK - 2, b"\1")]
     for place in wrong:
         is_refused(snapd, changed(WHOLE, place), 14, "WrongFile", ["header wrong"])
     # Another place among the segments is no damage: `check` shows it, and `get` wants it named.
@@ -94,7 +131,7 @@ def test_headers(snapd, _):
         snapd.file().write_bytes(data)
         snapd("get", "F").refused(14, "WrongFile")
         index, count = layout.header_of(data)
-        snapd("check", "F").gave(0, f"header index {index} count {count}\n{FOUR}\n{THREE}\nanswer number 4\n")
+        snapd("check", "F").gave(0, f"header index {index} count {count}\n{THREE}\n{FOUR}\n{SHUT}\nanswer number 4\n")
         snapd("get", "F", "--index", index, "--count", count).gave(0, b"four")
 
 
@@ -109,12 +146,15 @@ def test_format_keeps_what_is_formatted(snapd, _):
 def test_largest_number(snapd, _):
     """At the last number `put` is refused, and below it one more is stored."""
     last = 2**63 - 1
-    data = layout.image([None, (last, b"end")])
+    data = layout.holding((last, b"end"))
+    assert last % 3 == 1
     snapd.file().write_bytes(data)
     snapd("put", "F", stdin="x").refused(9, "Exhausted")
     assert snapd.file().read_bytes() == data
-    snapd("check", "F").gave(0, f"{HEADER}\nslot 0 closed\nslot 1 open number {last} length 3\nanswer number {last}\n")
-    snapd.file().write_bytes(layout.image([(last - 1, b"u"), None]))
+    snapd("check", "F").gave(
+        0, f"{HEADER}\nslot 0 closed\nslot 1 open number {last} length 3\nslot 2 closed\nanswer number {last}\n"
+    )
+    snapd.file().write_bytes(layout.holding((last - 1, b"u")))
     snapd("put", "F", stdin="x").gave(0, f"stored {last}\n")
     snapd("get", "F").gave(0, b"x")
 
@@ -123,7 +163,7 @@ def test_random_files(snapd, random):
     """Files with a few random bytes changed: the program says what the format says."""
     for _ in range(300):
         places = [0, 8, 9, 10, BLOCK - 1]
-        for slot in (0, 1):
+        for slot in range(3):
             places += [gate_at(slot), gate_at(slot) + 1, *range(body_at(slot), body_at(slot) + 18)]
         picked = []
         for _ in range(random.randrange(1, 4)):

@@ -4,6 +4,8 @@ import fcntl
 import subprocess
 import time
 
+import segment_file as layout
+
 IN_USE = "snapd: F: it is in use by another snapd\n"
 WRITERS = [("format", "F"), ("put", "F")]
 READERS = [("get", "F"), ("check", "F")]
@@ -56,6 +58,25 @@ def test_file_in_use_is_not_made(snapd, _):
         snapd("format", "F").gave(1, errors=IN_USE)
     assert file.read_bytes() == b""
     snapd("format", "F").gave(0, "formatted 0 of 1\n")
+
+
+def test_a_migration_shares_the_old_file_and_has_the_new_one_alone(snapd, _):
+    old = snapd.file("OLD")
+    old.write_bytes(layout.OLD.holding((0, b""), (1, b"hi")))
+    data, zeros = old.read_bytes(), bytes(layout.LENGTH)
+    snapd.file().write_bytes(zeros)
+    words = ("migrate", "OLD", "F")
+    # Whoever writes the old file, or uses the new one at all, keeps it out.
+    with locked(old, fcntl.LOCK_EX):
+        snapd(*words).gave(1, errors=IN_USE.replace("F:", "OLD:"))
+    for how in (fcntl.LOCK_EX, fcntl.LOCK_SH):
+        with locked(snapd.file(), how):
+            snapd(*words).gave(1, errors=IN_USE)
+    assert (old.read_bytes(), snapd.file().read_bytes()) == (data, zeros)
+    # Whoever reads the old file doesn't.
+    with locked(old, fcntl.LOCK_SH):
+        snapd(*words).gave(0, "migrated 0 of 1 number 1\n")
+    assert not is_locked(old) and not is_locked(snapd.file())
 
 
 def test_put_has_its_file_from_its_beginning(snapd, _):

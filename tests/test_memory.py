@@ -12,12 +12,12 @@ def count_of(snapd, *words, **more):
 
 
 def test_each_allocation_is_refused(snapd, _):
-    before = layout.image([(0, b""), (1, b"hi")])
+    before = layout.holding((0, b""), (1, b"hi"))
     zeros = bytes(layout.LENGTH)
     text = layout.findings(before)
     for words, start, stdin, output, after in [
-        (["format", "F"], zeros, b"", "formatted 0 of 1\n", layout.image([(0, b""), None])),
-        (["put", "F"], before, b"yo", "stored 2\n", layout.image([(2, b"yo"), (1, b"hi")])),
+        (["format", "F"], zeros, b"", "formatted 0 of 1\n", layout.holding((0, b""))),
+        (["put", "F"], before, b"yo", "stored 2\n", layout.holding((1, b"hi"), (2, b"yo"))),
         (["get", "F"], before, b"", "hi", before),
         (["check", "F"], before, b"", text, before),
     ]:
@@ -37,6 +37,27 @@ def test_each_allocation_is_refused(snapd, _):
                 assert snapd.file().read_bytes() == start
                 refused += 1
         assert refused > 2, (words, allocations, refused)
+
+
+def test_each_allocation_of_a_migration_is_refused(snapd, _):
+    old, zeros, done = layout.OLD.holding((2, b"two"), (1, b"one")), bytes(layout.LENGTH), layout.holding((2, b"two"))
+    snapd.file("OLD").write_bytes(old)
+    snapd.file().write_bytes(zeros)
+    allocations = count_of(snapd, "migrate", "OLD", "F")
+    refused = 0
+    for number in range(1, allocations + 1):
+        snapd.file().write_bytes(zeros)
+        env = {"LD_PRELOAD": library("allocations"), "ALLOCATIONS_REFUSE": str(number)}
+        run = snapd("migrate", "OLD", "F", env=env)
+        if run.status == 0:
+            run.gave(0, "migrated 0 of 1 number 2\n")
+            assert snapd.file().read_bytes() == done
+        else:
+            run.refused(8, "NoMemory")
+            assert snapd.file().read_bytes() == zeros
+            refused += 1
+        assert snapd.file("OLD").read_bytes() == old
+    assert refused > 2, (allocations, refused)
 
 
 def test_refused_help_and_words(snapd, _):

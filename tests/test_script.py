@@ -6,7 +6,9 @@ import subprocess
 # The most bytes of a line, without its end.
 LIMIT = 1_048_576
 
+# A store whose spare gate is closed, and one whose spare gate is open: the number before is taken out of the way first.
 STORE = ["called body", "called sync", "called open", "called sync"]
+STORE_OVER = ["called close", *STORE]
 
 # A scan that borrows the view of a writer which moved twice, and what each line prints.
 BORROWED = [
@@ -25,7 +27,7 @@ BORROWED = [
     ("look w0", "number 0"),
     ("look w0", "number 1"),
     ("look w0", "number 0"),
-    *[("call 0", called) for called in ["called close", "called sync", *STORE]],
+    *[("call 0", called) for called in STORE_OVER],
     ("show 0", "shown"),
     ("look s0", "number 0"),
     ("look s0", "number 2"),
@@ -126,11 +128,26 @@ def test_four_calls_after_a_torn_body(snapd, _):
     plays(snapd, *TORN, *begun("6869"), *called("body"), ("crash a5", "crashed"), *RESTART, ("serve", "memory -"))
 
 
+FIRST = [*begun("6869"), *called("body", "sync", "open", "sync"), *shown(1)]
+
+
 def test_crash_after_the_closing_write(snapd, _):
-    first = [*begun("6869"), *called("body", "sync", "open", "sync"), *shown(1)]
     for fill in ("a5", "00"):
         crash = [(f"crash {fill}", "crashed"), *RESTART, ("serve", "memory 6869")]
-        plays(snapd, *first, *begun("796f", 1), *called("close"), *crash)
+        plays(snapd, *FIRST, *begun("796f", 1), *called("close"), *crash)
+
+
+def test_five_calls(snapd, _):
+    """The second store closes the gate of the number before with its body's sync. Until it opens its own gate a crash leaves
+    number 1, and behind that write either."""
+    again = begun("796f", 1)
+    plays(snapd, *FIRST, *again, *called("close", "body", "sync", "open", "sync"), ("call 0", "not now"), *shown(2))
+    for fill in ("a5", "00", "keep"):
+        crash = [(f"crash {fill}", "crashed"), *RESTART]
+        plays(snapd, *FIRST, *again, *called("close", "body"), *crash, ("serve", "memory 6869"))
+        plays(snapd, *FIRST, *again, *called("close", "body", "sync"), *crash, ("serve", "memory 6869"))
+        memory = "6869" if fill == "00" else "796f"
+        plays(snapd, *FIRST, *again, *called("close", "body", "sync", "open"), *crash, ("serve", f"memory {memory}"))
 
 
 def test_crash_before_the_last_sync(snapd, _):

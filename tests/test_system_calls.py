@@ -11,7 +11,8 @@ CALL = re.compile(r"^(\d+ +)?(\w+)\((.*)\) += (-?\d+)")
 
 
 def calls_of(snapd, *words, stdin=b""):
-    """The calls on the file `F` and its folder in order, as (name, offset and length) and those on the standard streams."""
+    """The calls on the file `F`, its folder and the file `OLD` in order, as (name, offset and length), and those on the
+    standard streams."""
     if shutil.which("strace") is None:
         raise Skipped("strace isn't installed")
     log = snapd.file("strace.log")
@@ -20,15 +21,16 @@ def calls_of(snapd, *words, stdin=b""):
     )
     if not log.exists() or "exited with" not in log.read_text():
         raise Skipped(f"strace can't trace here: {traced.stderr.decode().strip()}")
+    names = {"F": "", ".": " of the folder", "OLD": " of the old file"}
     opened, on_file, on_streams = {}, [], []
     for line in log.read_text().splitlines():
         call = CALL.match(line)
         if call is None:
             continue
         name, words_of_call, result = call[2], call[3], int(call[4])
-        path = re.search(r'"(F|\.)"', words_of_call) if name in ("open", "openat") else None
+        path = re.search(r'"(F|\.|OLD)"', words_of_call) if name in ("open", "openat") else None
         if path is not None:
-            opened[str(result)] = "" if path[1] == "F" else " of the folder"
+            opened[str(result)] = names[path[1]]
             on_file.append(("open" + opened[str(result)],))
             continue
         number = words_of_call.split(",")[0]
@@ -44,31 +46,30 @@ def calls_of(snapd, *words, stdin=b""):
 
 OPENED = [("open",), ("flock",), ("statx",)]
 NAMED = [("open of the folder",), ("fsync of the folder",), ("close of the folder",)]
-RECOVERED = [("fdatasync",), ("pread64", 0, 20_480)]
+RECOVERED = [("fdatasync",), ("pread64", 0, 28_672)]
+# Of a file that is taken for a new segment: whether it is formatted, and the calls that format it.
+LOOKED_AT = [("fdatasync",), ("pread64", 0, 4_096)]
+FILLED = [("pwrite64", 0, 4_095), ("pwrite64", 4_096, 24_576), ("fdatasync",), ("pwrite64", 4_095, 1), ("fdatasync",)]
 
 
-def store_calls(slot, spare_open):
-    gate, body = layout.gate_at(slot), layout.body_at(slot)
-    closing = [("pwrite64", gate, 1), ("fdatasync",)] if spare_open else []
-    return closing + [("pwrite64", body, 4_096), ("fdatasync",), ("pwrite64", gate, 1), ("fdatasync",)]
+def store_calls(number):
+    """Two syncs, whatever the number: the gate of the number before the last one is closed with the body's."""
+    slot, spare = number % 3, (number + 1) % 3
+    closing = [("pwrite64", layout.gate_at(spare), 1)] if number > 1 else []
+    writing = [("pwrite64", layout.body_at(slot), 4_096), ("fdatasync",)]
+    return closing + writing + [("pwrite64", layout.gate_at(slot), 1), ("fdatasync",)]
 
 
 def test_calls_of_each_command(snapd, _):
     on_file, on_streams = calls_of(snapd, "format", "F")
     # The name lasts before the file has bytes, and the lock comes before the length.
-    assert on_file == OPENED + NAMED + [("ftruncate",), ("fdatasync",), ("pread64", 0, 4_096)] + [
-        ("pwrite64", 0, 4_095),
-        ("pwrite64", 4_096, 16_384),
-        ("fdatasync",),
-        ("pwrite64", 4_095, 1),
-        ("fdatasync",),
-        ("close",),
-    ], on_file
+    assert on_file == OPENED + NAMED + [("ftruncate",)] + LOOKED_AT + FILLED + [("close",)], on_file
     assert on_streams == [("write", 1, len("formatted 0 of 1\n"))], on_streams
 
-    for number, spare_open in ((1, False), (2, True), (3, True)):
+    for number in (1, 2, 3, 4):
         on_file, on_streams = calls_of(snapd, "put", "F", stdin=b"hi")
-        assert on_file == OPENED + RECOVERED + store_calls(number % 2, spare_open) + [("close",)], on_file
+        assert on_file == OPENED + RECOVERED + store_calls(number) + [("close",)], on_file
+        assert len(store_calls(number)) == (4 if number == 1 else 5)
         assert on_streams == [("read", 0, 2), ("read", 0, 0), ("write", 1, len("stored 1\n"))], on_streams
 
     on_file, on_streams = calls_of(snapd, "get", "F")
@@ -76,8 +77,30 @@ def test_calls_of_each_command(snapd, _):
     assert on_streams == [("write", 1, 2)], on_streams
 
     on_file, on_streams = calls_of(snapd, "check", "F")
-    assert on_file == OPENED + [("pread64", 0, 20_480), ("close",)], on_file
+    assert on_file == OPENED + [("pread64", 0, 28_672), ("close",)], on_file
     assert [call[:2] for call in on_streams] == [("write", 1)], on_streams
+
+
+def of_old(*names):
+    return [(f"{name} of the old file",) for name in names]
+
+
+def test_calls_of_a_migration(snapd, _):
+    """Two on the old file, none of which writes, and seven on the new one."""
+    snapd.file("OLD").write_bytes(layout.OLD.holding((0, b""), (1, b"hi")))
+    on_file, on_streams = calls_of(snapd, "migrate", "OLD", "F")
+    taken = of_old("open", "flock", "statx") + OPENED + NAMED + [("ftruncate",)]
+    read = of_old("fdatasync") + [("pread64 of the old file", 0, 20_480)]
+    ends = on_file[-2:]
+    assert on_file[:-2] == taken + read + LOOKED_AT + FILLED, on_file
+    assert sorted(ends) == [("close",), *of_old("close")], on_file
+    assert on_streams == [("write", 1, len("migrated 0 of 1 number 1\n"))], on_streams
+    # Where the new file is formatted already, nothing is written, and where a length is wrong, nothing is looked at.
+    on_file, _ = calls_of(snapd, "migrate", "OLD", "F")
+    assert on_file[:-2] == of_old("open", "flock", "statx") + OPENED + read + LOOKED_AT, on_file
+    snapd.file("new").write_bytes(bytes(layout.LENGTH))
+    on_file, _ = calls_of(snapd, "migrate", "F", "new")
+    assert on_file == OPENED + [("close",)], on_file
 
 
 def test_refused_calls_make_none(snapd, _):
@@ -88,7 +111,7 @@ def test_refused_calls_make_none(snapd, _):
     assert on_streams[0] == ("read", 0, 4_081), on_streams
     assert [call[:2] for call in on_streams[1:]] == [("write", 2)], on_streams
     on_file, _ = calls_of(snapd, "format", "F")
-    assert on_file == OPENED + [("fdatasync",), ("pread64", 0, 4_096), ("close",)], on_file
+    assert on_file == OPENED + LOOKED_AT + [("close",)], on_file
     snapd.file().write_bytes(b"x")
     on_file, _ = calls_of(snapd, "put", "F", stdin=b"hi")
     assert on_file == OPENED + [("close",)], on_file

@@ -1,16 +1,17 @@
 #!/usr/bin/env python3
 """Works out what crates/segment_sweep must print, from the disk model and the format of a segment file alone.
 
-It is written from docs/FORMATS.md ("Segment file") and docs/ARCHITECTURE.md (the disk model, the order of a store's
-and of a format's calls) and shares nothing with the program: bytes are a bytearray, open places are a set.
+It is written from docs/FORMATS.md ("Segment file", "The old format") and docs/THEOREMS.md (the disk model) and shares nothing
+with the program: bytes are a bytearray, open places are a set.
 """
 
 import struct
 
 BLOCK = 4096
-FILE = 5 * BLOCK
+SLOTS, OLD_SLOTS = 3, 2
+FILE, OLD_FILE = BLOCK * (1 + 2 * SLOTS), BLOCK * (1 + 2 * OLD_SLOTS)
 OPEN, SHUT = 0xA5, 0x00
-MARK = b"SNAPSEG1"
+MARK, OLD_MARK = b"SNAPSEG2", b"SNAPSEG1"
 LONGEST = 4080
 FILLS = {"keep": None, "00": SHUT, "a5": OPEN}
 
@@ -22,8 +23,8 @@ class Fault(Exception):
 class Device:
     """Bytes and open places. `stop` says of a call's number, from 1, whether it fails and with which fill."""
 
-    def __init__(self):
-        self.bytes = bytearray(FILE)
+    def __init__(self, data=bytes(FILE)):
+        self.bytes = bytearray(data)
         self.open = set()
         self.calls = 0
         self.stop = lambda call: None
@@ -71,11 +72,21 @@ def body_block(number, value):
     return (struct.pack(">QII", number, len(value), 0) + value).ljust(BLOCK, b"\0")
 
 
-def header_front(index, count):
-    return (MARK + bytes([index, count])).ljust(BLOCK - 1, b"\0")
+def header_front(index, count, mark=MARK):
+    return (mark + bytes([index, count])).ljust(BLOCK - 1, b"\0")
 
 
-def read_slot(file, slot):
+def slots_with(slots, *values):
+    """The blocks behind the header where these numbers and values are there, each in its slot."""
+    data = bytearray(2 * BLOCK * slots)
+    for number, value in values:
+        at = 2 * BLOCK * (number % slots)
+        data[at] = OPEN
+        data[at + BLOCK : at + 2 * BLOCK] = body_block(number, value)
+    return bytes(data)
+
+
+def read_slot(file, slot, slots):
     """None where the slot is closed, its number and value where it is open. A bad slot is a ValueError."""
     gate = file[gate_at(slot) : gate_at(slot) + BLOCK]
     body = file[body_at(slot) : body_at(slot) + BLOCK]
@@ -88,13 +99,13 @@ def read_slot(file, slot):
         raise ValueError("length")
     if zeros or any(body[16 + length :]):
         raise ValueError("zeros")
-    if number >= 2**63 or number % 2 != slot:
+    if number >= 2**63 or number % slots != slot:
         raise ValueError("number")
     return number, body[16 : 16 + length]
 
 
 def newest(slots):
-    """The number, the value, and whether the other slot is open. None where the slots give no answer."""
+    """The number, the value, and whether the number before is there too. None where the slots give no answer."""
     found = sorted(slot for slot in slots if slot is not None)
     if len(found) == 1:
         return *found[0], False
@@ -103,45 +114,59 @@ def newest(slots):
     return None
 
 
-def format_file(device, index=0, count=1):
+def format_with(device, index, count, number, value):
+    """Makes the file hold this number alone. What it was refused by, or None."""
     try:
         device.sync()
         if device.read(0, BLOCK)[BLOCK - 1] == OPEN:
             return "AlreadyFormatted"
         device.write(0, header_front(index, count))
-        device.write(BLOCK, bytes([OPEN]).ljust(4 * BLOCK, b"\0"))
+        device.write(BLOCK, slots_with(SLOTS, (number, value)))
         device.sync()
         device.write(BLOCK - 1, bytes([OPEN]))
         device.sync()
     except Fault:
         return "DeviceFailed"
-    return "formatted"
+    return None
 
 
-def open_file(device, index=0, count=1):
+def format_file(device, index=0, count=1):
+    return format_with(device, index, count, 0, b"") or "formatted"
+
+
+def open_file(device, index=0, count=1, mark=MARK, slots=SLOTS):
     """The number, the value and the spare gate, or the name of a refusal."""
     try:
         device.sync()
-        file = device.read(0, FILE)
+        file = device.read(0, len(device.bytes))
     except Fault:
         return "DeviceFailed"
     if file[BLOCK - 1] != OPEN:
         return "Unformatted"
-    if file[: BLOCK - 1] != header_front(index, count):
+    if file[: BLOCK - 1] != header_front(index, count, mark):
         return "WrongFile"
     try:
-        return newest([read_slot(file, 0), read_slot(file, 1)]) or "Damaged"
+        return newest([read_slot(file, slot, slots) for slot in range(slots)]) or "Damaged"
     except ValueError:
         return "Damaged"
 
 
+def migrate(old, new, index=0, count=1):
+    """Carries what a file of the old format holds over to a new file."""
+    found = open_file(old, index, count, OLD_MARK, OLD_SLOTS)
+    if isinstance(found, str):
+        return f"{found} of the old file"
+    number, value, _ = found
+    why = format_with(new, index, count, number, value)
+    return f"{why} of the new file" if why else f"migrated {number}"
+
+
 def store(device, number, spare_open, value):
     """Stores the value as this number. False at the first call that fails."""
-    slot = number % 2
+    slot = number % SLOTS
     try:
         if spare_open:
-            device.write(gate_at(slot), bytes([SHUT]))
-            device.sync()
+            device.write(gate_at((number + 1) % SLOTS), bytes([SHUT]))
         device.write(body_at(slot), body_block(number, value))
         device.sync()
         device.write(gate_at(slot), bytes([OPEN]))
@@ -190,6 +215,25 @@ def run_store(stored, value, stop, crash):
     device.crash(crash)
     device.stop = lambda call: None
     return answer, words(open_file(device))
+
+
+def old_with_hi():
+    """A file of the old format with number 0 and the empty value, and number 1 and `hi`."""
+    return Device(header_front(0, 1, OLD_MARK) + bytes([OPEN]) + slots_with(OLD_SLOTS, (0, b""), (1, b"hi")))
+
+
+def run_migrate(stop, crash):
+    """The calls are counted over both files: two of the old one, and then those of the new one."""
+    old, new = old_with_hi(), Device()
+    old.stop, new.stop = stop, lambda call: stop(call + 2)
+    answer = migrate(old, new)
+    answer += f", calls {old.calls} and {new.calls}"
+    for device in (old, new):
+        device.crash(crash)
+        device.stop = lambda call: None
+    assert old.bytes == old_with_hi().bytes
+    found = words(open_file(new))
+    return answer, f"{found}, {migrate(old, new)}"
 
 
 def fault(at, fill):
@@ -242,9 +286,15 @@ def main():
     )
     sweep(
         f"store of yo, the spare gate open; {after} and an opening",
-        6,
+        5,
         lambda stop, crash: run_store([b"hi"], b"yo", stop, crash),
         "2 yo",
+    )
+    sweep(
+        f"migration of number 1 and hi to a file of zeros; {after} of both, an opening of the new file, and a second migration",
+        9,
+        run_migrate,
+        "1 hi",
     )
 
 

@@ -4,6 +4,7 @@ use Rattle.snap_slot.specs.declared.layout.TheConstants.{MAX_COUNT}
 use Rattle.snap_order.specs.declared.order.Order.{Order}
 use Rattle.snap_order.specs.declared.order.Order.TheVariants as order
 use Rattle.snap_order.specs.declared.order.FileOrder.{FileOrder}
+use Rattle.snap_order.specs.declared.order.Migration.{Migration}
 use Rattle.snap_order.specs.declared.order.FileOrder.TheVariants.{Format, Put, Get, Check}
 
 -- there are 1 to 16 segments, and this is one of them
@@ -19,6 +20,7 @@ IsFileWithinLimits (Check file) = Unit {0}
 
 abbrev pub IsWithinLimits : Order → Type 0
 IsWithinLimits (order.File o) = IsFileWithinLimits o
+IsWithinLimits (order.Migrate m) = IsPlace m.index m.count
 IsWithinLimits order.Script = Unit {0}
 
 -- the path of its file

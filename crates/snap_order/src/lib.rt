@@ -4,5 +4,5 @@
 mod order;
 mod status;
 
-pub use order::{FileOrder, Order};
+pub use order::{FileOrder, Migration, Order};
 pub use status::{Ended, Status};

@@ -5,6 +5,8 @@
 pub enum Order<'a> {
     /// A command on one file.
     File(FileOrder<'a>),
+    /// Carry a file of the old format over to a new file.
+    Migrate(Migration<'a>),
     /// Run the script on standard input.
     Script,
 }
@@ -21,6 +23,17 @@ pub enum FileOrder<'a> {
     Get { file: &'a str, index: u8, count: u8 },
     /// Show what the file holds, slot by slot.
     Check { file: &'a str },
+}
+
+/// Carries the number and value of one file over to another: `old` is the path of a file of the old
+/// format, and `new` that of the file to be made. `index` and `count` are the place of their
+/// segment, which stays.
+#[derive(Clone, Copy, Debug, PartialEq, Eq)]
+pub struct Migration<'a> {
+    pub old: &'a str,
+    pub new: &'a str,
+    pub index: u8,
+    pub count: u8,
 }
 
 impl<'a> FileOrder<'a> {

@@ -1,6 +1,7 @@
 -- The command that a parse met, as the grammar has it.
 use Rattle.std.proofs.Common.{
   ◌≡◌,
+  ◌≢◌,
   ◌⊎◌,
   ◌∙◌,
   sym,
@@ -24,11 +25,14 @@ use Rattle.clap.specs.declared.error.Error.{Error}
 use Rattle.clap.specs.declared.error.kind.ErrorKind.{ErrorKind}
 use Rattle.clap.specs.declared.error.kind.ErrorKind.TheVariants.{OutOfMemory}
 use Rattle.snap_words.specs.Faults.{
+  IsCommandName,
   IsFaultOf,
+  IsMigrationFault,
   IsMissing,
   IsNoNumber,
   IsNumberOf,
   IsParseFault,
+  IsPathFault,
   IsPlaceFault,
   IsRequest,
   word_of,
@@ -61,7 +65,7 @@ use Rattle.clap.specs.Words.{
 use Rattle.clap.specs.declared.ArgMatches.{ArgMatches}
 use Rattle.clap.proofs.OnLiterals.{clap_on_literals}
 use Rattle.clap.proofs.WalkLemmas.{first_value-rows}
-use Rattle.snap_words.specs.Grammar.{IsCommand, IsLaterFault, grammar_of}
+use Rattle.snap_words.specs.Grammar.{IsCommand, IsLaterFault, IsPair, grammar_of}
 
 simple : is_simple grammar_of ≡ true
 unfolding clap_on_literals
@@ -97,6 +101,20 @@ asked words app is m sub has name file named rowed got = (
   rows_of (found_of sub),
   met words app is m has name (rows_of (found_of sub)) named rowed,
   sym (first_value-rows (found_of sub) (codes "file")) ∙ sym got,
+)
+
+-- the words are those of this command with these files
+pub asked_pair : (words : List Text) (app : App) → app ≡ grammar_of → (m sub : ArgMatches)
+    → HasMatchesOf app words m → (name old new : Text) → subcommand_name_of m ≡ Some name
+    → option_map (λ p. p.1) (subcommand_rows_of m) ≡ Some (rows_of (found_of sub))
+    → Some old ≡ first_value (found_of sub) (codes "old")
+    → Some new ≡ first_value (found_of sub) (codes "new")
+    → IsPair (subcommand_of grammar_of words) name old new
+asked_pair words app is m sub has name old new named rowed got_old got_new = (
+  rows_of (found_of sub),
+  met words app is m has name (rows_of (found_of sub)) named rowed,
+  sym (first_value-rows (found_of sub) (codes "old")) ∙ sym got_old,
+  sym (first_value-rows (found_of sub) (codes "new")) ∙ sym got_new,
 )
 
 -- what the matches have for this is the word that the command has
@@ -183,3 +201,62 @@ place_fault words of same gone NoCommand (inr is) = absurd is
 place_fault words of same gone NotText (inl is) = absurd is
 place_fault words of same gone NotText (inr is) = absurd is
 place_fault words of same gone Memory is = tt
+
+-- a path that isn't there, by the words of the command
+path_fault : (words : List Text) (of : Text → Option Text) (path : Text)
+    → of path ≡ word_of words path
+    → ((what : Text) → what ≡ path → word_of words what ≡ None → IsMissing words what)
+    → (why : WordFault) → IsPathFault (of path) path why → IsFaultOf words why
+path_fault words of path same gone (Help e) is = absurd is
+path_fault words of path same gone (Words e) is = absurd is
+path_fault words of path same gone (Count n) is = absurd is
+path_fault words of path same gone (Index i n) is = absurd is
+path_fault words of path same gone (Number what) is = absurd is
+path_fault words of path same gone (Missing what) is =
+    gone what.now is.0 (ap (word_of words) is.0 ∙ sym same ∙ is.1)
+path_fault words of path same gone NoCommand is = absurd is
+path_fault words of path same gone NotText is = absurd is
+path_fault words of path same gone Memory is = absurd is
+
+-- a fault of a migration, by the words of the command
+pub migration_fault : (words : List Text) (of : Text → Option Text)
+    → ((what : Text) → of what ≡ word_of words what)
+    → ((what : Text) → (what ≡ codes "index") ⊎ (what ≡ codes "count")
+    → word_of words what ≡ None → IsMissing words what)
+    → ((what : Text) → (what ≡ codes "old") ⊎ (what ≡ codes "new")
+    → word_of words what ≡ None → IsMissing words what) → (why : WordFault)
+    → IsMigrationFault of why → IsFaultOf words why
+migration_fault words of same gone gone_file why (inl is) = place_fault words of same gone why is
+migration_fault words of same gone gone_file why (inr (inl is)) =
+    path_fault words of (codes "old") (same (codes "old")) (λ what its. gone_file what (inl its)) why
+    is
+migration_fault words of same gone gone_file why (inr (inr is)) =
+    path_fault words of (codes "new") (same (codes "new")) (λ what its. gone_file what (inr its)) why
+    is
+
+same_first : (o : Option (Text × List Row)) (a a' : Text) (b b' : List Row) → o ≡ Some (a, b)
+    → o ≡ Some (a', b') → a ≡ a'
+same_first o a a' b b' is is' =
+    let first : Some a ≡ Some a' =
+    ap (option_map (λ (p : Text × List Row). p.0)) (sym is ∙ is') in
+    cc
+
+none_of : (command name : Text) → command ≡ name → command ≢ codes "format"
+    → command ≢ codes "put" → command ≢ codes "get" → command ≢ codes "check"
+    → command ≢ codes "migrate" → command ≢ codes "script" → IsCommandName name → ⊥
+none_of command name same n0 n1 n2 n3 n4 n5 (inl is) = n0 (same ∙ is)
+none_of command name same n0 n1 n2 n3 n4 n5 (inr (inl is)) = n1 (same ∙ is)
+none_of command name same n0 n1 n2 n3 n4 n5 (inr (inr (inl is))) = n2 (same ∙ is)
+none_of command name same n0 n1 n2 n3 n4 n5 (inr (inr (inr (inl is)))) = n3 (same ∙ is)
+none_of command name same n0 n1 n2 n3 n4 n5 (inr (inr (inr (inr (inl is))))) = n4 (same ∙ is)
+none_of command name same n0 n1 n2 n3 n4 n5 (inr (inr (inr (inr (inr is))))) = n5 (same ∙ is)
+
+-- a command of another name is none of them
+pub no_command : (words : List Text) (command : Text) (its : List Row)
+    → subcommand_of grammar_of words ≡ Some (command, its) → command ≢ codes "format"
+    → command ≢ codes "put" → command ≢ codes "get" → command ≢ codes "check"
+    → command ≢ codes "migrate" → command ≢ codes "script" → (name : Text) (rows : List Row)
+    → subcommand_of grammar_of words ≡ Some (name, rows) → IsCommandName name → ⊥
+no_command words command its is n0 n1 n2 n3 n4 n5 name rows found named =
+    let same : command ≡ name = same_first _ command name its rows is found in
+    none_of command name same n0 n1 n2 n3 n4 n5 named

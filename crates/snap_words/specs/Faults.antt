@@ -66,6 +66,17 @@ IsPlaceFault index count (fault.Index i n) = IsNumberOf index i × IsNumberOf co
 IsPlaceFault index count why = IsNumberFault index (codes "index") why
     ⊎ IsNumberFault count (codes "count") why
 
+-- what is wrong with this word for a path: there is none
+abbrev pub IsPathFault : Option Text → Text → WordFault → Type 0
+IsPathFault word what (fault.Missing name) = (name.now ≡ what) × (word ≡ None)
+IsPathFault word what why = ⊥
+
+-- what is wrong with the words of a migration
+abbrev pub IsMigrationFault : (of : Text → Option Text) → WordFault → Type 0
+IsMigrationFault of why = IsPlaceFault (of (codes "index")) (of (codes "count")) why
+    ⊎ (IsPathFault (of (codes "old")) (codes "old") why
+    ⊎ IsPathFault (of (codes "new")) (codes "new") why)
+
 -- the kinds of what is asked for in place of an order
 abbrev pub IsRequest : ErrorKind → Type 0
 IsRequest kind = (kind ≡ DisplayHelp) ⊎ (kind ≡ DisplayVersion)
@@ -81,11 +92,16 @@ IsParseFault error why = ⊥
 abbrev pub IsCommandName : Text → Type 0
 IsCommandName name =
     (name ≡ codes "format") ⊎ ((name ≡ codes "put") ⊎ ((name ≡ codes "get")
-    ⊎ ((name ≡ codes "check") ⊎ (name ≡ codes "script"))))
+    ⊎ ((name ≡ codes "check") ⊎ ((name ≡ codes "migrate") ⊎ (name ≡ codes "script")))))
+
+-- the words for files that the command takes
+abbrev pub HasFile : Text → Text → Type 0
+HasFile command what = ((command ≡ codes "migrate") × ((what ≡ codes "old") ⊎ (what ≡ codes "new")))
+    ⊎ ((command ≢ codes "migrate") × (what ≡ codes "file"))
 
 -- the command takes this word behind its name
 abbrev pub HasWord : Text → Text → Type 0
-HasWord command what = (command ≢ codes "script") × ((what ≡ codes "file")
+HasWord command what = (command ≢ codes "script") × (HasFile command what
     ⊎ ((command ≢ codes "check") × ((what ≡ codes "index") ⊎ (what ≡ codes "count"))))
 
 -- the command takes this word, and none was found
@@ -125,4 +141,6 @@ AreFileNumbersOf words (Check file) = Unit {0}
 
 abbrev pub AreNumbersOf : List Text → Order → Type 0
 AreNumbersOf words (order.File o) = AreFileNumbersOf words o
+AreNumbersOf words (order.Migrate m) = IsNumberOf (word_of words (codes "index")) m.index
+    × IsNumberOf (word_of words (codes "count")) m.count
 AreNumbersOf words order.Script = Unit {0}

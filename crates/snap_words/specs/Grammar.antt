@@ -22,8 +22,9 @@ use Rattle.snap_words.specs.declared.fault.WordFault.{WordFault}
 use Rattle.snap_words.specs.declared.fault.WordFault.TheVariants as fault
 use Rattle.snap_order.specs.declared.order.FileOrder.TheVariants.{Format, Put, Get, Check}
 
-abbrev pub file_rule : Rule
-file_rule = record (new_rule (codes "file")) { value_names = 1; required = true; action = Some Set }
+-- a word for a file's path, under this name
+abbrev pub file_rule : Text → Rule
+file_rule name = record (new_rule name) { value_names = 1; required = true; action = Some Set }
 
 -- an option that takes a number from 0 to 255
 abbrev pub number_rule : Text → Text → Rule
@@ -35,9 +36,17 @@ number_rule name default = record (new_rule name) {
   defaults = default ∷ [];
 }
 
+abbrev pub filed : App → App
+filed app = with_rule app (file_rule (codes "file"))
+
+-- with the place of a segment
 abbrev pub placed : App → App
-placed app = with_rule (with_rule (with_rule app file_rule)
-    (number_rule (codes "index") (codes "0"))) (number_rule (codes "count") (codes "1"))
+placed app = with_rule (with_rule app (number_rule (codes "index") (codes "0")))
+    (number_rule (codes "count") (codes "1"))
+
+-- with an old file, a new one and their place
+abbrev pub paired : App → App
+paired app = placed (with_rule (with_rule app (file_rule (codes "old"))) (file_rule (codes "new")))
 
 abbrev pub top_shape : Shape
 top_shape = record ((new_app (codes "snapd")).top) {
@@ -51,15 +60,22 @@ program_of = record { top = top_shape; subs = [] }
 
 abbrev pub grammar_of : App
 grammar_of = with_subcommand
-    (with_subcommand (with_subcommand (with_subcommand (with_subcommand program_of
-    (placed (new_app (codes "format"))).top) (placed (new_app (codes "put"))).top)
-    (placed (new_app (codes "get"))).top)
-    (with_rule (new_app (codes "check")) file_rule).top) (new_app (codes "script")).top
+    (with_subcommand (with_subcommand (with_subcommand (with_subcommand (with_subcommand program_of
+    (placed (filed (new_app (codes "format")))).top)
+    (placed (filed (new_app (codes "put")))).top)
+    (placed (filed (new_app (codes "get")))).top)
+    (filed (new_app (codes "check"))).top)
+    (paired (new_app (codes "migrate"))).top) (new_app (codes "script")).top
 
 -- the command's name and the words of its rules
 abbrev pub IsCommand : Option (Text × List Row) → Text → Text → Type 0
 IsCommand found name file = (rows : List Row) × (found ≡ Some (name, rows))
     × (first_of (codes "file") rows ≡ Some file)
+
+-- the command's name and the words of its rules, with an old file and a new one
+abbrev pub IsPair : Option (Text × List Row) → Text → (old new : Text) → Type 0
+IsPair found name old new = (rows : List Row) × (found ≡ Some (name, rows))
+    × (first_of (codes "old") rows ≡ Some old) × (first_of (codes "new") rows ≡ Some new)
 
 -- the words are those of this order: its command, and its file
 abbrev pub IsFileAskedBy : List Text → FileOrder → Type 0
@@ -74,6 +90,8 @@ IsFileAskedBy words (Check file) =
 
 abbrev pub IsAskedBy : List Text → Order → Type 0
 IsAskedBy words (order.File o) = IsFileAskedBy words o
+IsAskedBy words (order.Migrate m) =
+    IsPair (subcommand_of grammar_of words) (codes "migrate") m.old.now m.new.now
 IsAskedBy words order.Script = (rows : List Row)
     × (subcommand_of grammar_of words ≡ Some (codes "script", rows))
 

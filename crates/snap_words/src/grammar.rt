@@ -1,10 +1,13 @@
 //! The commands and their words, as the parser of words reads them.
-ghost use Rattle.std.specs.Prelude.{◌≡◌, IfOk, false};
+ghost use Rattle.std.specs.Prelude.{◌≡◌, IfOk, codes, false};
 ghost use Rattle.clap.specs.Words.{app_of, new_app, rule_of};
 ghost use Rattle.clap.specs.declared.builder.Command.TheViews.{out-Command};
-ghost use Rattle.snap_words.specs.Grammar.{file_rule, grammar_of, number_rule, placed, program_of};
+ghost use Rattle.snap_words.specs.Grammar.{file_rule, filed, grammar_of, number_rule, paired};
+ghost use Rattle.snap_words.specs.Grammar.{placed, program_of};
 
-use crate::help::{CHECK_HELP, FORMAT_HELP, GET_HELP, PROGRAM_HELP, PUT_HELP, SCRIPT_HELP};
+use crate::help::{
+    CHECK_HELP, FORMAT_HELP, GET_HELP, MIGRATE_HELP, PROGRAM_HELP, PUT_HELP, SCRIPT_HELP,
+};
 use clap::{Arg, ArgAction, Command, value_parser};
 use std::alloc::{AllocError, Global};
 
@@ -14,23 +17,71 @@ const VERSION: &str = "0.1.0";
 pub(crate) fn grammar<'a>(alloc: Global) -> Result<Command<'a>, AllocError>
     ensures { IfOk result (λ command. app_of command ≡ grammar_of) }
 {
+    let commands = program(alloc).subcommand(format_command(alloc)?)?;
+    let commands = commands.subcommand(put_command(alloc)?)?;
+    let commands = commands.subcommand(get_command(alloc)?)?;
+    let commands = commands.subcommand(check_command(alloc)?)?;
+    let commands = commands.subcommand(migrate_command(alloc)?)?;
+    commands.subcommand(script_command(alloc))
+}
+
+fn format_command<'a>(alloc: Global) -> Result<Command<'a>, AllocError>
+    ensures app { IfOk result
+        (λ command. app_of command ≡ placed (filed (new_app (codes "format")))) }
+    ensures local { IfOk result (λ command. (out-Command command).has_globals ≡ false) }
+{
     let about = "Make and format the file of one segment";
-    let format = described(placed_command(alloc, "format")?, about, FORMAT_HELP);
+    let command = placed_command(alloc, "format")?;
+    Ok(described(command, about, FORMAT_HELP))
+}
+
+fn put_command<'a>(alloc: Global) -> Result<Command<'a>, AllocError>
+    ensures app { IfOk result
+        (λ command. app_of command ≡ placed (filed (new_app (codes "put")))) }
+    ensures local { IfOk result (λ command. (out-Command command).has_globals ≡ false) }
+{
     let about = "Store standard input as the segment's next value";
-    let put = described(placed_command(alloc, "put")?, about, PUT_HELP);
+    let command = placed_command(alloc, "put")?;
+    Ok(described(command, about, PUT_HELP))
+}
+
+fn get_command<'a>(alloc: Global) -> Result<Command<'a>, AllocError>
+    ensures app { IfOk result
+        (λ command. app_of command ≡ placed (filed (new_app (codes "get")))) }
+    ensures local { IfOk result (λ command. (out-Command command).has_globals ≡ false) }
+{
     let about = "Print the segment's value, and nothing else";
-    let get = described(placed_command(alloc, "get")?, about, GET_HELP);
+    let command = placed_command(alloc, "get")?;
+    Ok(described(command, about, GET_HELP))
+}
+
+fn check_command<'a>(alloc: Global) -> Result<Command<'a>, AllocError>
+    ensures app { IfOk result
+        (λ command. app_of command ≡ filed (new_app (codes "check"))) }
+    ensures local { IfOk result (λ command. (out-Command command).has_globals ≡ false) }
+{
     let about = "Show what a file holds, slot by slot, and change nothing";
-    let check = Command::new(alloc, "check").arg(file_word(alloc))?;
-    let check = described(check, about, CHECK_HELP);
+    let file = file_word(alloc, "file", "FILE", "The path of the segment's file");
+    let command = Command::new(alloc, "check").arg(file)?;
+    Ok(described(command, about, CHECK_HELP))
+}
+
+fn migrate_command<'a>(alloc: Global) -> Result<Command<'a>, AllocError>
+    ensures app { IfOk result
+        (λ command. app_of command ≡ paired (new_app (codes "migrate"))) }
+    ensures local { IfOk result (λ command. (out-Command command).has_globals ≡ false) }
+{
+    let about = "Carry a file of the old format over to a new file, and leave the old one as it is";
+    let command = pair_command(alloc, "migrate")?;
+    Ok(described(command, about, MIGRATE_HELP))
+}
+
+fn script_command<'a>(alloc: Global) -> Command<'a>
+    ensures app { app_of result ≡ new_app (codes "script") }
+    ensures local { (out-Command result).has_globals ≡ false }
+{
     let about = "Run a script of writers and scanners, and print what each step answers";
-    let script = described(Command::new(alloc, "script"), about, SCRIPT_HELP);
-    program(alloc)
-        .subcommand(format)?
-        .subcommand(put)?
-        .subcommand(get)?
-        .subcommand(check)?
-        .subcommand(script)
+    described(Command::new(alloc, "script"), about, SCRIPT_HELP)
 }
 
 /// The command with its texts for help.
@@ -56,26 +107,51 @@ fn program<'a>(alloc: Global) -> Command<'a>
 
 /// A command with its file and the place of the file's segment.
 fn placed_command<'a>(alloc: Global, name: &'a str) -> Result<Command<'a>, AllocError>
-    ensures app { IfOk result (λ command. app_of command ≡ placed (new_app name.entry.now)) }
+    ensures app { IfOk result (λ command. app_of command ≡ placed (filed (new_app name.entry.now))) }
     ensures local { IfOk result (λ command. (out-Command command).has_globals ≡ false) }
 {
-    let help = "The segment's index, below N";
-    let index = number_option(alloc, "index", "0", "I", help);
-    let help = "How many segments there are, 1 to 16";
-    let count = number_option(alloc, "count", "1", "N", help);
-    Command::new(alloc, name)
-        .arg(file_word(alloc))?
-        .arg(index)?
-        .arg(count)
+    let file = file_word(alloc, "file", "FILE", "The path of the segment's file");
+    let command = Command::new(alloc, name).arg(file)?;
+    with_place(alloc, command)
 }
 
-fn file_word<'a>(alloc: Global) -> Arg<'a>
-    ensures rule { rule_of result ≡ file_rule }
+/// A command with an old file, a new one, and the place of their segment.
+fn pair_command<'a>(alloc: Global, name: &'a str) -> Result<Command<'a>, AllocError>
+    ensures app { IfOk result (λ command. app_of command ≡ paired (new_app name.entry.now)) }
+    ensures local { IfOk result (λ command. (out-Command command).has_globals ≡ false) }
+{
+    let old = file_word(
+        alloc,
+        "old",
+        "OLD",
+        "The path of the file of the old format",
+    );
+    let command = Command::new(alloc, name).arg(old)?;
+    let new = file_word(alloc, "new", "NEW", "The path of the new file");
+    let command = command.arg(new)?;
+    with_place(alloc, command)
+}
+
+/// The command with the place of a segment.
+fn with_place<'a>(alloc: Global, command: Command<'a>) -> Result<Command<'a>, AllocError>
+    requires local { (out-Command command).has_globals ≡ false }
+    ensures app { IfOk result (λ with. app_of with ≡ placed (app_of command.entry)) }
+    ensures local { IfOk result (λ with. (out-Command with).has_globals ≡ false) }
+{
+    let help = "The segment's index, below N";
+    let command = command.arg(number_option(alloc, "index", "0", "I", help))?;
+    let help = "How many segments there are, 1 to 16";
+    command.arg(number_option(alloc, "count", "1", "N", help))
+}
+
+/// A word for a file's path.
+fn file_word<'a>(alloc: Global, name: &'a str, shown: &'a str, help: &'a str) -> Arg<'a>
+    ensures rule { rule_of result ≡ file_rule name.entry.now }
     ensures local { result.global ≡ false }
 {
-    Arg::new(alloc, "file")
-        .value_name("FILE")
-        .help("The path of the segment's file")
+    Arg::new(alloc, name)
+        .value_name(shown)
+        .help(help)
         .required(true)
         .action(ArgAction::Set)
 }

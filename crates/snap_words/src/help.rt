@@ -13,7 +13,7 @@ Exit status:
   3  refused; the number and the name of the refusal are on standard error";
 
 pub(crate) const FORMAT_HELP: &str = "\
-FILE is made where it isn't there. An empty file is taken, and so is one of 20,480 bytes
+FILE is made where it isn't there. An empty file is taken, and so is one of 28,672 bytes
 that was never formatted. Prints `formatted I of N`. A file that is formatted keeps its bytes:
 it is refused as 12 AlreadyFormatted.
 
@@ -32,11 +32,21 @@ Example:
   snapd get manifest.snap > manifest";
 
 pub(crate) const CHECK_HELP: &str = "\
-Prints the header, both slots, and `answer number K` or `answer none`. Ends with status 3
+Prints the header, the three slots, and `answer number K` or `answer none`. Ends with status 3
 where there is no answer.
 
 Example:
   snapd check manifest.snap";
+
+pub(crate) const MIGRATE_HELP: &str = "\
+OLD is a file of the old format, 20,480 bytes that begin `SNAPSEG1`; it is only read. NEW is made
+where it isn't there. An empty file is taken, and so is one of 28,672 bytes that was never
+formatted. Prints `migrated I of N number K` once NEW holds OLD's value for good, as number K.
+Cut off before, it can be run again: NEW is then unformatted, or refused as
+12 AlreadyFormatted because it holds the value already.
+
+Example:
+  snapd migrate manifest.snap manifest.new && mv manifest.new manifest.snap";
 
 pub(crate) const SCRIPT_HELP: &str = "\
 A script is lines of words, which single spaces part. Empty lines are skipped. The first other

@@ -1,6 +1,6 @@
 //! What no clause says: defaults, and the texts of faults and of help.
 use crate::{WordFault, order};
-use snap_order::{FileOrder, Order};
+use snap_order::{FileOrder, Migration, Order};
 use std::test::Fail;
 
 const FORMAT: [&str; 3] = ["snapd", "format", "F"];
@@ -24,6 +24,15 @@ fn orders_have_defaults(rt: HostRuntime) -> Result<(), Fail> {
     }
     let words = ["snapd", "script"];
     assert_eq!(rt; order(rt.alloc(), &words)?, Order::Script);
+    let words = ["snapd", "migrate", "F", "G"];
+    let (old, new) = ("F", "G");
+    let wanted = Migration {
+        old,
+        new,
+        index,
+        count,
+    };
+    assert_eq!(rt; order(rt.alloc(), &words)?, Order::Migrate(wanted));
     let words = ["snapd", "put", "--count=16", "G", "--index", "15"];
     let wanted = FileOrder::Put {
         file: "G",
@@ -63,7 +72,13 @@ fn faults_of_words_say_what_is_wrong(rt: HostRuntime) -> Result<(), Fail> {
 
 #[test]
 fn help_is_no_fault(rt: HostRuntime) -> Result<(), Fail> {
-    for command in ["format", "put", "get", "check"] {
+    for (command, file) in [
+        ("format", "<FILE>  The path of the segment's file"),
+        ("put", "<FILE>  The path of the segment's file"),
+        ("get", "<FILE>  The path of the segment's file"),
+        ("check", "<FILE>  The path of the segment's file"),
+        ("migrate", "<OLD>  The path of the file of the old format"),
+    ] {
         let words = ["snapd", command, "--help"];
         let (is_help, text) = match order(rt.alloc(), &words) {
             Ok(_) => (false, String::new(rt.alloc())),
@@ -73,10 +88,7 @@ fn help_is_no_fault(rt: HostRuntime) -> Result<(), Fail> {
             }
         };
         assert!(rt; is_help, "{command}");
-        assert!(rt;
-            text.contains("<FILE>  The path of the segment's file"),
-            "{command}"
-        );
+        assert!(rt; text.contains(file), "{command}");
         assert!(rt; text.contains("\nExample:\n  "), "{command}");
     }
     Ok(())

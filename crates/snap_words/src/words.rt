@@ -1,16 +1,16 @@
 //! Reads the words of the program.
-ghost use Rattle.std.specs.Prelude.{◌≡◌, IfErr, IfOk, codes, map, true};
+ghost use Rattle.std.specs.Prelude.{◌≡◌, ◌↔◌, IfErr, IfOk, IsTrue, Some, codes, map, true};
 ghost use Rattle.clap.specs.Words.{first_value, found_of, takes};
 ghost use Rattle.snap_order.specs.Order.{IsPlace, IsWithinLimits};
 ghost use Rattle.snap_words.specs.Faults.{AreNumbersOf, IsFaultOf, IsNumberFault, IsNumberOf};
-ghost use Rattle.snap_words.specs.Faults.{IsParseFault, IsPlaceFault};
+ghost use Rattle.snap_words.specs.Faults.{IsMigrationFault, IsParseFault, IsPlaceFault};
 ghost use Rattle.snap_words.specs.Grammar.{IsAskedBy, IsLaterFault, grammar_of};
 
 use crate::WordFault;
 use crate::grammar::grammar;
 use clap::ArgMatches;
 use clap::error::ErrorKind;
-use snap_order::{FileOrder, Order};
+use snap_order::{FileOrder, Migration, Order};
 use snap_slot::MAX_COUNT;
 use std::alloc::Global;
 use std::convert::AsStr;
@@ -41,6 +41,9 @@ pub fn order<'a, S: AsStr>(alloc: Global, words: &'a [S]) -> Result<Order<'a>, W
     if command == "script" {
         return Ok(Order::Script);
     }
+    if is(command, "migrate") {
+        return Ok(Order::Migrate(migration(matches)?));
+    }
     let Some(file) = matches.get_str("file") else {
         return Err(WordFault::Missing { what: "file" });
     };
@@ -55,6 +58,41 @@ pub fn order<'a, S: AsStr>(alloc: Global, words: &'a [S]) -> Result<Order<'a>, W
         _ => return Err(WordFault::NoCommand),
     };
     Ok(Order::File(order))
+}
+
+/// The command has this name.
+fn is(command: &str, name: &'static str) -> bool
+    ensures { IsTrue result ↔ (command.now ≡ name.now) }
+{
+    command == name
+}
+
+/// The files of a migration, and the place of their segment.
+fn migration<'a>(matches: &ArgMatches<'a>) -> Result<Migration<'a>, WordFault>
+    ensures place { IfOk result (λ m. IsPlace m.index m.count) }
+    ensures old { IfOk result
+        (λ m. Some m.old.now ≡ first_value (found_of matches.now) (codes "old")) }
+    ensures new { IfOk result
+        (λ m. Some m.new.now ≡ first_value (found_of matches.now) (codes "new")) }
+    ensures index { IfOk result
+        (λ m. IsNumberOf (first_value (found_of matches.now) (codes "index")) m.index) }
+    ensures count { IfOk result
+        (λ m. IsNumberOf (first_value (found_of matches.now) (codes "count")) m.count) }
+    ensures fault { IfErr result (IsMigrationFault (first_value (found_of matches.now))) }
+{
+    let Some(old) = matches.get_str("old") else {
+        return Err(WordFault::Missing { what: "old" });
+    };
+    let Some(new) = matches.get_str("new") else {
+        return Err(WordFault::Missing { what: "new" });
+    };
+    let (index, count) = place(matches)?;
+    Ok(Migration {
+        old,
+        new,
+        index,
+        count,
+    })
 }
 
 /// The place of a file's segment, within the limits.

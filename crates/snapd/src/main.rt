@@ -5,14 +5,14 @@
 //! its standard streams.
 #![tactic(auto)]
 
-ghost use Rattle.snap_order.specs.Order.{IsFileWithinLimits};
+ghost use Rattle.snap_order.specs.Order.{IsFileWithinLimits, IsPlace};
 
 mod opening;
 
-use opening::{check_streams, open_file};
-use snap_command::{Failure, act};
+use opening::{PairFault, check_streams, open_file, open_pair};
+use snap_command::{Failure, MigrationFailure, act, act_pair};
 use snap_disk::{FileFault, Refusal};
-use snap_order::{FileOrder, Order, Status};
+use snap_order::{FileOrder, Migration, Order, Status};
 use snap_script::play;
 use snap_stream::complain;
 use snap_words::{WordFault, order};
@@ -25,6 +25,7 @@ fn main(rt: HostRuntime) -> ExitCode {
     let status = match words_of(&rt) {
         Ok(words) => match order(rt.alloc(), words.as_slice()) {
             Ok(Order::File(order)) => run(&rt, &order),
+            Ok(Order::Migrate(order)) => run_migration(&rt, &order),
             Ok(Order::Script) => play_script(&rt, &rt),
             Err(fault) => explain(&rt, &fault),
         },
@@ -65,25 +66,19 @@ fn explain(rt: &HostRuntime, fault: &WordFault) -> Status {
 fn run(rt: &HostRuntime, order: &FileOrder<'_>) -> Status
     requires { IsFileWithinLimits order.now }
 {
-    match check_streams(&rt.stdin(), &rt.stdout(), &rt.stderr()) {
-        Ok(()) => {}
-        Err(why) => {
-            let _ = complain(rt.alloc(), &mut rt.stderr(), &why);
-            return Status::Failed;
-        }
+    if !are_streams_open(rt) {
+        return Status::Failed;
     }
     let disk = match open_file(rt, order) {
         Ok(disk) => disk,
-        Err(FileFault::WrongFile { .. }) => return stop(rt, &Failure::Refused(Refusal::WrongFile)),
-        Err(fault) => {
-            let file = order.file();
-            let _ = complain(
-                rt.alloc(),
-                &mut rt.stderr(),
-                &format_args!("{file}: {fault}"),
-            );
-            return Status::Failed;
+        Err(FileFault::WrongFile { len }) => {
+            let refused = Failure::Refused(Refusal::WrongFile);
+            let mut errors = rt.stderr();
+            return refused
+                .report_of(rt.alloc(), order.file(), len, &mut errors)
+                .status;
         }
+        Err(fault) => return fail_at(rt, order.file(), &fault),
     };
     let (_disk, ended) = act(
         rt.alloc(),
@@ -94,6 +89,54 @@ fn run(rt: &HostRuntime, order: &FileOrder<'_>) -> Status
         &mut rt.stderr(),
     );
     ended.status
+}
+
+/// Opens both files of the migration, and carries the old one over.
+fn run_migration(rt: &HostRuntime, order: &Migration<'_>) -> Status
+    requires { IsPlace order.now.index order.now.count }
+{
+    if !are_streams_open(rt) {
+        return Status::Failed;
+    }
+    let (old, new) = match open_pair(rt, order) {
+        Ok(pair) => pair,
+        Err(PairFault::Path { file, fault }) => return fail_at(rt, file, &fault),
+        Err(PairFault::WrongFile(which)) => {
+            let why = Refusal::WrongFile;
+            let refused = MigrationFailure::OfFile { which, why };
+            return refused.report(rt.alloc(), order, &mut rt.stderr()).status;
+        }
+    };
+    let (_old, _new, ended) = act_pair(
+        rt.alloc(),
+        order,
+        old,
+        new,
+        &mut rt.stdout(),
+        &mut rt.stderr(),
+    );
+    ended.status
+}
+
+/// The standard streams are open. Says which one isn't.
+fn are_streams_open(rt: &HostRuntime) -> bool {
+    match check_streams(&rt.stdin(), &rt.stdout(), &rt.stderr()) {
+        Ok(()) => true,
+        Err(why) => {
+            let _ = complain(rt.alloc(), &mut rt.stderr(), &why);
+            false
+        }
+    }
+}
+
+/// Says why the file at this path could not be taken.
+fn fail_at(rt: &HostRuntime, file: &str, fault: &FileFault) -> Status {
+    let _ = complain(
+        rt.alloc(),
+        &mut rt.stderr(),
+        &format_args!("{file}: {fault}"),
+    );
+    Status::Failed
 }
 
 /// Runs the script on standard input, which need not end: `waiting` is the runtime as what may

@@ -2,8 +2,9 @@
 ghost use Rattle.std.specs.Prelude.{IfOk};
 ghost use Rattle.snap_disk.specs.FileDisk.{IsUncalled};
 
-use snap_disk::{FileDisk, FileFault, Lock};
-use snap_order::FileOrder;
+use snap_disk::{Disk, FileDisk, FileFault, Lock};
+use snap_order::{FileOrder, Migration};
+use snap_segment::{OLD_FILE_LEN, Which};
 use std::fs::File;
 use std::io;
 use std::os::fd::AsFd;
@@ -24,6 +25,39 @@ pub fn open_file<R: Files<File = File>>(
         FileOrder::Get { file, .. } | FileOrder::Check { file } => {
             FileDisk::open(rt, file, Lock::Shared)
         }
+    }
+}
+
+/// Why the files of a migration could not be taken.
+#[derive(Debug, Drop)]
+pub enum PairFault<'a> {
+    /// The file at this path could not be taken as a device.
+    Path { file: &'a str, fault: FileFault },
+    /// This file is refused for its length.
+    WrongFile(Which),
+}
+
+/// The files of a migration as devices: the old one, which others may read meanwhile, and then the
+/// new one, which is made where it isn't there. Where both have a wrong length, the old one counts.
+pub fn open_pair<'a, R: Files<File = File>>(
+    rt: &R,
+    order: &Migration<'a>,
+) -> Result<(FileDisk, FileDisk), PairFault<'a>>
+    ensures { IfOk result (λ pair. IsUncalled pair.0 × IsUncalled pair.1) }
+{
+    let file = order.old;
+    let old = match FileDisk::open(rt, file, Lock::Shared) {
+        Ok(old) => old,
+        Err(fault) => return Err(PairFault::Path { file, fault }),
+    };
+    let file = order.new;
+    match FileDisk::create(rt, file) {
+        Ok(new) => Ok((old, new)),
+        Err(FileFault::WrongFile { .. }) if old.len() != OLD_FILE_LEN => {
+            Err(PairFault::WrongFile(Which::Old))
+        }
+        Err(FileFault::WrongFile { .. }) => Err(PairFault::WrongFile(Which::New)),
+        Err(fault) => Err(PairFault::Path { file, fault }),
     }
 }
 

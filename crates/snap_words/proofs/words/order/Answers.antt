@@ -33,10 +33,13 @@ use Rattle.clap.specs.Words.{
   takes,
 }
 use Rattle.snap_words.specs.Faults.{IsFaultOf, IsMissing, IsNumberOf, word_of}
-use Rattle.snap_words.specs.Grammar.{IsCommand, grammar_of}
+use Rattle.snap_words.specs.Grammar.{IsCommand, IsPair, grammar_of}
 use Rattle.snap_words.proofs.Asked.{
   asked,
+  asked_pair,
   met,
+  migration_fault,
+  no_command,
   parse_fault,
   parse_later,
   place_fault,
@@ -72,6 +75,78 @@ returns-then-eq-clause-asked g c =
           (sym found.name) (sym found.rows)),
     )
 
+pub returns-in_err-migration-clause-faults : goal.returns-in_err-migration-clause-faults
+returns-in_err-migration-clause-faults g c =
+    let words = map g.S.AsStr.text c.args.words.now in
+    let found = c.in-Some.ensures in
+    let same = word_is words _ c.in-Ok.ensures c.in-Ok-try_get_matches_from.matches
+    c.in-Some.matches.now c.in-Ok-try_get_matches_from.ensures.matches c.in-Some.command.now
+    (sym found.name) (sym found.rows) in
+    let not_script : c.in-Some.command.now ≢ codes "script" = grind (arith, common_steps) in
+    let is_migrate : c.in-Some.command.now ≡ codes "migrate" = grind (arith, common_steps) in
+    let not_check : c.in-Some.command.now ≢ codes "check" = grind (arith, common_steps) in
+    let is_met = met _ _ c.in-Ok.ensures c.in-Ok-try_get_matches_from.matches
+    c.in-Ok-try_get_matches_from.ensures.matches c.in-Some.command.now
+    (rows_of (found_of c.in-Some.matches.now)) (sym found.name) (sym found.rows) in
+    let gone : (what : Text) → (what ≡ codes "index") ⊎ (what ≡ codes "count")
+    → word_of words what ≡ None → IsMissing words what = λ what its none. (
+      c.in-Some.command.now,
+      rows_of (found_of c.in-Some.matches.now),
+      is_met,
+      (not_script, inr (not_check, its)),
+      none,
+    ) in
+    let gone_file : (what : Text) → (what ≡ codes "old") ⊎ (what ≡ codes "new")
+    → word_of words what ≡ None → IsMissing words what = λ what its none. (
+      c.in-Some.command.now,
+      rows_of (found_of c.in-Some.matches.now),
+      is_met,
+      (not_script, inl (inl (is_migrate, its))),
+      none,
+    ) in
+    let fault : IsFaultOf words c.in_err-migration.field-0.0 =
+    migration_fault words (first_value (found_of c.in-Some.matches.now)) same gone gone_file
+    c.in_err-migration.field-0.0 c.in_err-migration.ensures.fault in
+    search rules
+
+pub returns-then-is-clause-asked : goal.returns-then-is-clause-asked
+returns-then-is-clause-asked g c =
+    let words = map g.S.AsStr.text c.args.words.now in
+    let found = c.in-Some.ensures in
+    let carried = c.in_ok-migration.ensures in
+    let is_migrate : c.in-Some.command.now ≡ codes "migrate" =
+    c.is.ensures.0 c.if-is.true in
+    let command = asked_pair _ _ c.in-Ok.ensures c.in-Ok-try_get_matches_from.matches
+    c.in-Some.matches.now c.in-Ok-try_get_matches_from.ensures.matches c.in-Some.command.now
+    c.in_ok-migration.field-0.old.now c.in_ok-migration.field-0.new.now (sym found.name)
+    (sym found.rows) carried.old carried.new in
+    subst (λ (name : List ℕ). IsPair (subcommand_of grammar_of words) name
+    c.in_ok-migration.field-0.old.now c.in_ok-migration.field-0.new.now) is_migrate command
+
+pub returns-then-is-clause-numbers : goal.returns-then-is-clause-numbers
+returns-then-is-clause-numbers g c =
+    let words = map g.S.AsStr.text c.args.words.now in
+    let found = c.in-Some.ensures in
+    let same = word_is words _ c.in-Ok.ensures c.in-Ok-try_get_matches_from.matches
+    c.in-Some.matches.now c.in-Ok-try_get_matches_from.ensures.matches c.in-Some.command.now
+    (sym found.name) (sym found.rows) in (
+      subst (λ (o : Option Text). IsNumberOf o c.in_ok-migration.field-0.index)
+          (same (codes "index")) c.in_ok-migration.ensures.index,
+      subst (λ (o : Option Text). IsNumberOf o c.in_ok-migration.field-0.count)
+          (same (codes "count")) c.in_ok-migration.ensures.count,
+    )
+
+pub returns-in_default-command-clause-faults : goal.returns-in_default-command-clause-faults
+returns-in_default-command-clause-faults g c =
+    let words = map g.S.AsStr.text c.args.words.now in
+    let found = c.in-Some.ensures in
+    let is_met = met _ _ c.in-Ok.ensures c.in-Ok-try_get_matches_from.matches
+    c.in-Ok-try_get_matches_from.ensures.matches c.in-Some.command.now
+    (rows_of (found_of c.in-Some.matches.now)) (sym found.name) (sym found.rows) in
+    no_command words c.in-Some.command.now (rows_of (found_of c.in-Some.matches.now)) is_met
+    (grind (arith, common_steps)) (grind (arith, common_steps)) (grind (arith, common_steps))
+    (grind (arith, common_steps)) (grind (arith, common_steps)) (grind (arith, common_steps))
+
 pub returns-in_default-get_str-clause-faults : goal.returns-in_default-get_str-clause-faults
 returns-in_default-get_str-clause-faults g c =
     let words = map g.S.AsStr.text c.args.words.now in
@@ -79,13 +154,14 @@ returns-in_default-get_str-clause-faults g c =
     let same = word_is words _ c.in-Ok.ensures c.in-Ok-try_get_matches_from.matches
     c.in-Some.matches.now c.in-Ok-try_get_matches_from.ensures.matches c.in-Some.command.now
     (sym found.name) (sym found.rows) in
-    let not_script : c.in-Some.command.now ≢ codes "script" = grind (arith, common_steps) in (
+    let not_script : c.in-Some.command.now ≢ codes "script" = grind (arith, common_steps) in
+    let not_migrate : c.in-Some.command.now ≢ codes "migrate" = grind (arith, common_steps) in (
       c.in-Some.command.now,
       rows_of (found_of c.in-Some.matches.now),
       met _ _ c.in-Ok.ensures c.in-Ok-try_get_matches_from.matches
           c.in-Ok-try_get_matches_from.ensures.matches c.in-Some.command.now _
           (sym found.name) (sym found.rows),
-      (not_script, inl refl),
+      (not_script, inl (inr (not_migrate, refl))),
       sym (same (codes "file")) ∙ sym c.in_default-get_str.ensures,
     )
 
