@@ -1,22 +1,5 @@
 -- One try more.
-use Rattle.std.proofs.Common.{
-  ◌≡◌,
-  ℕ,
-  zero,
-  suc,
-  ◌-◌,
-  ◌<◌,
-  ◌≤◌,
-  List,
-  Option,
-  Result,
-  Err,
-  inl,
-  inr,
-  refl,
-  arith,
-  subst,
-}
+use Rattle.std.proofs.Common.{◌≡◌, ℕ, zero, suc, ◌-◌, ◌≤◌, List, Option, Result, Err, inl, inr, refl, arith, subst}
 use Rattle.snap_frame.specs.declared.request.Request.{Request}
 use Rattle.snap_frame.specs.declared.reply.Reply.{Reply}
 use Rattle.snap_client.specs.declared.fault.ClientFault.{ClientFault}

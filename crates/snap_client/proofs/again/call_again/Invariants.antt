@@ -1,4 +1,4 @@
-use Rattle.std.proofs.Common.{◌-◌, ◌≤◌, Result}
+use Rattle.std.proofs.Common.{◌≤◌, Result}
 use Rattle.snap_frame.specs.declared.reply.Reply.{Reply}
 use Rattle.snap_client.specs.declared.fault.ClientFault.{ClientFault}
 use Rattle.snap_client.specs.Again.{TriesUpTo}

@@ -1,28 +1,9 @@
-use Rattle.std.proofs.Common.{
-  ◌≡◌,
-  ◌+◌,
-  List,
-  ◌++◌,
-  length,
-  take,
-  None,
-  Ok,
-  Err,
-  arith,
-  ap,
-  inl,
-  inr,
-  sym,
-  ◌∙◌,
-  subst,
-  length-append,
-  length-take,
-}
-use Rattle.std.specs.Io.KnownBytes.{Consumes}
-use Rattle.std.proofs.KnownBytes.{Consumes-nil, Consumes-trans}
+use Rattle.std.proofs.Common.{◌≡◌, ◌++◌, length, take, Ok, Err, arith, ap, inl, inr, sym, ◌∙◌, subst, length-append, length-take}
+use Rattle.std.proofs.KnownBytes.{Consumes-trans}
 use Rattle.snap_frame.specs.Stream.{Held, IsBytes, IsNextReply}
 use Rattle.snap_frame.specs.declared.reply_feed.ReplyFault.TheVariants.{Failed}
-use Rattle.snap_client.proofs.Reading.{few_bytes, nothing_is_partial, bytes-append}
+use Rattle.snap_frame.specs.declared.frame_buffer.Failure.TheVariants.{TooLarge}
+use Rattle.snap_client.proofs.Reading.{few_bytes, bytes-append}
 use Rattle.snap_client.proofs.Hearing.{read_more}
 use Rattle.snap_client.proofs.exchange.hear.Goals as goal
 
@@ -90,9 +71,11 @@ returns-in-Err-BadReply g c =
 pub returns-in-Err-Failed-TooLarge : goal.returns-in-Err-Failed-TooLarge
 returns-in-Err-Failed-TooLarge g c =
     let pushed = c.in-Ok-push.ensures.ok.1 in
+    let here = c.in-Err-Failed-TooLarge in
+    let why : here.field-0-0 ≡ TooLarge = rw here.field-0-is at here.field-0-0-is in
     let said = subst (λ e. IsNextReply c.push.new.self.bytes (Err e) c.next.new.self)
-    (c.in-Err-Failed-TooLarge.field-0-is ∙ ap Failed c.in-Err-Failed-TooLarge.field-0-0-is)
-    (c.in-Err-Failed-TooLarge.ensures.next (ap (λ (z : Held). z.failure) pushed)) in
+    (here.field-0-is ∙ ap Failed why)
+    (here.ensures.next (ap (λ (z : Held). z.failure) pushed)) in
     let read = read_more _ _ _ _ _ c.push.new.self.bytes c.loop-n.invariant.read
     c.in-Ok.ensures.bytes.0 (ap (λ (z : Held). z.bytes) pushed) in
     (c.push.new.self.bytes, read, inl said.0)
