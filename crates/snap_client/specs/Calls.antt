@@ -1,0 +1,138 @@
+-- What a call of a client does to its connection.
+use Rattle.std.specs.Prelude.{
+  ◌≡◌,
+  ℕ,
+  ◌<◌,
+  ◌⊎◌,
+  List,
+  [],
+  ◌++◌,
+  length,
+  take,
+  Option,
+  Some,
+  None,
+  Result,
+  Ok,
+  Err,
+}
+use Rattle.std.specs.Io.KnownBytes.{Appends, Consumes, IsAtEnd}
+use Rattle.snap_frame.specs.declared.request.Request.{Request}
+use Rattle.snap_frame.specs.declared.request.Request.TheVariants.{Update, Scan, Status}
+use Rattle.snap_frame.specs.declared.reply.Reply.{Reply}
+use Rattle.snap_frame.specs.declared.reply.Reply.TheVariants as replies
+use Rattle.snap_frame.specs.Messages.{payload, frame, Says, SaysNothing}
+use Rattle.snap_frame.specs.Stream.{HasFrame, HasLongLength, IsPartial}
+use Rattle.snap_client.specs.declared.fault.ClientFault.{ClientFault}
+use Rattle.snap_client.specs.declared.fault.ClientFault.TheVariants.{
+  ConnectFailed,
+  ReadFailed,
+  WriteFailed,
+  Ended,
+  BadReply,
+  NoMemory,
+}
+
+-- a connection, the bytes that were read and belong to no reply that was given, and why the client
+-- has failed
+pub record ClientState (R W : Type 0) : Type 0 where
+  pub reader : R
+  pub writer : W
+  pub held : List ℕ
+  pub fault : Option ClientFault
+
+-- a client that goes on
+abbrev pub talking : {R W : Type 0} → R → W → List ℕ → ClientState R W
+talking reader writer held = record {
+  reader = reader;
+  writer = writer;
+  held = held;
+  fault = None;
+}
+
+-- a client of a connection on which nothing was said
+abbrev pub fresh : {R W : Type 0} → R → W → ClientState R W
+fresh reader writer = talking reader writer []
+
+-- a reply of this kind answers the request; a refusal answers any
+abbrev pub Answers : Request → Reply → Type 0
+Answers q (replies.Refused why detail) = Unit {0}
+Answers (Update segment number value) (replies.Stored stored) = Unit {0}
+Answers Scan (replies.Snapshot values) = Unit {0}
+Answers Status (replies.Status statuses) = Unit {0}
+Answers q r = ⊥
+
+-- the payload is no reply, or one of another kind
+abbrev pub IsNoAnswer : Request → List ℕ → Type 0
+IsNoAnswer q x = SaysNothing x ⊎ ((r : Reply) × Says x r × (Answers q r → ⊥))
+
+-- what stands first among the bytes that came is no answer
+abbrev pub BeginsBadly : Request → List ℕ → Type 0
+BeginsBadly q came =
+    HasLongLength came
+    ⊎ ((x : List ℕ) × (rest : List ℕ) × HasFrame came x rest × IsNoAnswer q x)
+
+-- nothing was read or written
+pub record IsUntouched {R W : Type 0} (old new : ClientState R W) : Type 0 where
+  pub reader : new.reader ≡ old.reader
+  pub writer : new.writer ≡ old.writer
+  pub held : new.held ≡ old.held
+
+-- Nothing was held, the request's frame was written, and then these bytes came.
+pub record HasAsked {R W : Type 0} (remaining : R → Option (List ℕ)) (contents : W → Option (List ℕ))
+    (q : Request) (old : ClientState R W) (came : List ℕ) (new : ClientState R W) : Type 0 where
+  pub silent : old.held ≡ []
+  pub wrote : Appends (contents old.writer) (contents new.writer) (frame (payload q))
+  pub read : Consumes (remaining old.reader) (remaining new.reader) came
+
+-- a beginning of the request's frame was written, and not all of it, and nothing was read
+pub record HasCutShort {R W : Type 0} (contents : W → Option (List ℕ)) (q : Request)
+    (old new : ClientState R W) : Type 0 where
+  pub len : ℕ
+  pub short : len < length (frame (payload q))
+  pub wrote : Appends (contents old.writer) (contents new.writer) (take len (frame (payload q)))
+  pub reader : new.reader ≡ old.reader
+  pub held : new.held ≡ old.held
+
+-- how far a call came that answers so
+abbrev pub Reaches : {R W : Type 0} → (R → Option (List ℕ)) → (W → Option (List ℕ)) → Request
+    → ClientState R W → Result Reply ClientFault → ClientState R W → Type 0
+-- the frame of the answer stood first, and what is behind it is held
+Reaches remaining contents q old (Ok r) new =
+    (came : List ℕ) × (x : List ℕ) × HasAsked remaining contents q old came new
+    × HasFrame came x new.held × Says x r × Answers q r
+Reaches remaining contents q old (Err WriteFailed) new = HasCutShort contents q old new
+Reaches remaining contents q old (Err ReadFailed) new =
+    HasAsked remaining contents q old new.held new × IsPartial new.held
+Reaches remaining contents q old (Err Ended) new =
+    HasAsked remaining contents q old new.held new × IsPartial new.held
+    × IsAtEnd (remaining new.reader)
+-- bytes that nobody asked for were held, or what came begins with no answer
+Reaches remaining contents q old (Err BadReply) new =
+    ((old.held ≡ [] → ⊥) × IsUntouched old new)
+    ⊎ ((came : List ℕ) × HasAsked remaining contents q old came new × BeginsBadly q came)
+-- the frame wasn't written for want of memory, or the last piece that came couldn't be taken in
+Reaches remaining contents q old (Err NoMemory) new =
+    ((old.held ≡ []) × IsUntouched old new)
+    ⊎ ((before : List ℕ) × (piece : List ℕ) × IsPartial before
+    × HasAsked remaining contents q old (before ++ piece) new)
+Reaches remaining contents q old (Err ConnectFailed) new = ⊥
+
+-- why a client has failed after a call that answers so
+abbrev pub fault_of : Result Reply ClientFault → Option ClientFault
+fault_of (Ok r) = None
+fault_of (Err f) = Some f
+
+-- a client that hasn't failed goes on as above; one that has answers its fault, and does nothing
+abbrev pub CallsAfter : {R W : Type 0} → Option ClientFault → (R → Option (List ℕ)) → (W
+    → Option (List ℕ)) → Request → ClientState R W → Result Reply ClientFault → ClientState R W
+    → Type 0
+CallsAfter None remaining contents q old result new =
+    Reaches remaining contents q old result new × (new.fault ≡ fault_of result)
+CallsAfter (Some f) remaining contents q old result new = (result ≡ Err f) × (new ≡ old)
+
+-- What a call answers to a request, and what it leaves.
+abbrev pub Calls : {R W : Type 0} → (R → Option (List ℕ)) → (W → Option (List ℕ)) → Request
+    → ClientState R W → Result Reply ClientFault → ClientState R W → Type 0
+Calls remaining contents q old result new =
+    CallsAfter old.fault remaining contents q old result new

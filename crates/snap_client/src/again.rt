@@ -1,0 +1,65 @@
+//! The same request on one connection after another.
+ghost use Rattle.std.specs.Prelude.{◌≤◌, length};
+ghost use Rattle.snap_frame.specs.Messages.{max_payload, payload};
+ghost use Rattle.snap_client.specs.declared.again.TheConstants.{MAX_TRIES};
+ghost use Rattle.snap_client.specs.Again.{Tries, TriesUpTo};
+
+use crate::client::Client;
+use crate::fault::ClientFault;
+use snap_frame::{Reply, Request};
+use std::alloc::Global;
+use std::io::{Read, Write};
+
+/// The most connections that [`call_again`] makes for one request.
+pub const MAX_TRIES: u8 = 10;
+
+/// One connection, and the request on it.
+fn try_once<R: Read + Drop, W: Write + Drop, F: FnMut() -> Option<(R, W)>>(
+    alloc: Global,
+    connect: &mut F,
+    request: &Request,
+) -> Result<Reply, ClientFault>
+    requires fits { length (payload request.now) ≤ max_payload }
+    requires callable { F.IsAlwaysCallable connect.old }
+    ensures { Tries F.step R.remaining W.contents request.now connect.old result connect.new }
+{
+    let Some((reader, writer)) = connect() else {
+        return Err(ClientFault::ConnectFailed);
+    };
+    let mut client = Client::new(alloc, reader, writer);
+    client.call(request)
+}
+
+/// Sends a request on a connection of its own, and once more on a new one while there are tries
+/// left and the fault is one that may pass ([`ClientFault::may_pass`]).
+///
+/// `connect` gives a reader and a writer, or `None` where no connection can be made. At most
+/// `tries` connections are asked for, which is 1 to [`MAX_TRIES`]; each is given up before the next
+/// one is. The answer is that of the last one. A refusal is an answer, and isn't tried again.
+pub fn call_again<R: Read + Drop, W: Write + Drop, F: FnMut() -> Option<(R, W)>>(
+    alloc: Global,
+    connect: &mut F,
+    request: &Request,
+    tries: u8,
+) -> Result<Reply, ClientFault>
+    requires fits { length (payload request.now) ≤ max_payload }
+    requires some { 1 ≤ tries }
+    requires few { tries ≤ MAX_TRIES }
+    requires callable { F.IsAlwaysCallable connect.old }
+    ensures { TriesUpTo tries F.step R.remaining W.contents request.now
+        connect.old result connect.new }
+{
+    let mut left = tries;
+    while left > 1 {
+        match try_once(alloc, connect, request) {
+            Ok(reply) => return Ok(reply),
+            Err(fault) => {
+                if !fault.may_pass() {
+                    return Err(fault);
+                }
+            }
+        }
+        left -= 1;
+    }
+    try_once(alloc, connect, request)
+}

@@ -1,0 +1,130 @@
+//! One connection to a server, request by request.
+ghost use Rattle.std.specs.Prelude.{◌≡◌, ◌≤◌, length};
+ghost use Rattle.snap_frame.specs.declared.request.Request.TheVariants as requests;
+ghost use Rattle.snap_frame.specs.declared.request.TheConstants.{MAX_UPDATE_VALUE};
+ghost use Rattle.snap_frame.specs.Messages.{max_payload, payload};
+ghost use Rattle.snap_client.specs.Calls.{Calls, fresh};
+
+use crate::exchange::exchange;
+use crate::fault::ClientFault;
+use bytes::{Bytes, BytesMut};
+use snap_frame::{Reply, ReplyFeed, Request};
+use std::alloc::Global;
+use std::io::{Read, Write};
+use std::marker::Model;
+
+/// One connection to a server, over any reader and writer.
+///
+/// A call writes its request's frame, then reads until a whole reply has come, so it waits as long
+/// as its reader and its writer do. The writer has to pass on what it takes: it isn't flushed.
+///
+/// After a fault the client has failed: it answers the same fault to every later call, and neither
+/// reads nor writes. A peer that says more than it was asked fails the next call as
+/// [`ClientFault::BadReply`], before anything is sent, so no reply is ever taken from bytes that
+/// came before its request was sent.
+#[derive(Drop)]
+pub struct Client<R: Read, W: Write> {
+    reader: R,
+    writer: W,
+    feed: ReplyFeed,
+    /// The request's frame, in a buffer that every call uses again.
+    frame: BytesMut,
+    fault: Option<ClientFault>,
+}
+
+impl<R: Read, W: Write> Model for Client<R, W> {
+    ghost use Rattle.std.specs.Prelude.{◌≡◌, None};
+    ghost use Rattle.snap_client.specs.Calls.{ClientState};
+
+    ghost Value = { ClientState R W };
+
+    ghost view = { λ c. record {
+      reader = c.reader;
+      writer = c.writer;
+      held = c.feed.bytes;
+      fault = c.fault;
+    } };
+
+    ghost invariant = { λ c. c.fault ≡ None → c.feed.failure ≡ None };
+}
+
+impl<R: Read, W: Write> Client<R, W> {
+    /// A client of this connection. It takes no memory before the first call.
+    pub fn new(alloc: Global, reader: R, writer: W) -> Client<R, W>
+        ensures { result ≡ fresh reader writer }
+    {
+        Client {
+            reader,
+            writer,
+            feed: ReplyFeed::new(alloc),
+            frame: BytesMut::new(alloc),
+            fault: None,
+        }
+    }
+
+    /// Why it has failed, or `None` while it goes on.
+    pub fn fault(&self) -> Option<ClientFault>
+        ensures { result ≡ self.now.fault }
+    {
+        self.fault
+    }
+
+    /// The reader and the writer, as the last call left them.
+    pub fn into_parts(self) -> (R, W)
+        ensures { result ≡ (self.reader, self.writer) }
+    {
+        (self.reader, self.writer)
+    }
+
+    /// Stores `value` as this number of a segment: [`Reply::Stored`] with the segment's number, or
+    /// [`Reply::Refused`]. The value has at most [`MAX_UPDATE_VALUE`](snap_frame::MAX_UPDATE_VALUE)
+    /// bytes. That the number stored is the one that was sent is for the caller to see.
+    pub fn update(&mut self, segment: u8, number: u64, value: Bytes) -> Result<Reply, ClientFault>
+        requires { length value ≤ MAX_UPDATE_VALUE }
+        ensures { Calls R.remaining W.contents (requests.Update segment number value)
+            self.old result self.new }
+    {
+        self.call(&Request::Update {
+            segment,
+            number,
+            value,
+        })
+    }
+
+    /// All segments at one moment: [`Reply::Snapshot`], or [`Reply::Refused`].
+    pub fn scan(&mut self) -> Result<Reply, ClientFault>
+        ensures { Calls R.remaining W.contents requests.Scan self.old result self.new }
+    {
+        self.call(&Request::Scan)
+    }
+
+    /// The numbers and fences of all segments: [`Reply::Status`], or [`Reply::Refused`].
+    pub fn status(&mut self) -> Result<Reply, ClientFault>
+        ensures { Calls R.remaining W.contents requests.Status self.old result self.new }
+    {
+        self.call(&Request::Status)
+    }
+
+    /// Sends a request and gives its answer. Its payload fits a frame.
+    pub fn call(&mut self, request: &Request) -> Result<Reply, ClientFault>
+        requires { length (payload request.now) ≤ max_payload }
+        ensures { Calls R.remaining W.contents request.now self.old result self.new }
+    {
+        if let Some(fault) = self.fault {
+            return Err(fault);
+        }
+        match exchange(
+            &mut self.reader,
+            &mut self.writer,
+            &mut self.feed,
+            &mut self.frame,
+            request,
+        ) {
+            Ok(reply) => Ok(reply),
+            Err(fault) => {
+                self.fault = Some(fault);
+                Err(fault)
+            }
+        }
+    }
+}
