@@ -27,7 +27,3 @@ pub use reply::{Reply, write_reply};
 pub use reply_feed::{ReplyFault, ReplyFeed};
 pub use request::{MAX_UPDATE_VALUE, Request, write_request};
 
-#[cfg(test)]
-mod random_tests;
-#[cfg(test)]
-mod tests;

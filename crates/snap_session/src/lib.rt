@@ -18,5 +18,3 @@ pub use service::Service;
 pub use session::{MAX_OWED, Session, Wants};
 pub use turns::{End, Turn, proceed, serve};
 
-#[cfg(test)]
-mod tests;

@@ -1,11 +1,8 @@
 //! Sessions whose input is cut, whose reader fails and whose writer is short, beside a plain model.
 
-use crate::pair::take_turns;
-use crate::service::Service;
-use crate::session::Session;
-use crate::turns::{End, Turn, proceed, serve};
 use snap_disk::Refusal;
 use snap_frame::{Reply, Request};
+use snap_session::{End, Service, Session, Turn, proceed, serve, take_turns};
 use std::alloc::{AllocError, Global};
 use std::io;
 use std::io::{Read, Write};

@@ -1,15 +1,13 @@
 //! The worked vectors of docs/FORMATS.md, "Frames and messages", cut everywhere.
 
-use crate::feed::Feed;
-use crate::frame::MAX_PAYLOAD;
-use crate::frame_buffer::Failure;
-use crate::reply::{Reply, write_reply};
-use crate::reply_feed::{ReplyFault, ReplyFeed};
-use crate::request::{MAX_UPDATE_VALUE, Request, write_request};
-use crate::{SegmentStatus, SegmentValue};
 use bytes::{Bytes, BytesMut};
 use snap_disk::Refusal;
+use snap_frame::{
+    Failure, Feed, MAX_PAYLOAD, MAX_UPDATE_VALUE, Reply, ReplyFault, ReplyFeed, Request,
+    SegmentStatus, SegmentValue, write_reply, write_request,
+};
 use std::alloc::{AllocError, Global};
+use std::process::Abort;
 use std::test::Fail;
 
 /// The frames of requests on one connection, but the one with the long value and the length that
@@ -121,31 +119,85 @@ fn replies(alloc: Global) -> Result<Vec<Reply>, AllocError> {
     Ok(replies)
 }
 
-/// One byte after the other: a feed answers a frame with its last byte, and nothing before.
+// An assertion is proved with all that its function holds, so each stands in a function of its own.
+
+/// The feed answers so next.
+pub(crate) fn expect_next(
+    rt: &impl Abort,
+    feed: &mut Feed,
+    answer: &Result<Option<Request>, Refusal>,
+) {
+    assert_eq!(rt; feed.next(), *answer);
+}
+
+/// The feed of replies answers so next.
+fn expect_reply(rt: &impl Abort, feed: &mut ReplyFeed, answer: &Result<Option<Reply>, ReplyFault>) {
+    assert_eq!(rt; feed.next(), *answer);
+}
+
+/// Both are the same bytes.
+fn expect_bytes(rt: &impl Abort, given: &[u8], wanted: &[u8]) {
+    assert_eq!(rt; given, wanted);
+}
+
+fn expect(rt: &impl Abort, holds: bool) {
+    assert!(rt; holds);
+}
+
+/// The feed answers the frame with its last byte, and nothing before.
+fn expect_in_bytes(
+    rt: &impl Abort,
+    feed: &mut Feed,
+    frame: &[u8],
+    answer: &Result<Option<Request>, Refusal>,
+) -> Result<(), Refusal> {
+    for byte in frame {
+        expect_next(rt, feed, &Ok(None));
+        feed.push(&[*byte])?;
+        expect(rt, !feed.is_between());
+    }
+    expect_next(rt, feed, answer);
+    expect(rt, feed.is_between());
+    Ok(())
+}
+
+/// The same of a feed of replies.
+fn expect_reply_in_bytes(
+    rt: &impl Abort,
+    feed: &mut ReplyFeed,
+    frame: &[u8],
+    answer: &Result<Option<Reply>, ReplyFault>,
+) -> Result<(), Failure> {
+    for byte in frame {
+        expect_reply(rt, feed, &Ok(None));
+        feed.push(&[*byte])?;
+        expect(rt, !feed.is_between());
+    }
+    expect_reply(rt, feed, answer);
+    expect(rt, feed.is_between());
+    Ok(())
+}
+
+/// One byte after the other.
 #[test]
 fn frames_in_any_pieces(rt: HostRuntime) -> Result<(), Fail> {
     let alloc = rt.alloc();
     let answers = request_answers(alloc)?;
     let mut feed = Feed::new(alloc);
     for (frame, answer) in REQUEST_FRAMES.iter().zip(answers.iter()) {
-        for byte in frame.iter() {
-            assert_eq!(rt; feed.next(), Ok(None));
-            feed.push(&[*byte])?;
-            assert!(rt; !feed.is_between());
-        }
-        assert_eq!(rt; feed.next(), *answer);
-        assert!(rt; feed.is_between());
+        expect_in_bytes(&rt, &mut feed, *frame, answer)?;
     }
+    Ok(())
+}
+
+/// One byte after the other.
+#[test]
+fn replies_in_any_pieces(rt: HostRuntime) -> Result<(), Fail> {
+    let alloc = rt.alloc();
     let replies = replies(alloc)?;
     let mut feed = ReplyFeed::new(alloc);
     for (frame, reply) in REPLY_FRAMES.iter().zip(replies) {
-        for byte in frame.iter() {
-            assert_eq!(rt; feed.next(), Ok(None));
-            feed.push(&[*byte])?;
-            assert!(rt; !feed.is_between());
-        }
-        assert_eq!(rt; feed.next(), Ok(Some(reply)));
-        assert!(rt; feed.is_between());
+        expect_reply_in_bytes(&rt, &mut feed, *frame, &Ok(Some(reply)))?;
     }
     Ok(())
 }
@@ -157,11 +209,42 @@ fn long_value_in_any_pieces(rt: HostRuntime) -> Result<(), Fail> {
     let mut feed = Feed::new(alloc);
     feed.push(&LONG_UPDATE_HEAD)?;
     for _ in 0..4081 {
-        assert_eq!(rt; feed.next(), Ok(None));
+        expect_next(&rt, &mut feed, &Ok(None));
         feed.push(b"v")?;
     }
-    assert_eq!(rt; feed.next(), update(alloc, 1, 1, &[b'v'; 4081])?);
-    assert!(rt; feed.is_between());
+    expect_next(&rt, &mut feed, &update(alloc, 1, 1, &[b'v'; 4081])?);
+    expect(&rt, feed.is_between());
+    Ok(())
+}
+
+/// All requests in one stream.
+fn request_stream(alloc: Global) -> Result<Vec<u8>, AllocError> {
+    let mut stream = Vec::new(alloc);
+    for frame in &REQUEST_FRAMES {
+        stream.extend_from_slice(frame)?;
+    }
+    Ok(stream)
+}
+
+/// The feed takes both pieces in turn, and answers so in all.
+fn expect_of_two(
+    rt: &impl Abort,
+    feed: &mut Feed,
+    pieces: [&[u8]; 2],
+    answers: &[Result<Option<Request>, Refusal>],
+) -> Result<(), Refusal> {
+    let mut left = answers.iter();
+    for piece in pieces {
+        feed.push(piece)?;
+        for _ in 0..answers.len() {
+            match feed.next() {
+                Ok(None) => break,
+                given => expect(rt, left.next() == Some(&given)),
+            }
+        }
+    }
+    expect(rt, left.next().is_none());
+    expect_next(rt, feed, &Ok(None));
     Ok(())
 }
 
@@ -169,26 +252,11 @@ fn long_value_in_any_pieces(rt: HostRuntime) -> Result<(), Fail> {
 #[test]
 fn requests_cut_anywhere(rt: HostRuntime) -> Result<(), Fail> {
     let alloc = rt.alloc();
-    let mut stream = Vec::new(alloc);
-    for frame in &REQUEST_FRAMES {
-        stream.extend_from_slice(frame)?;
-    }
+    let stream = request_stream(alloc)?;
     let answers = request_answers(alloc)?;
     for cut in 0..=stream.len() {
         let (front, back) = stream.split_at(cut);
-        let mut feed = Feed::new(alloc);
-        let mut given = Vec::new(alloc);
-        for piece in [front, back] {
-            feed.push(piece)?;
-            for _ in 0..answers.len() {
-                match feed.next() {
-                    Ok(None) => break,
-                    answer => given.push(answer)?,
-                }
-            }
-        }
-        assert_eq!(rt; given, answers, "cut at {cut}");
-        assert_eq!(rt; feed.next(), Ok(None));
+        expect_of_two(&rt, &mut Feed::new(alloc), [front, back], &answers)?;
     }
     Ok(())
 }
@@ -198,23 +266,29 @@ fn requests_cut_anywhere(rt: HostRuntime) -> Result<(), Fail> {
 fn too_large_and_malformed(rt: HostRuntime) -> Result<(), Fail> {
     let mut feed = Feed::new(rt.alloc());
     feed.push(&[0, 0, 0, 0, 0, 0, 0, 1, 2, 0, 1, 1, 0xD1, 0, 0, 0, 1, 2])?;
-    assert_eq!(rt; feed.next(), Err(Refusal::Malformed));
-    assert_eq!(rt; feed.next(), Ok(Some(Request::Scan)));
+    expect_next(&rt, &mut feed, &Err(Refusal::Malformed));
+    expect_next(&rt, &mut feed, &Ok(Some(Request::Scan)));
     for _ in 0..2 {
-        assert_eq!(rt; feed.next(), Err(Refusal::TooLarge));
-        assert_eq!(rt; feed.push(&[0, 0, 0, 1, 2]), Err(Refusal::TooLarge));
-        assert!(rt; !feed.is_between());
+        expect_next(&rt, &mut feed, &Err(Refusal::TooLarge));
+        expect(&rt, feed.push(&[0, 0, 0, 1, 2]) == Err(Refusal::TooLarge));
+        expect(&rt, !feed.is_between());
     }
+    Ok(())
+}
+
+/// The same of replies.
+#[test]
+fn too_large_and_bad_replies(rt: HostRuntime) -> Result<(), Fail> {
     let mut feed = ReplyFeed::new(rt.alloc());
     feed.push(&[0, 0, 0, 0])?;
     feed.push(REPLY_FRAMES[0])?;
     feed.push(&[0, 1, 1, 0xD1])?;
-    assert_eq!(rt; feed.next(), Err(ReplyFault::BadReply));
-    assert_eq!(rt; feed.next(), Ok(Some(Reply::Stored(1))));
+    expect_reply(&rt, &mut feed, &Err(ReplyFault::BadReply));
+    expect_reply(&rt, &mut feed, &Ok(Some(Reply::Stored(1))));
     for _ in 0..2 {
-        assert_eq!(rt; feed.next(), Err(ReplyFault::Failed(Failure::TooLarge)));
-        assert_eq!(rt; feed.push(&[0]), Err(Failure::TooLarge));
-        assert!(rt; !feed.is_between());
+        expect_reply(&rt, &mut feed, &Err(ReplyFault::Failed(Failure::TooLarge)));
+        expect(&rt, feed.push(&[0]) == Err(Failure::TooLarge));
+        expect(&rt, !feed.is_between());
     }
     Ok(())
 }
@@ -246,46 +320,63 @@ fn rewritten(alloc: Global, frame: &[u8]) -> Result<BytesMut, Refusal> {
     Ok(out)
 }
 
+/// The request is written as its frame, behind what the buffer holds.
+fn expect_written(
+    rt: &impl Abort,
+    alloc: Global,
+    request: &Request,
+    frame: &[u8],
+) -> Result<(), Refusal> {
+    let mut out = BytesMut::new(alloc);
+    write(&Request::Scan, &mut out)?;
+    write(request, &mut out)?;
+    expect(rt, out.as_slice().starts_with(&[0, 0, 0, 1, 2]));
+    expect(rt, out.as_slice().ends_with(frame));
+    expect(rt, out.len() == 5 + frame.len());
+    Ok(())
+}
+
 /// Each message is written as its frame, behind what the buffer holds.
 #[test]
 fn messages_are_written_as_their_frames(rt: HostRuntime) -> Result<(), Fail> {
     let alloc = rt.alloc();
     for (frame, answer) in REQUEST_FRAMES.iter().zip(request_answers(alloc)?) {
         if let Ok(Some(request)) = answer {
-            let mut out = BytesMut::copy_from_slice(alloc, b"..")?;
-            write(&request, &mut out)?;
-            let mut want = BytesMut::copy_from_slice(alloc, b"..")?;
-            want.extend_from_slice(*frame)?;
-            assert_eq!(rt; out.as_slice(), want.as_slice());
+            expect_written(&rt, alloc, &request, *frame)?;
         }
     }
     for frame in &REPLY_FRAMES {
-        assert_eq!(rt; rewritten(alloc, *frame)?.as_slice(), *frame);
+        expect_bytes(&rt, rewritten(alloc, *frame)?.as_slice(), *frame);
     }
     Ok(())
 }
 
-/// The longest update and the longest snapshot are read and written whole.
-#[test]
-fn longest_messages(rt: HostRuntime) -> Result<(), Fail> {
-    let alloc = rt.alloc();
+/// The frame of an update with the longest value that a frame takes.
+fn longest_update(alloc: Global) -> Result<Vec<u8>, AllocError> {
     let mut frame = Vec::new(alloc);
     frame.extend_from_slice(&[0, 1, 1, 0xD0, 1, 15, 0xFF, 0xFF, 0xFF, 0xFF])?;
     frame.extend_from_slice(&[0xFF, 0xFF, 0xFF, 0xFF])?;
     frame.resize(4 + MAX_PAYLOAD, b'v')?;
+    Ok(frame)
+}
+
+/// The longest update is read and written whole.
+#[test]
+fn longest_update_both_ways(rt: HostRuntime) -> Result<(), Fail> {
+    let alloc = rt.alloc();
+    let frame = longest_update(alloc)?;
     let mut feed = Feed::new(alloc);
     feed.push(&frame)?;
-    let request = feed.next();
-    assert_eq!(rt;
-        request,
-        update(alloc, 15, u64::MAX, &[b'v'; MAX_UPDATE_VALUE])?
-    );
-    let mut out = BytesMut::new(alloc);
-    if let Ok(Some(request)) = request {
-        write(&request, &mut out)?;
+    let answer = update(alloc, 15, u64::MAX, &[b'v'; MAX_UPDATE_VALUE])?;
+    expect_next(&rt, &mut feed, &answer);
+    if let Ok(Some(request)) = answer {
+        expect_written(&rt, alloc, &request, &frame)?;
     }
-    assert_eq!(rt; out.as_slice(), frame.as_slice());
+    Ok(())
+}
 
+/// The frame of a snapshot of 16 values of the greatest length.
+fn longest_snapshot(alloc: Global) -> Result<Vec<u8>, AllocError> {
     let mut frame = Vec::new(alloc);
     frame.extend_from_slice(&[0, 0, 0xFF, 0xC2, 0x82, 16])?;
     for _ in 0..16 {
@@ -293,8 +384,16 @@ fn longest_messages(rt: HostRuntime) -> Result<(), Fail> {
         frame.extend_from_slice(&[0, 0, 0x0F, 0xF0])?;
         frame.extend_from_slice(&[b'v'; 4080])?;
     }
-    assert_eq!(rt; frame.len(), 4 + 65_474);
-    assert_eq!(rt; rewritten(alloc, &frame)?.as_slice(), frame.as_slice());
+    Ok(frame)
+}
+
+/// The longest snapshot is read and written whole.
+#[test]
+fn longest_snapshot_both_ways(rt: HostRuntime) -> Result<(), Fail> {
+    let alloc = rt.alloc();
+    let frame = longest_snapshot(alloc)?;
+    expect(&rt, frame.len() == 4 + 65_474);
+    expect_bytes(&rt, rewritten(alloc, &frame)?.as_slice(), &frame);
     Ok(())
 }
 
@@ -323,8 +422,8 @@ fn bad_replies(rt: HostRuntime) -> Result<(), Fail> {
         let mut feed = ReplyFeed::new(rt.alloc());
         feed.push(&(payload.len() as u32).to_be_bytes())?;
         feed.push(payload)?;
-        assert_eq!(rt; feed.next(), Err(ReplyFault::BadReply), "{payload:?}");
-        assert!(rt; feed.is_between());
+        expect_reply(&rt, &mut feed, &Err(ReplyFault::BadReply));
+        expect(&rt, feed.is_between());
     }
     Ok(())
 }
@@ -340,22 +439,34 @@ fn requests_without_memory(rt: HostRuntime) -> Result<(), Fail> {
     let mut feed = Feed::new(alloc);
     for (frame, answer) in REQUEST_FRAMES.iter().zip(answers) {
         if feed.push(*frame) == Err(Refusal::NoMemory) {
-            assert_eq!(rt; feed.next(), Ok(None));
-            assert!(rt; feed.is_between());
+            expect_next(&rt, &mut feed, &Ok(None));
+            expect(&rt, feed.is_between());
             if feed.push(*frame).is_err() {
                 return Ok(());
             }
         }
         let given = feed.next();
         if given == Err(Refusal::NoMemory) {
-            assert_eq!(rt; feed.next(), Err(Refusal::NoMemory));
-            assert_eq!(rt; feed.push(*frame), Err(Refusal::NoMemory));
-            assert!(rt; !feed.is_between());
+            expect_next(&rt, &mut feed, &given);
+            expect(&rt, feed.push(*frame) == Err(Refusal::NoMemory));
+            expect(&rt, !feed.is_between());
             return Ok(());
         }
-        assert_eq!(rt; given, answer);
+        expect(&rt, given == answer);
     }
     Ok(())
+}
+
+/// A reply is written as its frame, or the buffer is left as it was.
+fn expect_written_reply(rt: &impl Abort, alloc: Global, reply: &Reply, frame: &[u8]) {
+    let mut out = BytesMut::new(alloc);
+    match write_reply(reply, &mut out) {
+        Ok(()) => expect_bytes(rt, out.as_slice(), frame),
+        Err(why) => {
+            expect(rt, why == Refusal::NoMemory);
+            expect(rt, out.is_empty());
+        }
+    }
 }
 
 /// Run with each allocation refused in turn: so it is for replies, and one that can't be written
@@ -369,25 +480,17 @@ fn replies_without_memory(rt: HostRuntime) -> Result<(), Fail> {
     for (frame, reply) in REPLY_FRAMES.iter().zip(replies) {
         let mut feed = ReplyFeed::new(alloc);
         if feed.push(*frame).is_err() {
-            assert!(rt; feed.is_between());
+            expect(&rt, feed.is_between());
             continue;
         }
-        let no_memory = ReplyFault::Failed(Failure::NoMemory);
         match feed.next() {
             Ok(Some(given)) => {
-                assert_eq!(rt; given, reply);
-                let mut out = BytesMut::new(alloc);
-                match write_reply(&given, &mut out) {
-                    Ok(()) => assert_eq!(rt; out.as_slice(), *frame),
-                    Err(why) => {
-                        assert_eq!(rt; why, Refusal::NoMemory);
-                        assert!(rt; out.is_empty());
-                    }
-                }
+                expect(&rt, given == reply);
+                expect_written_reply(&rt, alloc, &given, *frame);
             }
             answer => {
-                assert_eq!(rt; answer, Err(no_memory));
-                assert_eq!(rt; feed.next(), Err(no_memory));
+                expect(&rt, answer == Err(ReplyFault::Failed(Failure::NoMemory)));
+                expect_reply(&rt, &mut feed, &answer);
             }
         }
     }

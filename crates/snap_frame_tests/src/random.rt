@@ -1,9 +1,9 @@
 //! Random bytes in random pieces, beside a plain parser that reads one byte after the other.
 
-use crate::feed::Feed;
-use crate::request::Request;
+use crate::tests::expect_next;
 use bytes::Bytes;
 use snap_disk::Refusal;
+use snap_frame::{Feed, Request};
 use std::alloc::{AllocError, Global};
 use std::process::Abort;
 use std::test::Fail;
@@ -144,20 +144,33 @@ fn expect_same(
             continue;
         }
         feed.push(&piece)?;
-        for byte in &piece {
-            match plain.take(alloc, *byte)? {
-                Said::Nothing => {}
-                Said::Frame(payload) => {
-                    assert_eq!(rt; feed.next(), answer_to(alloc, &payload)?);
-                }
-                Said::TooLarge => {
-                    assert_eq!(rt; feed.next(), Err(Refusal::TooLarge));
-                    return Ok(());
-                }
-            }
+        if !expect_of_piece(rt, alloc, &mut feed, &mut plain, &piece)? {
+            return Ok(());
         }
-        assert_eq!(rt; feed.next(), Ok(None));
         piece.clear();
     }
     Ok(())
+}
+
+/// The feed, which has the piece, answers what the plain parser reads in it. Says whether both go
+/// on.
+fn expect_of_piece(
+    rt: &impl Abort,
+    alloc: Global,
+    feed: &mut Feed,
+    plain: &mut PlainParser,
+    piece: &[u8],
+) -> Result<bool, AllocError> {
+    for byte in piece {
+        match plain.take(alloc, *byte)? {
+            Said::Nothing => {}
+            Said::Frame(payload) => expect_next(rt, feed, &answer_to(alloc, &payload)?),
+            Said::TooLarge => {
+                expect_next(rt, feed, &Err(Refusal::TooLarge));
+                return Ok(false);
+            }
+        }
+    }
+    expect_next(rt, feed, &Ok(None));
+    Ok(true)
 }
