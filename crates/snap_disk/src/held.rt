@@ -73,7 +73,8 @@ impl Disk for Held {
 
     ghost counts_now = { λ m t b h le now. inl (le, now) };
 
-    ghost only_now = { λ m b h left. only_left_now (memory_device m.disk) m.disk.past.items b left };
+    ghost only_now = { λ m b h left.
+        only_left_now (memory_device m.disk) m.disk.past.items b left };
 
     fn len(&self) -> u64 {
         self.disk.len()

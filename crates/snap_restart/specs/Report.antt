@@ -11,7 +11,8 @@ spare_text false = codes "closed"
 
 -- what is said of segment i
 abbrev pub recovered_text : ℕ → Recovered → List ℕ
-recovered_text i s = codes "segment " ++ (decimal i ++ (codes " number " ++ (decimal s.number ++ (codes " length " ++ (decimal s.length ++ (codes " spare " ++ spare_text s.spare_open))))))
+recovered_text i s = codes "segment " ++ (decimal i ++ (codes " number " ++ (decimal s.number ++
+    (codes " length " ++ (decimal s.length ++ (codes " spare " ++ spare_text s.spare_open))))))
 
 -- the lines of the segments from i on
 abbrev pub lines_text : ℕ → List Recovered → List ℕ

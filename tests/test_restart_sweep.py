@@ -1,0 +1,12 @@
+"""The table of faults of an opening that the program `restart_sweep` prints is the one that an independent model prints."""
+
+import pathlib
+import subprocess
+import sys
+
+TOP = pathlib.Path(__file__).resolve().parent.parent
+
+
+def test_the_oracle_prints_the_stored_table(_, __):
+    oracle = subprocess.run([sys.executable, TOP / "tests" / "oracle" / "restart_sweep.py"], capture_output=True, check=True)
+    assert oracle.stdout == (TOP / "crates" / "restart_sweep" / "stdout").read_bytes()
