@@ -9,8 +9,8 @@ use snap_world::{Actor, Event, World};
 use std::alloc::{AllocError, Global};
 use std::{env, io};
 
-/// The events of one round. A store whose spare gate is closed has two calls fewer, which come as
-/// events that may not.
+/// The events of one round. A store whose spare gate is closed has one call fewer, which comes as an
+/// event that may not.
 fn round(alloc: Global, segments: usize, length: usize) -> Result<Vec<Event>, AllocError>
     requires { segments ≤ 16 }
 {
@@ -20,7 +20,7 @@ fn round(alloc: Global, segments: usize, length: usize) -> Result<Vec<Event>, Al
         for _ in 0..2 * segments {
             events.push(Event::Look(Actor::Writer(writer)))?;
         }
-        for _ in 0..6 {
+        for _ in 0..5 {
             events.push(Event::Call(writer))?;
         }
         events.push(Event::Show(writer))?;

@@ -52,7 +52,6 @@ call 0
 call 0
 call 0
 call 0
-call 0
 show 0
 look s0
 look s0
@@ -81,7 +80,6 @@ number 0
 number 1
 number 0
 called close
-called sync
 called body
 called sync
 called open

@@ -69,14 +69,14 @@ sync_missed at slot fill d e asked failed = let left =
 
 -- the device of a store has the length of a file
 pub stage_size : (i n k : ℕ) (u v : List ℕ) (at : Stage) (d : Device) → k + 1 < 2 ^ 63
-    → length v ≤ 4080 → IsAtStage i n k u v at d → length d.bytes ≡ 20480
+    → length v ≤ 4080 → IsAtStage i n k u v at d → length d.bytes ≡ 28672
 stage_size i n k u v at d small fits is =
     either_size (stage_leaves i n k u v small fits at d is d.bytes (record {
       size = refl;
       elsewhere = λ p closed. refl;
     }))
   where
-    either_size : IsEither i n k u v d.bytes → length d.bytes ≡ 20480
+    either_size : IsEither i n k u v d.bytes → length d.bytes ≡ 28672
     either_size (inl file) = file.size
     either_size (inr file) = file.size
 
@@ -84,7 +84,7 @@ module _ (i n k : ℕ) (u v : List ℕ) (small : k + 1 < 2 ^ 63) (fits : length 
     (d e : Device) where
   -- the stage after a call that succeeded
   made_goes : (at : Stage) (call : NextCall) (rest : List NextCall) → calls_left at ≡ call ∷ rest
-      → IsAtStage i n k u v at d → IsMade ((k + 1) % 2) (body_block (k + 1) v) call d e
+      → IsAtStage i n k u v at d → IsMade ((k + 1) % 3) (body_block (k + 1) v) call d e
       → IsAtStage i n k u v (after_call at) e
   made_goes at (next.Write w) rest asked is made =
       write_goes i n k u v small fits d e at w (ap first_call asked) is made.touched made.stands
@@ -100,11 +100,11 @@ module _ (i n k : ℕ) (u v : List ℕ) (small : k + 1 < 2 ^ 63) (fits : length 
   -- after a call that failed a crash leaves either value
   missed_leaves : (at : Stage) (fill : Fill) (call : NextCall) (rest : List NextCall)
       → calls_left at ≡ call ∷ rest → IsAtStage i n k u v at d
-      → IsMissed ((k + 1) % 2) fill call d e
+      → IsMissed ((k + 1) % 3) fill call d e
       → (b : List ℕ) → MayLeave e b → IsEither i n k u v b
   missed_leaves at fill (next.Write w) rest asked is missed =
       write_leaves i n k u v small fits d e at w (ap first_call asked) is
-      (subst (λ m. IsTouched (write_at ((k + 1) % 2) w) m d e) (sym (written w)) missed.touched)
+      (subst (λ m. IsTouched (write_at ((k + 1) % 3) w) m d e) (sym (written w)) missed.touched)
   missed_leaves at fill next.Sync rest asked is missed =
       sync_leaves i n k u v small fits d e at is missed.left
   missed_leaves at fill next.Done rest asked is missed = absurd missed
@@ -134,7 +134,7 @@ module _ (i n k : ℕ) (u v : List ℕ) (small : k + 1 < 2 ^ 63) (fits : length 
   pub store_ends : (persist next after : PersistState) (call : NextCall)
       → calls_left persist.stage ≡ call ∷ calls_left next.stage
       → next.stage ≡ after_call persist.stage → next.stage ≡ stage.Stored
-      → after.stage ≡ first_stage true → after.slot ≡ (k + 1 + 1) % 2
+      → after.stage ≡ first_stage true → after.slot ≡ (k + 1 + 1) % 3
       → IsStoreUnderWay i n k u v d persist → IsMade persist.slot (body_block (k + 1) v) call d e
       → IsReady i n (k + 1) v e after
   store_ends persist next after call asked stage done first slot is made = record {

@@ -143,7 +143,7 @@ module _ (w : Node) (x : State) (stands : NodeStands w x) (is_ready : w.phase �
       elsewhere = λ p closed. refl;
     })
 
-    pub long : length (device_of d).bytes ≡ 20480
+    pub long : length (device_of d).bytes ≡ 28672
     long = elim (either state.0 state.1) [ inl file ↦ file.size | inr new ↦ new.2.size ]
 
     pub readable : IsReadable d
@@ -367,7 +367,7 @@ module _ (w : Node) (x : State) (stands : NodeStands w x) (is_ready : w.phase �
               (ap image_device (sym d.2.image))
               (subst (λ v. At (number_after from_nothing h i) v (device_of d.0)) after.1
               (subst (λ k. At k (found_value d.0) (device_of d.0)) after.0 rest));
-          slot = d.2.slot ∙ ap (λ k. (k + 1) % 2) after.0;
+          slot = d.2.slot ∙ ap (λ k. (k + 1) % 3) after.0;
           stage = d.2.stage;
         }
 

@@ -168,11 +168,11 @@ module _ (w : Node) (x : State) (stands : NodeStands w x) (i : ℕ) (may : MaySt
     pub storing : IsStoreUnderWay i n k u v (device_of d) d.persist
     storing = up.drives_stand i d state.0 writer.Storing there state.1 may.1 v begun.pending
 
-    pub size : length (device_of d).bytes ≡ 20480
+    pub size : length (device_of d).bytes ≡ 28672
     size = stage_size i n k u v d.persist.stage (device_of d) room fits storing.at_stage
 
-    pub slot_low : d.persist.slot < 2
-    slot_low = let s : d.persist.slot ≡ (k + 1) % 2 = storing.slot in omega arith
+    pub slot_low : d.persist.slot < 3
+    slot_low = let s : d.persist.slot ≡ (k + 1) % 3 = storing.slot in omega arith
 
     low_drive : i < length w.drives.items
     low_drive = slice_get_within w.drives.items i d there
@@ -192,9 +192,9 @@ module _ (w : Node) (x : State) (stands : NodeStands w x) (i : ℕ) (may : MaySt
 
     module _ (e : Drive) (kind : Kind) (made : IsMade d.persist.slot (body_block (k + 1) v)
         (store_call kind) (device_of d) (device_of e)) where
-      made_here : Changes i (IsMade ((k + 1) % 2) (body_block (k + 1) v) (store_call kind))
+      made_here : Changes i (IsMade ((k + 1) % 3) (body_block (k + 1) v) (store_call kind))
           (devices_of_node w) (map device_of (slice_set w.drives.items i e))
-      made_here = changes (IsMade ((k + 1) % 2) (body_block (k + 1) v) (store_call kind)) e
+      made_here = changes (IsMade ((k + 1) % 3) (body_block (k + 1) v) (store_call kind)) e
           (subst (λ s. IsMade s (body_block (k + 1) v) (store_call kind) (device_of d)
           (device_of e)) storing.slot made)
 
@@ -238,7 +238,7 @@ module _ (w : Node) (x : State) (stands : NodeStands w x) (i : ℕ) (may : MaySt
       pub call_ends : (next : PersistState) (parts : Parts)
           → store_left d ≡ store_call kind ∷ calls_left next.stage
           → next.stage ≡ after_call d.persist.stage → next.stage ≡ stage.Stored
-          → e.persist.stage ≡ first_stage true → e.persist.slot ≡ (k + 1 + 1) % 2
+          → e.persist.stage ≡ first_stage true → e.persist.slot ≡ (k + 1 + 1) % 3
           → parts.segments ≡ w.parts.segments → PartsStand parts x
           → phases_of_parts parts ≡ writer_to (phases_of_parts w.parts) i writer.Stored
           → (y : State) × Step n x (Call i) (Called kind) y
@@ -335,7 +335,7 @@ module _ (w : Node) (x : State) (stands : NodeStands w x) (i : ℕ) (may : MaySt
             call,
             rest,
             calls_there ∙ ap (λ z. Some z) asked,
-            changes (IsMissed ((k + 1) % 2) fill call) e
+            changes (IsMissed ((k + 1) % 3) fill call) e
                 (subst (λ z. IsMissed z fill call (device_of d) (device_of e)) storing.slot missed),
           ),
           record {

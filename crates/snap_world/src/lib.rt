@@ -28,8 +28,6 @@ mod restart;
 mod scanner;
 mod start;
 mod store;
-#[cfg(test)]
-mod tests;
 mod value;
 mod world;
 mod writer;

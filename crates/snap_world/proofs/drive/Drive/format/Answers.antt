@@ -10,8 +10,8 @@ returns c =
     let zero_byte : ℕ = 0 in
     let written = image_device c.put.new.self in
     let file = c.encode_fresh_file.new.file in
-    let size : length written.bytes ≡ 20480 = c.put.ensures.touched.bytes_elsewhere.size
-    ∙ ap length c.in_ok-image.ensures.bytes ∙ length-replicate 20480 zero_byte in
+    let size : length written.bytes ≡ 28672 = c.put.ensures.touched.bytes_elsewhere.size
+    ∙ ap length c.in_ok-image.ensures.bytes ∙ length-replicate 28672 zero_byte in
     let same : written.bytes ≡ file =
     sym (part_whole (length file) written.bytes (size ∙ sym c.encode_fresh_file.array_long))
     ∙ c.put.ensures.stands in

@@ -181,7 +181,7 @@ returns-in-Done c =
             call_ends w x stands i may d read e kind made mid.persist parts c.call-kind.ensures.kind
             at done c.begin-drive.ensures.stage
             (c.begin-drive.ensures.slot ∙ c.slot_of.ensures
-            ∙ ap (λ k. (k + 1 + 1) % 2) number) c.end_store.ensures.segments
+            ∙ ap (λ k. (k + 1 + 1) % 3) number) c.end_store.ensures.segments
             (c.end_store.ensures.stands x (is_up w x may.0 stands).parts_stand may.1)
             c.end_store.ensures.phases);
         comes = λ x stands. record { refused = λ f. cc; came = λ _. may };

@@ -1,9 +1,8 @@
 //! Worked runs of device faults, crashes and restarts.
-use crate::event::{Actor, Event, Kind, Reply};
 use crate::tests::{FIRST_STORE, LATER_STORE, answer, begin, calls, expect, looks, show, store};
-use crate::world::World;
 use snap_disk::Fill;
 use snap_persist::Write;
+use snap_world::{Actor, Event, Kind, Reply, World};
 use std::alloc::{AllocError, Global};
 use std::process::Abort;
 use std::test::Fail;
@@ -183,6 +182,27 @@ fn crash_after_the_closing_write(rt: HostRuntime) -> Result<(), Fail> {
         };
         store(&rt, alloc, &mut world, 0, "yo", &[1, 1], kinds)?;
         show(&rt, &mut world, 0, 2)?;
+    }
+    Ok(())
+}
+
+// A crash in the second store of a segment, after its body and after its opening write.
+#[test]
+fn five_calls(rt: HostRuntime) -> Result<(), Fail> {
+    let alloc = rt.alloc();
+    for (kinds, byte, text) in [
+        (&LATER_STORE[..2], 0xA5, "hi"),
+        (&LATER_STORE[..2], 0, "hi"),
+        (&LATER_STORE[..4], 0xA5, "yo"),
+        (&LATER_STORE[..4], 0, "hi"),
+    ] {
+        let mut world = World::new(alloc, 1, 1)?;
+        store(&rt, alloc, &mut world, 0, "hi", &[0, 0], &FIRST_STORE)?;
+        show(&rt, &mut world, 0, 1)?;
+        begin(&rt, alloc, &mut world, 0, "yo", &[1, 1])?;
+        calls(&rt, &mut world, 0, kinds)?;
+        crash(&rt, alloc, &mut world, &[Some(byte)])?;
+        restart(&rt, alloc, &mut world, &[text])?;
     }
     Ok(())
 }

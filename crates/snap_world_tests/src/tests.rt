@@ -2,9 +2,8 @@
 mod generated;
 mod restarts;
 
-use crate::event::{Actor, Event, Kind, Reply};
-use crate::world::World;
 use snap_persist::Write;
+use snap_world::{Actor, Event, Kind, Reply, World};
 use std::alloc::{AllocError, Global};
 use std::process::Abort;
 use std::test::Fail;
@@ -47,9 +46,8 @@ pub(crate) const FIRST_STORE: [Kind; 4] = [
 ];
 
 /// Those of each later one, which closes the spare gate before.
-pub(crate) const LATER_STORE: [Kind; 6] = [
+pub(crate) const LATER_STORE: [Kind; 5] = [
     Kind::Write(Write::Close),
-    Kind::Sync,
     Kind::Write(Write::Body),
     Kind::Sync,
     Kind::Write(Write::Open),

@@ -2,10 +2,9 @@
 //! program.
 ghost use Rattle.std.specs.Prelude.{◌<◌};
 
-use crate::event::{Actor, Event, Reply};
-use crate::world::World;
 use snap_disk::Fill;
 use snap_history::{Update, memory_after};
+use snap_world::{Actor, Event, Reply, World};
 use std::alloc::{AllocError, Global};
 use std::process::Abort;
 use std::test::Fail;

@@ -1,0 +1,187 @@
+//! Carries the file of a segment over from the old format.
+ghost use Rattle.std.specs.Prelude.{
+  ◌≡◌,
+  ◌≢◌,
+  ◌+◌,
+  ◌-◌,
+  ◌^◌,
+  ◌<◌,
+  ◌≤◌,
+  ◌↔◌,
+  ℕ,
+  List,
+  false,
+  length,
+  OnOk,
+  IfOk,
+  IfErr,
+  IsErrOf,
+};
+ghost use Rattle.snap_disk.specs.declared.file.TheConstants.{FILE_LEN};
+ghost use Rattle.snap_disk.specs.Device.{Device, IsSynced, MayLeave, CountsCalls, LeavesOnly};
+ghost use Rattle.snap_slot.specs.declared.layout.TheConstants.{MAX_COUNT};
+ghost use Rattle.snap_slot.specs.Layout.{IsUnformatted, IsFormatted};
+ghost use Rattle.snap_slot.specs.States.{IsAtRest};
+ghost use Rattle.snap_old_slot.specs.declared.layout.TheConstants.{OLD_FILE_LEN};
+ghost use Rattle.snap_old_slot.specs.Old.{OldHead, OldHolds};
+ghost use Rattle.snap_old_slot.specs.Reading.{IsOldFound, IsNoOldOpening};
+ghost use Rattle.snap_segment.specs.Refusals.{IsMigrationRefusal};
+ghost use Rattle.snap_segment.specs.Segment.{CountsRefusal};
+ghost use Rattle.snap_segment.specs.Making.{IsMadeOrLeft};
+ghost use Rattle.snap_segment.specs.Migration.{CountsFault, IsRead};
+
+use crate::making::make_file;
+use crate::opening::read_all;
+use snap_disk::{Disk, FILE_LEN, Refusal};
+use snap_old_slot::{OLD_FILE_LEN, OldFound, recover_old};
+
+/// Which file of a migration a refusal speaks of.
+#[derive(Clone, Copy, Debug, PartialEq, Eq)]
+pub enum Which {
+    /// The file of the old format.
+    Old,
+    /// The file that is made.
+    New,
+}
+
+/// Makes the file of segment `index` of `count` on `new`, with the number and value that `old`
+/// holds in the old format, and answers that number. It makes nine device calls: a sync and a read
+/// of `old`, which it never writes, and then the seven of [`format`](crate::format) on `new`. It
+/// takes no memory.
+///
+/// Refused, for the file that it names, in this order: `WrongFile` where `old` has another length
+/// than a file of the old format, and then where `new` has another than a segment file, with no
+/// device call; of `old`, `DeviceFailed` where a device call failed, and `Unformatted`, `WrongFile`
+/// and `Damaged` as an opening is; of `new`, `AlreadyFormatted` and `DeviceFailed` as formatting
+/// is. A refusal for `old` leaves `new` untouched. A crash at any time leaves in `old` what was
+/// there, and in `new` what was there, an unformatted file or the whole new one.
+pub fn migrate<O: Disk, N: Disk>(
+    old: &mut O,
+    new: &mut N,
+    index: u8,
+    count: u8,
+) -> Result<u64, (Which, Refusal)>
+    requires below { index < count }
+    requires few { count ≤ MAX_COUNT }
+    requires headroom_old { O.failure_count old.old < 2 ^ 64 - 1 }
+    requires headroom_new { N.failure_count new.old < 2 ^ 64 - 1 }
+
+    // A failure count grows exactly where that device failed.
+    ensures count_ok { IfOk result (λ _. (O.failure_count old.new ≡ O.failure_count old.old)
+        × (N.failure_count new.new ≡ N.failure_count new.old)) }
+    ensures count_err { IfErr result (λ e. CountsFault e.0 e.1
+        (O.failure_count old.old) (O.failure_count old.new)
+        (N.failure_count new.old) (N.failure_count new.new)) }
+    ensures size_old { length (O.device old.new).bytes ≡ length (O.device old.old).bytes }
+    ensures size_new { length (N.device new.new).bytes ≡ length (N.device new.old).bytes }
+    ensures calls_old { CountsCalls result 2 (O.clock old.old) (O.clock old.new) }
+    ensures calls_new { CountsCalls result 7 (N.clock new.old) (N.clock new.new) }
+    ensures taken_calls { IsErrOf result (Which.New, Refusal.AlreadyFormatted)
+        → N.clock new.new ≡ N.clock new.old + 2 }
+    ensures honest_old { O.is_honest old.new → O.is_honest old.old }
+    ensures honest_new { N.is_honest new.new → N.is_honest new.old }
+
+    // Each refusal says what the bytes are. A length is judged before any call, and a refusal for
+    // the old file comes before any call on the new one.
+    ensures refusals { IfErr result (λ e. IsMigrationRefusal e.0 e.1) }
+    ensures wrong_old_length { length (O.device old.old).bytes ≢ OLD_FILE_LEN
+        → IsErrOf result (Which.Old, Refusal.WrongFile) × (old.new ≡ old.old) }
+    ensures wrong_new_length { IsErrOf result (Which.New, Refusal.WrongFile)
+        ↔ ((length (O.device old.old).bytes ≡ OLD_FILE_LEN)
+        × (length (N.device new.old).bytes ≢ FILE_LEN)) }
+    ensures wrong_new_same { IsErrOf result (Which.New, Refusal.WrongFile)
+        → (old.new ≡ old.old) × (new.new ≡ new.old) }
+    ensures new_untouched { IfErr result (λ e. e.0 ≡ Which.Old → new.new ≡ new.old) }
+    ensures old_refused { IfErr result (λ e. O.is_honest old.new → e.0 ≡ Which.Old
+        → IsNoOldOpening index count (O.device old.old).bytes e.1) }
+    ensures old_read { O.is_honest old.new → IsRead result
+        → OldHead (O.device old.old).bytes index count
+        × ((k : ℕ) × (v : List ℕ) × OldHolds (O.device old.old).bytes k v) }
+    ensures taken { N.is_honest new.new
+        → IsErrOf result (Which.New, Refusal.AlreadyFormatted)
+        → IsFormatted (N.device new.old).bytes × IsSynced (N.device new.old) (N.device new.new) }
+    ensures unformatted { N.is_honest new.new
+        → OnOk result (IsUnformatted (N.device new.old).bytes) }
+
+    // The old file is never written: a crash leaves of it what one before could leave, at any time
+    // during the call and after it, and where no call on it failed its bytes are the same.
+    ensures old_kept { O.is_honest old.new
+        → LeavesOnly O.clock O.might_have_left old.old old.new (MayLeave (O.device old.old)) }
+    ensures old_kept_now { O.is_honest old.new → (b : List ℕ)
+        → MayLeave (O.device old.new) b → MayLeave (O.device old.old) b }
+    ensures old_same { O.is_honest old.new
+        → (IsErrOf result (Which.Old, Refusal.DeviceFailed) → ⊥)
+        → (O.device old.new).bytes ≡ (O.device old.old).bytes }
+
+    // Of a new file that is formatted already a crash leaves what one before could leave.
+    ensures kept { N.is_honest new.new → IsFormatted (N.device new.old).bytes
+        → LeavesOnly N.clock N.might_have_left new.old new.new (MayLeave (N.device new.old)) }
+    ensures kept_now { N.is_honest new.new → IsFormatted (N.device new.old).bytes
+        → (b : List ℕ) → MayLeave (N.device new.new) b → MayLeave (N.device new.old) b }
+
+    // A crash of the new file at any time during the call, and one after it.
+    ensures any_time { O.is_honest old.new → N.is_honest new.new → (k : ℕ) (v : List ℕ)
+        → OldHolds (O.device old.old).bytes k v
+        → LeavesOnly N.clock N.might_have_left new.old new.new
+        (IsMadeOrLeft index count k v (N.device new.old)) }
+    ensures now { O.is_honest old.new → N.is_honest new.new → (k : ℕ) (v : List ℕ)
+        → OldHolds (O.device old.old).bytes k v
+        → (b : List ℕ) → MayLeave (N.device new.new) b
+        → IsMadeOrLeft index count k v (N.device new.old) b }
+
+    // Once it has answered Ok, a crash leaves in the new file what the old one holds.
+    ensures last { O.is_honest old.new → N.is_honest new.new → (k : ℕ) (v : List ℕ)
+        → OldHolds (O.device old.old).bytes k v
+        → IfOk result (λ number. (number ≡ k)
+        × IsAtRest index count k v false (N.device new.new)) }
+{
+    if old.len() != OLD_FILE_LEN {
+        return Err((Which::Old, Refusal::WrongFile));
+    }
+    if new.len() != FILE_LEN {
+        return Err((Which::New, Refusal::WrongFile));
+    }
+    let mut file = [0u8; OLD_FILE_LEN as usize];
+    let found = match read_old(old, &mut file, index, count) {
+        Ok(found) => found,
+        Err(why) => return Err((Which::Old, why)),
+    };
+    let value = found.value(&file);
+    match make_file(new, index, count, found.number, value) {
+        Ok(()) => Ok(found.number),
+        Err(why) => Err((Which::New, why)),
+    }
+}
+
+/// Syncs and reads the whole old file, and finds what it holds.
+fn read_old<D: Disk>(
+    device: &mut D,
+    file: &mut [u8],
+    index: u8,
+    count: u8,
+) -> Result<OldFound, Refusal>
+    requires length { length (D.device device.old).bytes ≡ OLD_FILE_LEN }
+    requires whole { length file.old ≡ OLD_FILE_LEN }
+    requires headroom { D.failure_count device.old < 2 ^ 64 - 1 }
+    ensures count { CountsRefusal result (D.failure_count device.old) (D.failure_count device.new) }
+    ensures size { length (D.device device.new).bytes ≡ length (D.device device.old).bytes }
+    ensures calls { CountsCalls result 2 (D.clock device.old) (D.clock device.new) }
+    ensures honest { D.is_honest device.new → D.is_honest device.old }
+    ensures any_time { D.is_honest device.new
+        → LeavesOnly D.clock D.might_have_left device.old device.new
+        (MayLeave (D.device device.old)) }
+    ensures now { D.is_honest device.new → (b : List ℕ) → MayLeave (D.device device.new) b
+        → MayLeave (D.device device.old) b }
+    ensures same { D.is_honest device.new → (IsErrOf result Refusal.DeviceFailed → ⊥)
+        → (D.device device.new).bytes ≡ (D.device device.old).bytes }
+    ensures given { D.is_honest device.new → OnOk result (file.new ≡ (D.device device.old).bytes) }
+    ensures found { IfOk result (IsOldFound index count file.new) }
+    ensures refusals { IfErr result (IsMigrationRefusal Which.Old) }
+    ensures refused { D.is_honest device.new
+        → IfErr result (IsNoOldOpening index count (D.device device.old).bytes) }
+{
+    match read_all(device, file) {
+        Ok(()) => recover_old(file, index, count),
+        Err(_) => Err(Refusal::DeviceFailed),
+    }
+}
