@@ -1,2 +1,2 @@
-pub mod Recovery
+pub mod Newest
 pub mod Same

@@ -25,6 +25,10 @@ pub record OldHolds (b : List ℕ) (k : ℕ) (v : List ℕ) : Type 0 where
   pub other : IsClosed b (old_other_slot s)
       ⊎ ((u : List ℕ) × OldOpen b (old_other_slot s) (k - 1) u)
 
+-- the eight bytes with which every old file begins
+abbrev pub old_mark : List ℕ
+old_mark = codes "SNAPSEG1"
+
 -- it has the old header of segment i of n, whose gate is open
 abbrev pub OldHead : List ℕ → ℕ → ℕ → Type 0
-OldHead b i n = IsHeadOf (codes "SNAPSEG1") b i n
+OldHead b i n = IsHeadOf old_mark b i n

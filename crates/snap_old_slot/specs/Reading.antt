@@ -10,12 +10,18 @@ use Rattle.snap_disk.specs.declared.refusal.Refusal.TheVariants.{
 }
 use Rattle.snap_slot.specs.Layout.{IsNumber, IsUnformatted, gate_at, body_at}
 use Rattle.snap_slot.specs.Findings.{value_in}
+use Rattle.snap_slot.specs.Header.{IsMarkedHeader}
 use Rattle.snap_slot.specs.Slot.{IsReadAs}
 use Rattle.snap_slot.specs.declared.layout.TheConstants.{BLOCK_LEN, MAX_VALUE_LEN}
+use Rattle.snap_slot.specs.declared.header.Header.{Header}
 use Rattle.snap_slot.specs.declared.slot.Slot.{Slot}
-use Rattle.snap_old_slot.specs.Old.{old_slot_of, OldHolds, OldHead}
+use Rattle.snap_old_slot.specs.Old.{old_slot_of, old_mark, OldHolds, OldHead}
 use Rattle.snap_old_slot.specs.declared.layout.TheConstants.{OLD_FILE_LEN, OLD_SLOT_COUNT}
 use Rattle.snap_old_slot.specs.declared.recovery.OldFound.{OldFound}
+
+-- the header is read as this
+abbrev pub IsOldHeaderOf : List ℕ → Header → Type 0
+IsOldHeaderOf b header = IsMarkedHeader old_mark b header
 
 -- slot s is read as this
 abbrev pub IsOldSlotOf : List ℕ → ℕ → Slot → Type 0

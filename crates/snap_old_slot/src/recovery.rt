@@ -6,6 +6,7 @@ ghost use Rattle.snap_old_slot.specs.declared.layout.TheConstants.{OLD_FILE_LEN,
 ghost use Rattle.snap_slot.specs.Findings.{IsOfBytes};
 ghost use Rattle.snap_old_slot.specs.Old.{OldHolds};
 ghost use Rattle.snap_old_slot.specs.Reading.{
+  IsOldHeaderOf,
   IsOldSlotOf,
   IsOldHeld,
   IsOldFound,
@@ -54,13 +55,21 @@ pub fn recover_old(file: &[u8], index: u8, count: u8) -> Result<OldFound, Refusa
     ensures refused { IfErr result (λ why. IsNoOldOpening index count file.now why
         × IsOfBytes why) }
 {
-    match read_header(&OLD_MARK, block_at(file, 0)) {
+    match old_header(file) {
         Header::Closed => Err(Refusal::Unformatted),
         Header::Open { index: i, count: n } if i == index && n == count => {
             newest_old(old_slot(file, 0), old_slot(file, 1)).ok_or(Refusal::Damaged)
         }
         _ => Err(Refusal::WrongFile),
     }
+}
+
+/// The header of a file.
+fn old_header(file: &[u8]) -> Header
+    requires { length file.now ≡ OLD_FILE_LEN }
+    ensures { IsOldHeaderOf file.now result }
+{
+    read_header(&OLD_MARK, block_at(file, 0))
 }
 
 /// One block of a file.

@@ -1,5 +1,5 @@
 use Rattle.std.proofs.Common.{⊎_elim, arith}
-use Rattle.snap_old_slot.proofs.Recovery.{
+use Rattle.snap_old_slot.proofs.Newest.{
   held_answers,
   next_numbers,
   open_beside,
