@@ -1,5 +1,5 @@
 //! Reads the words of the program.
-ghost use Rattle.std.specs.Prelude.{◌≡◌, IfErr, IfOk, Some, codes, map, true};
+ghost use Rattle.std.specs.Prelude.{◌≡◌, ◌↔◌, IfErr, IfOk, IsTrue, Some, codes, map, true};
 ghost use Rattle.clap.specs.Words.{first_value, found_of, takes};
 ghost use Rattle.snap_order.specs.Order.{IsPlace, IsWithinLimits};
 ghost use Rattle.snap_words.specs.Faults.{AreNumbersOf, IsFaultOf, IsNumberFault, IsNumberOf};
@@ -41,7 +41,7 @@ pub fn order<'a, S: AsStr>(alloc: Global, words: &'a [S]) -> Result<Order<'a>, W
     if command == "script" {
         return Ok(Order::Script);
     }
-    if command == "migrate" {
+    if is(command, "migrate") {
         return Ok(Order::Migrate(migration(matches)?));
     }
     let Some(file) = matches.get_str("file") else {
@@ -58,6 +58,13 @@ pub fn order<'a, S: AsStr>(alloc: Global, words: &'a [S]) -> Result<Order<'a>, W
         _ => return Err(WordFault::NoCommand),
     };
     Ok(Order::File(order))
+}
+
+/// The command has this name.
+fn is(command: &str, name: &'static str) -> bool
+    ensures { IsTrue result ↔ (command.now ≡ name.now) }
+{
+    command == name
 }
 
 /// The files of a migration, and the place of their segment.

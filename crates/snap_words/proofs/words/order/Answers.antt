@@ -109,12 +109,13 @@ returns-in_err-migration-clause-faults g c =
     c.in_err-migration.field-0.0 c.in_err-migration.ensures.fault in
     search rules
 
-pub returns-then-eq-2-clause-asked : goal.returns-then-eq-2-clause-asked
-returns-then-eq-2-clause-asked g c =
+pub returns-then-is-clause-asked : goal.returns-then-is-clause-asked
+returns-then-is-clause-asked g c =
     let words = map g.S.AsStr.text c.args.words.now in
     let found = c.in-Some.ensures in
     let carried = c.in_ok-migration.ensures in
-    let is_migrate : c.in-Some.command.now ≡ codes "migrate" = grind (common_steps) in
+    let is_migrate : c.in-Some.command.now ≡ codes "migrate" =
+    c.is.ensures.0 c.if-is.true in
     let command = asked_pair _ _ c.in-Ok.ensures c.in-Ok-try_get_matches_from.matches
     c.in-Some.matches.now c.in-Ok-try_get_matches_from.ensures.matches c.in-Some.command.now
     c.in_ok-migration.field-0.old.now c.in_ok-migration.field-0.new.now (sym found.name)
@@ -122,8 +123,8 @@ returns-then-eq-2-clause-asked g c =
     subst (λ (name : List ℕ). IsPair (subcommand_of grammar_of words) name
     c.in_ok-migration.field-0.old.now c.in_ok-migration.field-0.new.now) is_migrate command
 
-pub returns-then-eq-2-clause-numbers : goal.returns-then-eq-2-clause-numbers
-returns-then-eq-2-clause-numbers g c =
+pub returns-then-is-clause-numbers : goal.returns-then-is-clause-numbers
+returns-then-is-clause-numbers g c =
     let words = map g.S.AsStr.text c.args.words.now in
     let found = c.in-Some.ensures in
     let same = word_is words _ c.in-Ok.ensures c.in-Ok-try_get_matches_from.matches
@@ -164,8 +165,8 @@ returns-in_default-get_str-clause-faults g c =
       sym (same (codes "file")) ∙ sym c.in_default-get_str.ensures,
     )
 
-pub returns-then-eq-3-clause-asked : goal.returns-then-eq-3-clause-asked
-returns-then-eq-3-clause-asked g c =
+pub returns-then-eq-2-clause-asked : goal.returns-then-eq-2-clause-asked
+returns-then-eq-2-clause-asked g c =
     let found = c.in-Some.ensures in
     let file = c.in-Some-get_str.file.now in
     let is_check : c.in-Some.command.now ≡ codes "check" = grind (arith, common_steps) in
