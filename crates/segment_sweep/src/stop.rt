@@ -53,6 +53,21 @@ impl Stop {
         }
         Ok(plan)
     }
+
+    /// The same for another device of the run, which is called behind the first `calls` calls: none
+    /// where the stop comes earlier.
+    pub(crate) fn behind(self, calls: u64) -> Option<Stop> {
+        match self {
+            Stop::Fault { call, garbage } if call > calls => Some(Stop::Fault {
+                call: call - calls,
+                garbage,
+            }),
+            Stop::Fault { .. } => None,
+            Stop::Fuse { passes } => Some(Stop::Fuse {
+                passes: passes.saturating_sub(calls),
+            }),
+        }
+    }
 }
 
 impl fmt::Display for Stop {

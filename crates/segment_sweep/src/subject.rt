@@ -1,5 +1,6 @@
 //! The calls that are stopped, and what is found after the crash.
-use crate::stop::Stop;
+use crate::migration::migration_cell;
+use crate::stop::{Garbage, Stop};
 use snap_disk::{Disk, FILE_LEN, FaultPlan, MemDisk, Refusal};
 use snap_segment::{Segment, format};
 use std::alloc::Global;
@@ -16,6 +17,8 @@ pub enum Subject {
     StoreClosed,
     /// The store of `yo` behind `hi`, with the spare gate open.
     StoreOpen,
+    /// `migrate` of an old file with `hi` to a device of zeros.
+    Migration,
 }
 
 impl Subject {
@@ -30,6 +33,10 @@ impl Subject {
             Subject::StoreOpen => {
                 "store of yo, the spare gate open; then a crash with keep | 00 | a5 and an opening"
             }
+            Subject::Migration => {
+                "migration of number 1 and hi to a file of zeros; then a crash with keep | 00 | a5 \
+                of both, an opening of the new file, and a second migration"
+            }
         }
     }
 
@@ -38,34 +45,58 @@ impl Subject {
         match self {
             Subject::Format => 7,
             Subject::StoreClosed => 4,
-            Subject::StoreOpen => 6,
+            Subject::StoreOpen => 5,
+            Subject::Migration => 9,
         }
     }
 
-    /// Runs until the stop. Answers what the run answered, in words, and the device.
-    pub(crate) fn run(self, alloc: Global, stop: Stop) -> io::Result<(String, MemDisk)> {
-        match self {
-            Subject::Format => run_format(alloc, stop),
-            Subject::StoreClosed => run_store(alloc, fresh(alloc)?, stop, b"hi"),
-            Subject::StoreOpen => run_store(alloc, with_hi(alloc)?, stop, b"yo"),
-        }
-    }
-
-    /// What the device is opened as after the restart, in words. A format is tried again.
-    pub(crate) fn found(self, alloc: Global, mut disk: MemDisk) -> io::Result<String> {
-        disk.set_plan(FaultPlan::new(alloc));
-        let (opened, mut disk) = opened(alloc, disk)?;
+    /// Runs until the stop, and crashes with this garbage. Answers what the run answered and what
+    /// is found after the restart, in words.
+    pub(crate) fn cell(
+        self,
+        alloc: Global,
+        stop: Stop,
+        garbage: Garbage,
+    ) -> io::Result<(String, String)> {
         match self {
             Subject::Format => {
+                let (answer, disk) = run_format(alloc, stop)?;
+                let (found, mut disk) = restarted(alloc, disk, garbage)?;
                 let again = match try_format(&mut disk) {
                     Ok(()) => "formatted",
                     Err(why) => why.name(),
                 };
-                Ok(format!(in alloc; "{opened}, {again}")?)
+                Ok((answer, format!(in alloc; "{found}, {again}")?))
             }
-            _ => Ok(opened),
+            Subject::StoreClosed => store_cell(alloc, fresh(alloc)?, stop, garbage, b"hi"),
+            Subject::StoreOpen => store_cell(alloc, with_hi(alloc)?, stop, garbage, b"yo"),
+            Subject::Migration => migration_cell(alloc, stop, garbage),
         }
     }
+}
+
+fn store_cell(
+    alloc: Global,
+    disk: MemDisk,
+    stop: Stop,
+    garbage: Garbage,
+    value: &[u8],
+) -> io::Result<(String, String)> {
+    let (answer, disk) = run_store(alloc, disk, stop, value)?;
+    let (found, _disk) = restarted(alloc, disk, garbage)?;
+    Ok((answer, found))
+}
+
+/// The device after a crash with this garbage, without its plan, and what it is opened as.
+pub(crate) fn restarted(
+    alloc: Global,
+    disk: MemDisk,
+    garbage: Garbage,
+) -> io::Result<(String, MemDisk)> {
+    let mut disk = disk;
+    disk.crash(&garbage.fill());
+    disk.set_plan(FaultPlan::new(alloc));
+    opened(alloc, disk)
 }
 
 fn run_format(alloc: Global, stop: Stop) -> io::Result<(String, MemDisk)> {
@@ -172,7 +203,7 @@ fn name_of(value: &[u8]) -> &'static str {
     }
 }
 
-fn as_io(why: Refusal) -> io::Error {
+pub(crate) fn as_io(why: Refusal) -> io::Error {
     match why {
         Refusal::NoMemory => ErrorKind::OutOfMemory.into(),
         _ => ErrorKind::InvalidData.into(),

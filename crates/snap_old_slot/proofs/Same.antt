@@ -13,6 +13,7 @@ use Rattle.std.proofs.Common.{
   Some,
   None,
   MatchOption,
+  IfOk,
   IfErr,
   refl,
   sym,
@@ -36,7 +37,7 @@ use Rattle.snap_slot.proofs.Readings.{
   not_head_and_unformatted,
 }
 use Rattle.snap_old_slot.specs.Old.{old_mark, OldOpen, OldHolds, OldHead}
-use Rattle.snap_old_slot.specs.Reading.{IsOldHeaderOf, IsOldHeld, IsNoOldOpening}
+use Rattle.snap_old_slot.specs.Reading.{IsOldHeaderOf, IsOldHeld, IsOldFound, IsNoOldOpening}
 use Rattle.snap_old_slot.specs.declared.recovery.OldFound.{OldFound}
 
 -- a slot is open with one number and one value, and isn't closed too
@@ -109,3 +110,9 @@ pub old_damaged : (b : List ℕ) (i n : ℕ) (answer : Option OldFound) → leng
     → IfErr (ok_or answer Damaged) (λ why. IsNoOldOpening i n b why × IsOfBytes why)
 old_damaged b i n None size head none = ((size, head, none), tt)
 old_damaged b i n (Some found) size head is = tt
+
+pub old_found : (b : List ℕ) (i n : ℕ) (answer : Option OldFound) → OldHead b i n
+    → MatchOption answer ((k : ℕ) (v : List ℕ) → OldHolds b k v → ⊥) (IsOldHeld b)
+    → IfOk (ok_or answer Damaged) (IsOldFound i n b)
+old_found b i n None head none = tt
+old_found b i n (Some found) head is = record { head = head; held = is }

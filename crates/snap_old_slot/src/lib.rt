@@ -10,4 +10,3 @@ mod recovery;
 
 pub use layout::{OLD_FILE_LEN, OLD_SLOT_COUNT, old_slot_of};
 pub use recovery::{OldFound, recover_old};
-

@@ -1,0 +1,20 @@
+-- What a migration found is what the old file holds.
+use Rattle.std.proofs.Common.{◌≡◌, ℕ, List, sym, subst}
+use Rattle.snap_slot.specs.Findings.{value_in}
+use Rattle.snap_old_slot.specs.Old.{old_slot_of, OldHolds}
+use Rattle.snap_old_slot.specs.Reading.{IsOldFound}
+use Rattle.snap_old_slot.specs.declared.recovery.OldFound.{OldFound}
+use Rattle.snap_old_slot.proofs.Same.{old_holds_same}
+
+pub found_same : (i n k : ℕ) (v b file : List ℕ) (found : OldFound) → IsOldFound i n file found
+    → file ≡ b → OldHolds b k v
+    → (found.number ≡ k) × (value_in file (old_slot_of found.number) found.length ≡ v)
+found_same i n k v b file found is same holds =
+    old_holds_same file found.number k
+    (value_in file (old_slot_of found.number) found.length) v is.held.holds
+    (subst (λ (l : List ℕ). OldHolds l k v) (sym same) holds)
+
+-- so what is true of the one is true of the other
+pub carried : (P : ℕ → List ℕ → Type 0) (k l : ℕ) (v w : List ℕ) → k ≡ l → v ≡ w → P k v → P l w
+carried P k l v w number value is = subst (λ (x : List ℕ). P l x) value
+    (subst (λ (m : ℕ). P m v) number is)
