@@ -6,8 +6,8 @@ ghost use Rattle.snap_command.specs.Failure.{Says, SaysLines, SaysOf, advice_lin
 
 use snap_disk::Refusal;
 use snap_order::{Ended, Status};
-use snap_stream::{complain, complain_of_refusal, write_whole};
 use snap_segment::OLD_FILE_LEN;
+use snap_stream::{complain, complain_of_refusal, write_whole};
 use std::alloc::Global;
 use std::io::{self, Write};
 use thiserror::Error;

@@ -21,8 +21,8 @@ use crate::failure::complain_twice;
 use itoa::Buffer;
 use snap_disk::{Disk, Refusal};
 use snap_order::{Ended, Migration, Status};
-use snap_stream::write_whole;
 use snap_segment::{Which, migrate};
+use snap_stream::write_whole;
 use std::alloc::{AllocError, Global};
 use std::io::Write;
 
