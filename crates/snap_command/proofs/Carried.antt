@@ -71,8 +71,8 @@ pub made_leaves : {N : Type 0} (clock : N → ℕ) (left : N → ℕ → List �
     → LeavesOnly clock left a b (MigrationLeaves i n old new)
 made_leaves clock left a b i n old new file makes =
     let k = file.1.0 in
-    let v = file.1.1.0 in
-    let holds = file.1.1.1 in
+    let v = file.1.1 in
+    let holds = file.1.2 in
     let leaves = makes k v holds in
     record {
       later = leaves.later;
@@ -125,8 +125,8 @@ pub migrated : (i n number : ℕ) (old new new' : Device) → IsOldFile i n old.
     → IsMigrated i n number old new new'
 migrated i n number old new new' file unformatted rests =
     let k = file.1.0 in
-    let v = file.1.1.0 in
-    let holds = file.1.1.1 in
+    let v = file.1.1 in
+    let holds = file.1.2 in
     let end = rests k v holds in
     record {
       value = v;

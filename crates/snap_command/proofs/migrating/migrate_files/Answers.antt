@@ -1,4 +1,5 @@
-use Rattle.std.proofs.Common.{rules, ◌≡◌, ◌++◌, ◌∙◌, ap, ap₂, sym, subst, List, ℕ, Err}
+use Rattle.std.proofs.Common.{rules, ◌≡◌, ◌++◌, ◌∙◌, ap, ap₂, sym, subst, List, ℕ, Err, codes}
+use Rattle.std.specs.Fmt.{decimal}
 use Rattle.std.specs.Io.KnownBytes.{Appends}
 use Rattle.snap_disk.specs.Device.{LeavesOnly, MayLeave}
 use Rattle.snap_disk.specs.declared.refusal.Refusal.{Refusal}
@@ -33,8 +34,9 @@ returns-in-Ok-write_whole-clause-ends g c =
     let answer = c.in-Ok-migrate.ensures in
     let line : c.as_bytes.result.now
     ≡ migrated_line c.args.order.now.index c.args.order.now.count c.in-Ok-migrate.number =
-    c.as_bytes.ensures.value ∙ c.end_line.ensures ∙ ap (λ (l : List ℕ). l ++ _) c.in-Ok.ensures.text
-    in (
+    c.as_bytes.ensures.value ∙ c.end_line.ensures
+    ∙ ap (λ (l : List ℕ). l ++ (decimal c.in-Ok-migrate.number ++ codes "\n"))
+    c.in-Ok.ensures.text in (
       c.in-Ok-migrate.number,
       search rules,
       (λ old_honest new_honest. migrated c.args.order.now.index c.args.order.now.count
@@ -59,8 +61,9 @@ returns-clause-ends g c =
     let answer = c.in-Ok-migrate.ensures in
     let line : c.as_bytes.result.now
     ≡ migrated_line c.args.order.now.index c.args.order.now.count c.in-Ok-migrate.number =
-    c.as_bytes.ensures.value ∙ c.end_line.ensures ∙ ap (λ (l : List ℕ). l ++ _) c.in-Ok.ensures.text
-    in (
+    c.as_bytes.ensures.value ∙ c.end_line.ensures
+    ∙ ap (λ (l : List ℕ). l ++ (decimal c.in-Ok-migrate.number ++ codes "\n"))
+    c.in-Ok.ensures.text in (
       c.in-Ok-migrate.number,
       (λ old_honest new_honest. migrated c.args.order.now.index c.args.order.now.count
           c.in-Ok-migrate.number (g.O.Disk.device c.args.old) (g.N.Disk.device c.args.new)
