@@ -1,8 +1,9 @@
 -- What a migration found is what the old file holds.
-use Rattle.std.proofs.Common.{◌≡◌, ℕ, List, sym, subst}
-use Rattle.snap_slot.specs.Findings.{value_in}
+use Rattle.std.proofs.Common.{◌≡◌, ℕ, List, Result, Ok, Err, IfErr, sym, subst}
+use Rattle.snap_disk.specs.declared.refusal.Refusal.{Refusal}
+use Rattle.snap_slot.specs.Findings.{IsOfBytes, value_in}
 use Rattle.snap_old_slot.specs.Old.{old_slot_of, OldHolds}
-use Rattle.snap_old_slot.specs.Reading.{IsOldFound}
+use Rattle.snap_old_slot.specs.Reading.{IsOldFound, IsNoOldOpening}
 use Rattle.snap_old_slot.specs.declared.recovery.OldFound.{OldFound}
 use Rattle.snap_old_slot.proofs.Same.{old_holds_same}
 
@@ -18,3 +19,9 @@ found_same i n k v b file found is same holds =
 pub carried : (P : ℕ → List ℕ → Type 0) (k l : ℕ) (v w : List ℕ) → k ≡ l → v ≡ w → P k v → P l w
 carried P k l v w number value is = subst (λ (x : List ℕ). P l x) value
     (subst (λ (m : ℕ). P m v) number is)
+
+pub refused_for : (i n : ℕ) (file b : List ℕ) (result : Result OldFound Refusal) → file ≡ b
+    → IfErr result (λ why. IsNoOldOpening i n file why × IsOfBytes why)
+    → IfErr result (IsNoOldOpening i n b)
+refused_for i n file b (Ok found) same is = tt
+refused_for i n file b (Err why) same is = subst (λ (l : List ℕ). IsNoOldOpening i n l why) same is.0
