@@ -34,8 +34,8 @@ use Rattle.snap_slot.specs.States.{IsAtRest, IsEither}
 use Rattle.snap_slot.specs.Findings.{AreFindings, IsNoOpening}
 use Rattle.snap_slot.specs.Text.{findings_text}
 use Rattle.snap_slot.specs.declared.findings.Findings.{Findings}
-use Rattle.snap_segment.specs.Format.{IsFresh}
-use Rattle.snap_command.specs.Failure.{status_of, Says}
+use Rattle.snap_segment.specs.Making.{IsFresh}
+use Rattle.snap_command.specs.Failure.{status_of, SaysOf}
 use Rattle.snap_stream.specs.Streams.{AppendsBeginning, Had}
 use Rattle.snap_command.specs.declared.failure.Failure.{Failure}
 use Rattle.snap_command.specs.declared.failure.Failure.TheVariants.{Refused, Input, Output, Unsaid}
@@ -52,10 +52,11 @@ abbrev pub status_at : End → Status
 status_at (Ok s) = s
 status_at (Err failure) = status_of failure
 
--- what standard error got: nothing where the command didn't end early
-abbrev pub EndSays : End → (is_told : Bool) (old new : Option (List ℕ)) → Type 0
-EndSays (Ok s) is_told old new = (is_told ≡ true) × Keeps old new
-EndSays (Err failure) is_told old new = Says failure is_told old new
+-- what standard error got of a command on a file of so many bytes: nothing where it didn't end early
+abbrev pub EndSays : (file : List ℕ) (len : ℕ) → End → (is_told : Bool) (old new : Option (List ℕ))
+    → Type 0
+EndSays file len (Ok s) is_told old new = (is_told ≡ true) × Keeps old new
+EndSays file len (Err failure) is_told old new = SaysOf failure file len is_told old new
 
 -- the device's failure count grows by one exactly where the end is that it failed
 abbrev pub CountsEnd : End → ℕ → ℕ → Type 0

@@ -1,9 +1,11 @@
 -- How a command ends after a failure, and what it says.
-use Rattle.std.specs.Prelude.{◌≡◌, Bool, true, List, ℕ, Option}
+use Rattle.std.specs.Prelude.{◌≡◌, ◌≢◌, ◌++◌, Bool, true, List, ℕ, Option, codes}
 use Rattle.std.specs.Io.KnownBytes.{Appends}
 use Rattle.snap_order.specs.declared.status.Status.{Status}
 use Rattle.snap_order.specs.declared.status.Status.TheVariants as status
 use Rattle.snap_stream.specs.Streams.{AppendsBeginning, refused_line}
+use Rattle.snap_disk.specs.declared.refusal.Refusal.TheVariants as refusal
+use Rattle.snap_old_slot.specs.declared.layout.TheConstants.{OLD_FILE_LEN}
 use Rattle.snap_command.specs.declared.failure.Failure.{Failure}
 use Rattle.snap_command.specs.declared.failure.Failure.TheVariants.{Refused, Input, Output, Unsaid}
 
@@ -13,12 +15,30 @@ status_of (Input error) = status.Failed
 status_of (Output error) = status.Failed
 status_of (Unsaid number error) = status.Failed
 
--- What standard error got, by whether it took the line whole: of a refusal a beginning of its line,
--- and where it took it that line. The other lines have a text of the system in them.
+-- standard error got a beginning of these lines, and where it took them whole, all of them
+abbrev pub SaysLines : List ℕ → (is_told : Bool) (old new : Option (List ℕ)) → Type 0
+SaysLines lines is_told old new =
+    AppendsBeginning old new lines × (is_told ≡ true → Appends old new lines)
+
+-- What standard error got: of a refusal its line. The other lines have a text of the system in them.
 abbrev pub Says : Failure → (is_told : Bool) (old new : Option (List ℕ)) → Type 0
-Says (Refused why) is_told old new =
-    AppendsBeginning old new (refused_line why)
-    × (is_told ≡ true → Appends old new (refused_line why))
+Says (Refused why) is_told old new = SaysLines (refused_line why) is_told old new
 Says (Input error) is_told old new = Unit {0}
 Says (Output error) is_told old new = Unit {0}
 Says (Unsaid number error) is_told old new = Unit {0}
+
+-- the line that says what to do with a file of the old format
+abbrev pub advice_line : (file : List ℕ) → List ℕ
+advice_line file = codes "snapd: "
+    ++ (file ++ (codes ": it has the length of the old format: carry it over with snapd migrate "
+    ++ (file ++ codes " NEW\n")))
+
+-- The same of a command on a file of so many bytes: where it is refused as `WrongFile` and has the
+-- length of the old format, that line stands behind the refusal's.
+abbrev pub SaysOf : Failure → (file : List ℕ) (len : ℕ) (is_told : Bool) (old new : Option (List ℕ))
+    → Type 0
+SaysOf (Refused refusal.WrongFile) file len is_told old new =
+    (len ≡ OLD_FILE_LEN
+    → SaysLines (refused_line refusal.WrongFile ++ advice_line file) is_told old new)
+    × (len ≢ OLD_FILE_LEN → SaysLines (refused_line refusal.WrongFile) is_told old new)
+SaysOf failure file len is_told old new = Says failure is_told old new

@@ -1,3 +1,4 @@
 pub mod Failure
 pub mod Commands
 pub mod Keeping
+pub mod Migrating

@@ -8,12 +8,12 @@ ghost use Rattle.snap_disk.specs.Device.{Device, LeavesOnly, MayLeave};
 ghost use Rattle.snap_disk.specs.declared.file.TheConstants.{FILE_LEN};
 ghost use Rattle.snap_slot.specs.declared.layout.TheConstants.{MAX_COUNT};
 ghost use Rattle.snap_slot.specs.Layout.{IsShort};
-ghost use Rattle.snap_segment.specs.Format.{IsFresh};
+ghost use Rattle.snap_segment.specs.Making.{IsFresh};
 ghost use Rattle.snap_command.specs.Commands.{CountsEnd, End, EndSays, EndsCheck, EndsFormat};
 ghost use Rattle.snap_command.specs.Commands.{EndsGet, EndsOrder, EndsPut, EndsStore, OrderLeaves};
 ghost use Rattle.snap_command.specs.Commands.{PutLeaves, StoreLeaves, status_at};
 ghost use Rattle.snap_command.specs.Keeping.{FormatKeeps, OrderKeeps, PutKeeps, StoreKeeps};
-ghost use Rattle.snap_order.specs.Order.{IsFileWithinLimits};
+ghost use Rattle.snap_order.specs.Order.{IsFileWithinLimits, file_of};
 
 use crate::Failure;
 use snap_disk::{Disk, Refusal};
@@ -25,7 +25,8 @@ use std::alloc::Global;
 use std::io::{Read, Write};
 
 /// Does the order on its device, and says how the program ends. What the command prints goes to
-/// `writer`, and why it ended early to `errors`, as one line that begins `snapd: `.
+/// `writer`, and why it ended early to `errors`, as one line that begins `snapd: `; behind the
+/// refusal of a file that has the length of the old format, one more says what to do with it.
 ///
 /// Faults are found in this order: `put` reads its value first and refuses one that is too long
 /// before it looks at the device, then the device's faults come as the segment meets them, and a
@@ -45,7 +46,8 @@ pub fn act<D: Disk, R: Read, W: Write, E: Write>(
     // The status is that of an end which says what happened, what standard error got, and where
     // the device is as it was.
     ensures ends { (end : End) × (result.1.status ≡ status_at end)
-        × EndSays end result.1.is_told (E.contents errors.old) (E.contents errors.new)
+        × EndSays (file_of order.now) (length (D.device disk).bytes) end result.1.is_told
+        (E.contents errors.old) (E.contents errors.new)
         × CountsEnd end (D.failure_count disk) (D.failure_count result.0)
         × OrderKeeps order.now (result.0 ≡ disk) (D.is_honest result.0 → LeavesOnly D.clock
         D.might_have_left disk result.0 (MayLeave (D.device disk))) end
@@ -59,6 +61,7 @@ pub fn act<D: Disk, R: Read, W: Write, E: Write>(
     ensures any_time { D.is_honest result.0 → LeavesOnly D.clock D.might_have_left disk result.0
         (OrderLeaves order.now (R.remaining reader.old) (D.device disk)) }
 {
+    let len = disk.len();
     let (disk, end) = match *order {
         FileOrder::Format { index, count, .. } => format_file(alloc, disk, index, count, writer),
         FileOrder::Put { index, count, .. } => put(alloc, disk, index, count, reader, writer),
@@ -70,7 +73,7 @@ pub fn act<D: Disk, R: Read, W: Write, E: Write>(
             let is_told = true;
             (disk, Ended { status, is_told })
         }
-        Err(failure) => (disk, failure.report(alloc, errors)),
+        Err(failure) => (disk, failure.report_of(alloc, order.file(), len, errors)),
     }
 }
 

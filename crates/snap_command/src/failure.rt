@@ -1,10 +1,13 @@
 //! Why a command did not do what was asked.
-ghost use Rattle.std.specs.Prelude.{◌≡◌};
-ghost use Rattle.snap_command.specs.Failure.{Says, status_of};
+ghost use Rattle.std.specs.Prelude.{◌≡◌, ◌++◌, List, ℕ, IfSome};
+ghost use Rattle.std.specs.Prelude.{string_bytes};
+ghost use Rattle.snap_stream.specs.Streams.{refused_line};
+ghost use Rattle.snap_command.specs.Failure.{Says, SaysLines, SaysOf, advice_line, status_of};
 
 use snap_disk::Refusal;
 use snap_order::{Ended, Status};
-use snap_stream::{complain, complain_of_refusal};
+use snap_segment::OLD_FILE_LEN;
+use snap_stream::{complain, complain_of_refusal, write_whole};
 use std::alloc::Global;
 use std::io::{self, Write};
 use thiserror::Error;
@@ -54,5 +57,48 @@ impl Failure {
                 is_told: complain(alloc, errors, self),
             },
         }
+    }
+
+    /// The same of a command on this file, which has so many bytes. Behind the line of a `WrongFile`
+    /// of a file that has the length of the old format, one more line says what to do with it.
+    pub fn report_of<E: Write>(&self, alloc: Global, file: &str, len: u64, errors: &mut E) -> Ended
+        ensures status { result.status ≡ status_of self.now }
+        ensures says { SaysOf self.now file.now len result.is_told (E.contents errors.old)
+            (E.contents errors.new) }
+    {
+        match self {
+            Failure::Refused(Refusal::WrongFile) if len == OLD_FILE_LEN => Ended {
+                status: Status::Refused,
+                is_told: complain_twice(errors, Refusal::WrongFile, advice(alloc, file)),
+            },
+            _ => self.report(alloc, errors),
+        }
+    }
+}
+
+/// What to do with a file of the old format.
+fn advice(alloc: Global, file: &str) -> Option<String>
+    ensures { IfSome result (λ line. string_bytes line ≡ advice_line file.now) }
+{
+    let known = "it has the length of the old format: carry it over with snapd migrate";
+    match format!(in alloc; "snapd: {file}: {known} {file} NEW\n") {
+        Ok(line) => Some(line),
+        Err(_) => None,
+    }
+}
+
+/// Writes the line of a refusal, and behind it another one, where there was memory for it. Says
+/// whether both were taken whole.
+pub(crate) fn complain_twice<E: Write>(errors: &mut E, why: Refusal, more: Option<String>) -> bool
+    ensures { (line : List ℕ) → IfSome more (λ m. string_bytes m ≡ line)
+        → SaysLines (refused_line why ++ line) result (E.contents errors.old)
+        (E.contents errors.new) }
+{
+    if !complain_of_refusal(errors, why) {
+        return false;
+    }
+    match more {
+        Some(line) => write_whole(errors, line.as_bytes()).is_ok(),
+        None => false,
     }
 }

@@ -1,15 +1,18 @@
 //! The commands on one file, over any device, reader and writer.
 //!
-//! [`act`] does an order on its device. `specs/Commands.antt` says what each end means for the
+//! [`act`] does an order on its device, and [`act_pair`] carries a file of the old format over to a
+//! new one. `specs/Commands.antt` says what each end means for the
 //! device's bytes and for what was read and printed, and `specs/Keeping.antt` which ends leave the
 //! device as it was.
 #![tactic(auto)]
 
 mod acting;
 mod failure;
+mod migrating;
 
 pub use acting::act;
 pub use failure::Failure;
+pub use migrating::{MigrationFailure, act_pair};
 
 #[cfg(test)]
 mod tests;

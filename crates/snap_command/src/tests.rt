@@ -2,15 +2,27 @@
 //! fail.
 ghost use Rattle.snap_order.specs.Order.{IsFileWithinLimits};
 
+mod migrating;
+
 use crate::act;
 use snap_disk::{Disk, FILE_LEN, FaultPlan, Fill, MemDisk};
 use snap_order::{FileOrder, Status};
+use snap_segment::OLD_FILE_LEN;
 use snap_stream::TestStream;
 use std::io::{Read, Write};
 use std::process::Abort;
 use std::test::Fail;
 
 const LEN: usize = FILE_LEN as usize;
+
+const OLD_LEN: usize = OLD_FILE_LEN as usize;
+
+const WRONG: &str = "snapd: refused 14 WrongFile\n";
+
+const WRONG_AND_OLD: &str = "\
+snapd: refused 14 WrongFile
+snapd: F: it has the length of the old format: carry it over with snapd migrate F NEW
+";
 
 /// A stream that moves two bytes at a time, and fails once `passes` bytes have passed.
 fn failing(bytes: Vec<u8>, passes: usize) -> TestStream {
@@ -189,6 +201,7 @@ fn findings_are_printed(rt: HostRuntime) -> Result<(), Fail> {
 header index 0 count 1
 slot 0 open number 0 length 0
 slot 1 open number 1 length 2
+slot 2 closed
 answer number 1
 ";
     let _ = ended(&rt, checked, Status::Done, text, "");
@@ -212,24 +225,20 @@ fn refusals_have_numbers_and_names(rt: HostRuntime) -> Result<(), Fail> {
         );
     }
     for command in [Command::Format, Command::Put, Command::Get, Command::Check] {
-        let short = MemDisk::zeroed(rt.alloc(), LEN - 1)?;
-        let refused = run(&rt, command, short, b"hi")?;
-        let disk = ended(
-            &rt,
-            refused,
-            Status::Refused,
-            "",
-            "snapd: refused 14 WrongFile\n",
-        );
-        assert_eq!(rt; disk.calls(), 0);
+        for (len, why) in [(LEN - 1, WRONG), (OLD_LEN, WRONG_AND_OLD)] {
+            let other = MemDisk::zeroed(rt.alloc(), len)?;
+            let refused = run(&rt, command, other, b"hi")?;
+            let disk = ended(&rt, refused, Status::Refused, "", why);
+            assert_eq!(rt; disk.calls(), 0);
+        }
     }
     Ok(())
 }
 
-/// A put makes 8 calls: two to open the file, and six for the store.
+/// A put makes 7 calls: two to open the file, and five for the store.
 #[test]
 fn a_device_fails_at_each_call(rt: HostRuntime) -> Result<(), Fail> {
-    for (command, calls) in [(Command::Put, 8), (Command::Get, 2), (Command::Check, 1)] {
+    for (command, calls) in [(Command::Put, 7), (Command::Get, 2), (Command::Check, 1)] {
         for call in 0..calls {
             let mut disk = with_hi(&rt)?;
             let made = disk.calls();

@@ -47,7 +47,7 @@ pub fn order<'a, S: AsStr>(alloc: Global, words: &'a [S]) -> Result<Order<'a>, W
     let Some(file) = matches.get_str("file") else {
         return Err(WordFault::Missing { what: "file" });
     };
-    if command == "check" {
+    if is(command, "check") {
         return Ok(Order::File(FileOrder::Check { file }));
     }
     let (index, count) = place(matches)?;

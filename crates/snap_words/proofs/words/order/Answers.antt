@@ -165,11 +165,11 @@ returns-in_default-get_str-clause-faults g c =
       sym (same (codes "file")) ∙ sym c.in_default-get_str.ensures,
     )
 
-pub returns-then-eq-2-clause-asked : goal.returns-then-eq-2-clause-asked
-returns-then-eq-2-clause-asked g c =
+pub returns-then-is-2-clause-asked : goal.returns-then-is-2-clause-asked
+returns-then-is-2-clause-asked g c =
     let found = c.in-Some.ensures in
     let file = c.in-Some-get_str.file.now in
-    let is_check : c.in-Some.command.now ≡ codes "check" = grind (arith, common_steps) in
+    let is_check : c.in-Some.command.now ≡ codes "check" = c.is-2.ensures.0 c.if-is-2.true in
     let command = asked _ _ c.in-Ok.ensures c.in-Ok-try_get_matches_from.matches
     c.in-Some.matches.now c.in-Ok-try_get_matches_from.ensures.matches c.in-Some.command.now
     file (sym found.name) (sym found.rows) c.in-Some-get_str.ensures in
