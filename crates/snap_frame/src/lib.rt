@@ -26,4 +26,3 @@ pub use frame_buffer::Failure;
 pub use reply::{Reply, write_reply};
 pub use reply_feed::{ReplyFault, ReplyFeed};
 pub use request::{MAX_UPDATE_VALUE, Request, write_request};
-

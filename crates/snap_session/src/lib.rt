@@ -17,4 +17,3 @@ pub use pair::take_turns;
 pub use service::Service;
 pub use session::{MAX_OWED, Session, Wants};
 pub use turns::{End, Turn, proceed, serve};
-
