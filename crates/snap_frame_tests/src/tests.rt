@@ -1,4 +1,5 @@
 //! The worked vectors of docs/FORMATS.md, "Frames and messages", cut everywhere.
+ghost use Rattle.snap_frame.specs.Messages.{IsInLimits};
 
 use bytes::{Bytes, BytesMut};
 use snap_disk::Refusal;
@@ -458,7 +459,9 @@ fn requests_without_memory(rt: HostRuntime) -> Result<(), Fail> {
 }
 
 /// A reply is written as its frame, or the buffer is left as it was.
-fn expect_written_reply(rt: &impl Abort, alloc: Global, reply: &Reply, frame: &[u8]) {
+fn expect_written_reply(rt: &impl Abort, alloc: Global, reply: &Reply, frame: &[u8])
+    requires { IsInLimits reply.now }
+{
     let mut out = BytesMut::new(alloc);
     match write_reply(reply, &mut out) {
         Ok(()) => expect_bytes(rt, out.as_slice(), frame),

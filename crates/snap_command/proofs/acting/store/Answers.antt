@@ -30,7 +30,7 @@ returns-in-Err-store-clause-ends g c =
     (λ e. let long = answer.too_long.0 (ap Err e) in omega (arith, long, c.requires.fits))
     (λ e. not_fenced segment.begun opened.opened.2 (answer.fenced.0 (ap Err e)).1)
     (λ e honest.
-    let holds = opened.holds (answer.honest (subst g.D.Disk.is_honest back.ensures honest)) in (
+    let holds = opened.holds (answer.honest (subst g.D.Disk.is_honest back.ensures.device honest)) in (
       holds.0,
       (
         segment.value,
@@ -50,17 +50,17 @@ returns-in-Ok-write_whole-clause-ends g c =
       segment.number,
       search rules,
       (λ honest.
-          let is_honest = subst g.D.Disk.is_honest back.ensures honest in
+          let is_honest = subst g.D.Disk.is_honest back.ensures.device honest in
           let holds = opened.holds (answer.honest is_honest) in
           subst (λ (d : g.row.D.Denot).
           IsStored c.args.index c.args.count segment.number c.args.value.now
-          (device c.args.disk) (device d)) (sym back.ensures)
+          (device c.args.disk) (device d)) (sym back.ensures.device)
           (stored c.args.index c.args.count segment.index segment.count segment.number segment.value
           c.args.value.now (device c.args.disk)
           (device c.store.new.self.device) opened.opened.0 opened.opened.1 holds.0 holds.1
           (answer.last is_honest))),
       subst (λ (k : ℕ). Appends (g.W.Write.contents c.args.writer.now)
-          (g.W.Write.contents c.write_whole.new.writer) (stored_line (k + 1))) c.number.ensures
+          (g.W.Write.contents c.write_whole.new.writer) (stored_line (k + 1))) c.number.ensures.number
           (search rules),
     )
 
@@ -74,17 +74,17 @@ returns-clause-ends g c =
       segment.number,
       search rules,
       (λ honest.
-          let is_honest = subst g.D.Disk.is_honest back.ensures honest in
+          let is_honest = subst g.D.Disk.is_honest back.ensures.device honest in
           let holds = opened.holds (answer.honest is_honest) in
           subst (λ (d : g.row.D.Denot).
           IsStored c.args.index c.args.count segment.number c.args.value.now
-          (device c.args.disk) (device d)) (sym back.ensures)
+          (device c.args.disk) (device d)) (sym back.ensures.device)
           (stored c.args.index c.args.count segment.index segment.count segment.number segment.value
           c.args.value.now (device c.args.disk)
           (device c.store.new.self.device) opened.opened.0 opened.opened.1 holds.0 holds.1
           (answer.last is_honest))),
       subst (λ (k : ℕ). AppendsBeginning (g.W.Write.contents c.args.writer.now)
-          (g.W.Write.contents c.write_whole.new.writer) (stored_line (k + 1))) c.number.ensures
+          (g.W.Write.contents c.write_whole.new.writer) (stored_line (k + 1))) c.number.ensures.number
           (search rules),
     )
 
@@ -106,12 +106,12 @@ returns-in-Ok-write_whole-clause-any_time g c = λ honest.
     let opened = c.in-Ok.ensures in
     let answer = c.in-Ok-store.ensures in
     let back = c.into_device-disk in
-    let is_honest = subst g.D.Disk.is_honest back.ensures honest in
+    let is_honest = subst g.D.Disk.is_honest back.ensures.device honest in
     let was_honest = answer.honest is_honest in
     let holds = opened.holds was_honest in
     subst (λ (d : g.row.D.Denot). LeavesOnly g.D.Disk.clock g.D.Disk.might_have_left c.args.disk d
     (StoreLeaves c.args.index c.args.count c.args.value.now (device c.args.disk)))
-    (sym back.ensures)
+    (sym back.ensures.device)
     (store_leaves g.D.Disk.clock g.D.Disk.might_have_left c.args.disk segment.device
     c.store.new.self.device (device c.args.disk) c.args.index c.args.count segment.index
     segment.count segment.number segment.value c.args.value.now
@@ -125,12 +125,12 @@ returns-clause-any_time g c = λ honest.
     let opened = c.in-Ok.ensures in
     let answer = c.in-Ok-store.ensures in
     let back = c.into_device-disk in
-    let is_honest = subst g.D.Disk.is_honest back.ensures honest in
+    let is_honest = subst g.D.Disk.is_honest back.ensures.device honest in
     let was_honest = answer.honest is_honest in
     let holds = opened.holds was_honest in
     subst (λ (d : g.row.D.Denot). LeavesOnly g.D.Disk.clock g.D.Disk.might_have_left c.args.disk d
     (StoreLeaves c.args.index c.args.count c.args.value.now (device c.args.disk)))
-    (sym back.ensures)
+    (sym back.ensures.device)
     (store_leaves g.D.Disk.clock g.D.Disk.might_have_left c.args.disk segment.device
     c.store.new.self.device (device c.args.disk) c.args.index c.args.count segment.index
     segment.count segment.number segment.value c.args.value.now

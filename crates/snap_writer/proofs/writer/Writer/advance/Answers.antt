@@ -1,7 +1,10 @@
-use Rattle.std.proofs.Common.{rules, ◌≡◌, ℕ, ◌+◌, ◌^◌, ◌<◌, ap, subst, sym, arith}
+use Rattle.std.proofs.Common.{rules, ◌≡◌, ℕ, ◌+◌, ◌^◌, ◌<◌, ap, subst, sym, arith, Result, Ok, Err, List}
+use Rattle.std.specs.Result.{OnErr}
 use Rattle.snap_register.specs.Seat.{own_of, number_in}
 use Rattle.snap_segment.specs.Segment.{SegmentState}
-use Rattle.snap_writer.specs.Writer.{WriterState}
+use Rattle.snap_disk.specs.declared.refusal.Refusal.TheVariants.{DeviceFailed}
+use Rattle.snap_slot.specs.States.{IsEither}
+use Rattle.snap_writer.specs.Writer.{WriterState, number_of, value_of}
 use Rattle.snap_writer.specs.Update.{IsSameSeat, EndsWith}
 use Rattle.snap_writer.proofs.Shown.{number_grown, number_shown, same_shown, ends_with}
 use Rattle.snap_writer.proofs.Paired.{paired_grown, paired_shown}
@@ -50,3 +53,22 @@ returns-clause-advances g c =
     subst (λ (w : WriterState _). EndsWith w.seat c.show.new.seat c.args.value.now) c.self.view_is
     (ends g c) in
     record { stored = search rules; shown = shown }
+
+-- what holds anyway holds behind an error
+on_err : {T E P : Type 0} (r : Result T E) → P → OnErr r P
+on_err (Ok x) p = search rules
+on_err (Err e) p = p
+
+pub returns-in_err-store-clause-either : goal.returns-in_err-store-clause-either
+returns-in_err-store-clause-either g c = λ honest.
+    on_err c.from_residual.result (λ b left.
+    let s = c.self.inside.segment in
+    let w : WriterState _ = record { segment = s; seat = c.self.inside.seat } in
+    let why : c.in_err-store.field-0.0 ≡ DeviceFailed = search rules in
+    let is = c.in_err-store.ensures.either honest (ap Err why) b left in
+    subst (λ (x : WriterState _). IsEither x.segment.index x.segment.count (number_of x)
+    (value_of x) c.args.value.now b) c.self.view_is
+    (subst (λ (k : ℕ). IsEither s.index s.count k (value_of w) c.args.value.now b)
+    c.self.invariant.number_is
+    (subst (λ (u : List ℕ). IsEither s.index s.count s.number u c.args.value.now b)
+    c.self.invariant.value_is is)))
