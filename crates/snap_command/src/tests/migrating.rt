@@ -24,9 +24,9 @@ fn old_file(rt: &(impl Abort + AllocGlobal)) -> Result<MemDisk, Fail> {
     let mut disk = MemDisk::zeroed(rt.alloc(), OLD_LEN)?;
     let body: [u8; 18] = *b"\x00\x00\x00\x00\x00\x00\x00\x01\x00\x00\x00\x02\x00\x00\x00\x00hi";
     disk.write_at(0, b"SNAPSEG1\x00\x01")?;
-    for gate in [4095, 4096, 12_288] {
-        disk.write_at(gate, b"\xA5")?;
-    }
+    disk.write_at(4095, b"\xA5")?;
+    disk.write_at(4096, b"\xA5")?;
+    disk.write_at(12_288, b"\xA5")?;
     disk.write_at(16_384, &body)?;
     disk.sync()?;
     Ok(disk)
