@@ -29,6 +29,7 @@ bench: build
 	cd crates/bench_store && rt run -- "$$(mktemp -d)/F" 1
 	cd crates/bench_world && rt run -- 2 3 8
 	cd crates/bench_memory && rt run -- scan 3 2 50 8
+	cd crates/bench_restart && rt run -- memory . 0
 	python3 bench/run.py
 
 clean:

@@ -10,13 +10,18 @@ timed against those of the old format, which synced three times a store, in C: w
 Then it counts events a second of a world and lines a second of a script, each also ten times as long: the cost of an event
 is not to grow with their number. A script of 200 MB is to run with less than 10 MB resident. It counts the looks of a scan, alone and beside writers.
 
-Last it times looks, scans and updates of the memory that threads share against a C program with the same atomic steps and copies, by the
+Then it times looks, scans and updates of the memory that threads share against a C program with the same atomic steps and copies, by the
 time of the processor, and counts scans a second beside writers. The largest memory is to have at most 45 MB resident.
+
+Last it times durable updates beside bare stores of the same segment's code, in one process, in turn, each on a file or a device in memory
+of its own: the medians, and the median of the ratios of each pair. On a file an update is to cost at most 1.05 times a store. An opening
+of 16 files for 16 scanners is to take at most 10 ms more than their bare syncs and reads.
 """
 
 import argparse
 import pathlib
 import resource
+import statistics
 import subprocess
 import sys
 import tempfile
@@ -149,6 +154,33 @@ def looks():
         print(f"  {segments:>2} segments{'':<7}" + "".join(f"{looks_beside(segments, it):>30}" for it in schedules))
 
 
+RESTART = str(TOP / "crates" / "bench_restart" / "out" / "bench_restart")
+
+
+def pairs(work, folder, rounds):
+    """The nanoseconds of both things that a round times."""
+    run = subprocess.run([RESTART, work, folder, str(rounds)], check=True, stdout=subprocess.PIPE, text=True)
+    return [tuple(map(int, line.split())) for line in run.stdout.splitlines()]
+
+
+def durable(folder):
+    """Updates beside bare stores, and openings of all files beside bare syncs and reads."""
+    print(f"\n{'durable writers and restarts':<44} {'bare':>12} {'whole':>12}   ratio")
+    for work, rounds, aim in (("file", 1_000, "aim 1.05"), ("memory", 20_000, "the more in microseconds: {more:.2f}")):
+        place = folder / work
+        place.mkdir()
+        found = pairs(work, place, rounds)
+        bare, whole = (statistics.median(each) / 1000 for each in zip(*found))
+        ratio = statistics.median(update / store for store, update in found)
+        label = f"store and update, in a {work}" if work == "file" else "store and update, in memory"
+        print(f"{label:<44} {bare:>9,.1f} us {whole:>9,.1f} us   {ratio:.3f}   ({aim.format(more=whole - bare)})")
+    place = folder / "open"
+    place.mkdir()
+    whole, bare = (statistics.median(each) / 1e6 for each in zip(*pairs("open", place, 200)))
+    more = whole - bare
+    print(f"{'16 files: sync and read, and open_all':<44} {bare:>9,.2f} ms {whole:>9,.2f} ms   {more:.2f} ms more   (aim 10)")
+
+
 MEMORY = str(TOP / "crates" / "bench_memory" / "out" / "bench_memory")
 
 
@@ -250,6 +282,7 @@ def main():
         looks()
         memories(folder)
         small = largest_memory()
+        durable(folder)
         return 0 if few == more and fits and small else 1
 
 
