@@ -1,7 +1,7 @@
 //! Whole scans, as the numbers told in them.
 ghost use Rattle.std.specs.Prelude.{◌≡◌, ◌+◌, ◌-◌, ◌<◌, ◌≤◌, length, slice_index, IsTrue};
 
-use crate::{MAX_SEGMENTS, Next, Scan, most_looks};
+use snap_scan::{MAX_SEGMENTS, Next, Scan, most_looks};
 use std::process::Abort;
 
 /// Whether the number of this look is not below that of the look one collect before.
@@ -131,63 +131,60 @@ fn ask_all(rt: &impl Abort, segments: usize) -> Walk
     panic!(rt; "there are more lists")
 }
 
+/// This comes next after these numbers.
+fn comes_next(rt: &impl Abort, segments: usize, numbers: &[u64], want: Next)
+    requires least { 0 < segments }
+    requires most { segments ≤ MAX_SEGMENTS }
+{
+    assert_eq!(rt; answer_to(rt, segments, numbers), want);
+}
+
 #[test]
 fn clean_after_six(rt: HostRuntime) {
-    assert_eq!(rt; answer_to(&rt, 2, &[0, 0, 1, 0, 1, 0]), Next::Clean);
+    comes_next(&rt, 2, &[0, 0, 1, 0, 1, 0], Next::Clean);
 }
 
 #[test]
 fn late_show_clean_after_six(rt: HostRuntime) {
-    assert_eq!(rt; answer_to(&rt, 2, &[0, 1, 1, 1, 1, 1]), Next::Clean);
+    comes_next(&rt, 2, &[0, 1, 1, 1, 1, 1], Next::Clean);
 }
 
 #[test]
 fn borrowed_view(rt: HostRuntime) {
-    assert_eq!(rt; answer_to(&rt, 2, &[0, 0, 1, 0, 2]), Next::Borrow(0));
+    comes_next(&rt, 2, &[0, 0, 1, 0, 2], Next::Borrow(0));
 }
 
 #[test]
 fn quiet_scan(rt: HostRuntime) {
-    assert_eq!(rt; answer_to(&rt, 1, &[0, 0]), Next::Clean);
+    comes_next(&rt, 1, &[0, 0], Next::Clean);
 }
 
 /// Each collect but the last shows one more number risen by one, until all have: n(n + 2) looks.
 #[test]
 fn longest_scans(rt: HostRuntime) {
-    assert_eq!(rt; answer_to(&rt, 1, &[0, 1]), Next::Look(0));
-    assert_eq!(rt; answer_to(&rt, 1, &[0, 1, 1]), Next::Clean);
-    assert_eq!(rt; answer_to(&rt, 2, &[0, 0, 1, 0, 1, 1, 1]), Next::Look(1));
-    assert_eq!(rt; answer_to(&rt, 2, &[0, 0, 1, 0, 1, 1, 1, 1]), Next::Clean);
+    comes_next(&rt, 1, &[0, 1], Next::Look(0));
+    comes_next(&rt, 1, &[0, 1, 1], Next::Clean);
+    comes_next(&rt, 2, &[0, 0, 1, 0, 1, 1, 1], Next::Look(1));
+    comes_next(&rt, 2, &[0, 0, 1, 0, 1, 1, 1, 1], Next::Clean);
     let three = [0, 0, 0, 1, 0, 0, 1, 1, 0, 1, 1, 1, 1, 1, 1];
-    assert_eq!(rt; answer_to(&rt, 3, &three[..14]), Next::Look(2));
-    assert_eq!(rt; answer_to(&rt, 3, &three), Next::Clean);
+    comes_next(&rt, 3, &three[..14], Next::Look(2));
+    comes_next(&rt, 3, &three, Next::Clean);
 }
 
 #[test]
 fn bound_of_each_size(rt: HostRuntime) {
-    assert_eq!(rt; most_looks(1), 3);
-    assert_eq!(rt; most_looks(2), 8);
-    assert_eq!(rt; most_looks(3), 15);
-    assert_eq!(rt; most_looks(MAX_SEGMENTS), 288);
+    for (segments, looks) in [(1, 3), (2, 8), (3, 15), (MAX_SEGMENTS, 288)] {
+        assert!(rt; 0 < segments && segments <= MAX_SEGMENTS);
+        assert_eq!(rt; most_looks(segments), looks);
+    }
 }
 
 /// Numbers that start anywhere up to 3 and reach 3 at most, none of them falling. A program of
 /// another language counted the lists.
 #[test]
 fn all_short_lists(rt: HostRuntime) {
-    assert_eq!(rt; ask_all(&rt, 1), Walk { lists: 20, most: 3 });
-    assert_eq!(rt;
-        ask_all(&rt, 2),
-        Walk {
-            lists: 364,
-            most: 8
-        }
-    );
-    assert_eq!(rt;
-        ask_all(&rt, 3),
-        Walk {
-            lists: 7260,
-            most: 15
-        }
-    );
+    for (segments, lists, most) in [(1, 20, 3), (2, 364, 8), (3, 7260, 15)] {
+        assert!(rt; 0 < segments && segments <= 3);
+        assert_eq!(rt; ask_all(&rt, segments), Walk { lists, most });
+    }
 }

@@ -1,5 +1,5 @@
 //! The plain program on an example worked out by hand.
-use crate::*;
+use snap_history::{Update, memory_after};
 use std::test::Fail;
 
 #[test]

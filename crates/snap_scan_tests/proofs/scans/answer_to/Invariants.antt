@@ -1,5 +1,5 @@
 use Rattle.std.proofs.Common.{◌≡◌, take}
-use Rattle.snap_scan.proofs.tests.answer_to.Given as goal
+use Rattle.snap_scan_tests.proofs.scans.answer_to.Given as goal
 
 abbrev pub invariant-loop-look : goal.invariant-loop-look
 invariant-loop-look g l = record {
