@@ -20,16 +20,23 @@ struct Outcome {
     errors: Vec<u8>,
 }
 
+/// Writes these bytes, which lie within the file.
+fn writes(rt: &impl Abort, disk: &mut MemDisk, at: u64, bytes: &[u8]) {
+    let len = disk.len();
+    assert!(rt; disk.failures() < 1000 && at <= len && (bytes.len() as u64) <= len - at);
+    assert!(rt; disk.write_at(at, bytes).is_ok());
+}
+
 /// A file of the old format with number 1 and `hi`, behind number 0.
 fn old_file(rt: &(impl Abort + AllocGlobal)) -> Result<MemDisk, Fail> {
     let mut disk = MemDisk::zeroed(rt.alloc(), OLD_LEN)?;
-    let body: [u8; 18] = *b"\x00\x00\x00\x00\x00\x00\x00\x01\x00\x00\x00\x02\x00\x00\x00\x00hi";
-    disk.write_at(0, b"SNAPSEG1\x00\x01")?;
-    disk.write_at(4095, b"\xA5")?;
-    disk.write_at(4096, b"\xA5")?;
-    disk.write_at(12_288, b"\xA5")?;
-    disk.write_at(16_384, &body)?;
-    disk.sync()?;
+    let body = b"\x00\x00\x00\x00\x00\x00\x00\x01\x00\x00\x00\x02\x00\x00\x00\x00hi";
+    writes(rt, &mut disk, 0, b"SNAPSEG1\x00\x01");
+    writes(rt, &mut disk, 4095, b"\xA5");
+    writes(rt, &mut disk, 4096, b"\xA5");
+    writes(rt, &mut disk, 12_288, b"\xA5");
+    writes(rt, &mut disk, 16_384, body);
+    assert!(rt; disk.failures() == 0 && disk.sync().is_ok());
     Ok(disk)
 }
 
