@@ -2,7 +2,7 @@ use Rattle.std.proofs.Common.{◌≡◌, ◌+◌, sym, ap, ◌∙◌}
 use Rattle.snap_register.specs.Parts.{IsNewSeat}
 use Rattle.snap_register.specs.Seat.{Known}
 use Rattle.snap_memory.proofs.Popped.{last_has}
-use Rattle.snap_memory.proofs.tests.met_and_unmet_scanners.Goals as goal
+use Rattle.snap_memory_tests.proofs.tests.met_and_unmet_scanners.Goals as goal
 
 pub meet-requires : goal.meet-requires
 meet-requires g c =

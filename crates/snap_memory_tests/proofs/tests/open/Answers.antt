@@ -1,5 +1,5 @@
 use Rattle.std.proofs.Common.{IfOk, Result, Ok, Err}
-use Rattle.snap_memory.proofs.tests.open.Goals as goal
+use Rattle.snap_memory_tests.proofs.tests.open.Goals as goal
 
 if_ok : {T E : Type 0} (P Q : T → Type 0) (r : Result T E) → ((x : T) → P x → Q x) → IfOk r P
     → IfOk r Q

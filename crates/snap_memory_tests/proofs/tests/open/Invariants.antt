@@ -1,5 +1,5 @@
 use Rattle.std.proofs.Common.{◌≡◌, ℕ, ◌^◌, ◌<◌, ◌≤◌, length, Some, slice_get, Vec, Global}
-use Rattle.snap_memory.proofs.tests.open.Given as goal
+use Rattle.snap_memory_tests.proofs.tests.open.Given as goal
 
 abbrev pub invariant-loop : goal.invariant-loop
 invariant-loop l = record {

@@ -5,7 +5,7 @@ ghost use Rattle.snap_history.specs.declared.limits.TheConstants.{MAX_SCANNERS};
 ghost use Rattle.snap_register.specs.Rule.{segments};
 ghost use Rattle.snap_register.specs.Seat.{IsCollected};
 
-use crate::{Looker, Parts, ReadSeat, Registers, View, WriteSeat};
+use snap_register::{Looker, Parts, ReadSeat, Registers, View, WriteSeat};
 use snap_slot::MAX_VALUE_LEN;
 use std::alloc::{AllocError, Global};
 use std::test::Fail;

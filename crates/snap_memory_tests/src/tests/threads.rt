@@ -2,7 +2,7 @@
 ghost use Rattle.std.specs.Prelude.{◌<◌, ◌≤◌};
 
 use crate::tests::{open, scan, update};
-use crate::{Scanner, Snapshot};
+use snap_memory::{Scanner, Snapshot};
 use snap_register::{Parts, WriteSeat};
 use snap_scan::MAX_SEGMENTS;
 use std::alloc::{AllocError, Global};

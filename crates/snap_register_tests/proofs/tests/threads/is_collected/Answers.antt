@@ -1,8 +1,8 @@
 use Rattle.std.proofs.Common.{rules, ◌≡◌, ◌+◌, ap, sym, subst, ◌∙◌, ℕ}
 use Rattle.snap_register.specs.Rule.{segments}
 use Rattle.snap_register.specs.Seat.{Looks}
-use Rattle.snap_register.proofs.Twice.{twice}
-use Rattle.snap_register.proofs.tests.threads.is_collected.Goals as goal
+use Rattle.snap_register_tests.proofs.Twice.{twice}
+use Rattle.snap_register_tests.proofs.tests.threads.is_collected.Goals as goal
 
 pub returns : goal.returns
 returns c = λ same.

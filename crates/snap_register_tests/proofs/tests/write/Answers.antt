@@ -1,7 +1,7 @@
 use Rattle.std.proofs.Common.{◌≡◌, ℕ, [], refl, ap, sym, subst, ◌∙◌, arith, append-nil, Some}
 use Rattle.snap_register.specs.Seat.{Known, looked, number_in}
 use Rattle.snap_register.specs.Rule.{segments}
-use Rattle.snap_register.proofs.tests.write.Goals as goal
+use Rattle.snap_register_tests.proofs.tests.write.Goals as goal
 
 pub publish-requires-clause-view : goal.publish-requires-clause-view
 publish-requires-clause-view c =

@@ -1,9 +1,8 @@
 //! Scans between whose looks updates are shown.
 ghost use Rattle.std.specs.Prelude.{◌≡◌, ◌≤◌, ◌<◌, length};
 
-use crate::looks::scan;
-use crate::tests::{has, open, update};
-use crate::{Snapshot, prepare, show};
+use crate::tests::{open, update};
+use snap_memory::{prepare, scan, show};
 use snap_register::{Looker, Parts, ReadSeat, SnapshotBuf, WriteSeat};
 use snap_scan::most_looks;
 use std::alloc::{AllocError, Global};
@@ -11,6 +10,11 @@ use std::process::Abort;
 use std::sync::atomic::{AtomicU64, Ordering};
 use std::test::Fail;
 use std::thread::{join, yield_now};
+
+/// Whether the snapshot has this number and value.
+fn has(snapshot: &SnapshotBuf, i: usize, number: u64, value: &[u8]) -> bool {
+    i < snapshot.len() && snapshot.number(i) == number && snapshot.value(i) == value
+}
 
 /// An update of the segment to this one byte, before the look so many looks after the first.
 #[derive(Drop)]
@@ -102,14 +106,14 @@ impl Looker for Staged<'_> {
 }
 
 /// A scan of two segments: whether each look told this number, and no further look was taken.
-fn tells(staged: &mut Staged, out: &mut Snapshot, wanted: &[u64]) -> bool {
+fn tells(staged: &mut Staged, out: &mut SnapshotBuf, wanted: &[u64]) -> bool {
     if staged.segments() != out.len() || staged.segments() > 2 {
         return false;
     }
     if staged.looks_left() < most_looks(2) as u64 {
         return false;
     }
-    scan(staged, &mut out.buf);
+    scan(staged, out);
     staged.looks == wanted.len() && staged.told.as_slice().starts_with(wanted)
 }
 
@@ -119,7 +123,7 @@ fn scan_while(
     alloc: Global,
     updates: &[Late],
     wanted: &[u64],
-) -> Result<Snapshot, AllocError> {
+) -> Result<SnapshotBuf, AllocError> {
     let Parts {
         writers,
         mut scanners,
@@ -135,7 +139,7 @@ fn scan_while(
         told: [0; 8],
         looks: 0,
     };
-    let mut out = Snapshot::new(alloc, 2)?;
+    let mut out = SnapshotBuf::new(alloc, 2)?;
     assert!(rt; tells(&mut staged, &mut out, wanted));
     Ok(out)
 }
@@ -198,7 +202,7 @@ fn late_show_inside_a_scan(rt: HostRuntime) -> Result<(), Fail> {
         panic!(rt; "a seat is missing")
     };
     let turn = AtomicU64::new(0);
-    let mut out = Snapshot::new(rt.alloc(), 2)?;
+    let mut out = SnapshotBuf::new(rt.alloc(), 2)?;
     let mut staged = Staged {
         seat,
         writers,
