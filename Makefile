@@ -1,7 +1,7 @@
 # Two commands for a stranger: `make demo` builds the program and runs its first job, `make test` runs every test.
 # They want the kit (`rt` on the PATH), python3 and gcc.
 
-.PHONY: build demo test tests bench clean
+.PHONY: build programs demo test tests bench clean
 
 # The program is proved before it is built, so the first build takes some minutes and the next ones seconds. `rt run`
 # ends with the status of the program, and leaves it in crates/snapd/out.
@@ -17,8 +17,12 @@ demo: build
 test:
 	python3 tests/all.py
 
+# The program that one of the end-to-end tests runs beside snapd. The merge gate leaves it too.
+programs:
+	cd crates/restart_allocations && rt run -- scanned
+
 # The end-to-end tests alone.
-tests: build
+tests: build programs
 	python3 tests/run.py
 
 bench: build

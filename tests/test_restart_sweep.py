@@ -1,4 +1,4 @@
-"""The table of faults of an opening that the program `restart_sweep` prints is the one that an independent model prints."""
+"""The table of faults and stops of an opening, and of random bytes, that the program `restart_sweep` prints is the one that an independent model prints."""
 
 import pathlib
 import subprocess

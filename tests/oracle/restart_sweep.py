@@ -2,10 +2,14 @@
 """Works out what crates/restart_sweep must print, from the disk model and the order of an opening's calls alone.
 
 Of three files only the second has an open place: the gate that its store opened, which was not synced. So all that has to
-be known of it is that gate's byte, and what a fault or a crash leaves there.
+be known of it is that gate's byte, and what a fault or a crash leaves there. Of random bytes all that has to be known is the
+byte of the header's gate: where it is open, what lies before it is no header.
 """
 
 FILLS = {"keep": None, "00": 0x00, "a5": 0xA5}
+CALLS = 6
+HEADER_GATE = 4095
+SEEDS = (1, 2, 3, 4, 19, 291, 399, 2**64 - 1)
 
 
 class Gate:
@@ -41,16 +45,42 @@ def report(stored):
     )
 
 
+def row(how, call, fill):
+    """One line: the opening ended at this call, if there is such a one, and a crash with each fill came behind it."""
+    cells = []
+    for crash in FILLS:
+        gate = after_fault(call, fill)
+        gate.fill(crash)
+        cells.append(report(gate.byte == 0xA5))
+    answer = f"DeviceFailed at segment {call // 2}" if call < CALLS else report(True)
+    print(f"{how}: {answer}; " + " | ".join(cells))
+
+
+def drawn(place):
+    """The byte at this place of the random sequence: a middle byte of the square of a linear congruential number."""
+    root = (place * 6364136223846793005 + 1442695040888963407) % 2**64
+    return root * root % 2**64 >> 32 & 0xFF
+
+
+def noise_row(seed):
+    """Every call that looks at the header reads from the place 0 on, and draws from the seed on."""
+    if drawn((seed + HEADER_GATE) % 2**64) == 0xA5:
+        opened, found, formatted = "WrongFile", "header wrong", "AlreadyFormatted"
+    else:
+        opened, found, formatted = "Unformatted", "header unformatted", "formatted"
+    print(f"seed {seed}: {opened}, {opened} at segment 0, {found}, {formatted}, {opened} of the old file")
+
+
 def main():
     print("opening of 3 files; then a crash with keep | 00 | a5, and an opening")
-    for call in range(6):
-        for fault in FILLS:
-            cells = []
-            for crash in FILLS:
-                gate = after_fault(call, fault)
-                gate.fill(crash)
-                cells.append(report(gate.byte == 0xA5))
-            print(f"call {call} fails {fault}: DeviceFailed at segment {call // 2}; " + " | ".join(cells))
+    for call in range(CALLS):
+        for fill in FILLS:
+            row(f"call {call} fails {fill}", call, fill)
+    for passes in range(CALLS + 1):
+        row(f"stop behind {passes}", passes, "keep")
+    print("random bytes: open, open all of 3, check, format, migrate from them")
+    for seed in SEEDS:
+        noise_row(seed)
 
 
 main()

@@ -1,40 +1,12 @@
 //! The files, and what an opening of them all answers.
+use crate::stop::Garbage;
 use snap_disk::{Disk, FILE_LEN, FaultPlan, Fill, MemDisk, Refusal};
 use snap_restart::open_all;
 use snap_segment::{Segment, format};
 use std::alloc::Global;
+use std::io;
 use std::io::ErrorKind;
 use std::string::String;
-use std::{fmt, io};
-
-/// What stands at the touched places: the bytes that were there, or the byte of a closed or an open
-/// gate.
-#[derive(Clone, Copy)]
-pub enum Garbage {
-    Keep,
-    Closed,
-    Open,
-}
-
-impl Garbage {
-    pub(crate) fn fill(self) -> Fill {
-        match self {
-            Garbage::Keep => Fill::Keep,
-            Garbage::Closed => Fill::All(0x00),
-            Garbage::Open => Fill::All(0xA5),
-        }
-    }
-}
-
-impl fmt::Display for Garbage {
-    fn fmt<W: fmt::Write>(&self, f: &mut fmt::Formatter<W>) -> fmt::Result {
-        f.write_str(match self {
-            Garbage::Keep => "keep",
-            Garbage::Closed => "00",
-            Garbage::Open => "a5",
-        })
-    }
-}
 
 /// Three files: one with `hi`, one in which the last sync of a store of `hi` failed, and a new one.
 pub(crate) fn three_files(alloc: Global) -> io::Result<Vec<MemDisk>> {
@@ -92,7 +64,10 @@ pub(crate) fn crash_all(alloc: Global, devices: &mut Vec<MemDisk>, garbage: Garb
 }
 
 /// What an opening of all files answers, in words, and the devices.
-pub(crate) fn found(alloc: Global, devices: Vec<MemDisk>) -> io::Result<(String, Vec<MemDisk>)> {
+pub(crate) fn found<D: Disk + Drop>(
+    alloc: Global,
+    devices: Vec<D>,
+) -> io::Result<(String, Vec<D>)> {
     if devices.is_empty() || devices.len() > 16 || !devices.iter().all(|disk| disk.failures() < 9) {
         return Err(ErrorKind::InvalidData.into());
     }

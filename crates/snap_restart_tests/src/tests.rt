@@ -10,6 +10,8 @@ use std::alloc::Global;
 use std::process::Abort;
 use std::test::Fail;
 
+mod held;
+
 /// The new files of so many segments.
 fn fresh(rt: &(impl Abort + AllocGlobal), count: u8) -> Result<Vec<MemDisk>, Fail> {
     let mut devices = Vec::new(rt.alloc());
