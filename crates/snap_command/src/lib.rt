@@ -13,6 +13,3 @@ mod migrating;
 pub use acting::act;
 pub use failure::Failure;
 pub use migrating::{MigrationFailure, act_pair};
-
-#[cfg(test)]
-mod tests;

@@ -1,149 +1,96 @@
-//! Scans and updates by hand, and in threads.
-ghost use Rattle.std.specs.Prelude.{◌≡◌, ℕ, ◌^◌, ◌<◌, ◌≤◌, length, IfOk};
-ghost use Rattle.atomic_table.specs.Seated.{TableId};
-ghost use Rattle.snap_register.specs.declared.plan.Plan.{Plan};
-ghost use Rattle.snap_register.specs.Parts.{AreWriters, AreReaders};
+//! A scan whose values are read long after its looks.
+ghost use Rattle.std.specs.Prelude.{◌≡◌, ℕ, ◌<◌, slice_index, Some, IfSome};
+ghost use Rattle.snap_register.specs.Rule.{segments};
+ghost use Rattle.snap_register.specs.Seat.{looked};
 
-use crate::{Scanner, Snapshot, prepare, show};
-use snap_disk::Refusal;
-use snap_register::{Looker, Parts, Registers, WriteSeat};
-use snap_scan::most_looks;
-use snap_slot::MAX_VALUE_LEN;
+use crate::looks::{gather, read_all};
+use crate::{Snapshot, prepare, show};
+use snap_register::{Looker, Parts, ReadSeat, Registers, View, WriteSeat};
+use snap_scan::{MAX_SEGMENTS, most_looks};
 use std::alloc::{AllocError, Global};
-use std::process::Abort;
+use std::ops::Range;
 use std::test::Fail;
 
-mod pinned;
-mod staged;
-mod threads;
-
-/// Registers of so many segments, each at number 0 with the empty value.
-fn open(alloc: Global, segments: usize, scanners: usize, looks: u64) -> Result<Parts, AllocError>
-    requires segments { (0 < segments) × (segments ≤ 16) }
-    requires scanners { scanners ≤ 16 }
-    requires looks { looks ≤ 2 ^ 50 }
-    ensures writers { IfOk result (λ r. length r.writers.items ≡ segments) }
-    ensures scanners { IfOk result (λ r. length r.scanners.items ≡ scanners) }
-    ensures seats { IfOk result (λ r. (z : TableId) × (p : Plan)
-        × AreWriters z p r.writers.items × AreReaders z p r.scanners.items) }
-{
+/// Registers of one segment at number 0 with the empty value, for two scanners.
+fn open(alloc: Global) -> Result<Parts, AllocError> {
     let mut values = Vec::new(alloc);
-    for _ in 0..segments {
-        values.push((0, Vec::new(alloc)))?;
-    }
-    Registers::open(alloc, &values, scanners, looks)
+    values.push((0, Vec::new(alloc)))?;
+    Registers::open(alloc, &values, 2, 1000)
 }
 
-/// An update, its scan and its publication, where the seat has the looks for it.
-fn update(writer: &mut WriteSeat, value: &[u8]) -> Option<u64>
-    ensures table { writer.new.table ≡ writer.old.table }
-    ensures plan { writer.new.plan ≡ writer.old.plan }
+/// Updates to these values of one byte, where the seat has the looks for them. Answers the last
+/// one's number.
+fn update_all(writer: &mut WriteSeat, values: Range<u8>) -> Option<u64> {
+    let mut last = None;
+    for value in values {
+        if writer.looks_left() < most_looks(writer.segments()) as u64 {
+            return None;
+        }
+        let view = prepare(writer);
+        if writer.number() >= 1 << 62 {
+            return None;
+        }
+        last = Some(show(writer, &[value], view));
+    }
+    last
+}
+
+/// The looks of a clean scan: the numbers that they told.
+fn look_all(seat: &mut ReadSeat) -> Option<[u64; MAX_SEGMENTS]>
+    ensures { IfSome result (λ numbers. (i : ℕ) → i < segments seat.new.plan
+        → looked seat.new i ≡ Some (slice_index numbers i)) }
 {
-    if writer.looks_left() < most_looks(writer.segments()) as u64 || value.len() > MAX_VALUE_LEN {
+    if seat.looks_left() < most_looks(seat.segments()) as u64 {
         return None;
     }
-    let view = prepare(writer);
-    if writer.number() >= 1 << 62 {
-        return None;
+    let mut numbers = [0; MAX_SEGMENTS];
+    match gather(seat, &mut numbers) {
+        View::Collected => Some(numbers),
+        View::Borrowed(_) => None,
     }
-    Some(show(writer, value, view))
 }
 
-/// A scan, where the snapshot fits.
-fn scan(scanner: &mut Scanner, out: &mut Snapshot) -> Option<Result<(), Refusal>> {
-    if out.len() != scanner.segments() {
-        return None;
-    }
-    Some(scanner.scan_into(out))
-}
-
-/// Whether the snapshot has this number and value.
-fn has(snapshot: &Snapshot, i: usize, number: u64, value: &[u8]) -> bool {
-    i < snapshot.len() && snapshot.number(i) == number && snapshot.value(i) == value
-}
-
-/// One segment's writer, and one scanner.
-fn open_two(rt: &impl Abort, alloc: Global, looks: u64) -> Result<(WriteSeat, Scanner), AllocError>
-    requires looks { looks ≤ 2 ^ 50 }
+/// Reads the values of these looks. Whether the one segment has this number and value.
+fn reads(
+    seat: &mut ReadSeat,
+    numbers: &[u64; MAX_SEGMENTS],
+    out: &mut Snapshot,
+    number: u64,
+    value: &[u8],
+) -> bool
+    requires { (i : ℕ) → i < segments seat.old.plan
+        → looked seat.old i ≡ Some (slice_index numbers.now i) }
 {
+    if out.len() != seat.segments() {
+        return false;
+    }
+    read_all(seat, numbers, &mut out.buf);
+    out.len() == 1 && out.number(0) == number && out.value(0) == value
+}
+
+#[test]
+fn two_pins_and_a_hundred_updates(rt: HostRuntime) -> Result<(), Fail> {
     let Parts {
         mut writers,
         mut scanners,
-    } = open(alloc, 1, 1, looks)?;
-    let (Some(writer), Some(seat)) = (writers.pop(), scanners.pop()) else {
+    } = open(rt.alloc())?;
+    let (Some(mut writer), Some(mut a), Some(mut b)) = (
+        writers.pop(),
+        scanners.pop(),
+        scanners.pop(),
+    ) else {
         panic!(rt; "a seat is missing")
     };
-    Ok((writer, Scanner::new(seat)))
-}
-
-#[test]
-fn quiet_scan(rt: HostRuntime) -> Result<(), Fail> {
-    let (_, mut scanner) = open_two(&rt, rt.alloc(), 10)?;
-    let mut snapshot = Snapshot::new(rt.alloc(), 1)?;
-    assert!(rt; scan(&mut scanner, &mut snapshot) == Some(Ok(())));
-    assert!(rt; scanner.looks_left() == 8);
-    assert!(rt; has(&snapshot, 0, 0, &[]));
-    Ok(())
-}
-
-#[test]
-fn worn_scanner_and_writer(rt: HostRuntime) -> Result<(), Fail> {
-    let (mut writer, mut scanner) = open_two(&rt, rt.alloc(), 4)?;
-    let mut snapshot = Snapshot::new(rt.alloc(), 1)?;
-    assert!(rt; scan(&mut scanner, &mut snapshot) == Some(Ok(())));
-    assert!(rt; update(&mut writer, b"61") == Some(1));
-    assert!(rt; scan(&mut scanner, &mut snapshot) == Some(Err(Refusal::Worn)));
-    assert!(rt; scanner.looks_left() == 2 && writer.looks_left() == 2);
-    assert!(rt; has(&snapshot, 0, 0, &[]));
-    assert!(rt; update(&mut writer, b"62").is_none());
-    Ok(())
-}
-
-#[test]
-fn five_thousand_updates(rt: HostRuntime) -> Result<(), Fail> {
-    let (mut writer, mut scanner) = open_two(&rt, rt.alloc(), 20_000)?;
-    let mut snapshot = Snapshot::new(rt.alloc(), 1)?;
-    for number in 1..5001u64 {
-        let value = number.to_be_bytes();
-        assert!(rt; update(&mut writer, &value) == Some(number));
-        assert!(rt; scan(&mut scanner, &mut snapshot) == Some(Ok(())));
-        assert!(rt; has(&snapshot, 0, number, &value));
-    }
-    assert!(rt; writer.looks_left() == 10_000 && scanner.looks_left() == 10_000);
-    Ok(())
-}
-
-#[test]
-fn met_and_unmet_scanners(rt: HostRuntime) -> Result<(), Fail> {
-    let Parts {
-        mut writers,
-        mut scanners,
-    } = open(rt.alloc(), 1, 2, 100)?;
-    let (Some(mut writer), Some(met), Some(unmet)) = (writers.pop(), scanners.pop(), scanners.pop())
-    else {
-        panic!(rt; "a seat is missing")
+    let mut out = Snapshot::new(rt.alloc(), 1)?;
+    let Some(of_none) = look_all(&mut a) else {
+        panic!(rt; "the scan is not clean")
     };
-    let mut met = Scanner::new(met);
-    let mut unmet = Scanner::new(unmet);
-    assert!(rt; update(&mut writer, b"hi") == Some(1));
-    met.meet(&mut writer);
-    let mut snapshot = Snapshot::new(rt.alloc(), 1)?;
-    assert!(rt; scan(&mut met, &mut snapshot) == Some(Ok(())));
-    assert!(rt; has(&snapshot, 0, 1, b"hi"));
-    let mut snapshot = Snapshot::new(rt.alloc(), 1)?;
-    assert!(rt; scan(&mut unmet, &mut snapshot) == Some(Ok(())));
-    assert!(rt; has(&snapshot, 0, 1, b"hi"));
-    Ok(())
-}
-
-#[test]
-fn reads_one(rt: HostRuntime) -> Result<(), Fail> {
-    let (mut writer, mut scanner) = open_two(&rt, rt.alloc(), 10)?;
-    let mut room = [0; MAX_VALUE_LEN];
-    assert!(rt; update(&mut writer, &[7; 4080]) == Some(1));
-    assert!(rt; scanner.looks_left() > 0 && scanner.segments() == 1);
-    let (number, length) = scanner.read_one(0, &mut room);
-    assert!(rt; number == 1 && length == 4080 && room == [7; 4080]);
-    assert!(rt; scanner.looks_left() == 9);
+    assert!(rt; update_all(&mut writer, 1..2) == Some(1));
+    let Some(of_one) = look_all(&mut b) else {
+        panic!(rt; "the scan is not clean")
+    };
+    assert!(rt; update_all(&mut writer, 2..102) == Some(101));
+    assert!(rt; reads(&mut a, &of_none, &mut out, 0, &[]));
+    assert!(rt; reads(&mut b, &of_one, &mut out, 1, &[1]));
     Ok(())
 }

@@ -11,7 +11,6 @@ pub mod Views
 pub mod Opens
 pub mod Updates
 pub mod Looks
-pub mod Twice
 pub mod Drafts
 pub mod Pushing
 pub mod Packed

@@ -1,11 +1,13 @@
 -- What a call changes of a seat at its table.
 use Rattle.std.specs.Prelude.{◌≡◌, ℕ, ◌-◌, ◌<◌, List, [], length, slice_index}
 use Rattle.atomic_table.specs.Table.{Me}
+use Rattle.atomic_table.specs.declared.shared.Seat.{Seat}
 use Rattle.snap_register.specs.declared.access.Access.{Access}
 use Rattle.snap_register.specs.declared.plan.Pool.{Pool}
 use Rattle.snap_register.specs.declared.plan.SeatView.{SeatView}
 use Rattle.snap_register.specs.Held.{held}
 use Rattle.snap_register.specs.Rule.{segments, buffers, width, cell, IsWriter, Learns}
+use Rattle.snap_register.specs.Setup.{IsSeated}
 
 -- the seat writes the segment i alone, which there is
 abbrev pub Owns : SeatView → ℕ → Type 0
@@ -41,6 +43,10 @@ HasHeard m n = Learns m.0 n.0 × (n.1 ≡ m.1)
 -- it is the same seat of the same table, with as many looks left
 abbrev pub IsSameSeat : Access → Access → Type 0
 IsSameSeat a b = (b.seat.table_id ≡ a.seat.table_id) × (b.seat.id ≡ a.seat.id) × (b.left ≡ a.left)
+
+-- the seat stands where an access keeps it
+abbrev pub HasSeat : Seat (Unit {0}) SeatView → Type 0
+HasSeat s = (pins : List ℕ) × (left : ℕ) × IsSeated s.table_id.words pins left s.me
 
 -- and it knows the same
 abbrev pub IsSame : Access → Access → Type 0

@@ -1,17 +1,17 @@
 //! Looks: a seat gives its old pin back, pins the current buffer, and reads what is pinned.
 ghost use Rattle.std.specs.Prelude.{◌≡◌, ℕ, ◌+◌, ◌^◌, ◌<◌, ◌≤◌, length, slice_index};
-ghost use Rattle.std.specs.Prelude.{slice_get, slice_set, take, Some};
+ghost use Rattle.std.specs.Prelude.{◌*◌, slice_get, slice_set, take, Some};
 ghost use Rattle.snap_slot.specs.declared.layout.TheConstants.{MAX_VALUE_LEN};
 ghost use Rattle.snap_register.specs.declared.packing.TheConstants.{BLOCK_WORDS};
 ghost use Rattle.snap_register.specs.History.{number};
 ghost use Rattle.snap_register.specs.Rule.{segments, Learns, IsLegal};
-ghost use Rattle.snap_register.specs.Packing.{IsWhole, size_at, value_at};
+ghost use Rattle.snap_register.specs.Packing.{IsWhole, bytes_at, size_at, value_at};
 ghost use Rattle.snap_register.specs.Held.{held, view_in, IsPinned, HasLookedFrom};
-ghost use Rattle.snap_register.specs.Steps.{HasPin, LiesAt, IsSame};
+ghost use Rattle.snap_register.specs.Steps.{HasPin, LiesAt, IsSame, HasSeat};
 
 use crate::access::{Access, PIN_RANGE};
 use crate::packing::block_size;
-use crate::setup::{GiveBack, Pin, Read};
+use crate::setup::{GiveBack, Pin, Read, TableSeat, WordTable};
 use crate::snapshot::{Held, SnapshotBuf};
 
 impl Access {
@@ -89,7 +89,7 @@ impl Access {
         ensures legal { IsLegal self.old.seat.me.0.plan self.old.seat.me.0.seen }
         ensures same { IsSame self.old self.new }
     {
-        self.table.shared.load::<Read>(&mut self.seat, place)
+        load_word(&self.table, &mut self.seat, place)
     }
 
     /// The word q of the pinned record of j.
@@ -137,13 +137,9 @@ impl Access {
             × (result ≤ MAX_VALUE_LEN) }
         ensures same { IsSame self.old self.new }
     {
-        let first = self.place(j, at);
+        let place = self.place(j, at);
         let length = self.read(j, at + 1) as usize;
-        for q in 0..(length + 7) / 8 {
-            let word = self.load(first + 2 + q);
-            let to = 8 * q;
-            out[to..to + 8].copy_from_slice(&word.to_le_bytes());
-        }
+        copy_value(&self.table, &mut self.seat, place, (length + 7) / 8, out);
         length
     }
 
@@ -180,4 +176,41 @@ impl Access {
         out.length = self.read_value(j, at, &mut out.bytes);
         block_size(out.length)
     }
+}
+
+// Writes the value of the block at this place of a pinned record, which takes this many words, to
+// the front of `out`. The table comes by itself, so that no word needs a look-up of where it is.
+fn copy_value(table: &WordTable, seat: &mut TableSeat, place: usize, count: usize, out: &mut [u8])
+    requires own { seat.old.table_id ≡ table.now.shared.table_id }
+    requires seated { HasSeat seat.old }
+    requires block { (j : ℕ) × (at : ℕ) × LiesAt seat.old.me.0 j at place
+        × (at + 2 + count ≤ length (held seat.old.me.0 j)) }
+    requires fits { place + 2 + count < 2 ^ 64 }
+    requires room { 8 * count ≤ length out.old }
+    ensures size { length out.new ≡ length out.old }
+    ensures bytes { (j at : ℕ) → LiesAt seat.old.me.0 j at place
+        → at + 2 + count ≤ length (held seat.old.me.0 j)
+        → take (8 * count) out.new ≡ bytes_at (held seat.old.me.0 j) (at + 2) count }
+    ensures same { (seat.new.table_id ≡ seat.old.table_id) × (seat.new.id ≡ seat.old.id)
+        × (seat.new.me ≡ seat.old.me) }
+{
+    for q in 0..count {
+        let word = load_word(table, seat, place + 2 + q);
+        let to = 8 * q;
+        out[to..to + 8].copy_from_slice(&word.to_le_bytes());
+    }
+}
+
+// The word at this place of the table.
+fn load_word(table: &WordTable, seat: &mut TableSeat, place: usize) -> u64
+    requires own { seat.old.table_id ≡ table.now.shared.table_id }
+    requires seated { HasSeat seat.old }
+    requires place { (j : ℕ) × (q : ℕ) × LiesAt seat.old.me.0 j q place }
+    ensures word { (j q : ℕ) → LiesAt seat.old.me.0 j q place
+        → result ≡ slice_index (held seat.old.me.0 j) q }
+    ensures legal { IsLegal seat.old.me.0.plan seat.old.me.0.seen }
+    ensures same { (seat.new.table_id ≡ seat.old.table_id) × (seat.new.id ≡ seat.old.id)
+        × (seat.new.me ≡ seat.old.me) }
+{
+    table.shared.load::<Read>(seat, place)
 }

@@ -25,8 +25,6 @@ mod limits;
 mod machine;
 mod next;
 mod scan;
-#[cfg(test)]
-mod tests;
 mod told;
 
 pub use limits::{MAX_SEGMENTS, most_looks};

@@ -29,6 +29,3 @@ pub use fault::LineFault;
 pub use playing::play;
 pub use run::{MAX_LINE, ScriptEnd, script};
 pub use verb::Verb;
-
-#[cfg(test)]
-mod tests;

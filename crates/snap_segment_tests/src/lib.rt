@@ -3,4 +3,10 @@
 #![tactic(auto)]
 
 #[cfg(test)]
-mod tests;
+mod damage;
+#[cfg(test)]
+mod devices;
+#[cfg(test)]
+mod migrations;
+#[cfg(test)]
+mod stores;

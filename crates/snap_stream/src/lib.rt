@@ -12,6 +12,3 @@ mod whole;
 pub use complaint::{complain, complain_of_refusal};
 pub use test_stream::TestStream;
 pub use whole::{read_up_to, write_whole};
-
-#[cfg(test)]
-mod tests;

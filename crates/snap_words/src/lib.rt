@@ -12,6 +12,3 @@ mod words;
 
 pub use fault::WordFault;
 pub use words::order;
-
-#[cfg(test)]
-mod tests;

@@ -1,65 +1,69 @@
-use Rattle.std.proofs.Common.{rules, ◌≡◌, ℕ, ◌+◌, ◌-◌, ◌<◌, ◌≤◌, ◌*◌, ◌++◌, List, length, get_or, ap, sym, subst, ◌∙◌, arith}
-use Rattle.std.specs.Int.{w64, to_le_bytes}
-use Rattle.std.proofs.lemmas.Slice.{take-put_mid}
+use Rattle.std.proofs.Common.{rules, ◌≡◌, ℕ, ◌+◌, ◌*◌, ◌/◌, ◌^◌, ◌<◌, ◌≤◌, List, length, take, ap, sym, subst, ◌∙◌, arith}
+use Rattle.std.proofs.lemmas.List.{take-take}
 use Rattle.atomic_table.specs.Table.{Me}
 use Rattle.snap_register.specs.declared.plan.SeatView.{SeatView}
 use Rattle.snap_register.specs.Held.{held}
-use Rattle.snap_register.specs.Packing.{length_at, words_for}
+use Rattle.snap_register.specs.Packing.{bytes_at, length_at, words_for}
 use Rattle.snap_register.specs.Steps.{LiesAt}
-use Rattle.snap_register.proofs.Blocks.{bytes_more}
-use Rattle.snap_register.proofs.Spots.{lies_more}
 use Rattle.snap_register.proofs.access.Access.read_value.Goals as goal
-use Rattle.snap_register.proofs.access.Access.read_value.Goals.{In-loop-q}
+use Rattle.snap_register.proofs.access.Access.read_value.Goals.{After-read-length}
 
--- where the next word of the value lies
-lies : (c : In-loop-q)
-    → LiesAt c.loop-q.self.seat.me.0 c.args.j (c.args.at + 2 + c.loop-q.q)
-    (c.place-first.result + 2 + c.loop-q.q)
-lies c =
-    let a = c.args.self.now.seat.me in
-    let w : List ℕ = held a.0 c.args.j in
+-- where the block lies
+lies : (c : After-read-length) → LiesAt c.read-length.new.self.seat.me.0 c.args.j c.args.at
+    c.place-place.result
+lies c = subst (λ (m : Me (Unit {0}) SeatView). LiesAt m.0 c.args.j c.args.at c.place-place.result)
+    (sym c.read-length.ensures.same.2) c.place-place.ensures.place
+
+-- its value lies in the record
+fits : (c : After-read-length) → c.args.at + 2 + (c.read-length.result + 7) / 8
+    ≤ length (held c.read-length.new.self.seat.me.0 c.args.j)
+fits c =
+    let w : List ℕ = held c.args.self.now.seat.me.0 c.args.j in
     let at : ℕ = c.args.at in
-    let q : ℕ = c.loop-q.q in
-    let first : ℕ = c.place-first.result in
-    let same : c.loop-q.self.seat.me ≡ a = c.loop-q.invariant.me ∙ c.read-length.ensures.same.2 in
-    let told : c.read-length.result ≡ length_at w at = c.read-length.ensures.word in
-    let lt = c.loop-q-test.true in
-    let inside : at + (2 + words_for (length_at w at)) ≤ length w = c.requires.block.inside in
-    let lt' : at + 2 + q < length w = omega arith in
-    subst (λ (m : Me (Unit {0}) SeatView). LiesAt m.0 c.args.j (at + 2 + q) (first + 2 + q))
-    (sym same) (lies_more a.0 c.args.j at (2 + q) (at + 2 + q) first (first + 2 + q)
-    c.place-first.ensures.place lt' (omega arith) (omega arith))
+    let n : ℕ = c.read-length.result in
+    let told : n ≡ length_at w at = c.read-length.ensures.word in
+    let end : at + (2 + words_for (length_at w at)) ≤ length w = c.requires.block.inside in
+    let inside : at + (2 + words_for n) ≤ length w =
+    subst (λ (z : ℕ). at + (2 + words_for z) ≤ length w) (sym told) end in
+    subst (λ (m : Me (Unit {0}) SeatView). at + 2 + (n + 7) / 8 ≤ length (held m.0 c.args.j))
+    (sym c.read-length.ensures.same.2) (let goal : at + 2 + (n + 7) / 8 ≤ length w = omega arith in
+    goal)
 
-pub load-word-requires : goal.load-word-requires
-load-word-requires c = record {
-  place = (
-    c.args.j,
-    c.args.at + 2 + c.loop-q.q,
-    lies (goal.at.load-word-requires c).In-loop-q,
-  );
-}
-
-pub loop-q-preserved : goal.loop-q-preserved
-loop-q-preserved c =
-    let q : ℕ = c.loop-q.q in
-    let from : ℕ = c.args.at + 2 in
-    let w : List ℕ = held c.read-length.new.self.seat.me.0 c.args.j in
-    let long : length c.copy_from_slice.new.self ≡ 8 =
-    omega (arith, c.copy_from_slice.ensures.len) in
-    let same = c.load-word.ensures.same in
-    let inv = c.loop-q.invariant in
-    let word : c.load-word.result ≡ get_or w (from + q) 0 =
-    c.load-word.ensures.word c.args.j (from + q) (lies (goal.at.loop-q-preserved c).In-loop-q)
-    ∙ ap (λ (m : Me (Unit {0}) SeatView). get_or (held m.0 c.args.j) (from + q) 0) inv.me in
-    let bytes : c.copy_from_slice.new.self ≡ to_le_bytes w64 (get_or w (from + q) 0) =
-    c.copy_from_slice.ensures.after ∙ (c.to_le_bytes.ensures ∙ ap (to_le_bytes w64) word) in
+pub copy_value-requires : goal.copy_value-requires
+copy_value-requires c =
+    let b = c.read-length.new.self in
+    let own : b.seat.table_id ≡ c.deref.result.now.shared.table_id = search rules in
+    let e = (goal.at.copy_value-requires c).After-read-length in
+    let inside = fits e in
+    let same : length (held b.seat.me.0 c.args.j) ≡ length (held c.args.self.now.seat.me.0 c.args.j) =
+    ap (λ (m : Me (Unit {0}) SeatView). length (held m.0 c.args.j)) c.read-length.ensures.same.2 in
+    let small : c.place-place.result + length (held c.args.self.now.seat.me.0 c.args.j)
+        < 2 ^ 64 + c.args.at = c.place-place.ensures.fits in
+    let short : length_at (held c.args.self.now.seat.me.0 c.args.j) c.args.at ≤ 4080 =
+    c.requires.block.short in
+    let told : c.read-length.result
+        ≡ length_at (held c.args.self.now.seat.me.0 c.args.j) c.args.at =
+    c.read-length.ensures.word in
+    let room = c.requires.room in
     record {
-      table = same.0 ∙ inv.table;
-      id = same.1 ∙ inv.id;
-      me = same.2 ∙ inv.me;
-      left = same.3 ∙ inv.left;
-      long = search rules;
-      bytes = take-put_mid (8 * q) (8 * q + 8 - 8 * q) c.loop-q.out c.copy_from_slice.new.self
-          (8 * (q + 1)) (omega arith) (omega arith)
-          ∙ ((λ i. inv.bytes i ++ bytes i) ∙ sym (bytes_more w from q));
+      own = own;
+      seated = (b.pins, b.left, b.seated);
+      block = (c.args.j, c.args.at, lies e, inside);
+      fits = omega arith;
+      room = omega arith;
     }
+
+pub returns-clause-value : goal.returns-clause-value
+returns-clause-value c =
+    let e = (goal.at.returns-clause-value c).After-read-length in
+    let w : List ℕ = held c.args.self.now.seat.me.0 c.args.j in
+    let n : ℕ = c.read-length.result in
+    let told : n ≡ length_at w c.args.at = c.read-length.ensures.word in
+    let all : List ℕ = c.copy_value.new.out in
+    let bytes : take (8 * ((n + 7) / 8)) all ≡ bytes_at w (c.args.at + 2) ((n + 7) / 8) =
+    c.copy_value.ensures.bytes c.args.j c.args.at (lies e) (fits e)
+    ∙ ap (λ (m : Me (Unit {0}) SeatView).
+    bytes_at (held m.0 c.args.j) (c.args.at + 2) ((n + 7) / 8)) c.read-length.ensures.same.2 in
+    sym (take-take n (8 * ((n + 7) / 8)) all (omega arith))
+    ∙ (ap (take n) bytes
+    ∙ ap (λ (z : ℕ). take z (bytes_at w (c.args.at + 2) (words_for z))) told)
