@@ -212,7 +212,14 @@ def memories(folder):
     for length, rounds in ((8, 2_000_000), (4_080, 100_000)):
         memory_ratio("look and value", 1.3, baseline, "look", 1, rounds, length)
     for label, work in (("quiet scan", "scan"), ("prepare and show", "update")):
-        for segments, rounds, length in ((1, 1_000_000, 8), (4, 300_000, 8), (16, 100_000, 8), (16, 3_000, 4_080)):
+        for segments, rounds, length in (
+            (1, 1_000_000, 8),
+            (4, 300_000, 8),
+            (16, 100_000, 8),
+            (1, 50_000, 4_080),
+            (4, 10_000, 4_080),
+            (16, 3_000, 4_080),
+        ):
             memory_ratio(label, 1.5, baseline, work, segments, rounds, length)
     rates = []
     for writers in ("0", "1", "15"):

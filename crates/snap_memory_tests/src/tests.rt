@@ -61,6 +61,17 @@ fn has(snapshot: &Snapshot, i: usize, number: u64, value: &[u8]) -> bool {
     i < snapshot.len() && snapshot.number(i) == number && snapshot.value(i) == value
 }
 
+/// Whether a scan of one segment answers this number and value.
+fn answers(
+    alloc: Global,
+    scanner: &mut Scanner,
+    number: u64,
+    value: &[u8],
+) -> Result<bool, AllocError> {
+    let mut snapshot = Snapshot::new(alloc, 1)?;
+    Ok(scan(scanner, &mut snapshot) == Some(Ok(())) && has(&snapshot, 0, number, value))
+}
+
 /// One segment's writer, and one scanner.
 fn open_two(rt: &impl Abort, alloc: Global, looks: u64) -> Result<(WriteSeat, Scanner), AllocError>
     requires looks { looks ≤ 2 ^ 50 }
@@ -78,10 +89,8 @@ fn open_two(rt: &impl Abort, alloc: Global, looks: u64) -> Result<(WriteSeat, Sc
 #[test]
 fn quiet_scan(rt: HostRuntime) -> Result<(), Fail> {
     let (_, mut scanner) = open_two(&rt, rt.alloc(), 10)?;
-    let mut snapshot = Snapshot::new(rt.alloc(), 1)?;
-    assert!(rt; scan(&mut scanner, &mut snapshot) == Some(Ok(())));
+    assert!(rt; answers(rt.alloc(), &mut scanner, 0, &[])?);
     assert!(rt; scanner.looks_left() == 8);
-    assert!(rt; has(&snapshot, 0, 0, &[]));
     Ok(())
 }
 
@@ -126,12 +135,8 @@ fn met_and_unmet_scanners(rt: HostRuntime) -> Result<(), Fail> {
     let mut unmet = Scanner::new(unmet);
     assert!(rt; update(&mut writer, b"hi") == Some(1));
     met.meet(&mut writer);
-    let mut snapshot = Snapshot::new(rt.alloc(), 1)?;
-    assert!(rt; scan(&mut met, &mut snapshot) == Some(Ok(())));
-    assert!(rt; has(&snapshot, 0, 1, b"hi"));
-    let mut snapshot = Snapshot::new(rt.alloc(), 1)?;
-    assert!(rt; scan(&mut unmet, &mut snapshot) == Some(Ok(())));
-    assert!(rt; has(&snapshot, 0, 1, b"hi"));
+    assert!(rt; answers(rt.alloc(), &mut met, 1, b"hi")?);
+    assert!(rt; answers(rt.alloc(), &mut unmet, 1, b"hi")?);
     Ok(())
 }
 
@@ -144,5 +149,27 @@ fn reads_one(rt: HostRuntime) -> Result<(), Fail> {
     let (number, length) = scanner.read_one(0, &mut room);
     assert!(rt; number == 1 && length == 4080 && room == [7; 4080]);
     assert!(rt; scanner.looks_left() == 9);
+    Ok(())
+}
+
+// Run with each allocation refused in turn (`rt try --test --fail-alloc N`): what was refused is
+// given back, and the next snapshot has its room.
+#[test]
+fn scans_after_a_refused_allocation(rt: HostRuntime) -> Result<(), Fail> {
+    let alloc = rt.alloc();
+    let opened = open_two(&rt, alloc, 10);
+    let Ok((mut writer, mut scanner)) = (if opened.is_err() {
+        open_two(&rt, alloc, 10)
+    } else {
+        opened
+    }) else {
+        panic!(rt; "refused again")
+    };
+    assert!(rt; update(&mut writer, b"hi") == Some(1));
+    let right = match answers(alloc, &mut scanner, 1, b"hi") {
+        Ok(right) => right,
+        Err(AllocError) => answers(alloc, &mut scanner, 1, b"hi")?,
+    };
+    assert!(rt; right);
     Ok(())
 }

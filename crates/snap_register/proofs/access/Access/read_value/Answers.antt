@@ -38,11 +38,11 @@ copy_value-requires c =
     let same : length (held b.seat.me.0 c.args.j) ≡ length (held c.args.self.now.seat.me.0 c.args.j) =
     ap (λ (m : Me (Unit {0}) SeatView). length (held m.0 c.args.j)) c.read-length.ensures.same.2 in
     let small : c.place-place.result + length (held c.args.self.now.seat.me.0 c.args.j)
-        < 2 ^ 64 + c.args.at = c.place-place.ensures.fits in
+    < 2 ^ 64 + c.args.at = c.place-place.ensures.fits in
     let short : length_at (held c.args.self.now.seat.me.0 c.args.j) c.args.at ≤ 4080 =
     c.requires.block.short in
     let told : c.read-length.result
-        ≡ length_at (held c.args.self.now.seat.me.0 c.args.j) c.args.at =
+    ≡ length_at (held c.args.self.now.seat.me.0 c.args.j) c.args.at =
     c.read-length.ensures.word in
     let room = c.requires.room in
     record {
