@@ -1,6 +1,7 @@
 //! The answer of a scan, in room that is made once and filled again and again.
 ghost use Rattle.std.specs.Prelude.{◌≡◌, ℕ, ◌<◌, List, [], length, slice_get, Some};
 ghost use Rattle.std.specs.Prelude.{IfOk, replicate};
+ghost use Rattle.snap_slot.specs.Layout.{IsShort};
 
 use snap_register::SnapshotBuf;
 use std::alloc::{AllocError, Global};
@@ -51,7 +52,8 @@ impl Snapshot {
     /// The value of the segment i.
     pub fn value(&self, i: usize) -> &[u8]
         requires { i < length self.now }
-        ensures { (x : ℕ × List ℕ) → slice_get self.now i ≡ Some x → result.now ≡ x.1 }
+        ensures value { (x : ℕ × List ℕ) → slice_get self.now i ≡ Some x → result.now ≡ x.1 }
+        ensures size { IsShort result.now }
     {
         self.buf.value(i)
     }

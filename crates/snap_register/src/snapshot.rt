@@ -1,6 +1,7 @@
 //! Room for the numbers and values of all segments, which is made once and filled again and again.
 ghost use Rattle.std.specs.Prelude.{◌≡◌, ◌≢◌, ℕ, ◌<◌, List, [], length, slice_get, Some};
 ghost use Rattle.std.specs.Prelude.{IfOk, replicate};
+ghost use Rattle.snap_slot.specs.Layout.{IsShort};
 ghost use Rattle.snap_register.specs.Rule.{segments};
 ghost use Rattle.snap_register.specs.Seat.{looked, IsValue};
 
@@ -30,7 +31,8 @@ impl Model for Held {
 
 impl Held {
     fn value(&self) -> &[u8]
-        ensures { result.now ≡ self.now.1 }
+        ensures value { result.now ≡ self.now.1 }
+        ensures size { IsShort result.now }
     {
         &self.bytes[..self.length]
     }
@@ -105,7 +107,8 @@ impl SnapshotBuf {
     /// The value of the segment i.
     pub fn value(&self, i: usize) -> &[u8]
         requires { i < length self.now }
-        ensures { (x : ℕ × List ℕ) → slice_get self.now i ≡ Some x → result.now ≡ x.1 }
+        ensures value { (x : ℕ × List ℕ) → slice_get self.now i ≡ Some x → result.now ≡ x.1 }
+        ensures size { IsShort result.now }
     {
         self.segments[i].value()
     }

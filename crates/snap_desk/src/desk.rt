@@ -1,0 +1,234 @@
+//! One worker's half of the service, which waits for no store.
+ghost use Rattle.std.specs.Prelude.{◌≡◌, ℕ, ◌<◌, All, IfOk, IfSome, IfNone, length};
+ghost use Rattle.snap_slot.specs.Layout.{IsShort};
+ghost use Rattle.snap_register.specs.Rule.{segments};
+ghost use Rattle.snap_register.specs.Seat.{own_of};
+ghost use Rattle.snap_frame.specs.Messages.{IsInLimits, IsStatus};
+ghost use Rattle.snap_writer.specs.Writer.{number_of};
+ghost use Rattle.snap_service.specs.Memory.{IsOf};
+ghost use Rattle.snap_service.specs.Settled.{reply_of};
+ghost use Rattle.snap_service.specs.Answers.{
+  Answers,
+  AnswersUpdate,
+  AnswersScan,
+  AnswersStatus,
+};
+
+use crate::job::{Errand, Job, Payload};
+use crate::lent::Outcome;
+use crossbeam_channel::Sender;
+use snap_disk::{Disk, Refusal};
+use snap_frame::{Reply, Request, SegmentStatus};
+use snap_memory::{Scanner, Snapshot};
+use snap_service::{Memory, answer_by_look, answer_scan, refuse_place};
+use snap_session::Service;
+use std::alloc::{AllocError, Global};
+use std::marker::{Model, PhantomData};
+use std::sync::Wait;
+use std::sync::atomic::{AtomicU64, Ordering};
+
+/// What all desks see of a segment's store: where its updates go, and where it stands.
+#[derive(Drop)]
+pub struct Window {
+    pub errands: Sender<Errand>,
+    /// Twice the number, and one more where it is fenced.
+    pub standing: AtomicU64,
+}
+
+/// A scanner, and the windows that all desks share: a [`Service`] that hands updates over. Its state
+/// is what its scanner knows. It takes no lock and waits for no store.
+#[derive(Drop)]
+pub struct Desk<'a, R: Wait + Copy, M: Memory, D: Disk + Drop> {
+    rt: R,
+    alloc: Global,
+    worker: usize,
+    windows: &'a [Window],
+    scanner: Scanner,
+    snapshot: Snapshot,
+    of: PhantomData<(M, D)>,
+}
+
+impl<'a, R: Wait + Copy, M: Memory, D: Disk + Drop> Model for Desk<'a, R, M, D> {
+    ghost use Rattle.std.specs.Prelude.{◌≡◌, length};
+    ghost use Rattle.snap_register.specs.Rule.{segments};
+    ghost use Rattle.snap_register.specs.Seat.{Known};
+    ghost use Rattle.snap_service.specs.Memory.{IsOf};
+
+    ghost Value = { Known };
+
+    ghost view = { λ d. d.scanner };
+
+    ghost invariant = { λ d. IsOf M.table M.plan d.scanner
+        × (length d.windows.now ≡ segments d.scanner.plan)
+        × (length d.snapshot ≡ segments d.scanner.plan) };
+}
+
+/// The reply to an update whose outcome came. Its writer is at rest meanwhile, and goes home behind
+/// it. An outcome of another update isn't told: then a look answers.
+pub fn answer_outcome<R: Wait + Copy, M: Memory, D: Disk + Drop>(
+    scanner: &mut Scanner,
+    segment: usize,
+    number: u64,
+    value: &[u8],
+    outcome: Outcome<R, M, D>,
+) -> Reply
+    requires memory { IsOf M.table M.plan scanner.old }
+    requires segment { segment < segments scanner.old.plan }
+    requires size { IsShort value.now }
+    ensures answer { AnswersUpdate scanner.old segment number value.now result scanner.new }
+    ensures limits { IsInLimits result }
+    ensures told { own_of outcome.writer.seat ≡ segment → outcome.number ≡ number
+        → outcome.value ≡ value.now → (c : ℕ) × (result ≡ reply_of c outcome.told) }
+{
+    if !outcome.is_of(segment, number, value) {
+        return answer_by_look(scanner, segment, number, value);
+    }
+    outcome.tell(scanner)
+}
+
+/// Where each segment stood as its store last told, with no look and no lock.
+fn list_statuses(alloc: Global, windows: &[Window]) -> Result<Vec<SegmentStatus>, AllocError>
+    ensures count { IfOk result (λ s. length s.items ≡ length windows.now) }
+    ensures limits { IfOk result (λ s. All IsStatus s.items) }
+{
+    let mut statuses = Vec::new(alloc);
+    for window in windows {
+        let word = window.standing.load(Ordering::SeqCst);
+        statuses.push(SegmentStatus {
+            number: word / 2,
+            is_fenced: word % 2 == 1,
+        })?;
+    }
+    Ok(statuses)
+}
+
+impl<'a, R: Wait + Copy, M: Memory, D: Disk + Drop> Desk<'a, R, M, D> {
+    /// The desk of this worker, with a window for each segment and room for a snapshot.
+    pub fn new(
+        rt: R,
+        alloc: Global,
+        worker: usize,
+        windows: &'a [Window],
+        scanner: Scanner,
+        snapshot: Snapshot,
+    ) -> Desk<'a, R, M, D>
+        requires memory { IsOf M.table M.plan scanner }
+        requires windows { length windows.now ≡ segments M.plan }
+        requires room { length snapshot ≡ segments M.plan }
+        ensures { result ≡ scanner }
+    {
+        Desk {
+            rt,
+            alloc,
+            worker,
+            windows,
+            scanner,
+            snapshot,
+            of: PhantomData,
+        }
+    }
+
+    /// Hands an update over to its store's thread; `false` where that is gone.
+    fn hand_over(&self, segment: usize, number: u64, value: &[u8], key: usize) -> bool
+        requires segment { segment < segments self.now.plan }
+        requires size { IsShort value.now }
+    {
+        let job = Job {
+            worker: self.worker,
+            key,
+            number,
+            value: Payload::of(value),
+        };
+        self.windows[segment].errands.send(&self.rt, Errand::Store(job)).is_ok()
+    }
+
+    /// An update goes to its store.
+    fn update(&mut self, segment: usize, number: u64, value: &[u8], key: usize) -> Option<Reply>
+        ensures answer { IfSome result (λ r.
+            AnswersUpdate self.old segment number value.now r self.new) }
+        ensures limits { IfSome result (λ r. IsInLimits r) }
+        ensures later { IfNone result (self.new ≡ self.old) }
+    {
+        if let Some(reply) = refuse_place(&self.scanner, segment, value) {
+            return Some(reply);
+        }
+        if self.hand_over(segment, number, value, key) {
+            return None;
+        }
+        Some(answer_by_look(&mut self.scanner, segment, number, value))
+    }
+
+    /// An update whose outcome came.
+    fn finish_update(
+        &mut self,
+        segment: usize,
+        number: u64,
+        value: &[u8],
+        outcome: Outcome<R, M, D>,
+    ) -> Reply
+        ensures answer { AnswersUpdate self.old segment number value.now result self.new }
+        ensures limits { IsInLimits result }
+    {
+        if let Some(reply) = refuse_place(&self.scanner, segment, value) {
+            return reply;
+        }
+        answer_outcome(&mut self.scanner, segment, number, value, outcome)
+    }
+
+    /// A status: each segment as its store last told.
+    fn status(&mut self) -> Reply
+        ensures answer { AnswersStatus self.old result self.new }
+        ensures limits { IsInLimits result }
+    {
+        // how many segments there are
+        let _segments = self.scanner.segments();
+        match list_statuses(self.alloc, self.windows) {
+            Ok(statuses) => Reply::Status(statuses),
+            Err(AllocError) => Reply::Refused {
+                why: Refusal::NoMemory,
+                detail: 0,
+            },
+        }
+    }
+
+    fn scan(&mut self) -> Reply
+        ensures answer { AnswersScan self.old result self.new }
+        ensures limits { IsInLimits result }
+    {
+        answer_scan(self.alloc, &mut self.scanner, &mut self.snapshot)
+    }
+}
+
+impl<'a, R: Wait + Copy, M: Memory, D: Disk + Drop> Service for Desk<'a, R, M, D> {
+    ghost use Rattle.snap_service.specs.Answers.{Answers};
+
+    type Outcome = Outcome<R, M, D>;
+
+    ghost gives = { λ old request reply new. Answers old request reply new };
+
+    ghost hands_over = { Unit {0} };
+
+    fn answer(&mut self, request: &Request, key: usize) -> Option<Reply> {
+        match request {
+            Request::Update {
+                segment,
+                number,
+                value,
+            } => self.update(usize::from(*segment), *number, value.as_slice(), key),
+            Request::Scan => Some(self.scan()),
+            Request::Status => Some(self.status()),
+        }
+    }
+
+    fn finish(&mut self, request: &Request, outcome: Outcome<R, M, D>) -> Reply {
+        match request {
+            Request::Update {
+                segment,
+                number,
+                value,
+            } => self.finish_update(usize::from(*segment), *number, value.as_slice(), outcome),
+            Request::Scan => self.scan(),
+            Request::Status => self.status(),
+        }
+    }
+}

@@ -1,0 +1,105 @@
+//! A writer that is lent to a desk.
+ghost use Rattle.std.specs.Prelude.{◌≡◌, ℕ, List, true, false};
+ghost use Rattle.snap_register.specs.Seat.{Meets, own_of};
+ghost use Rattle.snap_frame.specs.Messages.{IsInLimits};
+ghost use Rattle.snap_service.specs.Memory.{IsOf};
+ghost use Rattle.snap_service.specs.Settled.{IsSettledAt, IsTellable, reply_of};
+ghost use Rattle.snap_desk.specs.Came.{Came};
+
+use crate::job::Job;
+use crossbeam_channel::Sender;
+use snap_disk::{Disk, Refusal};
+use snap_frame::Reply;
+use snap_memory::Scanner;
+use snap_service::{Memory, WriterOf};
+use std::marker::Model;
+use std::sync::Wait;
+
+/// A writer away from its store's thread, which waits for it. Wherever it is let go, it goes home.
+pub struct Lent<R: Wait + Copy, M: Memory, D: Disk + Drop> {
+    pub rt: R,
+    pub home: Sender<WriterOf<M, D>>,
+    pub writer: WriterOf<M, D>,
+}
+
+impl<R: Wait + Copy, M: Memory, D: Disk + Drop> Drop for Lent<R, M, D> {
+    fn drop(self) {
+        let Lent { rt, home, writer } = self;
+        let _ = home.send(&rt, writer);
+    }
+}
+
+/// What became of an update, with its writer at rest.
+#[derive(Drop)]
+pub struct Outcome<R: Wait + Copy, M: Memory, D: Disk + Drop> {
+    job: Job,
+    told: Result<u64, Refusal>,
+    lent: Lent<R, M, D>,
+}
+
+impl<R: Wait + Copy, M: Memory, D: Disk + Drop> Model for Outcome<R, M, D> {
+    ghost use Rattle.snap_desk.specs.Came.{Came};
+    ghost use Rattle.snap_service.specs.Settled.{IsTellable};
+
+    ghost Value = { Came D };
+
+    ghost view = { λ o. record {
+      number = o.job.number;
+      value = o.job.value;
+      writer = o.lent.writer;
+      told = o.told;
+    } };
+
+    ghost invariant = { λ o. IsTellable o.lent.writer o.job.number o.job.value o.told };
+}
+
+impl<R: Wait + Copy, M: Memory, D: Disk + Drop> Outcome<R, M, D> {
+    /// What the writer told of the job, which can be replied where the writer is.
+    pub fn new(job: Job, told: Result<u64, Refusal>, lent: Lent<R, M, D>) -> Outcome<R, M, D>
+        requires { IsTellable lent.writer job.number job.value told }
+        ensures { result ≡ record {
+          number = job.number;
+          value = job.value;
+          writer = lent.writer;
+          told = told;
+        } }
+    {
+        Outcome { job, told, lent }
+    }
+
+    /// Where the writer stands, in one word: twice its number, and one more where it is fenced.
+    pub fn standing(&self) -> u64 {
+        let twice = self.lent.writer.number() * 2;
+        if self.lent.writer.is_fenced() {
+            twice + 1
+        } else {
+            twice
+        }
+    }
+
+    /// Whether it is the outcome of this update of this segment.
+    pub fn is_of(&self, segment: usize, number: u64, value: &[u8]) -> bool
+        ensures yes { result ≡ true → (own_of self.now.writer.seat ≡ segment)
+            × (self.now.number ≡ number) × (self.now.value ≡ value.now) }
+        ensures no { result ≡ false → own_of self.now.writer.seat ≡ segment
+            → self.now.number ≡ number → self.now.value ≡ value.now → ⊥ }
+    {
+        if self.lent.writer.segment() != segment || self.job.number != number {
+            return false;
+        }
+        self.job.value.as_slice() == value
+    }
+
+    /// The reply that says what was told. The scanner meets the writer, so the reply fits what it has
+    /// seen, and no look is taken. Then the writer goes home.
+    pub fn tell(mut self, scanner: &mut Scanner) -> Reply
+        requires memory { IsOf M.table M.plan scanner.old }
+        ensures told { (c : ℕ) × (result ≡ reply_of c self.told) }
+        ensures settled { (i k : ℕ) (v : List ℕ) → own_of self.writer.seat ≡ i → self.number ≡ k
+            → self.value ≡ v → IsSettledAt scanner.new i k v result }
+        ensures limits { IsInLimits result }
+        ensures scanner { Meets scanner.old scanner.new }
+    {
+        self.lent.writer.reply_told(self.told, scanner)
+    }
+}

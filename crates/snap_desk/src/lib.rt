@@ -1,0 +1,18 @@
+//! The service in the form that waits for no store: an update is handed over to its segment's thread,
+//! and finished when that has told.
+//!
+//! The relation is that of `snap_service`, word for word, and the two share all but the hand-over. A
+//! store's thread lends its writer with the outcome ([`Outcome`]): so the desk's scanner meets the
+//! writer before anybody else updates the segment, and the reply is what the update told. Wherever
+//! the outcome is let go, also where nobody waits for it, the writer goes home.
+#![tactic(auto)]
+
+mod desk;
+mod job;
+mod lent;
+mod store;
+
+pub use desk::{Desk, Window, answer_outcome};
+pub use job::{Errand, Job, Payload};
+pub use lent::{Lent, Outcome};
+pub use store::{Told, store_all, store_one};

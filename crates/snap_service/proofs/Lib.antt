@@ -1,0 +1,3 @@
+pub mod Told
+pub mod Meeting
+pub mod Lines

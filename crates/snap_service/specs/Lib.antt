@@ -1,0 +1,4 @@
+pub mod Memory
+pub mod Settled
+pub mod Updated
+pub mod Answers

@@ -1,0 +1,50 @@
+-- What an update is replied, by the number and the value of its segment.
+use Rattle.std.specs.Prelude.{◌≡◌, ◌≢◌, ℕ, ◌+◌, List, Result, Ok, Err}
+use Rattle.snap_disk.specs.declared.refusal.Refusal.{Refusal}
+use Rattle.snap_disk.specs.declared.refusal.Refusal.TheVariants as refusal
+use Rattle.snap_slot.specs.declared.layout.TheConstants.{LAST_NUMBER}
+use Rattle.snap_slot.specs.Layout.{IsNumber}
+use Rattle.snap_register.specs.Seat.{Known, number_in, value_in}
+use Rattle.snap_frame.specs.declared.reply.Reply.{Reply}
+use Rattle.snap_frame.specs.declared.reply.Reply.TheVariants.{Stored, Snapshot, Status, Refused}
+use Rattle.snap_writer.specs.Writer.{WriterState, number_of, value_of}
+
+-- of a segment at number c with value u, an update to number k and value v may be refused so
+abbrev pub MayRefuse : ℕ → List ℕ → ℕ → List ℕ → Refusal → Type 0
+MayRefuse c u k v refusal.Conflict = (k ≡ c) × (v ≢ u)
+MayRefuse c u k v refusal.OutOfStep = (k ≢ c) × (k ≢ c + 1)
+MayRefuse c u k v refusal.Exhausted = (k ≡ c + 1) × (c ≡ LAST_NUMBER)
+MayRefuse c u k v refusal.Fenced = (k ≡ c + 1) × IsNumber k
+MayRefuse c u k v refusal.Worn = (k ≡ c + 1) × IsNumber k
+MayRefuse c u k v refusal.DeviceFailed = (k ≡ c + 1) × IsNumber k
+MayRefuse c u k v refusal.Malformed = ⊥
+MayRefuse c u k v refusal.NoSegment = ⊥
+MayRefuse c u k v refusal.TooLong = ⊥
+MayRefuse c u k v refusal.Full = ⊥
+MayRefuse c u k v refusal.NoMemory = ⊥
+MayRefuse c u k v refusal.Damaged = ⊥
+MayRefuse c u k v refusal.Unformatted = ⊥
+MayRefuse c u k v refusal.AlreadyFormatted = ⊥
+MayRefuse c u k v refusal.WrongFile = ⊥
+MayRefuse c u k v refusal.TooLarge = ⊥
+MayRefuse c u k v refusal.NotNow = ⊥
+
+-- the reply to an update to number k and value v fits the segment's number c and its value u
+abbrev pub IsSettled : ℕ → List ℕ → ℕ → List ℕ → Reply → Type 0
+IsSettled c u k v (Stored number) = (number ≡ k) × (k ≡ c) × (v ≡ u)
+IsSettled c u k v (Refused why detail) = (detail ≡ c) × MayRefuse c u k v why
+IsSettled c u k v (Snapshot values) = ⊥
+IsSettled c u k v (Status statuses) = ⊥
+
+-- so it does with the number and the value of segment i after all that the seat has seen
+abbrev pub IsSettledAt : Known → ℕ → ℕ → List ℕ → Reply → Type 0
+IsSettledAt a i k v reply = IsSettled (number_in a a.seen i) (value_in a a.seen i) k v reply
+
+-- the reply that says what a writer told, at number c
+abbrev pub reply_of : ℕ → Result ℕ Refusal → Reply
+reply_of c (Ok number) = Stored number
+reply_of c (Err why) = Refused why c
+
+-- what was told to an update can be replied where its writer stands
+abbrev pub IsTellable : {D : Type 0} → WriterState D → ℕ → List ℕ → Result ℕ Refusal → Type 0
+IsTellable w k v told = IsSettled (number_of w) (value_of w) k v (reply_of (number_of w) told)

@@ -1,0 +1,82 @@
+//! What is replied to an update without its writer.
+ghost use Rattle.std.specs.Prelude.{◌≡◌, ℕ, ◌<◌, IfSome, IfNone};
+ghost use Rattle.snap_slot.specs.Layout.{IsNumber, IsShort};
+ghost use Rattle.snap_register.specs.Rule.{segments};
+ghost use Rattle.snap_frame.specs.Messages.{IsInLimits};
+ghost use Rattle.snap_service.specs.Settled.{IsSettled};
+ghost use Rattle.snap_service.specs.Answers.{AnswersUpdate};
+
+use snap_disk::Refusal;
+use snap_frame::Reply;
+use snap_memory::Scanner;
+use snap_slot::{LAST_NUMBER, MAX_VALUE_LEN};
+
+/// Refuses an update whose segment isn't there (2, with the number of segments), or whose value is
+/// too long (3, with its length), in this order. `None` where neither is so.
+pub fn refuse_place(scanner: &Scanner, segment: usize, value: &[u8]) -> Option<Reply>
+    ensures refused { IfSome result (λ r. (number : ℕ)
+        → AnswersUpdate scanner.now segment number value.now r scanner.now) }
+    ensures fine { IfNone result ((segment < segments scanner.now.plan) × IsShort value.now) }
+    ensures limits { IfSome result (λ r. IsInLimits r) }
+{
+    let segments = scanner.segments();
+    if segment >= segments {
+        return Some(Reply::Refused {
+            why: Refusal::NoSegment,
+            detail: segments as u64,
+        });
+    }
+    if value.len() > MAX_VALUE_LEN {
+        return Some(Reply::Refused {
+            why: Refusal::TooLong,
+            detail: value.len() as u64,
+        });
+    }
+    None
+}
+
+/// Answers an update whose writer can't be asked, by one look at its segment: stored where the
+/// segment has that number and value, else the refusal by its number; a next number is refused as
+/// `Fenced`. Nothing is stored. Without a look left it is refused as `Worn`, with detail 0.
+pub fn answer_by_look(scanner: &mut Scanner, segment: usize, number: u64, value: &[u8]) -> Reply
+    requires segment { segment < segments scanner.old.plan }
+    requires size { IsShort value.now }
+    ensures answer { AnswersUpdate scanner.old segment number value.now result scanner.new }
+    ensures limits { IsInLimits result }
+{
+    if scanner.looks_left() == 0 {
+        return Reply::Refused {
+            why: Refusal::Worn,
+            detail: 0,
+        };
+    }
+    let mut held = [0; MAX_VALUE_LEN];
+    let (current, size) = scanner.read_one(segment, &mut held);
+    // that the number found is within the limit
+    let _segments = scanner.segments();
+    reply_found(number, value, current, &held[..size])
+}
+
+/// The reply to an update by the segment's number and value, where nothing is stored.
+fn reply_found(number: u64, value: &[u8], current: u64, held: &[u8]) -> Reply
+    requires { IsNumber current }
+    ensures settled { IsSettled current held.now number value.now result }
+    ensures limits { IsInLimits result }
+{
+    if number == current && value == held {
+        return Reply::Stored(number);
+    }
+    let why = if number == current {
+        Refusal::Conflict
+    } else if number != current + 1 {
+        Refusal::OutOfStep
+    } else if current == LAST_NUMBER {
+        Refusal::Exhausted
+    } else {
+        Refusal::Fenced
+    };
+    Reply::Refused {
+        why,
+        detail: current,
+    }
+}

@@ -1,0 +1,22 @@
+//! Requests on the shared memory: updates by the writers, scans and statuses.
+//!
+//! What a service answers is one relation, `Answers` of specs/Answers.antt, from what its scanner had
+//! seen before to what it has seen after. The reply to an update is what its writer told
+//! ([`settle`]); a scan is the memory at one moment of what the scanner sees ([`answer_scan`]).
+//! [`Node`] is a service whose writers stand under locks, one for each segment: scans lock nothing,
+//! and an update locks its own segment alone.
+#![tactic(auto)]
+
+mod judging;
+mod memory;
+mod node;
+mod scanning;
+mod settling;
+mod shared;
+
+pub use judging::{answer_by_look, refuse_place};
+pub use memory::{Memory, WriterOf};
+pub use node::Node;
+pub use scanning::answer_scan;
+pub use settling::{reply_told, settle, update};
+pub use shared::Shared;

@@ -1,0 +1,127 @@
+//! Which memory a writer is of, told by its type: what a lock or a message gives is known by its
+//! type alone.
+ghost use Rattle.std.specs.Prelude.{◌≡◌, ◌<◌, ◌↔◌, ℕ, List, IsTrue, IsSome};
+ghost use Rattle.atomic_table.specs.Seated.{TableId};
+ghost use Rattle.snap_slot.specs.Layout.{IsNumber, IsShort};
+ghost use Rattle.snap_register.specs.declared.plan.Plan.{Plan};
+ghost use Rattle.snap_register.specs.Rule.{segments};
+ghost use Rattle.snap_register.specs.Seat.{own_of, Meets};
+ghost use Rattle.snap_frame.specs.Messages.{IsInLimits};
+ghost use Rattle.snap_writer.specs.Writer.{number_of};
+ghost use Rattle.snap_service.specs.Memory.{IsOf, no_table, no_plan};
+ghost use Rattle.snap_service.specs.Settled.{IsSettledAt, IsTellable, reply_of};
+ghost use Rattle.snap_service.specs.Updated.{IsUpdated, HasMet};
+
+use crate::settling::{reply_told, update};
+use snap_disk::{Disk, Refusal};
+use snap_frame::Reply;
+use snap_memory::Scanner;
+use snap_writer::Writer;
+use std::marker::{Brand, Model, PhantomData};
+
+/// A name for one memory: the registers of one opening. It has no values; a function over any memory
+/// is called with `Brand`, and the proof of the call says which registers are meant.
+pub trait Memory {
+    ghost table: { TableId };
+
+    ghost plan: { Plan };
+}
+
+impl Memory for Brand {
+    ghost table = { no_table };
+
+    ghost plan = { no_plan };
+}
+
+/// The writer of one segment of the memory `M`.
+#[derive(Drop)]
+pub struct WriterOf<M: Memory, D: Disk> {
+    pub(crate) writer: Writer<D>,
+    segment: usize,
+    of: PhantomData<M>,
+}
+
+impl<M: Memory, D: Disk> Model for WriterOf<M, D> {
+    ghost use Rattle.std.specs.Prelude.{◌≡◌};
+    ghost use Rattle.snap_register.specs.Seat.{own_of};
+    ghost use Rattle.snap_writer.specs.Writer.{WriterState};
+    ghost use Rattle.snap_service.specs.Memory.{IsOf};
+
+    ghost Value = { WriterState D };
+
+    ghost view = { λ w. w.writer };
+
+    ghost invariant = { λ w. IsOf M.table M.plan w.writer.seat
+        × (own_of w.writer.seat ≡ w.segment) };
+}
+
+impl<M: Memory, D: Disk> WriterOf<M, D> {
+    /// The writer, which is of this memory and writes this segment.
+    pub fn new(writer: Writer<D>, segment: usize) -> WriterOf<M, D>
+        requires memory { IsOf M.table M.plan writer.seat }
+        requires own { own_of writer.seat ≡ segment }
+        ensures { result ≡ writer }
+    {
+        WriterOf {
+            writer,
+            segment,
+            of: PhantomData,
+        }
+    }
+
+    /// The segment that it writes.
+    pub fn segment(&self) -> usize
+        ensures own { result ≡ own_of self.now.seat }
+        ensures memory { IsOf M.table M.plan self.now.seat }
+    {
+        self.segment
+    }
+
+    /// The number that was shown last.
+    pub fn number(&self) -> u64
+        ensures number { result ≡ number_of self.now }
+        ensures low { IsNumber result }
+    {
+        self.writer.number()
+    }
+
+    /// Whether a store has failed since the file was opened.
+    pub fn is_fenced(&self) -> bool
+        ensures { IsTrue result ↔ IsSome self.now.segment.begun }
+    {
+        self.writer.is_fenced()
+    }
+
+    /// The writer, as it is.
+    pub fn into_writer(self) -> Writer<D>
+        ensures writer { result ≡ self }
+        ensures memory { IsOf M.table M.plan result.seat }
+    {
+        self.writer
+    }
+
+    /// An update of the writer, as [`update`](crate::update) does it.
+    pub fn update(&mut self, number: u64, value: &[u8]) -> Result<u64, Refusal>
+        requires size { IsShort value.now }
+        ensures updated { IsUpdated D.device D.failure_count D.is_honest D.clock D.might_have_left
+            self.old self.new number value.now result }
+        ensures tellable { IsTellable self.new number value.now result }
+    {
+        let _segment = self.segment();
+        update(&mut self.writer, number, value)
+    }
+
+    /// The reply that says what the writer told, as [`reply_told`](crate::reply_told) gives it.
+    pub fn reply_told(&mut self, told: Result<u64, Refusal>, scanner: &mut Scanner) -> Reply
+        requires memory { IsOf M.table M.plan scanner.old }
+        ensures told { result ≡ reply_of (number_of self.new) told }
+        ensures settled { (k : ℕ) (v : List ℕ) → IsTellable self.old k v told
+            → IsSettledAt scanner.new (own_of self.old.seat) k v result }
+        ensures limits { (k : ℕ) (v : List ℕ) → IsTellable self.old k v told → IsInLimits result }
+        ensures scanner { Meets scanner.old scanner.new }
+        ensures writer { HasMet self.old self.new }
+    {
+        let _segment = self.segment();
+        reply_told(told, &mut self.writer, scanner)
+    }
+}

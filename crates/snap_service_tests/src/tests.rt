@@ -1,0 +1,284 @@
+//! Sessions with a node over new files.
+ghost use Rattle.std.specs.Prelude.{◌≡◌, ◌^◌, ◌-◌, ◌<◌, ◌≤◌, All, length, IfOk};
+ghost use Rattle.snap_frame.specs.Messages.{payload, max_payload};
+ghost use Rattle.snap_restart.specs.Closed.{AreBack};
+ghost use Rattle.snap_service.specs.Memory.{AreWriters, IsOf};
+
+use bytes::Bytes;
+use snap_client::{Client, ClientFault};
+use snap_disk::{Disk, FaultPlan, Fill, MemDisk};
+use snap_frame::{Reply, Request};
+use snap_memory::{Scanner, Snapshot};
+use snap_restart::{Store, open_all};
+use snap_segment::format;
+use snap_service::{Memory, Node, Shared};
+use snap_session::{End, serve};
+use snap_slot::FILE_LEN;
+use snap_stream::TestStream;
+use snap_writer::Writer;
+use std::alloc::{AllocError, Global};
+use std::marker::Brand;
+use std::mem;
+use std::process::Abort;
+use std::sync::Wait;
+use std::test::Fail;
+
+/// The new files of so many segments.
+fn fresh(rt: &(impl Abort + AllocGlobal), count: u8) -> Result<Vec<MemDisk>, Fail> {
+    let mut devices = Vec::new(rt.alloc());
+    for index in 0..count.min(16) {
+        let mut disk = MemDisk::zeroed(rt.alloc(), FILE_LEN as usize)?;
+        format(&mut disk, index, count.min(16))?;
+        devices.push(disk)?;
+    }
+    Ok(devices)
+}
+
+/// A stream that never fails.
+fn stream(bytes: Vec<u8>) -> TestStream {
+    TestStream {
+        bytes,
+        passed: 0,
+        passes: usize::MAX,
+        step: usize::MAX,
+    }
+}
+
+/// A session over these bytes with a node of these writers and this scanner: its end, and what it
+/// wrote.
+fn serve_bytes<M: Memory, R: Wait>(
+    rt: &R,
+    alloc: Global,
+    writers: Vec<Writer<MemDisk>>,
+    scanner: Scanner,
+    input: &[u8],
+) -> Result<(End, Vec<u8>), AllocError>
+    requires writers { AreWriters M.table M.plan writers.items }
+    requires scanner { IsOf M.table M.plan scanner }
+{
+    let snapshot = Snapshot::new(alloc, scanner.segments())?;
+    let Ok(shared) = Shared::<M, MemDisk>::new(alloc, writers) else {
+        return Err(AllocError);
+    };
+    let mut node = Node::new(rt, alloc, &shared, scanner, snapshot);
+    let mut reader = stream(Vec::from_slice(alloc, input)?);
+    let mut writer = stream(Vec::new(alloc));
+    let end = serve(rt, alloc, &mut reader, &mut writer, &mut node);
+    Ok((end, writer.bytes))
+}
+
+/// The same with a node of this store.
+fn serve_store<R: Wait>(
+    rt: &R,
+    alloc: Global,
+    mut store: Store<MemDisk>,
+    input: &[u8],
+) -> Result<(End, Vec<u8>), AllocError>
+    requires { AreBack store.writers.items store.scanners.items }
+{
+    let writers = mem::replace(&mut store.writers, Vec::new(alloc));
+    match store.scanners.pop() {
+        Some(scanner) => serve_bytes::<Brand, R>(rt, alloc, writers, scanner, input),
+        None => Err(AllocError),
+    }
+}
+
+/// The same with a node over these files.
+fn serve_files(
+    rt: &(impl Abort + AllocGlobal + Wait),
+    devices: Vec<MemDisk>,
+    input: &[u8],
+) -> Result<(End, Vec<u8>), Fail> {
+    assert!(rt; !devices.is_empty() && devices.len() <= 16);
+    assert!(rt; devices.iter().all(|disk| disk.failures() < 9));
+    let Ok((store, _)) = open_all(rt.alloc(), devices, 1) else {
+        panic!(rt; "not opened")
+    };
+    Ok(serve_store(rt, rt.alloc(), store, input)?)
+}
+
+/// The requests' frames, or those of their replies.
+fn frames(alloc: Global, talk: &[(&[u8], &[u8])], replies: bool) -> Result<Vec<u8>, AllocError> {
+    let mut all = Vec::new(alloc);
+    for (request, reply) in talk {
+        all.extend_from_slice(if replies { *reply } else { *request })?;
+    }
+    Ok(all)
+}
+
+/// Whether a node over these files answers the requests by the replies, and ends so.
+fn is_talk(
+    rt: &(impl Abort + AllocGlobal + Wait),
+    devices: Vec<MemDisk>,
+    talk: &[(&[u8], &[u8])],
+    end: End,
+) -> Result<bool, Fail> {
+    let input = frames(rt.alloc(), talk, false)?;
+    let wanted = frames(rt.alloc(), talk, true)?;
+    let (ended, written) = serve_files(rt, devices, &input)?;
+    Ok(ended == end && written == wanted)
+}
+
+/// An update of segment 1 to number 1 with this many bytes.
+fn long_update(alloc: Global, len: u16) -> Result<Vec<u8>, AllocError> {
+    let mut frame = Vec::from_slice(alloc, &(u32::from(len) + 10).to_be_bytes())?;
+    frame.extend_from_slice(&[1, 1, 0, 0, 0, 0, 0, 0, 0, 1])?;
+    for _ in 0..len {
+        frame.push(7)?;
+    }
+    Ok(frame)
+}
+
+const HI: &[u8] = &[0, 0, 0, 12, 1, 0, 0, 0, 0, 0, 0, 0, 0, 1, 0x68, 0x69];
+
+const STORED_1: &[u8] = &[0, 0, 0, 9, 0x81, 0, 0, 0, 0, 0, 0, 0, 1];
+
+const SCAN: &[u8] = &[0, 0, 0, 1, 2];
+
+const STATUS: &[u8] = &[0, 0, 0, 1, 3];
+
+const MALFORMED: &[u8] = &[0, 0, 0, 10, 0xE0, 1, 0, 0, 0, 0, 0, 0, 0, 0];
+
+const SNAPSHOT_HI: &[u8] = &[
+    0, 0, 0, 28, 0x82, 2, 0, 0, 0, 0, 0, 0, 0, 1, 0, 0, 0, 2, 0x68, 0x69, 0, 0, 0, 0, 0, 0, 0, 0,
+    0, 0, 0, 0,
+];
+
+const STATUS_1: &[u8] = &[
+    0, 0, 0, 20, 0x83, 2, 0, 0, 0, 0, 0, 0, 0, 1, 0, 0, 0, 0, 0, 0, 0, 0, 0, 0,
+];
+
+#[test]
+fn vectors_in_order(rt: HostRuntime) -> Result<(), Fail> {
+    let long = long_update(rt.alloc(), 4081)?;
+    let talk: [(&[u8], &[u8]); 11] = [
+        (HI, STORED_1),
+        (HI, STORED_1),
+        (
+            &[0, 0, 0, 11, 1, 0, 0, 0, 0, 0, 0, 0, 0, 1, 0x68],
+            &[0, 0, 0, 10, 0xE0, 4, 0, 0, 0, 0, 0, 0, 0, 1],
+        ),
+        (
+            &[0, 0, 0, 10, 1, 0, 0, 0, 0, 0, 0, 0, 0, 3],
+            &[0, 0, 0, 10, 0xE0, 5, 0, 0, 0, 0, 0, 0, 0, 1],
+        ),
+        (
+            &[0, 0, 0, 10, 1, 2, 0, 0, 0, 0, 0, 0, 0, 1],
+            &[0, 0, 0, 10, 0xE0, 2, 0, 0, 0, 0, 0, 0, 0, 2],
+        ),
+        (
+            long.as_slice(),
+            &[0, 0, 0, 10, 0xE0, 3, 0, 0, 0, 0, 0, 0, 0x0F, 0xF1],
+        ),
+        (SCAN, SNAPSHOT_HI),
+        (STATUS, STATUS_1),
+        (&[0, 0, 0, 2, 3, 0], MALFORMED),
+        (&[0, 0, 0, 0], MALFORMED),
+        (
+            &[0, 1, 1, 0xD1],
+            &[0, 0, 0, 10, 0xE0, 15, 0, 0, 0, 0, 0, 1, 1, 0xD0],
+        ),
+    ];
+    assert!(rt; is_talk(&rt, fresh(&rt, 2)?, &talk, End::TooLarge)?);
+    Ok(())
+}
+
+#[test]
+fn fault_fences_the_segment(rt: HostRuntime) -> Result<(), Fail> {
+    let mut devices = fresh(&rt, 1)?;
+    assert!(rt; devices.len() == 1);
+    let mut plan = FaultPlan::new(rt.alloc());
+    // An opening makes two calls, and the last sync is a store's fourth.
+    plan.fail_call(devices[0].calls().saturating_add(6), Fill::Keep)?;
+    devices[0].set_plan(plan);
+    let nothing: &[u8] = &[
+        0, 0, 0, 14, 0x82, 1, 0, 0, 0, 0, 0, 0, 0, 0, 0, 0, 0, 0,
+    ];
+    let talk: [(&[u8], &[u8]); 6] = [
+        (HI, &[0, 0, 0, 10, 0xE0, 13, 0, 0, 0, 0, 0, 0, 0, 0]),
+        (SCAN, nothing),
+        (HI, &[0, 0, 0, 10, 0xE0, 6, 0, 0, 0, 0, 0, 0, 0, 0]),
+        (
+            &[0, 0, 0, 10, 1, 0, 0, 0, 0, 0, 0, 0, 0, 0],
+            &[0, 0, 0, 9, 0x81, 0, 0, 0, 0, 0, 0, 0, 0],
+        ),
+        (
+            &[0, 0, 0, 12, 1, 0, 0, 0, 0, 0, 0, 0, 0, 5, 0x68, 0x69],
+            &[0, 0, 0, 10, 0xE0, 5, 0, 0, 0, 0, 0, 0, 0, 0],
+        ),
+        (STATUS, &[0, 0, 0, 11, 0x83, 1, 0, 0, 0, 0, 0, 0, 0, 0, 1]),
+    ];
+    assert!(rt; is_talk(&rt, devices, &talk, End::Closed)?);
+    Ok(())
+}
+
+/// What a client says of the request: the bytes that it writes, and its answer to these bytes.
+fn call(alloc: Global, request: &Request, replies: Vec<u8>) -> (Vec<u8>, Result<Reply, ClientFault>)
+    requires { length (payload request.now) ≤ max_payload }
+{
+    let mut client = Client::new(alloc, stream(replies), stream(Vec::new(alloc)));
+    let answer = client.call(request);
+    let (_, writer) = client.into_parts();
+    (writer.bytes, answer)
+}
+
+/// The answer of a client to the request, with a node over new files of two segments behind it that
+/// was asked these frames before.
+fn call_node(
+    rt: &(impl Abort + AllocGlobal + Wait),
+    before: &[u8],
+    request: &Request,
+) -> Result<Reply, Fail>
+    requires { length (payload request.now) ≤ max_payload }
+{
+    let (asked, fault) = call(rt.alloc(), request, Vec::new(rt.alloc()));
+    assert!(rt; fault == Err(ClientFault::Ended));
+    let mut input = Vec::from_slice(rt.alloc(), before)?;
+    let (_, skipped) = serve_files(rt, fresh(rt, 2)?, before)?;
+    input.extend_from_slice(&asked)?;
+    let (_, written) = serve_files(rt, fresh(rt, 2)?, &input)?;
+    let mut replies = Vec::new(rt.alloc());
+    for byte in written.iter().skip(skipped.len()) {
+        replies.push(*byte)?;
+    }
+    let (_, answer) = call(rt.alloc(), request, replies);
+    match answer {
+        Ok(reply) => Ok(reply),
+        Err(_) => panic!(rt; "no answer"),
+    }
+}
+
+#[test]
+fn client_updates_a_node(rt: HostRuntime) -> Result<(), Fail> {
+    let value = Bytes::copy_from_slice(rt.alloc(), b"hi")?;
+    assert!(rt; value.len() == 2);
+    let request = Request::Update {
+        segment: 0,
+        number: 1,
+        value,
+    };
+    assert!(rt; call_node(&rt, &[], &request)? == Reply::Stored(1));
+    Ok(())
+}
+
+#[test]
+fn client_scans_a_node(rt: HostRuntime) -> Result<(), Fail> {
+    let Reply::Snapshot(values) = call_node(&rt, HI, &Request::Scan)? else {
+        panic!(rt; "no snapshot")
+    };
+    assert!(rt; values.len() == 2);
+    assert!(rt; values[0].number == 1 && values[0].value.as_slice() == b"hi".as_slice());
+    assert!(rt; values[1].number == 0 && values[1].value.is_empty());
+    Ok(())
+}
+
+#[test]
+fn client_asks_a_node_for_its_status(rt: HostRuntime) -> Result<(), Fail> {
+    let Reply::Status(statuses) = call_node(&rt, HI, &Request::Status)? else {
+        panic!(rt; "no status")
+    };
+    assert!(rt; statuses.len() == 2);
+    assert!(rt; statuses[0].number == 1 && !statuses[0].is_fenced);
+    assert!(rt; statuses[1].number == 0 && !statuses[1].is_fenced);
+    Ok(())
+}
