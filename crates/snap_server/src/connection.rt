@@ -70,7 +70,14 @@ impl Connection {
     {
         let mut reader = &self.stream;
         let mut writer = &self.stream;
-        proceed(&mut self.session, &mut reader, &mut writer, service, key, piece)
+        proceed(
+            &mut self.session,
+            &mut reader,
+            &mut writer,
+            service,
+            key,
+            piece,
+        )
     }
 
     /// Takes the outcome of a request that was handed over. `false` where the connection has ended.

@@ -96,13 +96,13 @@ where
         thread::scope_env(),
         rt,
         |scope| -> Result<u64, ServerFault>
-            requires { IsSync X.row × IsSync N.row × IsSend S.row × IsSend S.Outcome.row × IsSend B.row × N.IsAlwaysCallable note.now }
+            requires { IsSync X.row × IsSync N.row × IsSend S.row × N.IsAlwaysCallable note.now }
             ensures { IfOk result (λ k. connections ≡ Some k) }
         {
             let mut is_whole = true;
             for background in backgrounds {
                 let told = move ||
-                    requires { IsSync X.row × IsSend S.Outcome.row × IsSend B.row }
+                    requires { IsSync X.row }
                 {
                     tell_all(rt, background, doors);
                 };
@@ -110,7 +110,7 @@ where
             }
             for worker in workers {
                 let served = move ||
-                    requires { IsSync X.row × IsSync N.row × IsSend S.row × IsSend S.Outcome.row × N.IsAlwaysCallable note.now }
+                    requires { IsSync X.row × IsSync N.row × IsSend S.row × N.IsAlwaysCallable note.now }
                 {
                     if worker.work(rt, note).is_err() {
                         failed.store(true, Ordering::SeqCst);

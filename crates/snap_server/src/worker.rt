@@ -106,16 +106,26 @@ where
     /// Gives a connection a key and has the system watch it; `false` where that was refused. The
     /// list has room for every connection from here on.
     fn adopt(&mut self, arrival: Arrival) -> bool {
-        if self.listed.reserve(self.connections.len().saturating_add(1)).is_err() {
+        if self
+            .listed
+            .reserve(self.connections.len().saturating_add(1))
+            .is_err()
+        {
             return false;
         }
-        let Ok(key) = self.connections.insert(Connection::new(self.alloc, arrival)) else {
+        let Ok(key) = self
+            .connections
+            .insert(Connection::new(self.alloc, arrival))
+        else {
             return false;
         };
         let Some(connection) = self.connections.get_mut(key) else {
             return false;
         };
-        if connection.register(self.poll.registry(), Token(key)).is_err() {
+        if connection
+            .register(self.poll.registry(), Token(key))
+            .is_err()
+        {
             self.connections.try_remove(key);
             return false;
         }
@@ -173,7 +183,11 @@ where
 
     /// Waits until something is ready: not at all while some are on the list.
     fn wait(&mut self, events: &mut Events) -> Result<(), ServerFault> {
-        let timeout = if self.listed.is_empty() { None } else { Some(Duration::ZERO) };
+        let timeout = if self.listed.is_empty() {
+            None
+        } else {
+            Some(Duration::ZERO)
+        };
         self.poll.poll(events, timeout).map_err(fault_of)
     }
 
