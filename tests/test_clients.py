@@ -2,6 +2,7 @@
 
 import ast
 import functools
+import os
 import pathlib
 import re
 import signal
@@ -22,6 +23,7 @@ import snapd_client  # noqa: E402
 from snapd_client import Client, messages  # noqa: E402
 
 STRICT = ["-std=c99", "-Wall", "-Wextra", "-Wpedantic", "-Wshadow", "-Wconversion", "-Werror", "-O2"]
+ENVIRONMENT = {**os.environ, "PYTHONPATH": str(TOP / "clients" / "python"), "PYTHONDONTWRITEBYTECODE": "1"}
 STORED_ONE = bytes.fromhex("00000009 81 0000000000000001")
 
 
@@ -448,7 +450,7 @@ def killed_again_and_again(words, rng, wanted):
     """Runs a job and kills it (-9) after a short while, until it ends by itself. How often it was killed."""
     for kills in range(200):
         job = subprocess.Popen(words, stdout=subprocess.PIPE, stderr=subprocess.PIPE, text=True,
-                               env={"PYTHONPATH": str(TOP / "clients" / "python"), "PATH": "/usr/bin:/bin"})
+                               env=ENVIRONMENT)
         job.stderr.readline()
         try:
             output, errors = job.communicate(timeout=rng.uniform(0.02, 0.2))
@@ -500,5 +502,5 @@ def test_readme_of_the_python_client_runs(_, __):
     listing = re.search(r"```python\n(.*?)```", text, re.DOTALL).group(1)
     with oracle.Server(oracle.Model(1)) as server:
         run = subprocess.run([sys.executable, "-c", listing.replace("127.0.0.1:7070", server.address)],
-                             capture_output=True, text=True, env={"PYTHONPATH": str(TOP / "clients" / "python")})
+                             capture_output=True, text=True, env=ENVIRONMENT)
         assert (run.returncode, run.stdout, run.stderr) == (0, "1 False\n", "")
