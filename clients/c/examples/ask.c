@@ -1,0 +1,82 @@
+/* One request, from the shell.
+ *
+ *     cc -std=c99 -O2 -I .. -o ask ask.c && ./ask HOST PORT TIMEOUT TRIES update SEGMENT NUMBER TEXT | scan | status
+ *
+ * It prints `stored NUMBER`, or a line for each segment. Status 0 done, 1 no answer, 2 the words, 3 refused.
+ */
+#define _POSIX_C_SOURCE 200809L
+#include "snapd.h"
+
+#include <inttypes.h>
+#include <stdio.h>
+#include <stdlib.h>
+
+static snapd_client client;
+
+static void print_hex(const unsigned char *bytes, uint32_t length)
+{
+    if (length == 0)
+        printf("-");
+    for (uint32_t i = 0; i < length; i++)
+        printf("%02x", bytes[i]);
+}
+
+static snapd_result scan(void)
+{
+    snapd_snapshot now;
+    snapd_result result = snapd_scan(&client, &now);
+    for (int i = 0; result == SNAPD_OK && i < now.count; i++) {
+        printf("segment %d number %" PRIu64 " value ", i, now.entry[i].number);
+        print_hex(now.entry[i].value, now.entry[i].length);
+        printf("\n");
+    }
+    return result;
+}
+
+static snapd_result status(void)
+{
+    snapd_status_list list;
+    snapd_result result = snapd_status(&client, &list);
+    for (int i = 0; result == SNAPD_OK && i < list.count; i++)
+        printf("segment %d number %" PRIu64 " fenced %d\n", i, list.standing[i].number, list.standing[i].fenced);
+    return result;
+}
+
+static snapd_result update(const char *segment, const char *number, const char *text)
+{
+    uint64_t stored;
+    snapd_result result = snapd_update(&client, (unsigned)strtoul(segment, NULL, 10), strtoull(number, NULL, 10), text,
+                                       strlen(text), &stored);
+    if (result == SNAPD_OK)
+        printf("stored %" PRIu64 "\n", stored);
+    return result;
+}
+
+static int status_of(snapd_result result)
+{
+    static const char *const why[] = {"", "", "not answered", "timed out", "bad reply", "bad call"};
+    if (result == SNAPD_OK)
+        return 0;
+    if (result == SNAPD_REFUSED) {
+        fprintf(stderr, "refused %d %s %" PRIu64 "\n", client.refusal, snapd_refusal_name(client.refusal), client.detail);
+        return 3;
+    }
+    fprintf(stderr, "%s\n", why[result]);
+    return result == SNAPD_BAD_CALL ? 2 : 1;
+}
+
+int main(int argc, char **argv)
+{
+    if (argc < 6 || snapd_open(&client, argv[1], atoi(argv[2]), atoi(argv[3]), atoi(argv[4])) != SNAPD_OK) {
+        fprintf(stderr, "usage: %s HOST PORT TIMEOUT TRIES update SEGMENT NUMBER TEXT | scan | status\n", argv[0]);
+        return 2;
+    }
+    if (argc == 6 && strcmp(argv[5], "scan") == 0)
+        return status_of(scan());
+    if (argc == 6 && strcmp(argv[5], "status") == 0)
+        return status_of(status());
+    if (argc == 9 && strcmp(argv[5], "update") == 0)
+        return status_of(update(argv[6], argv[7], argv[8]));
+    fprintf(stderr, "%s: neither update SEGMENT NUMBER TEXT nor scan nor status\n", argv[5]);
+    return 2;
+}

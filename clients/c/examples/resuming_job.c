@@ -1,0 +1,71 @@
+/* A job that goes on where it was, however it died.
+ *
+ *     cc -std=c99 -O2 -I .. -o resuming_job resuming_job.c && ./resuming_job HOST PORT SEGMENT STEPS
+ *
+ * It adds up the squares of 1 to STEPS, one step after another, and keeps step and sum in its segment of a snapd server.
+ * Kill it with `kill -9` at any time and start it again with the same words: it goes on with the step that was next. At
+ * the end it prints the sum.
+ */
+#define _POSIX_C_SOURCE 200809L
+#include "snapd.h"
+
+#include <inttypes.h>
+#include <stdio.h>
+#include <stdlib.h>
+
+static snapd_client client;
+
+static void fail(const char *call, snapd_result result)
+{
+    if (result == SNAPD_REFUSED)
+        fprintf(stderr, "%s: refused %d %s %" PRIu64 "\n", call, client.refusal, snapd_refusal_name(client.refusal),
+                client.detail);
+    else
+        fprintf(stderr, "%s: no answer (%d): %s\n", call, result, strerror(client.error));
+    exit(1);
+}
+
+int main(int argc, char **argv)
+{
+    snapd_snapshot now;
+    snapd_result result;
+    char state[64] = "";
+    uint64_t number, step = 0, sum = 0, steps;
+    unsigned segment;
+    if (argc != 5) {
+        fprintf(stderr, "usage: %s HOST PORT SEGMENT STEPS\n", argv[0]);
+        return 2;
+    }
+    segment = (unsigned)strtoul(argv[3], NULL, 10);
+    steps = strtoull(argv[4], NULL, 10);
+    if (snapd_open(&client, argv[1], atoi(argv[2]), 5000, 3) != SNAPD_OK) {
+        fprintf(stderr, "%s: not an address\n", argv[1]);
+        return 2;
+    }
+    result = snapd_scan(&client, &now);
+    if (result != SNAPD_OK)
+        fail("scan", result);
+    if (segment >= (unsigned)now.count || now.entry[segment].length >= sizeof state) {
+        fprintf(stderr, "segment %u isn't this job's\n", segment);
+        return 1;
+    }
+    number = now.entry[segment].number;
+    memcpy(state, now.entry[segment].value, now.entry[segment].length);
+    if (state[0] != 0 && sscanf(state, "step %" SCNu64 " sum %" SCNu64, &step, &sum) != 2) {
+        fprintf(stderr, "segment %u isn't this job's\n", segment);
+        return 1;
+    }
+    fprintf(stderr, "begins behind step %" PRIu64 "\n", step);
+    while (step < steps) {
+        int length;
+        step++;
+        sum += step * step;
+        length = snprintf(state, sizeof state, "step %" PRIu64 " sum %" PRIu64, step, sum);
+        result = snapd_update(&client, segment, number + 1, state, (size_t)length, &number);
+        if (result != SNAPD_OK)
+            fail("update", result);
+    }
+    snapd_close(&client);
+    printf("%" PRIu64 "\n", sum);
+    return 0;
+}

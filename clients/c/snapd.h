@@ -1,0 +1,490 @@
+/* snapd.h: a client of the snapd server in one header. C99 and POSIX sockets; it allocates nothing.
+ *
+ * THE SERVER ITSELF ISN'T THERE YET: this client follows its message formats (docs/FORMATS.md, "Frames and messages")
+ * and is tested against a model of it.
+ *
+ *     #define _POSIX_C_SOURCE 200809L     // before the first include of a file that is compiled with -std=c99
+ *     #include "snapd.h"
+ *
+ *     static snapd_client client;         // about 66 KB: keep it off a small stack
+ *     snapd_snapshot now;
+ *     uint64_t stored;
+ *     snapd_open(&client, "127.0.0.1", 7070, 5000, 3);
+ *     if (snapd_scan(&client, &now) == SNAPD_OK
+ *         && snapd_update(&client, 0, now.entry[0].number + 1, "step 17", 7, &stored) == SNAPD_OK)
+ *         ...                             // it is on the server's disk
+ *     snapd_close(&client);
+ *
+ * A call connects where no connection stands. One whose connection fails, ends or says nothing for the timeout is tried
+ * again on a new connection, with the same bytes: an update under one number is stored once, however often it comes.
+ * One thread at a time uses a client. It never raises SIGPIPE.
+ */
+#ifndef SNAPD_H
+#define SNAPD_H
+
+#include <arpa/inet.h>
+#include <errno.h>
+#include <fcntl.h>
+#include <netinet/in.h>
+#include <netinet/tcp.h>
+#include <poll.h>
+#include <stddef.h>
+#include <stdint.h>
+#include <string.h>
+#include <sys/socket.h>
+#include <time.h>
+#include <unistd.h>
+
+#ifdef __cplusplus
+extern "C" {
+#endif
+
+enum {
+    SNAPD_MAX_SEGMENTS = 16,
+    SNAPD_MAX_VALUE = 4080,                 /* a longer value is refused */
+    SNAPD_MAX_PAYLOAD = 66000,
+    SNAPD_MAX_SENT = SNAPD_MAX_PAYLOAD - 10 /* a longer value can't be sent */
+};
+
+/* How a call ended. After anything but SNAPD_OK and SNAPD_REFUSED an update may have been stored all the same: send it
+ * again with the same number and value. */
+typedef enum {
+    SNAPD_OK = 0,
+    SNAPD_REFUSED,      /* the server said no: refusal and detail of the client say why */
+    SNAPD_NOT_ANSWERED, /* no try had an answer: error of the client is the last errno, or 0 where the server hung up */
+    SNAPD_TIMED_OUT,    /* the last try had no whole answer within the timeout */
+    SNAPD_BAD_REPLY,    /* what came isn't an answer: there is no snapd at the other end */
+    SNAPD_BAD_CALL      /* a value or an address that no message or socket can say; nothing was sent */
+} snapd_result;
+
+/* Why a request was refused. */
+typedef enum {
+    SNAPD_MALFORMED = 1,
+    SNAPD_NO_SEGMENT = 2,     /* detail: how many segments there are */
+    SNAPD_TOO_LONG = 3,       /* detail: the value's length */
+    SNAPD_CONFLICT = 4,       /* the number is there with another value; detail of 4, 5, 6, 7, 9, 13, 17: the segment's number */
+    SNAPD_OUT_OF_STEP = 5,    /* an update takes the segment's number plus one */
+    SNAPD_FENCED = 6,         /* a store failed before: look at the disk, start the server again, send the update again */
+    SNAPD_FULL = 7,
+    SNAPD_NO_MEMORY = 8,      /* ask again */
+    SNAPD_EXHAUSTED = 9,
+    SNAPD_DAMAGED = 10,
+    SNAPD_UNFORMATTED = 11,
+    SNAPD_ALREADY_FORMATTED = 12,
+    SNAPD_DEVICE_FAILED = 13, /* this store failed: as for SNAPD_FENCED */
+    SNAPD_WRONG_FILE = 14,
+    SNAPD_TOO_LARGE = 15,
+    SNAPD_NOT_NOW = 16,
+    SNAPD_WORN = 17           /* start the server again */
+} snapd_refusal;
+
+typedef struct {
+    uint64_t number;
+    uint32_t length;
+    const unsigned char *value; /* within the client: it stands until the client's next call */
+} snapd_entry;
+
+/* All segments at one moment. */
+typedef struct {
+    int count;
+    snapd_entry entry[SNAPD_MAX_SEGMENTS];
+} snapd_snapshot;
+
+typedef struct {
+    uint64_t number;
+    int fenced;
+} snapd_standing;
+
+/* Where each segment stands, each at a moment of its own. */
+typedef struct {
+    int count;
+    snapd_standing standing[SNAPD_MAX_SEGMENTS];
+} snapd_status_list;
+
+typedef struct {
+    /* set by snapd_open */
+    struct sockaddr_storage address;
+    socklen_t address_length;
+    int timeout; /* milliseconds, for one try */
+    int tries;
+    /* the connection, or -1 */
+    int connection;
+    /* of the last call: a snapd_refusal and its detail; the system's error */
+    int refusal;
+    uint64_t detail;
+    int error;
+    /* a frame: of the request, then of the reply */
+    unsigned char frame[4 + SNAPD_MAX_PAYLOAD];
+} snapd_client;
+
+/* ---- numbers: the highest byte first ---- */
+
+static inline void snapd_put(unsigned char *at, uint64_t number, int bytes)
+{
+    for (int i = bytes - 1; i >= 0; i--, number >>= 8)
+        at[i] = (unsigned char)(number & 255);
+}
+
+static inline uint64_t snapd_get(const unsigned char *at, int bytes)
+{
+    uint64_t number = 0;
+    for (int i = 0; i < bytes; i++)
+        number = number << 8 | at[i];
+    return number;
+}
+
+/* ---- connections ---- */
+
+/* Names the server: a numeric IPv4 or IPv6 address (no name is looked up), its port, the milliseconds that one try may
+ * take, and how many connections one call may make. Nothing is sent yet. SNAPD_BAD_CALL where a word is out of range. */
+static inline snapd_result snapd_open(snapd_client *client, const char *host, int port, int timeout, int tries)
+{
+    struct sockaddr_in four;
+    struct sockaddr_in6 six;
+    memset(&client->address, 0, sizeof client->address);
+    client->address_length = 0;
+    client->timeout = timeout;
+    client->tries = tries;
+    client->connection = -1;
+    client->refusal = client->error = 0;
+    client->detail = 0;
+    if (port < 1 || port > 65535 || timeout < 1 || tries < 1)
+        return SNAPD_BAD_CALL;
+    memset(&four, 0, sizeof four);
+    memset(&six, 0, sizeof six);
+    if (inet_pton(AF_INET, host, &four.sin_addr) == 1) {
+        four.sin_family = AF_INET;
+        four.sin_port = htons((uint16_t)port);
+        memcpy(&client->address, &four, sizeof four);
+        client->address_length = sizeof four;
+    } else if (inet_pton(AF_INET6, host, &six.sin6_addr) == 1) {
+        six.sin6_family = AF_INET6;
+        six.sin6_port = htons((uint16_t)port);
+        memcpy(&client->address, &six, sizeof six);
+        client->address_length = sizeof six;
+    }
+    return client->address_length ? SNAPD_OK : SNAPD_BAD_CALL;
+}
+
+/* Ends the connection. A later call makes a new one. */
+static inline void snapd_close(snapd_client *client)
+{
+    if (client->connection >= 0)
+        close(client->connection);
+    client->connection = -1;
+}
+
+/* Milliseconds of a clock that is never set. */
+static inline int64_t snapd_now(void)
+{
+    struct timespec now;
+    clock_gettime(CLOCK_MONOTONIC, &now);
+    return (int64_t)now.tv_sec * 1000 + now.tv_nsec / 1000000;
+}
+
+/* Waits until the connection can be read (POLLIN) or written (POLLOUT). */
+static inline snapd_result snapd_wait(snapd_client *client, short what, int64_t end)
+{
+    for (;;) {
+        struct pollfd one;
+        int64_t left = end - snapd_now();
+        int ready;
+        if (left <= 0)
+            return SNAPD_TIMED_OUT;
+        one.fd = client->connection;
+        one.events = what;
+        one.revents = 0;
+        ready = poll(&one, 1, (int)left);
+        if (ready > 0)
+            return SNAPD_OK;
+        if (ready < 0 && errno != EINTR) {
+            client->error = errno;
+            return SNAPD_NOT_ANSWERED;
+        }
+    }
+}
+
+static inline snapd_result snapd_failed(snapd_client *client)
+{
+    client->error = errno;
+    return SNAPD_NOT_ANSWERED;
+}
+
+/* A new connection. */
+static inline snapd_result snapd_connect(snapd_client *client, int64_t end)
+{
+    int on = 1, error = 0;
+    socklen_t size = sizeof error;
+    snapd_result result;
+    client->connection = socket(client->address.ss_family, SOCK_STREAM, 0);
+    if (client->connection < 0 || fcntl(client->connection, F_SETFL, O_NONBLOCK) < 0)
+        return snapd_failed(client);
+    fcntl(client->connection, F_SETFD, FD_CLOEXEC);
+    setsockopt(client->connection, IPPROTO_TCP, TCP_NODELAY, &on, sizeof on);
+    if (connect(client->connection, (struct sockaddr *)&client->address, client->address_length) == 0)
+        return SNAPD_OK;
+    if (errno != EINPROGRESS && errno != EINTR)
+        return snapd_failed(client);
+    result = snapd_wait(client, POLLOUT, end);
+    if (result != SNAPD_OK)
+        return result;
+    if (getsockopt(client->connection, SOL_SOCKET, SO_ERROR, &error, &size) < 0)
+        return snapd_failed(client);
+    client->error = error;
+    return error ? SNAPD_NOT_ANSWERED : SNAPD_OK;
+}
+
+/* The connection that stands, or a new one where none does or the server has ended it. Bytes that nobody asked for are no
+ * answer to what will be asked. */
+static inline snapd_result snapd_connected(snapd_client *client, int64_t end)
+{
+    if (client->connection >= 0) {
+        unsigned char byte;
+        ssize_t held = recv(client->connection, &byte, 1, MSG_PEEK);
+        if (held > 0)
+            return SNAPD_BAD_REPLY;
+        if (held < 0 && (errno == EAGAIN || errno == EWOULDBLOCK || errno == EINTR))
+            return SNAPD_OK;
+        snapd_close(client);
+    }
+    return snapd_connect(client, end);
+}
+
+static inline snapd_result snapd_send(snapd_client *client, const unsigned char *bytes, size_t length, int64_t end)
+{
+    while (length > 0) {
+        ssize_t sent;
+        snapd_result result = snapd_wait(client, POLLOUT, end);
+        if (result != SNAPD_OK)
+            return result;
+        sent = send(client->connection, bytes, length, MSG_NOSIGNAL);
+        if (sent < 0 && errno != EAGAIN && errno != EWOULDBLOCK && errno != EINTR)
+            return snapd_failed(client);
+        if (sent > 0) {
+            bytes += sent;
+            length -= (size_t)sent;
+        }
+    }
+    return SNAPD_OK;
+}
+
+/* So many bytes, and no more. */
+static inline snapd_result snapd_receive(snapd_client *client, unsigned char *bytes, size_t length, int64_t end)
+{
+    while (length > 0) {
+        ssize_t came;
+        snapd_result result = snapd_wait(client, POLLIN, end);
+        if (result != SNAPD_OK)
+            return result;
+        came = recv(client->connection, bytes, length, 0);
+        if (came == 0) {
+            client->error = 0;
+            return SNAPD_NOT_ANSWERED;
+        }
+        if (came < 0 && errno != EAGAIN && errno != EWOULDBLOCK && errno != EINTR)
+            return snapd_failed(client);
+        if (came > 0) {
+            bytes += came;
+            length -= (size_t)came;
+        }
+    }
+    return SNAPD_OK;
+}
+
+/* ---- one call ---- */
+
+/* A request: its head, and the value behind it. */
+typedef struct {
+    unsigned char head[14];
+    size_t head_length;
+    const void *value;
+    size_t length;
+} snapd_request;
+
+/* One try: the request is sent, and the payload of the reply, of *length bytes, stands in the client's frame. */
+static inline snapd_result snapd_try(snapd_client *client, const snapd_request *request, size_t *length)
+{
+    int64_t end = snapd_now() + client->timeout;
+    size_t whole = request->head_length + request->length;
+    snapd_result result = snapd_connected(client, end);
+    if (result != SNAPD_OK)
+        return result;
+    memcpy(client->frame, request->head, request->head_length);
+    if (request->length > 0)
+        memcpy(client->frame + request->head_length, request->value, request->length);
+    result = snapd_send(client, client->frame, whole, end);
+    if (result != SNAPD_OK)
+        return result;
+    result = snapd_receive(client, client->frame, 4, end);
+    if (result != SNAPD_OK)
+        return result;
+    *length = (size_t)snapd_get(client->frame, 4);
+    if (*length > SNAPD_MAX_PAYLOAD)
+        return SNAPD_BAD_REPLY;
+    return snapd_receive(client, client->frame, *length, end);
+}
+
+/* A tenth of a second, twice as long after each try. */
+static inline void snapd_rest(int tries_made)
+{
+    struct timespec rest;
+    int64_t tenths = tries_made < 8 ? (int64_t)1 << (tries_made - 1) : 128;
+    rest.tv_sec = (time_t)(tenths / 10);
+    rest.tv_nsec = (long)(tenths % 10) * 100000000L;
+    nanosleep(&rest, NULL);
+}
+
+/* The payload of the reply, over as many connections as it may take. */
+static inline snapd_result snapd_ask(snapd_client *client, const snapd_request *request, size_t *length)
+{
+    for (int made = 1;; made++) {
+        snapd_result result;
+        client->refusal = client->error = 0;
+        client->detail = 0;
+        result = snapd_try(client, request, length);
+        if (result == SNAPD_OK)
+            return result;
+        snapd_close(client);
+        if (result == SNAPD_BAD_REPLY || made >= client->tries)
+            return result;
+        snapd_rest(made);
+    }
+}
+
+/* What isn't the reply that was asked for: a refusal, or no reply at all. */
+static inline snapd_result snapd_other(snapd_client *client, size_t length)
+{
+    const unsigned char *x = client->frame;
+    if (length == 10 && x[0] == 0xE0 && x[1] >= SNAPD_MALFORMED && x[1] <= SNAPD_WORN) {
+        client->refusal = x[1];
+        client->detail = snapd_get(x + 2, 8);
+        return SNAPD_REFUSED;
+    }
+    snapd_close(client);
+    return SNAPD_BAD_REPLY;
+}
+
+static inline int snapd_is_number(uint64_t number)
+{
+    return number >> 63 == 0;
+}
+
+static inline int snapd_is_count(unsigned count)
+{
+    return count >= 1 && count <= SNAPD_MAX_SEGMENTS;
+}
+
+/* Stores a value as this number of a segment. *stored is the number once it is on the server's disk. The number is the
+ * segment's plus one; the segment's own number with its own value is answered again, so an update may be repeated. */
+static inline snapd_result snapd_update(snapd_client *client, unsigned segment, uint64_t number, const void *value,
+                                        size_t length, uint64_t *stored)
+{
+    snapd_request request;
+    snapd_result result;
+    size_t came = 0;
+    *stored = 0;
+    if (segment > 255 || length > SNAPD_MAX_SENT)
+        return SNAPD_BAD_CALL;
+    snapd_put(request.head, 10 + length, 4);
+    request.head[4] = 0x01;
+    request.head[5] = (unsigned char)segment;
+    snapd_put(request.head + 6, number, 8);
+    request.head_length = 14;
+    request.value = value;
+    request.length = length;
+    result = snapd_ask(client, &request, &came);
+    if (result != SNAPD_OK)
+        return result;
+    if (came != 9 || client->frame[0] != 0x81 || !snapd_is_number(snapd_get(client->frame + 1, 8)))
+        return snapd_other(client, came);
+    *stored = snapd_get(client->frame + 1, 8);
+    return SNAPD_OK;
+}
+
+/* Asks by one byte. */
+static inline snapd_result snapd_ask_byte(snapd_client *client, unsigned char byte, size_t *length)
+{
+    snapd_request request;
+    snapd_put(request.head, 1, 4);
+    request.head[4] = byte;
+    request.head_length = 5;
+    request.value = NULL;
+    request.length = 0;
+    return snapd_ask(client, &request, length);
+}
+
+/* The entries of a snapshot's payload; 0 where it isn't one. */
+static inline int snapd_read_snapshot(const unsigned char *x, size_t length, snapd_snapshot *snapshot)
+{
+    size_t at = 2;
+    if (length < 2 || x[0] != 0x82 || !snapd_is_count(x[1]))
+        return 0;
+    snapshot->count = x[1];
+    for (int i = 0; i < snapshot->count; i++) {
+        snapd_entry *entry = &snapshot->entry[i];
+        if (length - at < 12)
+            return 0;
+        entry->number = snapd_get(x + at, 8);
+        entry->length = (uint32_t)snapd_get(x + at + 8, 4);
+        entry->value = x + at + 12;
+        at += 12;
+        if (!snapd_is_number(entry->number) || entry->length > SNAPD_MAX_VALUE || length - at < entry->length)
+            return 0;
+        at += entry->length;
+    }
+    return at == length;
+}
+
+/* Number and value of every segment, all of one moment between the call and its return. */
+static inline snapd_result snapd_scan(snapd_client *client, snapd_snapshot *snapshot)
+{
+    size_t length = 0;
+    snapd_result result = snapd_ask_byte(client, 0x02, &length);
+    snapshot->count = 0;
+    if (result != SNAPD_OK)
+        return result;
+    return snapd_read_snapshot(client->frame, length, snapshot) ? SNAPD_OK : snapd_other(client, length);
+}
+
+/* The entries of a status's payload; 0 where it isn't one. */
+static inline int snapd_read_status(const unsigned char *x, size_t length, snapd_status_list *list)
+{
+    if (length < 2 || x[0] != 0x83 || !snapd_is_count(x[1]) || length != 2 + 9 * (size_t)x[1])
+        return 0;
+    list->count = x[1];
+    for (int i = 0; i < list->count; i++) {
+        const unsigned char *at = x + 2 + 9 * i;
+        list->standing[i].number = snapd_get(at, 8);
+        list->standing[i].fenced = at[8];
+        if (!snapd_is_number(list->standing[i].number) || at[8] > 1)
+            return 0;
+    }
+    return 1;
+}
+
+/* Number and fence of every segment. */
+static inline snapd_result snapd_status(snapd_client *client, snapd_status_list *list)
+{
+    size_t length = 0;
+    snapd_result result = snapd_ask_byte(client, 0x03, &length);
+    list->count = 0;
+    if (result != SNAPD_OK)
+        return result;
+    return snapd_read_status(client->frame, length, list) ? SNAPD_OK : snapd_other(client, length);
+}
+
+/* The name of a refusal, as snapd prints it. */
+static inline const char *snapd_refusal_name(int refusal)
+{
+    static const char *const names[] = {
+        "Malformed", "NoSegment", "TooLong", "Conflict", "OutOfStep", "Fenced", "Full", "NoMemory", "Exhausted",
+        "Damaged", "Unformatted", "AlreadyFormatted", "DeviceFailed", "WrongFile", "TooLarge", "NotNow", "Worn",
+    };
+    return refusal >= SNAPD_MALFORMED && refusal <= SNAPD_WORN ? names[refusal - 1] : "Unknown";
+}
+
+#ifdef __cplusplus
+}
+#endif
+
+#endif

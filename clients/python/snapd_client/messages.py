@@ -1,0 +1,171 @@
+"""Requests to bytes, and bytes to replies: docs/FORMATS.md, "Frames and messages"."""
+
+import struct
+from typing import List, NamedTuple, Tuple, Union
+
+from .errors import BY_NUMBER, BadReply, Refused
+
+MAX_PAYLOAD = 66_000
+MAX_UPDATE_VALUE = MAX_PAYLOAD - 10
+MAX_VALUE = 4_080
+MAX_SEGMENTS = 16
+NUMBERS = 1 << 63
+
+UPDATE, SCAN, STATUS = 0x01, 0x02, 0x03
+STORED, SNAPSHOT, STANDINGS, REFUSED = 0x81, 0x82, 0x83, 0xE0
+
+
+class Entry(NamedTuple):
+    """One segment in a snapshot."""
+
+    number: int
+    value: bytes
+
+
+class Standing(NamedTuple):
+    """Where one segment stands, by a status."""
+
+    number: int
+    fenced: bool
+
+
+class Stored(NamedTuple):
+    number: int
+
+
+class Snapshot(NamedTuple):
+    entries: Tuple[Entry, ...]
+
+
+class Standings(NamedTuple):
+    standings: Tuple[Standing, ...]
+
+
+Reply = Union[Stored, Snapshot, Standings, Refused]
+
+
+def frame(payload: bytes) -> bytes:
+    """The frame of a payload of at most 66,000 bytes."""
+    return struct.pack(">I", len(payload)) + payload
+
+
+def update(segment: int, number: int, value: bytes) -> bytes:
+    """The frame that asks to store a value. `ValueError` where no frame can say it."""
+    if not 0 <= segment <= 255:
+        raise ValueError(f"a segment is 0 to 255, not {segment}")
+    if not 0 <= number < 1 << 64:
+        raise ValueError(f"a number is 0 to 2^64 - 1, not {number}")
+    if len(value) > MAX_UPDATE_VALUE:
+        raise ValueError(f"an update carries at most {MAX_UPDATE_VALUE} bytes, not {len(value)}")
+    return frame(struct.pack(">BBQ", UPDATE, segment, number) + value)
+
+
+def scan() -> bytes:
+    """The frame that asks for a snapshot."""
+    return frame(bytes([SCAN]))
+
+
+def status() -> bytes:
+    """The frame that asks where the segments stand."""
+    return frame(bytes([STATUS]))
+
+
+class _Rest:
+    """The bytes of a payload that aren't read yet."""
+
+    def __init__(self, payload: bytes) -> None:
+        self.payload = payload
+        self.at = 0
+
+    def take(self, count: int) -> bytes:
+        piece = self.payload[self.at : self.at + count]
+        if len(piece) < count:
+            raise BadReply("the reply is cut off")
+        self.at += count
+        return piece
+
+    def read(self, count: int) -> int:
+        return int.from_bytes(self.take(count), "big")
+
+    def number(self) -> int:
+        number = self.read(8)
+        if number >= NUMBERS:
+            raise BadReply("a number isn't below 2^63")
+        return number
+
+    def count(self) -> int:
+        count = self.read(1)
+        if not 1 <= count <= MAX_SEGMENTS:
+            raise BadReply("a count isn't 1 to 16")
+        return count
+
+
+def _entry(rest: _Rest) -> Entry:
+    number = rest.number()
+    length = rest.read(4)
+    if length > MAX_VALUE:
+        raise BadReply("a value has more than 4,080 bytes")
+    return Entry(number, rest.take(length))
+
+
+def _standing(rest: _Rest) -> Standing:
+    number = rest.number()
+    fenced = rest.read(1)
+    if fenced > 1:
+        raise BadReply("a fence is neither 0 nor 1")
+    return Standing(number, fenced == 1)
+
+
+def _refusal(rest: _Rest) -> Refused:
+    kind = BY_NUMBER.get(rest.read(1))
+    if kind is None:
+        raise BadReply("it refuses by no known number")
+    return kind(rest.read(8))
+
+
+def _message(rest: _Rest) -> Reply:
+    tag = rest.read(1)
+    if tag == STORED:
+        return Stored(rest.number())
+    if tag == SNAPSHOT:
+        return Snapshot(tuple(_entry(rest) for _ in range(rest.count())))
+    if tag == STANDINGS:
+        return Standings(tuple(_standing(rest) for _ in range(rest.count())))
+    if tag == REFUSED:
+        return _refusal(rest)
+    raise BadReply("it begins like no reply")
+
+
+def reply(payload: bytes) -> Reply:
+    """The reply of a payload; `BadReply` where it is none."""
+    rest = _Rest(payload)
+    message = _message(rest)
+    if rest.at != len(payload):
+        raise BadReply("bytes stand behind the reply")
+    return message
+
+
+class Frames:
+    """Cuts the bytes of a connection into payloads."""
+
+    def __init__(self) -> None:
+        self.held = bytearray()
+
+    def push(self, piece: bytes) -> None:
+        self.held += piece
+
+    def next(self) -> Union[bytes, None]:
+        """The first whole payload, taken off; `None` where none is whole."""
+        if len(self.held) < 4:
+            return None
+        length = int.from_bytes(self.held[:4], "big")
+        if length > MAX_PAYLOAD:
+            raise BadReply("a frame's length is above 66,000")
+        if len(self.held) < 4 + length:
+            return None
+        payload = bytes(self.held[4 : 4 + length])
+        del self.held[: 4 + length]
+        return payload
+
+
+__all__: List[str] = ["Entry", "Standing", "Frames", "Reply", "frame", "reply", "scan", "status", "update"]

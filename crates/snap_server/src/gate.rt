@@ -1,0 +1,64 @@
+//! A gate that every request passes.
+ghost use Rattle.std.specs.Prelude.{◌≡◌};
+
+use snap_frame::{Reply, Request};
+use snap_session::Service;
+
+/// Is told of each request before it is answered and after, on the thread that answers it.
+pub trait Gate {
+    /// A request will be answered. No lock is held.
+    fn enter(&self);
+
+    /// It was answered. Not called for a request that was handed over and whose outcome never
+    /// comes.
+    fn leave(&self);
+}
+
+/// Holds nobody.
+#[derive(Drop)]
+pub struct NoGate;
+
+impl Gate for NoGate {
+    fn enter(&self) {}
+
+    fn leave(&self) {}
+}
+
+/// A service behind a gate. Its replies are the service's.
+#[derive(Drop)]
+pub struct Gated<'a, S: Drop, G> {
+    service: S,
+    gate: &'a G,
+}
+
+impl<'a, S: Drop, G> Gated<'a, S, G> {
+    /// Each request of the service passes the gate.
+    pub fn new(service: S, gate: &'a G) -> Gated<'a, S, G>
+        ensures { result.service ≡ service }
+    {
+        Gated { service, gate }
+    }
+}
+
+impl<S: Service + Drop, G: Gate> Service for Gated<'_, S, G> {
+    type Outcome = S::Outcome;
+
+    ghost gives = { λ old q r new. S.gives old.service q r new.service };
+
+    ghost hands_over = { S.hands_over };
+
+    fn answer(&mut self, request: &Request, key: usize) -> Option<Reply> {
+        self.gate.enter();
+        let reply = self.service.answer(request, key);
+        if reply.is_some() {
+            self.gate.leave();
+        }
+        reply
+    }
+
+    fn finish(&mut self, request: &Request, outcome: S::Outcome) -> Reply {
+        let reply = self.service.finish(request, outcome);
+        self.gate.leave();
+        reply
+    }
+}

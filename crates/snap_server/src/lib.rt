@@ -1,0 +1,24 @@
+//! The server: any number of connections on few threads.
+//!
+//! [`run`] has one thread that accepts, one [worker](run) for each service, and one for each
+//! [`Background`] that works on what the services hand over. A worker owns its service, its
+//! connections and one buffer for reading. It waits until the system reports some of them, and
+//! gives each of these a turn of its session; an idle connection costs no thread and no buffer.
+#![tactic(auto)]
+
+mod accepting;
+mod background;
+mod connection;
+mod door;
+mod fault;
+mod gate;
+mod listen;
+mod server;
+mod worker;
+
+pub use background::{Background, Done};
+pub use connection::Ended;
+pub use fault::ServerFault;
+pub use gate::{Gate, NoGate};
+pub use listen::{Arrival, Listen, Tcp};
+pub use server::run;

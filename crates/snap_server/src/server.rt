@@ -1,0 +1,183 @@
+//! All threads of a server.
+ghost use Rattle.std.specs.Prelude.{◌≡◌, IfOk, Some};
+ghost use Rattle.std.specs.Thread.{IsSync, IsSend};
+
+use crate::accepting::accept_all;
+use crate::background::{Background, Done};
+use crate::connection::Ended;
+use crate::door::{Door, Mail};
+use crate::fault::ServerFault;
+use crate::gate::{Gate, Gated};
+use crate::listen::Listen;
+use crate::worker::Worker;
+use snap_session::Service;
+use std::alloc::Global;
+use std::net::Net;
+use std::rt::Clock;
+use std::sync::Wait;
+use std::sync::atomic::{AtomicBool, Ordering};
+use std::thread;
+use std::thread::Threads;
+
+/// Tells the workers what is done, until no more will be.
+fn tell_all<X: Wait, B: Background + Drop>(rt: &X, mut background: B, doors: &[Door<B::Outcome>]) {
+    for _ in rt.forever() {
+        let Some(done) = background.next_done() else {
+            return;
+        };
+        let Done {
+            worker,
+            key,
+            outcome,
+        } = done;
+        if let Some(door) = doors.get(worker) {
+            door.post(rt, Mail::Done { key, outcome });
+        }
+    }
+}
+
+/// The services, each behind the gate.
+fn gate_all<'a, S: Service + Drop, G: Gate>(
+    alloc: Global,
+    services: Vec<S>,
+    gate: &'a G,
+) -> Result<Vec<Gated<'a, S, G>>, ServerFault> {
+    let mut gated = Vec::new(alloc);
+    for service in services {
+        if gated.push(Gated::new(service, gate)).is_err() {
+            return Err(ServerFault::NoMemory);
+        }
+    }
+    Ok(gated)
+}
+
+/// A worker for each service, and their doors in the same order.
+fn open_workers<X: Net, S: Service + Drop>(
+    net: &X,
+    alloc: Global,
+    services: Vec<S>,
+) -> Result<(Vec<Worker<S>>, Vec<Door<S::Outcome>>), ServerFault>
+where
+    S::Outcome: Drop,
+{
+    let mut workers = Vec::new(alloc);
+    let mut doors = Vec::new(alloc);
+    for service in services {
+        let (worker, door) = Worker::new(net, alloc, service)?;
+        if workers.push(worker).is_err() || doors.push(door).is_err() {
+            return Err(ServerFault::NoMemory);
+        }
+    }
+    Ok((workers, doors))
+}
+
+/// Runs the threads of all workers and backgrounds, and accepts on this one.
+fn run_threads<X, L, S, B, N>(
+    rt: &X,
+    listener: &L,
+    workers: Vec<Worker<S>>,
+    doors: &[Door<S::Outcome>],
+    backgrounds: Vec<B>,
+    connections: Option<u64>,
+    failed: &AtomicBool,
+    note: &N,
+) -> Result<u64, ServerFault>
+where
+    X: Threads + Wait + Clock + Sync,
+    L: Listen,
+    S: Service + Send + Drop,
+    S::Outcome: Send + Drop,
+    B: Background<Outcome = S::Outcome> + Send + Drop,
+    N: Fn(&Ended) + Sync,
+    requires { N.IsAlwaysCallable note.now }
+    ensures { IfOk result (λ k. connections ≡ Some k) }
+{
+    thread::scope(
+        thread::scope_env(),
+        rt,
+        |scope| -> Result<u64, ServerFault>
+            requires { IsSync X.row × IsSync N.row × IsSend S.row × N.IsAlwaysCallable note.now }
+            ensures { IfOk result (λ k. connections ≡ Some k) }
+        {
+            let mut is_whole = true;
+            for background in backgrounds {
+                let told = move ||
+                    requires { IsSync X.row }
+                {
+                    tell_all(rt, background, doors);
+                };
+                is_whole &= scope.spawn(told).is_ok();
+            }
+            for worker in workers {
+                let served = move ||
+                    requires { IsSync X.row × IsSync N.row × IsSend S.row × N.IsAlwaysCallable note.now }
+                {
+                    if worker.work(rt, note).is_err() {
+                        failed.store(true, Ordering::SeqCst);
+                    }
+                };
+                is_whole &= scope.spawn(served).is_ok();
+            }
+            let accepted = if is_whole {
+                accept_all(rt, listener, doors, connections)
+            } else {
+                Err(ServerFault::NoMemory)
+            };
+            for door in doors {
+                door.post(rt, Mail::Close);
+            }
+            accepted
+        },
+    )
+}
+
+/// Serves the connections that the listener gives, dealt in turn to one worker for each service,
+/// until so many have come and ended, and answers their number; without end where none is given.
+///
+/// Each background works in a thread of its own, and has ended once the services are gone. The
+/// gate's `enter` comes before a request is answered and its `leave` after. Each connection that
+/// has ended is handed to `note`, on its worker's thread.
+///
+/// After a fault no more connections are accepted, and those that are there were served to their
+/// end. [`NoMemory`](ServerFault::NoMemory): a growth of `run` itself was refused, or a thread; a
+/// connection that finds no room is closed, and is no fault. 16 faults of the listener in a row are
+/// [`AcceptFailed`](ServerFault::AcceptFailed).
+pub fn run<X, L, S, B, G, N>(
+    rt: &X,
+    alloc: Global,
+    listener: &L,
+    services: Vec<S>,
+    backgrounds: Vec<B>,
+    connections: Option<u64>,
+    gate: &G,
+    note: &N,
+) -> Result<u64, ServerFault>
+where
+    X: Threads + Wait + Clock + Net + Sync,
+    L: Listen,
+    S: Service + Send + Drop,
+    S::Outcome: Send + Drop,
+    B: Background<Outcome = S::Outcome> + Send + Drop,
+    G: Gate + Sync,
+    N: Fn(&Ended) + Sync,
+    requires { N.IsAlwaysCallable note.now }
+    ensures { IfOk result (λ k. connections ≡ Some k) }
+{
+    let services = gate_all(alloc, services, gate)?;
+    let (workers, doors) = open_workers(rt, alloc, services)?;
+    let failed = AtomicBool::new(false);
+    let served = run_threads(
+        rt,
+        listener,
+        workers,
+        doors.as_slice(),
+        backgrounds,
+        connections,
+        &failed,
+        note,
+    );
+    if failed.load(Ordering::SeqCst) {
+        return Err(ServerFault::PollFailed);
+    }
+    served
+}
