@@ -139,7 +139,10 @@ impl<'a, R: Wait + Copy, M: Memory, D: Disk + Drop> Desk<'a, R, M, D> {
             number,
             value: Payload::of(value),
         };
-        self.windows[segment].errands.send(&self.rt, Errand::Store(job)).is_ok()
+        self.windows[segment]
+            .errands
+            .send(&self.rt, Errand::Store(job))
+            .is_ok()
     }
 
     /// An update goes to its store.

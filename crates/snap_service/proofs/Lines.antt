@@ -91,17 +91,17 @@ listed a b memory values snap list short below one few =
       one = omega arith;
       few = omega arith;
       each = λ k d h.
-      let s = slice_index_or values k d in
-      let at : slice_get values k ≡ Some s = slice_get-get_or values k d h in
-      let inside : k < segments b.plan = omega arith in
-      let there : slice_get memory k ≡ Some (pair_of s) =
-      subst (λ (l : List (ℕ × List ℕ)). slice_get l k ≡ Some (pair_of s)) list
-      (get_pair values k s at) in
-      let is : pair_of s ≡ (number_in b snap.part k, value_in b snap.part k) =
-      same_Some _ _ (sym there ∙ snap.is_memory.each k inside) in
-      let number : s.number ≡ number_in b snap.part k = ap (λ (x : ℕ × List ℕ). x.0) is in
-      let less : number_in b snap.part k ≤ number_in b b.seen k =
-      number-beginning (starts b.plan) snap.part b.seen k snap.within in
-      let top : IsNumber (number_in b b.seen k) = below k inside in
-      (omega arith, short k d h);
+          let s = slice_index_or values k d in
+          let at : slice_get values k ≡ Some s = slice_get-get_or values k d h in
+          let inside : k < segments b.plan = omega arith in
+          let there : slice_get memory k ≡ Some (pair_of s) =
+          subst (λ (l : List (ℕ × List ℕ)). slice_get l k ≡ Some (pair_of s)) list
+          (get_pair values k s at) in
+          let is : pair_of s ≡ (number_in b snap.part k, value_in b snap.part k) =
+          same_Some _ _ (sym there ∙ snap.is_memory.each k inside) in
+          let number : s.number ≡ number_in b snap.part k = ap (λ (x : ℕ × List ℕ). x.0) is in
+          let less : number_in b snap.part k ≤ number_in b b.seen k =
+          number-beginning (starts b.plan) snap.part b.seen k snap.within in
+          let top : IsNumber (number_in b b.seen k) = below k inside in
+          (omega arith, short k d h);
     }

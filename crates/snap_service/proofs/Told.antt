@@ -101,4 +101,4 @@ module _ {D : Type 0} (old new : WriterState D) (k : ℕ) (v : List ℕ) where
   told_fits told short low before after value judged unchanged advances fails =
       let is = some_rule old k v low in
       told_by (record { before = before; after = after; value = value }) told short is.0 is.1
-          (judged is.0 is.1) (unchanged is.0 is.1) advances fails
+      (judged is.0 is.1) (unchanged is.0 is.1) advances fails

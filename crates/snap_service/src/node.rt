@@ -85,7 +85,13 @@ impl<'a, R: Wait, M: Memory, D: Disk + Drop> Node<'a, R, M, D> {
         if writer.segment() != segment {
             return answer_by_look(&mut self.scanner, segment, number, value);
         }
-        settle(&mut writer.writer, &mut self.scanner, segment, number, value)
+        settle(
+            &mut writer.writer,
+            &mut self.scanner,
+            segment,
+            number,
+            value,
+        )
     }
 
     /// The number and the fence of each segment, under its lock.

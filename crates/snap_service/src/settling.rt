@@ -15,11 +15,7 @@ use snap_writer::Writer;
 
 /// An update of the writer, as [`Writer::update`] does it. What it told can be replied where the
 /// writer then stands.
-pub fn update<D: Disk>(
-    writer: &mut Writer<D>,
-    number: u64,
-    value: &[u8],
-) -> Result<u64, Refusal>
+pub fn update<D: Disk>(writer: &mut Writer<D>, number: u64, value: &[u8]) -> Result<u64, Refusal>
     requires size { IsShort value.now }
     ensures updated { IsUpdated D.device D.failure_count D.is_honest D.clock D.might_have_left
         writer.old writer.new number value.now result }

@@ -13,9 +13,11 @@ all_of ws rs k b back at =
     let here = back.scanners_are k b at in
     record {
       all = back.all ∙ ap segments (sym here.plan_is);
-      each = λ i w there. let is = back.writers_are i w there in
-      (record {
-        table_is = is.table_is ∙ sym here.table_is;
-        plan_is = is.plan_is ∙ sym here.plan_is;
-      }, is.low_is);
+      each = λ i w there. let is = back.writers_are i w there in (
+        record {
+          table_is = is.table_is ∙ sym here.table_is;
+          plan_is = is.plan_is ∙ sym here.plan_is;
+        },
+        is.low_is,
+      );
     }

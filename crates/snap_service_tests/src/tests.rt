@@ -191,9 +191,7 @@ fn fault_fences_the_segment(rt: HostRuntime) -> Result<(), Fail> {
     // An opening makes two calls, and the last sync is a store's fourth.
     plan.fail_call(devices[0].calls().saturating_add(6), Fill::Keep)?;
     devices[0].set_plan(plan);
-    let nothing: &[u8] = &[
-        0, 0, 0, 14, 0x82, 1, 0, 0, 0, 0, 0, 0, 0, 0, 0, 0, 0, 0,
-    ];
+    let nothing: &[u8] = &[0, 0, 0, 14, 0x82, 1, 0, 0, 0, 0, 0, 0, 0, 0, 0, 0, 0, 0];
     let talk: [(&[u8], &[u8]); 6] = [
         (HI, &[0, 0, 0, 10, 0xE0, 13, 0, 0, 0, 0, 0, 0, 0, 0]),
         (SCAN, nothing),

@@ -7,8 +7,9 @@ use Rattle.snap_service.proofs.node.Node.list_statuses.Goals as goal
 
 pub loop-writer-preserved : goal.loop-writer-preserved
 loop-writer-preserved g c =
-    let s : SegmentStatus = record { number = c.number.result; is_fenced = c.is_fenced.result } in
-    (ap length c.in_ok-push.ensures.items ∙ length_push c.loop-writer.statuses.items s
-    ∙ ap (λ (n : ℕ). n + 1) c.loop-writer.invariant.0,
-    all_more IsStatus c.loop-writer.statuses.items _ s c.in_ok-push.ensures.items
-    c.loop-writer.invariant.1 c.number.ensures.low)
+    let s : SegmentStatus = record { number = c.number.result; is_fenced = c.is_fenced.result } in (
+      ap length c.in_ok-push.ensures.items ∙ length_push c.loop-writer.statuses.items s
+          ∙ ap (λ (n : ℕ). n + 1) c.loop-writer.invariant.0,
+      all_more IsStatus c.loop-writer.statuses.items _ s c.in_ok-push.ensures.items
+          c.loop-writer.invariant.1 c.number.ensures.low,
+    )
