@@ -121,6 +121,15 @@ pub(crate) fn show(
     )
 }
 
+/// A memory of these texts.
+pub(crate) fn memory_of(alloc: Global, texts: &[&str]) -> Result<Vec<Vec<u8>>, AllocError> {
+    let mut memory = Vec::new(alloc);
+    for text in texts {
+        memory.push(text.as_bytes().to_vec(alloc)?)?;
+    }
+    Ok(memory)
+}
+
 /// The only scanner's scan has its answer, which is these texts.
 pub(crate) fn answer(
     rt: &impl Abort,
@@ -130,10 +139,7 @@ pub(crate) fn answer(
 ) -> Result<(), AllocError> {
     let scanner = Actor::Scanner(0);
     expect(rt, world, Event::Look(scanner), Reply::NotNow)?;
-    let mut memory = Vec::new(alloc);
-    for text in texts {
-        memory.push(text.as_bytes().to_vec(alloc)?)?;
-    }
+    let memory = memory_of(alloc, texts)?;
     expect(rt, world, Event::Answer(0), Reply::Memory(memory))?;
     expect(rt, world, Event::Answer(0), Reply::NotNow)
 }

@@ -209,21 +209,41 @@ fn generated_runs(rt: HostRuntime) -> Result<(), Fail> {
     for (seed, segments, scanners) in [(1, 1, 1), (2, 2, 1), (3, 2, 3), (4, 4, 2), (5, 16, 1)] {
         let events = events_of(alloc, seed, segments, scanners, 30_000)?;
         let replies = World::new(alloc, segments, scanners)?.run(&events)?;
-        assert_eq!(rt; replies.len(), events.len(), "seed {seed}");
+        assert!(rt; replies.len() == events.len(), "seed {seed}");
         let mut followed = Followed::new(alloc, segments, scanners)?;
-        let mut memories = 0_usize;
-        let mut restarts = 0_usize;
-        for (event, reply) in events.iter().zip(replies.iter()) {
-            let is_right = followed.agrees(alloc, event, reply)?;
-            assert!(rt; is_right, "seed {seed}: {reply:?}");
-            match (event, reply) {
-                (Event::Serve, Reply::Memory(_)) => restarts = restarts.saturating_add(1),
-                (_, Reply::Memory(_)) => memories = memories.saturating_add(1),
-                _ => {}
-            }
-        }
-        assert!(rt; memories >= 10, "seed {seed}: {memories} memories");
-        assert!(rt; restarts >= 20, "seed {seed}: {restarts} restarts");
+        agree(&rt, alloc, &mut followed, &events, &replies, seed)?;
+        are_many(&rt, &events, &replies, seed);
     }
     Ok(())
+}
+
+/// Each of these events may get its reply.
+fn agree(
+    rt: &impl Abort,
+    alloc: Global,
+    followed: &mut Followed,
+    events: &[Event],
+    replies: &[Reply],
+    seed: u64,
+) -> Result<(), AllocError> {
+    for (event, reply) in events.iter().zip(replies.iter()) {
+        let is_right = followed.agrees(alloc, event, reply)?;
+        assert!(rt; is_right, "seed {seed}: {reply:?}");
+    }
+    Ok(())
+}
+
+/// Many scans and restarts came to their ends.
+fn are_many(rt: &impl Abort, events: &[Event], replies: &[Reply], seed: u64) {
+    let mut memories = 0_usize;
+    let mut restarts = 0_usize;
+    for (event, reply) in events.iter().zip(replies.iter()) {
+        match (event, reply) {
+            (Event::Serve, Reply::Memory(_)) => restarts = restarts.saturating_add(1),
+            (_, Reply::Memory(_)) => memories = memories.saturating_add(1),
+            _ => {}
+        }
+    }
+    assert!(rt; memories >= 10, "seed {seed}: {memories} memories");
+    assert!(rt; restarts >= 20, "seed {seed}: {restarts} restarts");
 }

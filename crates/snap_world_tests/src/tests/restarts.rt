@@ -1,5 +1,7 @@
 //! Worked runs of device faults, crashes and restarts.
-use crate::tests::{FIRST_STORE, LATER_STORE, answer, begin, calls, expect, looks, show, store};
+use crate::tests::{
+    FIRST_STORE, LATER_STORE, answer, begin, calls, expect, looks, memory_of, show, store,
+};
 use snap_disk::Fill;
 use snap_persist::Write;
 use snap_world::{Actor, Event, Kind, Reply, World};
@@ -42,15 +44,19 @@ fn restart(
     texts: &[&str],
 ) -> Result<(), AllocError> {
     expect(rt, world, Event::Restart, Reply::Restarting)?;
-    let mut memory = Vec::new(alloc);
-    for text in texts {
+    for _ in texts {
         expect(rt, world, Event::Serve, Reply::NotNow)?;
-        expect(rt, world, Event::RestartCall, Reply::Called(Kind::Sync))?;
-        expect(rt, world, Event::RestartCall, Reply::Called(Kind::Read))?;
-        memory.push(text.as_bytes().to_vec(alloc)?)?;
+        one_file(rt, world)?;
     }
     expect(rt, world, Event::RestartCall, Reply::NotNow)?;
+    let memory = memory_of(alloc, texts)?;
     expect(rt, world, Event::Serve, Reply::Memory(memory))
+}
+
+/// The device calls of a restart on one file.
+fn one_file(rt: &impl Abort, world: &mut World) -> Result<(), AllocError> {
+    expect(rt, world, Event::RestartCall, Reply::Called(Kind::Sync))?;
+    expect(rt, world, Event::RestartCall, Reply::Called(Kind::Read))
 }
 
 #[test]
@@ -89,45 +95,30 @@ fn worked_script(rt: HostRuntime) -> Result<(), Fail> {
     Ok(())
 }
 
+/// A world of two segments whose writers crash between the write that opens the gate and the last
+/// sync. The first gate is left open, and the second one closed.
+fn crashed_at_the_gate(rt: &impl Abort, alloc: Global) -> Result<World, AllocError> {
+    let mut world = World::new(alloc, 2, 1)?;
+    begin(rt, alloc, &mut world, 0, "a", &[0, 0, 0, 0])?;
+    begin(rt, alloc, &mut world, 1, "b", &[0, 0, 0, 0])?;
+    calls(rt, &mut world, 0, &FIRST_STORE[..3])?;
+    calls(rt, &mut world, 1, &FIRST_STORE[..3])?;
+    crash(rt, alloc, &mut world, &[Some(0xA5), Some(0)])?;
+    Ok(world)
+}
+
 #[test]
 fn crash_with_writers_at_the_gate(rt: HostRuntime) -> Result<(), Fail> {
     let alloc = rt.alloc();
-    for is_crashed_again in [true, false] {
-        let mut world = World::new(alloc, 2, 1)?;
-        begin(&rt, alloc, &mut world, 0, "a", &[0, 0, 0, 0])?;
-        begin(&rt, alloc, &mut world, 1, "b", &[0, 0, 0, 0])?;
-        calls(
-            &rt,
-            &mut world,
-            0,
-            &[
-                Kind::Write(Write::Body),
-                Kind::Sync,
-                Kind::Write(Write::Open),
-            ],
-        )?;
-        calls(
-            &rt,
-            &mut world,
-            1,
-            &[
-                Kind::Write(Write::Body),
-                Kind::Sync,
-                Kind::Write(Write::Open),
-            ],
-        )?;
-        crash(&rt, alloc, &mut world, &[Some(0xA5), Some(0)])?;
-        if is_crashed_again {
-            expect(&rt, &mut world, Event::Restart, Reply::Restarting)?;
-            for kind in [Kind::Sync, Kind::Read] {
-                expect(&rt, &mut world, Event::RestartCall, Reply::Called(kind))?;
-            }
-            crash(&rt, alloc, &mut world, &[Some(0), Some(0xA5)])?;
-            restart(&rt, alloc, &mut world, &["a", "b"])?;
-        } else {
-            restart(&rt, alloc, &mut world, &["a", ""])?;
-        }
-    }
+    let mut world = crashed_at_the_gate(&rt, alloc)?;
+    restart(&rt, alloc, &mut world, &["a", ""])?;
+
+    // The machine crashes again once the restart has read the first file.
+    let mut world = crashed_at_the_gate(&rt, alloc)?;
+    expect(&rt, &mut world, Event::Restart, Reply::Restarting)?;
+    one_file(&rt, &mut world)?;
+    crash(&rt, alloc, &mut world, &[Some(0), Some(0xA5)])?;
+    restart(&rt, alloc, &mut world, &["a", "b"])?;
     Ok(())
 }
 
@@ -210,37 +201,32 @@ fn five_calls(rt: HostRuntime) -> Result<(), Fail> {
 #[test]
 fn the_client_sends_again(rt: HostRuntime) -> Result<(), Fail> {
     let alloc = rt.alloc();
-    for byte in [0, 0xA5] {
-        let mut world = World::new(alloc, 1, 1)?;
-        begin(&rt, alloc, &mut world, 0, "hi", &[0, 0])?;
-        calls(
-            &rt,
-            &mut world,
-            0,
-            &[
-                Kind::Write(Write::Body),
-                Kind::Sync,
-                Kind::Write(Write::Open),
-            ],
-        )?;
-        let fault = Event::Fail(0, Fill::Keep);
-        expect(&rt, &mut world, fault, Reply::DeviceFailed)?;
-        expect(&rt, &mut world, Event::Show(0), Reply::NotNow)?;
-        expect(&rt, &mut world, Event::Scan(0), Reply::ScanBegun)?;
-        looks(&rt, &mut world, Actor::Scanner(0), &[0, 0])?;
-        answer(&rt, alloc, &mut world, &[""])?;
-        crash(&rt, alloc, &mut world, &[Some(byte)])?;
-        if byte == 0 {
-            restart(&rt, alloc, &mut world, &[""])?;
-            store(&rt, alloc, &mut world, 0, "hi", &[0, 0], &FIRST_STORE)?;
-            show(&rt, &mut world, 0, 1)?;
-        } else {
-            restart(&rt, alloc, &mut world, &["hi"])?;
-            store(&rt, alloc, &mut world, 0, "yo", &[1, 1], &LATER_STORE)?;
-            show(&rt, &mut world, 0, 2)?;
-        }
-    }
+    let mut world = World::new(alloc, 1, 1)?;
+    fails_at_the_end(&rt, alloc, &mut world)?;
+    crash(&rt, alloc, &mut world, &[Some(0)])?;
+    restart(&rt, alloc, &mut world, &[""])?;
+    store(&rt, alloc, &mut world, 0, "hi", &[0, 0], &FIRST_STORE)?;
+    show(&rt, &mut world, 0, 1)?;
+
+    let mut world = World::new(alloc, 1, 1)?;
+    fails_at_the_end(&rt, alloc, &mut world)?;
+    crash(&rt, alloc, &mut world, &[Some(0xA5)])?;
+    restart(&rt, alloc, &mut world, &["hi"])?;
+    store(&rt, alloc, &mut world, 0, "yo", &[1, 1], &LATER_STORE)?;
+    show(&rt, &mut world, 0, 2)?;
     Ok(())
+}
+
+/// The last sync of the first store of `hi` fails, and nobody sees the value.
+fn fails_at_the_end(rt: &impl Abort, alloc: Global, world: &mut World) -> Result<(), AllocError> {
+    begin(rt, alloc, world, 0, "hi", &[0, 0])?;
+    calls(rt, world, 0, &FIRST_STORE[..3])?;
+    let fault = Event::Fail(0, Fill::Keep);
+    expect(rt, world, fault, Reply::DeviceFailed)?;
+    expect(rt, world, Event::Show(0), Reply::NotNow)?;
+    expect(rt, world, Event::Scan(0), Reply::ScanBegun)?;
+    looks(rt, world, Actor::Scanner(0), &[0, 0])?;
+    answer(rt, alloc, world, &[""])
 }
 
 /// The gate's byte after it was touched with this fill.
@@ -257,15 +243,24 @@ fn store_until(
     is_later: bool,
 ) -> Result<World, AllocError> {
     let mut world = World::new(alloc, 1, 1)?;
-    if is_later {
-        store(rt, alloc, &mut world, 0, "u", &[0, 0], &FIRST_STORE)?;
-        show(rt, &mut world, 0, 1)?;
-        begin(rt, alloc, &mut world, 0, "v", &[1, 1])?;
-    } else {
-        begin(rt, alloc, &mut world, 0, "v", &[0, 0])?;
-    }
+    begun(rt, alloc, &mut world, is_later)?;
     calls(rt, &mut world, 0, kinds)?;
     Ok(world)
+}
+
+/// The update by `v` is begun, behind one by `u` where it is a later one.
+fn begun(
+    rt: &impl Abort,
+    alloc: Global,
+    world: &mut World,
+    is_later: bool,
+) -> Result<(), AllocError> {
+    if !is_later {
+        return begin(rt, alloc, world, 0, "v", &[0, 0]);
+    }
+    store(rt, alloc, world, 0, "u", &[0, 0], &FIRST_STORE)?;
+    show(rt, world, 0, 1)?;
+    begin(rt, alloc, world, 0, "v", &[1, 1])
 }
 
 // Each call of a store is the last one before a crash, or fails before it. The new value comes back
