@@ -88,7 +88,7 @@ fn request_of(alloc: Global, task: Task) -> Result<Request, AllocError> {
 }
 
 /// All rounds, with a node of these writers and this scanner. The last reply.
-fn work<M: Memory, R: Wait>(
+fn serve_rounds<M: Memory, R: Wait>(
     rt: &R,
     alloc: Global,
     writers: Vec<Writer<MemDisk>>,
@@ -116,7 +116,7 @@ fn work<M: Memory, R: Wait>(
 }
 
 /// The same with a node of this store.
-fn work_store<R: Wait>(
+fn serve_store<R: Wait>(
     rt: &R,
     alloc: Global,
     mut store: Store<MemDisk>,
@@ -126,19 +126,19 @@ fn work_store<R: Wait>(
 {
     let writers = mem::replace(&mut store.writers, Vec::new(alloc));
     match store.scanners.pop() {
-        Some(scanner) => work::<Brand, R>(rt, alloc, writers, scanner, task),
+        Some(scanner) => serve_rounds::<Brand, R>(rt, alloc, writers, scanner, task),
         None => Err(AllocError),
     }
 }
 
 /// The same over new files.
-fn work_files<R: Wait>(rt: &R, alloc: Global, task: Task) -> io::Result<Option<Reply>> {
+fn serve_files<R: Wait>(rt: &R, alloc: Global, task: Task) -> io::Result<Option<Reply>> {
     let devices = new_files(alloc, task.segments)?;
     if devices.is_empty() || devices.len() > 16 || !devices.iter().all(|d| d.failures() < 9) {
         return Err(io::Error::other("1 to 16 segments are wanted"));
     }
     match open_all(alloc, devices, 1) {
-        Ok((store, _)) => Ok(work_store(rt, alloc, store, task)?),
+        Ok((store, _)) => Ok(serve_store(rt, alloc, store, task)?),
         Err(_) => Err(io::Error::other("an opening was refused")),
     }
 }
@@ -212,6 +212,6 @@ fn main(rt: HostRuntime) -> io::Result<()> {
         rounds,
         length: usize::from(length),
     };
-    let last = work_files(&rt, rt.alloc(), task)?;
+    let last = serve_files(&rt, rt.alloc(), task)?;
     print_reply(&rt, last)
 }

@@ -82,7 +82,8 @@ impl<M: Memory> StoreSeat<M> {
 
     /// Adds what its writer shows at the end.
     fn tell(self, seen: &mut Seen) -> Result<(), AllocError> {
-        if let Some(writer) = self.writer {
+        let StoreSeat { writer, .. } = self;
+        if let Some(writer) = writer {
             seen.numbers.push(writer.number())?;
             let (segment, _) = writer.into_writer().into_parts();
             if let Some(waited) = segment.into_device().waited() {

@@ -4,10 +4,10 @@ use Rattle.snap_register.specs.Seat.{Known}
 use Rattle.snap_writer.specs.Writer.{WriterState}
 use Rattle.snap_service.specs.Memory.{AreWriters}
 use Rattle.snap_service_tests.proofs.Taken.{all_of}
-use Rattle.bench_service.proofs.work_store.Goals as goal
+use Rattle.bench_service.proofs.serve_store.Goals as goal
 
-pub work-requires-clause-writers : goal.work-requires-clause-writers
-work-requires-clause-writers g c =
+pub serve_rounds-requires-clause-writers : goal.serve_rounds-requires-clause-writers
+serve_rounds-requires-clause-writers g c =
     let rs = c.args.store.scanners.items in
     let left = c.pop.new.self.items in
     let s = c.in-Some.scanner in
