@@ -136,7 +136,71 @@ fn run_threads<R: Threads + Wait + Sync + Send + Copy, M: Memory + Send>(
     done
 }
 
+/// What the stores and the worker have at the end.
+fn seen_by<M: Memory>(
+    alloc: Global,
+    written: Vec<u8>,
+    first: StoreSeat<M>,
+    second: StoreSeat<M>,
+) -> Result<Seen, AllocError> {
+    let mut seen = Seen {
+        written,
+        numbers: Vec::new(alloc),
+        flag: 0,
+    };
+    first.tell(&mut seen)?;
+    second.tell(&mut seen)?;
+    Ok(seen)
+}
+
+/// A run of this desk beside these stores. What its peers were sent.
+fn run_desk<R: Threads + Wait + Sync + Send + Copy, M: Memory + Send>(
+    rt: &R,
+    alloc: Global,
+    stores: (&mut StoreSeat<M>, &mut StoreSeat<M>),
+    desk: &mut Desk<'_, R, M, Held>,
+    windows: &[Window],
+    work: (Course, &[u8], &AtomicU64),
+) -> Result<Vec<u8>, AllocError> {
+    let (to, inbox) = bounded(alloc, 4)?;
+    let mut desks = Vec::new(alloc);
+    desks.push(to)?;
+    let mut worker = Worker {
+        alloc,
+        inbox: Some(inbox),
+        written: Vec::new(alloc),
+    };
+    run_threads(rt, stores, &mut worker, desk, windows, &desks, work)?;
+    let Worker { written, .. } = worker;
+    Ok(written)
+}
+
 /// A run with these writers and this scanner.
+fn run_writers<R: Threads + Wait + Sync + Send + Copy, M: Memory + Send>(
+    rt: &R,
+    alloc: Global,
+    writers: (WriterOf<M, Held>, WriterOf<M, Held>),
+    scanner: Scanner,
+    work: (Course, &[u8], &AtomicU64),
+) -> Result<Seen, AllocError>
+    requires { IsOf M.table M.plan scanner }
+{
+    let (first, second) = writers;
+    let segments = scanner.segments();
+    let mut windows = Vec::new(alloc);
+    let mut first = StoreSeat::new(alloc, first, &mut windows)?;
+    let mut second = StoreSeat::new(alloc, second, &mut windows)?;
+    if windows.len() != segments {
+        return Err(AllocError);
+    }
+    let snapshot = Snapshot::new(alloc, segments)?;
+    let mut desk = Desk::new(*rt, alloc, 0, &windows, scanner, snapshot);
+    let stores = (&mut first, &mut second);
+    let written = run_desk(rt, alloc, stores, &mut desk, &windows, work)?;
+    seen_by(alloc, written, first, second)
+}
+
+/// A run of the memory that these are of.
 fn run_memory<R: Threads + Wait + Sync + Send + Copy, M: Memory + Send>(
     rt: &R,
     alloc: Global,
@@ -147,46 +211,13 @@ fn run_memory<R: Threads + Wait + Sync + Send + Copy, M: Memory + Send>(
     requires writers { AreWriters M.table M.plan writers.items }
     requires scanner { IsOf M.table M.plan scanner }
 {
-    let segments = scanner.segments();
-    let snapshot = Snapshot::new(alloc, segments)?;
     let Ok(mut named) = name_writers::<M, Held>(alloc, writers) else {
         return Err(AllocError);
     };
-    let (Some(second), Some(first)) = (named.pop(), named.pop()) else {
-        return Err(AllocError);
-    };
-    let mut windows = Vec::new(alloc);
-    let mut first = StoreSeat::new(alloc, first, &mut windows)?;
-    let mut second = StoreSeat::new(alloc, second, &mut windows)?;
-    if windows.len() != segments {
-        return Err(AllocError);
+    match (named.pop(), named.pop()) {
+        (Some(second), Some(first)) => run_writers(rt, alloc, (first, second), scanner, work),
+        _ => Err(AllocError),
     }
-    let (to, inbox) = bounded(alloc, 4)?;
-    let mut desks = Vec::new(alloc);
-    desks.push(to)?;
-    let mut worker = Worker {
-        alloc,
-        inbox: Some(inbox),
-        written: Vec::new(alloc),
-    };
-    let mut desk = Desk::new(*rt, alloc, 0, &windows, scanner, snapshot);
-    run_threads(
-        rt,
-        (&mut first, &mut second),
-        &mut worker,
-        &mut desk,
-        &windows,
-        &desks,
-        work,
-    )?;
-    let mut seen = Seen {
-        written: worker.written,
-        numbers: Vec::new(alloc),
-        flag: 0,
-    };
-    first.tell(&mut seen)?;
-    second.tell(&mut seen)?;
-    Ok(seen)
 }
 
 /// A run with this store, of two segments.
