@@ -17,9 +17,10 @@ demo: build
 test:
 	python3 tests/all.py
 
-# The program that one of the end-to-end tests runs beside snapd. The merge gate leaves it too.
+# The programs that two of the end-to-end tests run beside snapd. The merge gate leaves them too.
 programs:
 	cd crates/restart_allocations && rt run -- scanned
+	cd crates/bench_service && rt run -- scan 3 2 8
 
 # The end-to-end tests alone.
 tests: build programs
@@ -30,6 +31,7 @@ bench: build
 	cd crates/bench_world && rt run -- 2 3 8
 	cd crates/bench_memory && rt run -- scan 3 2 50 8
 	cd crates/bench_restart && rt run -- memory . 0
+	cd crates/bench_service && rt run -- scan 3 2 8
 	python3 bench/run.py
 
 clean:

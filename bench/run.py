@@ -16,6 +16,9 @@ time of the processor, and counts scans a second beside writers. The largest mem
 Last it times durable updates beside bare stores of the same segment's code, in one process, in turn, each on a file or a device in memory
 of its own: the medians, and the median of the ratios of each pair. On a file an update is to cost at most 1.05 times a store. An opening
 of 16 files for 16 scanners is to take at most 10 ms more than their bare syncs and reads.
+
+The very last are requests to a node over files in memory, by the time of the processor: how many a second, and a scan of 16 segments of
+4,080 bytes beside a plain copy of its bytes, which it is to take at most 2.5 times.
 """
 
 import argparse
@@ -243,6 +246,34 @@ def largest_memory():
     return run.returncode == 0 and used <= 45_000
 
 
+SERVICE = str(TOP / "crates" / "bench_service" / "out" / "bench_service")
+
+
+def service_round(work, segments, rounds, length, tries=5):
+    """How many seconds the processor works for a round: the least time of some rounds, without that of none."""
+    least = {}
+    for _ in range(tries):
+        for count in (0, rounds):
+            took = worked(SERVICE, work, str(segments), str(count), str(length))
+            least[count] = min(took, least.get(count, took))
+    return (least[rounds] - least[0]) / rounds
+
+
+def services():
+    """Requests a second of a node over memory, and its largest scan beside a plain copy of the same bytes."""
+    print(f"\n{'a node over memory':<44} {'requests a second':>18}")
+    for label, work, segments, rounds in (
+        ("scan of 1 segment, 8 bytes", "scan", 1, 1_000_000),
+        ("scan of 16 segments, 8 bytes", "scan", 16, 100_000),
+        ("repeat of an update, 8 bytes", "update", 1, 1_000_000),
+        ("status of 16 segments", "status", 16, 300_000),
+    ):
+        print(f"  {label:<42} {1 / service_round(work, segments, rounds, 8):>18,.0f}")
+    scan, copy = (service_round(work, 16, 20_000, 4_080) * 1e6 for work in ("scan", "copy"))
+    label = "  scan of 16 x 4,080 bytes, and a plain copy"
+    print(f"{label:<44} {scan:>9,.2f} us {copy:>9,.2f} us   {scan / copy:.3f}   (aim 2.5; of the scan's time one copy is {copy / scan:.0%})")
+
+
 def main():
     words = argparse.ArgumentParser()
     words.add_argument("--folder")
@@ -290,6 +321,7 @@ def main():
         memories(folder)
         small = largest_memory()
         durable(folder)
+        services()
         return 0 if few == more and fits and small else 1
 
 

@@ -1,3 +1,4 @@
 pub mod Told
 pub mod Meeting
 pub mod Lines
+pub mod Places

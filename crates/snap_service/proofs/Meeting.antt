@@ -1,5 +1,5 @@
 -- After a meeting a scanner has seen its writer's number and value, so what was told fits it.
-use Rattle.std.proofs.Common.{◌≡◌, ℕ, List, Result, ap, sym, subst, ◌∙◌}
+use Rattle.std.proofs.Common.{◌≡◌, ℕ, List, Result, sym, subst, ◌∙◌}
 use Rattle.snap_disk.specs.declared.refusal.Refusal.{Refusal}
 use Rattle.snap_history.specs.History.{number_after, value_after}
 use Rattle.snap_register.specs.History.{starts}

@@ -1,23 +1,5 @@
 -- What an update told fits the number and the value that it leaves.
-use Rattle.std.proofs.Common.{
-  rules,
-  ◌≡◌,
-  ◌≢◌,
-  ℕ,
-  ◌+◌,
-  List,
-  Result,
-  Ok,
-  Err,
-  OnOk,
-  OnErr,
-  refl,
-  ap,
-  sym,
-  subst,
-  ◌∙◌,
-  arith,
-}
+use Rattle.std.proofs.Common.{◌≡◌, ◌≢◌, ℕ, ◌+◌, List, Result, Ok, Err, OnOk, OnErr, refl, ap, sym, subst, ◌∙◌, arith}
 use Rattle.snap_disk.specs.declared.refusal.Refusal.{Refusal}
 use Rattle.snap_slot.specs.Layout.{IsNumber, IsShort}
 use Rattle.snap_segment.specs.Segment.{SegmentState}

@@ -15,7 +15,7 @@ mod settling;
 mod shared;
 
 pub use judging::{answer_by_look, refuse_place};
-pub use memory::{Memory, WriterOf};
+pub use memory::{Memory, WriterOf, name_writers};
 pub use node::Node;
 pub use scanning::answer_scan;
 pub use settling::{reply_told, settle, update};

@@ -1,6 +1,19 @@
 //! Which memory a writer is of, told by its type: what a lock or a message gives is known by its
 //! type alone.
-ghost use Rattle.std.specs.Prelude.{◌≡◌, ◌<◌, ◌↔◌, ℕ, List, IsTrue, IsSome};
+ghost use Rattle.std.specs.Prelude.{
+  ◌≡◌,
+  ◌<◌,
+  ◌≤◌,
+  ◌↔◌,
+  ℕ,
+  List,
+  length,
+  vec_capacity,
+  IsTrue,
+  IsSome,
+  IfOk,
+  IfErr,
+};
 ghost use Rattle.atomic_table.specs.Seated.{TableId};
 ghost use Rattle.snap_slot.specs.Layout.{IsNumber, IsShort};
 ghost use Rattle.snap_register.specs.declared.plan.Plan.{Plan};
@@ -8,7 +21,7 @@ ghost use Rattle.snap_register.specs.Rule.{segments};
 ghost use Rattle.snap_register.specs.Seat.{own_of, Meets};
 ghost use Rattle.snap_frame.specs.Messages.{IsInLimits};
 ghost use Rattle.snap_writer.specs.Writer.{number_of};
-ghost use Rattle.snap_service.specs.Memory.{IsOf, no_table, no_plan};
+ghost use Rattle.snap_service.specs.Memory.{IsOf, AreWriters, no_table, no_plan};
 ghost use Rattle.snap_service.specs.Settled.{IsSettledAt, IsTellable, reply_of};
 ghost use Rattle.snap_service.specs.Updated.{IsUpdated, HasMet};
 
@@ -17,6 +30,7 @@ use snap_disk::{Disk, Refusal};
 use snap_frame::Reply;
 use snap_memory::Scanner;
 use snap_writer::Writer;
+use std::alloc::Global;
 use std::marker::{Brand, Model, PhantomData};
 
 /// A name for one memory: the registers of one opening. It has no values; a function over any memory
@@ -124,4 +138,27 @@ impl<M: Memory, D: Disk> WriterOf<M, D> {
         let _segment = self.segment();
         reply_told(told, &mut self.writer, scanner)
     }
+}
+
+/// The writers of all segments, in order, each with the memory told by its type. Where memory runs
+/// out the writers come back as they were.
+pub fn name_writers<M: Memory, D: Disk + Drop>(
+    alloc: Global,
+    writers: Vec<Writer<D>>,
+) -> Result<Vec<WriterOf<M, D>>, Vec<Writer<D>>>
+    requires { AreWriters M.table M.plan writers.items }
+    ensures named { IfOk result (λ named. named.items ≡ writers.items) }
+    ensures back { IfErr result (λ back. back.items ≡ writers.items) }
+{
+    let Ok(mut named) = Vec::with_capacity(alloc, writers.len()) else {
+        return Err(writers);
+    };
+    'writers: for writer in writers {
+        let segment = named.len();
+        match named.push(WriterOf::new(writer, segment)) {
+            Ok(()) => {}
+            Err(_) => unreachable!(),
+        }
+    }
+    Ok(named)
 }

@@ -1,5 +1,5 @@
 //! The writers that all nodes share, each under a lock of its own.
-ghost use Rattle.std.specs.Prelude.{◌≡◌, ◌<◌, ◌≤◌, length, vec_capacity, IfErr};
+ghost use Rattle.std.specs.Prelude.{◌≡◌, ◌<◌, ◌≤◌, [], length, vec_capacity, IfErr, IfSome};
 ghost use Rattle.snap_register.specs.Rule.{segments};
 ghost use Rattle.snap_service.specs.Memory.{AreWriters};
 
@@ -34,5 +34,27 @@ impl<M: Memory, D: Disk + Drop> Shared<M, D> {
             }
         }
         Ok(Shared { writers: locks })
+    }
+    /// The writers of all segments, in order, out of their locks: so a store can be closed once they
+    /// are back in it. `room` is empty and has room for all of them, so it takes no memory. `None`
+    /// where a writer isn't at its segment's place; [`Shared::new`] puts each there.
+    pub fn into_writers(self, room: Vec<Writer<D>>) -> Option<Vec<Writer<D>>>
+        requires empty { room.items ≡ [] }
+        requires room { segments M.plan ≤ vec_capacity room }
+        ensures { IfSome result (λ writers. AreWriters M.table M.plan writers.items) }
+    {
+        let mut writers = room;
+        'locks: for lock in self.writers {
+            let place = writers.len();
+            let writer = lock.into_inner();
+            if writer.segment() != place {
+                return None;
+            }
+            match writers.push(writer.into_writer()) {
+                Ok(()) => {}
+                Err(_) => unreachable!(),
+            }
+        }
+        Some(writers)
     }
 }

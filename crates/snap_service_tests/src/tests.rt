@@ -247,7 +247,7 @@ fn call_node(
 }
 
 #[test]
-fn client_updates_a_node(rt: HostRuntime) -> Result<(), Fail> {
+fn node_gives_up_no_new_update(rt: HostRuntime) -> Result<(), Fail> {
     let value = Bytes::copy_from_slice(rt.alloc(), b"hi")?;
     assert!(rt; value.len() == 2);
     let request = Request::Update {
@@ -260,7 +260,7 @@ fn client_updates_a_node(rt: HostRuntime) -> Result<(), Fail> {
 }
 
 #[test]
-fn client_scans_a_node(rt: HostRuntime) -> Result<(), Fail> {
+fn node_gives_up_no_scan(rt: HostRuntime) -> Result<(), Fail> {
     let Reply::Snapshot(values) = call_node(&rt, HI, &Request::Scan)? else {
         panic!(rt; "no snapshot")
     };

@@ -1,4 +1,4 @@
-use Rattle.std.proofs.Common.{◌≡◌, arith}
+use Rattle.std.proofs.Common.{arith}
 use Rattle.snap_service.proofs.Lines.{listed}
 use Rattle.snap_service.proofs.scanning.answer_scan.Goals as goal
 

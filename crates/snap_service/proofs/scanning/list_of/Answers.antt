@@ -1,4 +1,4 @@
-use Rattle.std.proofs.Common.{◌≡◌, ◌+◌, ◌<◌, length, take, map, ap, sym, subst, ◌∙◌, arith}
+use Rattle.std.proofs.Common.{◌<◌, length, map, ap, sym, subst, ◌∙◌, arith}
 use Rattle.snap_history.proofs.Pairing.{element}
 use Rattle.snap_slot.specs.Layout.{IsShort}
 use Rattle.snap_frame.specs.declared.entries.SegmentValue.{SegmentValue}

@@ -1,4 +1,4 @@
-use Rattle.std.proofs.Common.{◌≡◌, ℕ, subst, ◌∙◌}
+use Rattle.std.proofs.Common.{ℕ, subst, ◌∙◌}
 use Rattle.snap_service.specs.Settled.{IsSettledAt}
 use Rattle.snap_service.proofs.Meeting.{still_together, still_seated}
 use Rattle.snap_service.proofs.settling.settle.Goals as goal

@@ -1,4 +1,4 @@
-use Rattle.std.proofs.Common.{◌≡◌, ◌∙◌, sym, arith}
+use Rattle.std.proofs.Common.{◌∙◌, sym, arith}
 use Rattle.snap_service.proofs.Told.{told_fits}
 use Rattle.snap_service.proofs.settling.update.Goals as goal
 

@@ -1,6 +1,5 @@
 use Rattle.std.proofs.Common.{◌≡◌, ℕ, List, subst}
 use Rattle.snap_register.specs.Seat.{own_of}
-use Rattle.snap_frame.specs.Messages.{IsInLimits}
 use Rattle.snap_writer.specs.Writer.{number_of}
 use Rattle.snap_service.specs.Settled.{IsSettledAt, reply_of}
 use Rattle.snap_desk.specs.Came.{Came}

@@ -1,0 +1,217 @@
+//! Requests to a node over files in memory, for `make bench` and for
+//! tests/test_service_allocations.py.
+//!
+//!     bench_service update|scan|status SEGMENTS ROUNDS LENGTH
+//!
+//! updates each of SEGMENTS to number 1 with LENGTH bytes, makes the same request ROUNDS times, and
+//! prints its last reply. The update is that of the first segment to number 2: the first round
+//! stores it, and the others repeat it.
+//!
+//!     bench_service copy SEGMENTS ROUNDS LENGTH
+//!
+//! makes a plain copy of as many bytes ROUNDS times.
+#![tactic(auto)]
+
+ghost use Rattle.std.specs.Prelude.{◌≡◌, ◌<◌, ◌≤◌, length, IfOk};
+ghost use Rattle.snap_restart.specs.Closed.{AreBack};
+ghost use Rattle.snap_service.specs.Memory.{AreWriters, IsOf};
+
+use bytes::Bytes;
+use snap_disk::{Disk, FILE_LEN, MemDisk};
+use snap_frame::{Reply, Request};
+use snap_memory::{Scanner, Snapshot};
+use snap_restart::{Store, open_all};
+use snap_segment::format;
+use snap_service::{Memory, Node, Shared};
+use snap_session::Service;
+use snap_writer::Writer;
+use std::alloc::{AllocError, Global};
+use std::marker::Brand;
+use std::sync::Wait;
+use std::{env, io, mem};
+
+/// What a round does.
+#[derive(Clone, Copy)]
+enum Work {
+    Update,
+    Scan,
+    Status,
+}
+
+/// What is repeated, over how many segments of how many bytes each.
+#[derive(Clone, Copy)]
+struct Task {
+    work: Work,
+    segments: u8,
+    rounds: u64,
+    length: usize,
+}
+
+/// The new files of so many segments.
+fn new_files(alloc: Global, count: u8) -> io::Result<Vec<MemDisk>> {
+    if count > 16 {
+        return Err(io::Error::other("there are at most 16 segments"));
+    }
+    let mut devices = Vec::new(alloc);
+    for index in 0..count {
+        let mut disk = MemDisk::zeroed(alloc, FILE_LEN as usize)?;
+        if disk.failures() != 0 || format(&mut disk, index, count).is_err() {
+            return Err(io::Error::other("a formatting was refused"));
+        }
+        devices.push(disk)?;
+    }
+    Ok(devices)
+}
+
+/// The update of this segment to this number.
+fn update_of(
+    alloc: Global,
+    segment: u8,
+    number: u64,
+    length: usize,
+) -> Result<Request, AllocError> {
+    let value = vec![in alloc; 7u8; length]?;
+    Ok(Request::Update {
+        segment,
+        number,
+        value: Bytes::copy_from_slice(alloc, &value)?,
+    })
+}
+
+/// The request of each round.
+fn request_of(alloc: Global, task: Task) -> Result<Request, AllocError> {
+    match task.work {
+        Work::Update => update_of(alloc, 0, 2, task.length),
+        Work::Scan => Ok(Request::Scan),
+        Work::Status => Ok(Request::Status),
+    }
+}
+
+/// All rounds, with a node of these writers and this scanner. The last reply.
+fn serve_rounds<M: Memory, R: Wait>(
+    rt: &R,
+    alloc: Global,
+    writers: Vec<Writer<MemDisk>>,
+    scanner: Scanner,
+    task: Task,
+) -> Result<Option<Reply>, AllocError>
+    requires writers { AreWriters M.table M.plan writers.items }
+    requires scanner { IsOf M.table M.plan scanner }
+{
+    let snapshot = Snapshot::new(alloc, scanner.segments())?;
+    let Ok(shared) = Shared::<M, MemDisk>::new(alloc, writers) else {
+        return Err(AllocError);
+    };
+    let mut node = Node::new(rt, alloc, &shared, scanner, snapshot);
+    for segment in 0..task.segments {
+        let request = update_of(alloc, segment, 1, task.length)?;
+        let _ = node.answer(&request, 0);
+    }
+    let request = request_of(alloc, task)?;
+    let mut last = None;
+    for _ in 0..task.rounds {
+        last = node.answer(&request, 0);
+    }
+    Ok(last)
+}
+
+/// The same with a node of this store.
+fn serve_store<R: Wait>(
+    rt: &R,
+    alloc: Global,
+    mut store: Store<MemDisk>,
+    task: Task,
+) -> Result<Option<Reply>, AllocError>
+    requires { AreBack store.writers.items store.scanners.items }
+{
+    let writers = mem::replace(&mut store.writers, Vec::new(alloc));
+    match store.scanners.pop() {
+        Some(scanner) => serve_rounds::<Brand, R>(rt, alloc, writers, scanner, task),
+        None => Err(AllocError),
+    }
+}
+
+/// The same over new files.
+fn serve_files<R: Wait>(rt: &R, alloc: Global, task: Task) -> io::Result<Option<Reply>> {
+    let devices = new_files(alloc, task.segments)?;
+    if devices.is_empty() || devices.len() > 16 || !devices.iter().all(|d| d.failures() < 9) {
+        return Err(io::Error::other("1 to 16 segments are wanted"));
+    }
+    match open_all(alloc, devices, 1) {
+        Ok((store, _)) => Ok(serve_store(rt, alloc, store, task)?),
+        Err(_) => Err(io::Error::other("an opening was refused")),
+    }
+}
+
+/// Copies so many bytes, so many times. What it read of them.
+fn copy(alloc: Global, len: usize, rounds: u64) -> Result<u8, AllocError> {
+    let source = vec![in alloc; 7u8; len]?;
+    let mut target = vec![in alloc; 0u8; len]?;
+    let mut read = 0;
+    for round in 0..rounds {
+        if target.len() == source.len() {
+            target.as_mut_slice().copy_from_slice(&source);
+        }
+        if let Some(byte) = target.get((round % 4_096) as usize) {
+            read ^= *byte;
+        }
+    }
+    Ok(read)
+}
+
+/// Prints the reply.
+fn print_reply<R: Print>(rt: &R, reply: Option<Reply>) -> io::Result<()> {
+    match reply {
+        None => println!(rt; "no reply"),
+        Some(Reply::Stored(number)) => println!(rt; "stored {number}"),
+        Some(Reply::Snapshot(values)) => {
+            let count = values.len();
+            println!(rt; "snapshot of {count}")
+        }
+        Some(Reply::Status(statuses)) => {
+            let count = statuses.len();
+            println!(rt; "status of {count}")
+        }
+        Some(Reply::Refused { why, detail }) => {
+            let name = why.name();
+            println!(rt; "refused {name} {detail}")
+        }
+    }
+}
+
+fn main(rt: HostRuntime) -> io::Result<()> {
+    let words: Vec<String> = env::args(&rt)?.collect(rt.alloc())?;
+    let [_, name, segments, rounds, length] = words.as_slice() else {
+        return Err(io::Error::other("wanted: WORK SEGMENTS ROUNDS LENGTH"));
+    };
+    let (Ok(segments), Ok(rounds), Ok(length)) = (
+        segments.parse::<u8>(),
+        rounds.parse::<u64>(),
+        length.parse::<u16>(),
+    ) else {
+        return Err(io::Error::other("SEGMENTS, ROUNDS and LENGTH are numbers"));
+    };
+    let work = match name.as_str() {
+        "update" => Work::Update,
+        "scan" => Work::Scan,
+        "status" => Work::Status,
+        "copy" => {
+            let read = copy(
+                rt.alloc(),
+                usize::from(segments) * usize::from(length),
+                rounds,
+            )?;
+            println!(rt; "copied {read}")?;
+            return Ok(());
+        }
+        _ => return Err(io::Error::other("WORK is update, scan, status or copy")),
+    };
+    let task = Task {
+        work,
+        segments,
+        rounds,
+        length: usize::from(length),
+    };
+    let last = serve_files(&rt, rt.alloc(), task)?;
+    print_reply(&rt, last)
+}

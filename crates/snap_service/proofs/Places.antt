@@ -1,0 +1,45 @@
+-- Lists whose items fit their places.
+use Rattle.std.proofs.Common.{
+  ◌≡◌,
+  ℕ,
+  zero,
+  suc,
+  List,
+  [],
+  ◌∷◌,
+  ◌++◌,
+  length,
+  take,
+  drop,
+  refl,
+  ap,
+  arith,
+  slice_get,
+  Some,
+  subst,
+}
+use Rattle.std.proofs.lemmas.Option.{same_Some}
+
+-- what holds at each place of a list so far, and at the next one
+pub places_more : {A : Type 0} (P : ℕ → A → Type 0) (xs : List A) (x : A)
+    → ((i : ℕ) (y : A) → slice_get xs i ≡ Some y → P i y) → P (length xs) x → (i : ℕ) (y : A)
+    → slice_get (xs ++ x ∷ []) i ≡ Some y → P i y
+places_more P [] x all at zero y e = subst (λ z. P 0 z) (same_Some x y e) at
+places_more P [] x all at (suc i) y e = absurd cc
+places_more P (z ∷ xs) x all at zero y e = all 0 y e
+places_more P (z ∷ xs) x all at (suc i) y e =
+    places_more (λ k v. P (suc k) v) xs x (λ k v h. all (suc k) v h) at i y e
+
+-- nothing stands in an empty list
+pub no_place : {A : Type 0} (xs : List A) (i : ℕ) (x : A) → xs ≡ [] → slice_get xs i ≡ Some x → ⊥
+no_place [] i x none e = absurd cc
+no_place (y ∷ xs) i x none e = absurd cc
+
+-- what is left of a list is empty, so all of it was taken
+pub all_taken : {A : Type 0} (xs : List A) (k : ℕ) (rest : List A) → drop k xs ≡ rest
+    → length rest ≡ 0 → take k xs ≡ xs
+all_taken [] zero rest e none = refl
+all_taken [] (suc k) rest e none = refl
+all_taken (x ∷ xs) zero [] e none = absurd cc
+all_taken (x ∷ xs) zero (y ∷ rest) e none = absurd (omega arith)
+all_taken (x ∷ xs) (suc k) rest e none = ap (λ l. x ∷ l) (all_taken xs k rest e none)

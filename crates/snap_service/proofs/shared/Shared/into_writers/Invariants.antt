@@ -1,0 +1,17 @@
+use Rattle.std.proofs.Common.{◌≡◌, ℕ, ◌+◌, ◌≤◌, length, slice_get, Some}
+use Rattle.std.specs.Prelude.{vec_capacity}
+use Rattle.std.specs.Vec.Iter.{into_iter_items, into_iter_len}
+use Rattle.snap_register.specs.Rule.{segments}
+use Rattle.snap_register.specs.Seat.{own_of}
+use Rattle.snap_service.specs.Memory.{IsOf}
+use Rattle.snap_service.proofs.shared.Shared.into_writers.Given as goal
+
+abbrev pub invariant-locks : goal.invariant-locks
+invariant-locks g l = record {
+  left : length l.writers.items + length (into_iter_items l.lock-iterator)
+      ≡ length l.fn.self.writers.items;
+  long : into_iter_len l.lock-iterator ≡ length (into_iter_items l.lock-iterator);
+  room : segments g.M.Memory.plan ≤ vec_capacity l.writers;
+  each : (i : ℕ) (w : _) → slice_get l.writers.items i ≡ Some w
+      → IsOf g.M.Memory.table g.M.Memory.plan w.seat × (own_of w.seat ≡ i);
+}

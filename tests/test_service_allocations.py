@@ -1,0 +1,50 @@
+"""Each allocation of a node's answers is refused in turn: a scan and a status are refused `NoMemory`, and updates ask for none.
+The program `bench_service` makes the requests and prints the last reply; the end-to-end tests want it built (`make programs`)."""
+
+import os
+import pathlib
+import subprocess
+
+from preload import library
+from program import Skipped
+
+PROGRAM = pathlib.Path(__file__).resolve().parent.parent / "crates" / "bench_service" / "out" / "bench_service"
+SEGMENTS = 3
+
+
+def run(work, rounds, **env):
+    """What a run over three segments with values of 40 bytes prints."""
+    if not PROGRAM.is_file():
+        raise Skipped(f"{PROGRAM.name} isn't built")
+    line = [PROGRAM, work, str(SEGMENTS), str(rounds), "40"]
+    more = {"LD_PRELOAD": library("allocations"), **env}
+    return subprocess.run(line, env={**os.environ, **more}, check=True, stdout=subprocess.PIPE, text=True, timeout=60).stdout
+
+
+def count(folder, work, rounds):
+    """How many allocations the run makes."""
+    run(work, rounds, ALLOCATIONS_COUNT=str(folder / "count"))
+    return int((folder / "count").read_text())
+
+
+def refuse_each(folder, work, answer):
+    """Refuses each allocation of two rounds beyond those before them. Gives how many a round makes."""
+    before, after = (count(folder, work, rounds) for rounds in (0, 2))
+    assert run(work, 2) == answer
+    for number in range(before + 1, after + 1):
+        # The round behind one that was refused is answered.
+        is_last = number > before + (after - before) // 2
+        printed = run(work, 2, ALLOCATIONS_REFUSE=str(number))
+        assert printed == ("refused NoMemory 0\n" if is_last else answer), (work, number, printed)
+    return (after - before) // 2
+
+
+def test_each_allocation_of_an_answer_is_refused(snapd, _):
+    # The list, and of each value its bytes and who shares them.
+    assert refuse_each(snapd.folder, "scan", f"snapshot of {SEGMENTS}\n") == 1 + 2 * SEGMENTS
+    assert refuse_each(snapd.folder, "status", f"status of {SEGMENTS}\n") == 1
+
+
+def test_updates_through_a_node_ask_for_no_memory(snapd, _):
+    assert count(snapd.folder, "update", 0) == count(snapd.folder, "update", 100)
+    assert run("update", 100) == "stored 2\n"
