@@ -17,9 +17,10 @@ demo: build
 test:
 	python3 tests/all.py
 
-# The program that one of the end-to-end tests runs beside snapd. The merge gate leaves it too.
+# The programs that two of the end-to-end tests run beside snapd. The merge gate leaves them too.
 programs:
 	cd crates/restart_allocations && rt run -- scanned
+	cd crates/server_trial && rt run -- 2 0 0
 
 # The end-to-end tests alone.
 tests: build programs
