@@ -2,12 +2,13 @@
 
 mod course;
 mod faults;
+mod meeting;
 mod shop;
 mod talks;
 
 use course::Course;
 use shop::{Shop, Store};
-use snap_server::{Ended, Listen, ServerFault, Tcp, run};
+use snap_server::{Ended, Gate, Listen, ServerFault, Tcp, run};
 use std::alloc::{AllocError, Global};
 use std::io;
 use std::io::{Read, Write};
@@ -39,7 +40,24 @@ fn shops<'a, R: Wait>(
     Ok((shops, stores))
 }
 
-/// Runs a server with so many workers and one store.
+/// Runs a server with so many workers and one store behind a gate.
+fn serve_behind<R: Threads + Wait + Clock + Net + AllocGlobal + Sync, L: Listen, G: Gate + Sync>(
+    rt: &R,
+    listener: &L,
+    workers: usize,
+    connections: Option<u64>,
+    course: &Course,
+    gate: &G,
+) -> Result<u64, ServerFault> {
+    let alloc = rt.alloc();
+    let Ok((shops, stores)) = shops(rt, alloc, workers, course) else {
+        return Err(ServerFault::NoMemory);
+    };
+    let note = |ended: &Ended| course.note(ended);
+    run(rt, alloc, listener, shops, stores, connections, gate, &note)
+}
+
+/// The same, with the course as its gate.
 fn serve<R: Threads + Wait + Clock + Net + AllocGlobal + Sync, L: Listen>(
     rt: &R,
     listener: &L,
@@ -47,20 +65,7 @@ fn serve<R: Threads + Wait + Clock + Net + AllocGlobal + Sync, L: Listen>(
     connections: Option<u64>,
     course: &Course,
 ) -> Result<u64, ServerFault> {
-    let Ok((shops, stores)) = shops(rt, rt.alloc(), workers, course) else {
-        return Err(ServerFault::NoMemory);
-    };
-    let note = |ended: &Ended| course.note(ended);
-    run(
-        rt,
-        rt.alloc(),
-        listener,
-        shops,
-        stores,
-        connections,
-        course,
-        &note,
-    )
+    serve_behind(rt, listener, workers, connections, course, course)
 }
 
 /// A listener at a port that the system picks, and its address.
