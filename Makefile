@@ -17,10 +17,11 @@ demo: build
 test:
 	python3 tests/all.py
 
-# The programs that two of the end-to-end tests run beside snapd. The merge gate leaves them too.
+# The programs that some of the end-to-end tests run beside snapd. The merge gate leaves them too.
 programs:
 	cd crates/restart_allocations && rt run -- scanned
 	cd crates/bench_service && rt run -- scan 3 2 8
+	cd crates/server_trial && rt run -- 2 0 0
 
 # The end-to-end tests alone.
 tests: build programs

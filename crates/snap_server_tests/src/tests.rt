@@ -1,0 +1,95 @@
+//! Servers over loopback, with both ends in one process.
+
+mod course;
+mod faults;
+mod meeting;
+mod shop;
+mod talks;
+
+use course::Course;
+use shop::{Shop, Store};
+use snap_server::{Ended, Gate, Listen, ServerFault, Tcp, run};
+use std::alloc::{AllocError, Global};
+use std::io;
+use std::io::{Read, Write};
+use std::net::{Ipv4Addr, Net, Shutdown, SocketAddr, TcpStream};
+use std::rt::Clock;
+use std::sync::Wait;
+use std::thread::Threads;
+
+/// So many services, and the store to which they hand updates over.
+fn shops<'a, R: Wait>(
+    rt: &'a R,
+    alloc: Global,
+    workers: usize,
+    course: &'a Course,
+) -> Result<(Vec<Shop<'a, R>>, Vec<Store<'a, R>>), AllocError> {
+    let (to, jobs) = crossbeam_channel::unbounded(alloc)?;
+    let mut stores = Vec::new(alloc);
+    stores.push(Store { rt, jobs })?;
+    let mut shops = Vec::new(alloc);
+    for worker in 0..workers {
+        let to = to.clone()?;
+        shops.push(Shop {
+            rt,
+            worker,
+            to,
+            course,
+        })?;
+    }
+    Ok((shops, stores))
+}
+
+/// Runs a server with so many workers and one store behind a gate.
+fn serve_behind<R: Threads + Wait + Clock + Net + AllocGlobal + Sync, L: Listen, G: Gate + Sync>(
+    rt: &R,
+    listener: &L,
+    workers: usize,
+    connections: Option<u64>,
+    course: &Course,
+    gate: &G,
+) -> Result<u64, ServerFault> {
+    let alloc = rt.alloc();
+    let Ok((shops, stores)) = shops(rt, alloc, workers, course) else {
+        return Err(ServerFault::NoMemory);
+    };
+    let note = |ended: &Ended| course.note(ended);
+    run(rt, alloc, listener, shops, stores, connections, gate, &note)
+}
+
+/// The same, with the course as its gate.
+fn serve<R: Threads + Wait + Clock + Net + AllocGlobal + Sync, L: Listen>(
+    rt: &R,
+    listener: &L,
+    workers: usize,
+    connections: Option<u64>,
+    course: &Course,
+) -> Result<u64, ServerFault> {
+    serve_behind(rt, listener, workers, connections, course, course)
+}
+
+/// A listener at a port that the system picks, and its address.
+fn listen(rt: &HostRuntime) -> io::Result<(Tcp, SocketAddr)> {
+    let tcp = Tcp::bind(rt, SocketAddr::from((Ipv4Addr::LOCALHOST, 0)))?;
+    let address = tcp.address()?;
+    Ok((tcp, address))
+}
+
+fn connect(rt: &HostRuntime, address: SocketAddr) -> io::Result<TcpStream> {
+    TcpStream::connect(rt, address)
+}
+
+/// A connection that has sent these bytes, and will send no more.
+fn send(rt: &HostRuntime, address: SocketAddr, bytes: &[u8]) -> io::Result<TcpStream> {
+    let mut stream = connect(rt, address)?;
+    stream.write_all(bytes)?;
+    stream.shutdown(Shutdown::Write)?;
+    Ok(stream)
+}
+
+/// All that the other end sends, until it sends no more.
+fn received(rt: &HostRuntime, mut stream: TcpStream) -> io::Result<Vec<u8>> {
+    let mut bytes = Vec::new(rt.alloc());
+    stream.read_to_end(&mut bytes)?;
+    Ok(bytes)
+}

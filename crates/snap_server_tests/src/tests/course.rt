@@ -1,0 +1,114 @@
+//! What a server does, as its gate, its service and its notes tell it.
+
+use snap_server::{Ended, Gate};
+use snap_session::End;
+use std::sync::atomic::{AtomicU64, Ordering};
+
+/// Where the request stands that a worker is at, where no two are under way at once.
+#[derive(Clone, Copy)]
+pub enum Stand {
+    Outside,
+    Entered,
+    HandedOver,
+    Answered,
+}
+
+impl Stand {
+    fn number(self) -> u64 {
+        match self {
+            Stand::Outside => 0,
+            Stand::Entered => 1,
+            Stand::HandedOver => 2,
+            Stand::Answered => 3,
+        }
+    }
+}
+
+/// Counts of what a server did.
+#[derive(Drop)]
+pub struct Course {
+    stand: AtomicU64,
+    /// Steps that came from another stand than they had to.
+    wrong: AtomicU64,
+    left: AtomicU64,
+    closed: AtomicU64,
+    truncated: AtomicU64,
+    too_large: AtomicU64,
+    failed: AtomicU64,
+    /// The port of the peer that ended last.
+    port: AtomicU64,
+}
+
+/// How many connections ended how, and the port of the last one's peer.
+#[derive(Clone, Copy, Debug, PartialEq, Eq, Drop)]
+pub struct Ends {
+    pub closed: u64,
+    pub truncated: u64,
+    pub too_large: u64,
+    pub failed: u64,
+    pub port: u64,
+}
+
+impl Course {
+    pub fn new() -> Course {
+        Course {
+            stand: AtomicU64::new(0),
+            wrong: AtomicU64::new(0),
+            left: AtomicU64::new(0),
+            closed: AtomicU64::new(0),
+            truncated: AtomicU64::new(0),
+            too_large: AtomicU64::new(0),
+            failed: AtomicU64::new(0),
+            port: AtomicU64::new(0),
+        }
+    }
+
+    /// A request goes from one stand to the next.
+    pub fn step(&self, from: Stand, to: Stand) {
+        if self.stand.swap(to.number(), Ordering::SeqCst) != from.number() {
+            self.wrong.fetch_add(1, Ordering::SeqCst);
+        }
+    }
+
+    /// A connection has ended.
+    pub fn note(&self, ended: &Ended) {
+        let count = match ended.end {
+            End::Closed => &self.closed,
+            End::Truncated => &self.truncated,
+            End::TooLarge => &self.too_large,
+            End::ReadFailed | End::WriteFailed | End::NoMemory => &self.failed,
+        };
+        count.fetch_add(1, Ordering::SeqCst);
+        self.port
+            .store(u64::from(ended.peer.port()), Ordering::SeqCst);
+    }
+
+    /// How many requests have left the gate, and how many steps were wrong.
+    pub fn passed(&self) -> (u64, u64) {
+        let left = self.left.load(Ordering::SeqCst);
+        let wrong = self.wrong.load(Ordering::SeqCst);
+        (left, wrong)
+    }
+
+    /// How the connections ended.
+    pub fn ends(&self) -> Ends {
+        Ends {
+            closed: self.closed.load(Ordering::SeqCst),
+            truncated: self.truncated.load(Ordering::SeqCst),
+            too_large: self.too_large.load(Ordering::SeqCst),
+            failed: self.failed.load(Ordering::SeqCst),
+            port: self.port.load(Ordering::SeqCst),
+        }
+    }
+}
+
+impl Gate for Course {
+    fn enter(&self) {
+        self.step(Stand::Outside, Stand::Entered);
+    }
+
+    fn leave(&self) {
+        self.step(Stand::Answered, Stand::Outside);
+        self.left.fetch_add(1, Ordering::SeqCst);
+    }
+}

@@ -1,0 +1,296 @@
+"""The server's loop over real sockets, with nothing behind it: `server_trial` answers an update by its number once a store
+has rested over it, and everything else at once by 0. The end-to-end tests want it built (`make programs`)."""
+
+import os
+import pathlib
+import resource
+import signal
+import socket
+import struct
+import subprocess
+import time
+
+from program import Skipped
+
+PROGRAM = pathlib.Path(__file__).resolve().parent.parent / "crates" / "server_trial" / "out" / "server_trial"
+
+
+def frame(payload):
+    return struct.pack(">I", len(payload)) + payload
+
+
+def update(segment=0, number=1):
+    return frame(bytes([1, segment]) + number.to_bytes(8, "big") + b"hi")
+
+
+def stored(number):
+    return frame(b"\x81" + number.to_bytes(8, "big"))
+
+
+def refused(why, detail):
+    return frame(bytes([0xE0, why]) + detail.to_bytes(8, "big"))
+
+
+UPDATE, STORED = update(), stored(1)
+SCAN, SCANNED = frame(b"\x02"), stored(0)
+NO_REQUEST, MALFORMED = frame(b"\x03\x00"), refused(1, 0)
+TOO_LONG, TOO_LARGE = struct.pack(">I", 65_537 + 464), refused(15, 66_000)
+
+
+class Trial:
+    """A server that runs until so many connections have ended, or without end."""
+
+    def __init__(self, workers, micros=0, connections=None, descriptors=None):
+        if not PROGRAM.is_file():
+            raise Skipped(f"{PROGRAM.name} isn't built")
+        words = [PROGRAM, workers, micros] + ([] if connections is None else [connections])
+        limits = (lambda: resource.setrlimit(resource.RLIMIT_NOFILE, (descriptors,) * 2)) if descriptors else None
+        self.process = subprocess.Popen(
+            list(map(str, words)), stdout=subprocess.PIPE, stderr=subprocess.PIPE, preexec_fn=limits
+        )
+        port = self.process.stderr.readline().decode().removeprefix("listening 127.0.0.1:")
+        self.address = ("127.0.0.1", int(port))
+
+    def __enter__(self):
+        return self
+
+    def __exit__(self, *_):
+        self.process.kill()
+        self.process.communicate()
+
+    def connect(self):
+        stream = socket.create_connection(self.address, timeout=10)
+        stream.setsockopt(socket.IPPROTO_TCP, socket.TCP_NODELAY, 1)
+        return stream
+
+    def ask(self, request, reply):
+        """Asks on a connection of its own."""
+        with self.connect() as stream:
+            stream.sendall(request)
+            assert received(stream, len(reply)) == reply
+
+    def descriptors(self):
+        return len(os.listdir(f"/proc/{self.process.pid}/fd"))
+
+    def memory(self):
+        """Resident, in kB."""
+        status = pathlib.Path(f"/proc/{self.process.pid}/status").read_text()
+        return int(status.split("VmRSS:")[1].split()[0])
+
+    def end(self):
+        """What it printed: how each connection ended, by its port, then the counts of the gate, then the last line."""
+        output, errors = self.process.communicate(timeout=30)
+        assert (self.process.returncode, errors) == (0, b"")
+        *ends, gate, last = output.decode().splitlines()
+        return [(int(line.split()[0].split(":")[1]), line.split()[1]) for line in ends], gate, last
+
+
+def received(stream, count):
+    """So many bytes, or fewer where the stream ends before."""
+    got = b""
+    while len(got) < count:
+        piece = stream.recv(count - len(got))
+        if not piece:
+            break
+        got += piece
+    return got
+
+
+def to_its_end(stream):
+    got = b""
+    while piece := stream.recv(65_536):
+        got += piece
+    return got
+
+
+def reset(stream):
+    """Closes it so that the other end is told of an error."""
+    stream.setsockopt(socket.SOL_SOCKET, socket.SO_LINGER, struct.pack("ii", 1, 0))
+    stream.close()
+
+
+def comes_to(wanted, value):
+    """Waits until a value is the wanted one."""
+    for _ in range(500):
+        if value() == wanted:
+            return
+        time.sleep(0.01)
+    assert value() == wanted, (value(), wanted)
+
+
+def test_each_end_is_noted_with_its_peer(_, __):
+    with Trial(1, 0, 5) as trial:
+        wanted = []
+
+        def ends(sent, replies, how, ending):
+            stream = trial.connect()
+            wanted.append((stream.getsockname()[1], how))
+            stream.sendall(sent)
+            assert received(stream, len(replies)) == replies
+            ending(stream)
+
+        ends(UPDATE + SCAN, STORED + SCANNED, "Closed", socket.socket.close)
+        ends(SCAN + b"\0\0", SCANNED, "Truncated", socket.socket.close)
+        ends(SCAN + TOO_LONG, SCANNED + TOO_LARGE, "TooLarge", socket.socket.close)
+        ends(SCAN, SCANNED, "ReadFailed", reset)
+        ends(b"", b"", "Closed", socket.socket.close)
+        noted, gate, last = trial.end()
+        assert sorted(noted) == sorted(wanted)
+        assert (gate, last) == ("entered 5, left 5", "served 5")
+
+
+def test_frames_cut_at_each_place(_, __):
+    sent = UPDATE + NO_REQUEST + SCAN + frame(b"") + UPDATE + TOO_LONG + UPDATE
+    wanted = STORED + MALFORMED + SCANNED + MALFORMED + STORED + TOO_LARGE
+    with Trial(2, 0, len(sent)) as trial:
+        for cut in range(len(sent)):
+            with trial.connect() as stream:
+                stream.sendall(sent[:cut])
+                time.sleep(0.002)
+                try:
+                    stream.sendall(sent[cut:])
+                except OSError:
+                    pass  # the length above the limit came before the cut, and the connection has ended
+                assert received(stream, len(wanted)) == wanted, cut
+        ends, gate, last = trial.end()
+        assert {how for _, how in ends} == {"TooLarge"}
+        assert (gate, last) == (f"entered {3 * len(sent)}, left {3 * len(sent)}", f"served {len(sent)}")
+
+
+def test_the_writing_side_is_shut_down_in_order(_, __):
+    with Trial(1, 2_000, 2) as trial:
+        for rest in (b"", b"\0\0"):
+            with trial.connect() as stream:
+                stream.sendall(UPDATE * 3 + rest)
+                stream.shutdown(socket.SHUT_WR)
+                assert to_its_end(stream) == STORED * 3
+        assert [how for _, how in trial.end()[0]] == ["Closed", "Truncated"]
+
+
+def test_replies_keep_the_order_of_their_requests(_, __):
+    with Trial(1, 2_000) as trial, trial.connect() as stream:
+        stream.sendall(SCAN + update(0, 7) + SCAN + NO_REQUEST + update(1, 8) + update(5, 9) + SCAN)
+        wanted = SCANNED + stored(7) + SCANNED + MALFORMED + stored(8) + refused(2, 2) + SCANNED
+        assert received(stream, len(wanted)) == wanted
+
+
+def test_one_worker_serves_idle_and_active_ones(_, __):
+    with Trial(1) as trial:
+        idle = [trial.connect() for _ in range(200)]
+        with trial.connect() as active:
+            for number in range(1, 500):
+                active.sendall(update(number % 2, number) + SCAN)
+                assert received(active, 26) == stored(number) + SCANNED
+        for stream in idle:
+            stream.sendall(SCAN)
+        for stream in idle:
+            assert received(stream, 13) == SCANNED
+            stream.close()
+
+
+def test_five_hundred_connect_at_once(_, __):
+    with Trial(2, 0, 500) as trial:
+        streams = [socket.socket() for _ in range(500)]
+        for stream in streams:
+            stream.setblocking(False)
+            stream.connect_ex(trial.address)
+        for stream in streams:
+            stream.settimeout(10)
+            stream.sendall(SCAN)
+        for stream in streams:
+            assert received(stream, 13) == SCANNED
+            stream.close()
+        ends, _, last = trial.end()
+        assert len(ends) == 500 and last == "served 500"
+
+
+def test_a_peer_that_does_not_read_is_read_no_more(_, __):
+    for workers in (1, 2):
+        with Trial(workers) as trial, trial.connect() as flood:
+            trial.ask(UPDATE, STORED)
+            before = trial.memory()
+            flood.setblocking(False)
+            chunk, sent, waits = SCAN * 8_192, 0, 0
+            while waits < 30:
+                try:
+                    sent += flood.send(chunk[sent % len(chunk) :])
+                    waits = 0
+                    assert sent < 64 << 20, "it is still read"
+                except BlockingIOError:
+                    time.sleep(0.01)
+                    waits += 1
+            for _ in range(2 * workers):
+                trial.ask(UPDATE, STORED)
+            assert trial.memory() < before + 1_024, (before, trial.memory())
+            # Once its peer reads, it gets every reply.
+            flood.settimeout(10)
+            flood.shutdown(socket.SHUT_WR)
+            assert to_its_end(flood) == SCANNED * (sent // len(SCAN))
+
+
+def test_a_request_that_is_out_holds_nobody_up(_, __):
+    with Trial(1, 1_000_000) as trial, trial.connect() as slow:
+        slow.sendall(UPDATE + SCAN)
+        for _ in range(50):
+            trial.ask(SCAN, SCANNED)
+        slow.settimeout(0.01)
+        try:
+            assert slow.recv(1) == b"", "answered before its outcome"
+        except TimeoutError:
+            slow.settimeout(10)
+        assert received(slow, 26) == STORED + SCANNED
+
+
+def test_peers_that_vanish_harm_nobody(_, __):
+    with Trial(2, 20_000, 42) as trial:
+        trial.ask(SCAN, SCANNED)
+        time.sleep(0.1)
+        before = trial.descriptors()
+        for number in range(20):
+            for ending in (reset, socket.socket.close):
+                stream = trial.connect()
+                stream.sendall(UPDATE * (1 + number % 3))
+                ending(stream)
+        comes_to(before, trial.descriptors)
+        trial.ask(UPDATE + SCAN, STORED + SCANNED)
+        ends, _, last = trial.end()
+        assert len(ends) == 42 and last == "served 42"
+
+
+def test_random_bytes(_, rng):
+    with Trial(2, 0, 101) as trial:
+        for number in range(100):
+            with trial.connect() as stream:
+                start = b"\0\0\0" if number % 2 else b""
+                stream.sendall(start + rng.randbytes(rng.randrange(1, 400)))
+                try:
+                    stream.shutdown(socket.SHUT_WR)
+                    to_its_end(stream)
+                except OSError:
+                    pass
+        trial.ask(UPDATE, STORED)
+        assert trial.end()[2] == "served 101"
+
+
+def test_a_short_want_of_descriptors_passes(_, __):
+    with Trial(2, 0, None, 30) as trial:
+        streams = [trial.connect() for _ in range(40)]
+        time.sleep(0.1)
+        for stream in streams:
+            stream.close()
+        time.sleep(0.3)
+        trial.ask(SCAN, SCANNED)
+
+
+def test_sixteen_faults_of_accept_in_a_row(_, __):
+    with Trial(2, 0, None, 30) as trial:
+        streams = [trial.connect() for _ in range(40)]
+        streams[0].sendall(SCAN)
+        assert received(streams[0], 13) == SCANNED
+        time.sleep(1)
+        # Those that are there are still served.
+        streams[1].sendall(SCAN)
+        assert received(streams[1], 13) == SCANNED
+        for stream in streams:
+            stream.close()
+        assert trial.end()[1:] == ("entered 2, left 2", "16 connections in a row couldn't be accepted")
