@@ -1,5 +1,5 @@
 //! One connection of a worker.
-ghost use Rattle.std.specs.Prelude.{◌≡◌, ◌<◌, None, length};
+ghost use Rattle.std.specs.Prelude.{◌≡◌, ◌<◌, None, length, true};
 ghost use Rattle.snap_session.specs.Talk.{Stays, start};
 ghost use Rattle.snap_session.specs.Turns.{Turns};
 
@@ -55,7 +55,8 @@ impl Connection {
 
     /// Notes that it is on the list of those that get a turn, or isn't any more; whether it was.
     pub fn set_listed(&mut self, is_listed: bool) -> bool
-        ensures { self.new.session ≡ self.old.session }
+        ensures was { result ≡ self.old.is_listed }
+        ensures rest { self.new ≡ record self.old { is_listed = is_listed } }
     {
         let was_listed = self.is_listed;
         self.is_listed = is_listed;
@@ -66,7 +67,9 @@ impl Connection {
     /// tells no more of a socket's bytes than that some came and some were taken.
     pub fn go_on<S: Service>(&mut self, service: &mut S, key: usize, piece: &mut [u8]) -> Turn
         requires { 0 < length piece.old }
-        ensures { Turns Stays S.gives service.old service.new self.old.session None None None None self.new.session }
+        ensures goes { Turns Stays S.gives service.old service.new self.old.session None None None None self.new.session }
+        ensures over { self.new.is_over ≡ self.old.is_over }
+        ensures listed { self.new.is_listed ≡ self.old.is_listed }
     {
         let mut reader = &self.stream;
         let mut writer = &self.stream;
@@ -95,7 +98,10 @@ impl Connection {
     /// It has ended so. Its socket's writing side is shut down in order, so that the peer reads
     /// all that was written before the end.
     pub fn end(&mut self, end: End) -> Ended
-        ensures { self.new.session ≡ self.old.session }
+        ensures session { self.new.session ≡ self.old.session }
+        ensures over { self.new.is_over ≡ true }
+        ensures peer { result.peer ≡ self.old.peer }
+        ensures end { result.end ≡ end }
     {
         self.is_over = true;
         let _ = self.stream.shutdown(Shutdown::Write);
@@ -106,12 +112,16 @@ impl Connection {
     }
 
     /// Whether it has ended, so that it gets no further turn.
-    pub fn is_over(&self) -> bool {
+    pub fn is_over(&self) -> bool
+        ensures { result ≡ self.now.is_over }
+    {
         self.is_over
     }
 
     /// Whether it can be let go: no outcome is still to come under its key.
-    pub fn is_free(&self) -> bool {
+    pub fn is_free(&self) -> bool
+        ensures { result ≡ true → self.now.session.asked ≡ None }
+    {
         self.session.is_free()
     }
 }
