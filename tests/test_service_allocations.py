@@ -22,7 +22,7 @@ def run(work, rounds, **env):
 
 
 def count(folder, work, rounds):
-    """How many allocations the run makes, what it prints is left aside."""
+    """How many allocations the run makes."""
     run(work, rounds, ALLOCATIONS_COUNT=str(folder / "count"))
     return int((folder / "count").read_text())
 
@@ -40,9 +40,9 @@ def refuse_each(folder, work, answer):
 
 
 def test_each_allocation_of_an_answer_is_refused(snapd, _):
-    # A list, and a value of each segment.
-    assert refuse_each(snapd.folder, "scan", f"snapshot of {SEGMENTS}\n") == 1 + SEGMENTS
-    assert refuse_each(snapd.folder, "status", f"status of {SEGMENTS}\n") > 0
+    # The list, and of each value its bytes and who shares them.
+    assert refuse_each(snapd.folder, "scan", f"snapshot of {SEGMENTS}\n") == 1 + 2 * SEGMENTS
+    assert refuse_each(snapd.folder, "status", f"status of {SEGMENTS}\n") == 1
 
 
 def test_updates_through_a_node_ask_for_no_memory(snapd, _):
