@@ -1,0 +1,155 @@
+//! What a desk's worker is asked while its stores work beside it.
+use crossbeam_channel::Receiver;
+use snap_desk::{Desk, Told};
+use snap_disk::Held;
+use snap_service::Memory;
+use snap_session::{Session, Wants};
+use std::alloc::{AllocError, Global};
+use std::sync::Wait;
+use std::sync::atomic::{AtomicU64, Ordering};
+use std::thread::yield_now;
+
+pub(crate) const SCAN: &[u8] = &[0, 0, 0, 1, 2];
+
+/// What the peers of a worker do.
+#[derive(Clone, Copy)]
+pub(crate) enum Course {
+    /// One peer sends the frames, and takes all replies.
+    Talk,
+    /// A peer sends the update, whose store is held. Meanwhile another one scans, and both go on.
+    Held,
+    /// A peer sends the update, and is gone before its outcome comes. Then another one sends it too,
+    /// and scans.
+    Gone,
+    /// A peer sends the update, and then the worker leaves.
+    Left,
+}
+
+/// What comes to the worker, and what its peers were sent.
+#[derive(Drop)]
+pub(crate) struct Worker<R: Wait + Copy, M: Memory> {
+    pub alloc: Global,
+    pub inbox: Option<Receiver<Told<R, M, Held>>>,
+    pub written: Vec<u8>,
+}
+
+/// Answers what the session holds, until it waits.
+fn answer<R: Wait + Copy, M: Memory>(
+    desk: &mut Desk<'_, R, M, Held>,
+    session: &mut Session,
+    key: usize,
+) {
+    for _ in 0..100u64 {
+        if session.over().is_some() || session.answer(desk, key) != Wants::Turn {
+            return;
+        }
+    }
+}
+
+/// These bytes come to the session.
+fn ask<R: Wait + Copy, M: Memory>(
+    desk: &mut Desk<'_, R, M, Held>,
+    session: &mut Session,
+    bytes: &[u8],
+    key: usize,
+) {
+    if session.over().is_none() {
+        session.take_in(bytes);
+        answer(desk, session, key);
+    }
+}
+
+impl<R: Wait + Copy, M: Memory> Worker<R, M> {
+    /// What comes next.
+    fn next(&self, rt: &R) -> Option<Told<R, M, Held>> {
+        match &self.inbox {
+            Some(inbox) => inbox.recv(rt).ok(),
+            None => None,
+        }
+    }
+
+    /// Finishes what the session waits for, until it waits for nothing.
+    fn finish(&self, rt: &R, desk: &mut Desk<'_, R, M, Held>, session: &mut Session, key: usize) {
+        for _ in 0..100u64 {
+            if session.over().is_some() || session.is_free() {
+                return;
+            }
+            let Some(told) = self.next(rt) else {
+                return;
+            };
+            session.finish(desk, told.outcome);
+            answer(desk, session, key);
+        }
+    }
+
+    /// A session of one peer.
+    fn talk(
+        &mut self,
+        rt: &R,
+        desk: &mut Desk<'_, R, M, Held>,
+        bytes: &[u8],
+    ) -> Result<(), AllocError> {
+        let mut session = Session::new(self.alloc);
+        ask(desk, &mut session, bytes, 0);
+        self.finish(rt, desk, &mut session, 0);
+        self.written.extend_from_slice(session.owed())
+    }
+
+    /// A scan passes the update, which is held until it was answered.
+    fn pass(
+        &mut self,
+        rt: &R,
+        desk: &mut Desk<'_, R, M, Held>,
+        update: &[u8],
+        released: &AtomicU64,
+    ) -> Result<(), AllocError> {
+        let mut first = Session::new(self.alloc);
+        ask(desk, &mut first, update, 0);
+        for _ in 0..100u64 {
+            yield_now();
+        }
+        self.talk(rt, desk, SCAN)?;
+        released.store(1, Ordering::SeqCst);
+        self.finish(rt, desk, &mut first, 0);
+        self.written.extend_from_slice(first.owed())?;
+        self.talk(rt, desk, SCAN)
+    }
+
+    /// Nobody waits for the update any more.
+    fn forget(
+        &mut self,
+        rt: &R,
+        desk: &mut Desk<'_, R, M, Held>,
+        update: &[u8],
+    ) -> Result<(), AllocError> {
+        let mut gone = Session::new(self.alloc);
+        ask(desk, &mut gone, update, 0);
+        drop(gone);
+        drop(self.next(rt));
+        self.talk(rt, desk, update)?;
+        self.talk(rt, desk, SCAN)
+    }
+
+    /// The whole course. At its end nothing comes to the worker any more.
+    pub(crate) fn run(
+        &mut self,
+        rt: &R,
+        desk: &mut Desk<'_, R, M, Held>,
+        course: Course,
+        bytes: &[u8],
+        released: &AtomicU64,
+    ) -> Result<(), AllocError> {
+        let done = match course {
+            Course::Talk => self.talk(rt, desk, bytes),
+            Course::Held => self.pass(rt, desk, bytes, released),
+            Course::Gone => self.forget(rt, desk, bytes),
+            Course::Left => {
+                let mut left = Session::new(self.alloc);
+                ask(desk, &mut left, bytes, 0);
+                Ok(())
+            }
+        };
+        self.inbox = None;
+        done
+    }
+}
