@@ -7,7 +7,7 @@ use Rattle.snap_service_tests.proofs.Taken.{all_of}
 use Rattle.snap_desk_tests.proofs.tests.seats.run_store.Goals as goal
 
 pub run_memory-requires-clause-writers : goal.run_memory-requires-clause-writers
-run_memory-requires-clause-writers g c =
+run_memory-requires-clause-writers g c = λ κs low. (
     let rs = c.args.store.scanners.items in
     let left = c.pop.new.self.items in
     let s = c.in-Some.scanner in
@@ -16,4 +16,4 @@ run_memory-requires-clause-writers g c =
     ∙ get-append_last left s in
     subst (λ (l : List (WriterState _)). AreWriters s.table s.plan l)
     (λ i. (sym c.replace-writers.ensures.value i).items)
-    (all_of c.args.store.writers.items rs (length left) s c.requires at)
+    (all_of c.args.store.writers.items rs (length left) s c.requires at))
