@@ -13,18 +13,18 @@ use std::time::Duration;
 
 /// An update that was handed over.
 #[derive(Drop)]
-pub struct Job {
-    pub worker: usize,
-    pub key: usize,
-    pub number: u64,
+pub(crate) struct Job {
+    pub(crate) worker: usize,
+    pub(crate) key: usize,
+    pub(crate) number: u64,
 }
 
 /// Rests for a while over each update, and tells its number.
 #[derive(Drop)]
-pub struct Store<'a, R: Wait + Clock> {
-    pub rt: &'a R,
-    pub jobs: Receiver<Job>,
-    pub delay: Duration,
+pub(crate) struct Store<'a, R: Wait + Clock> {
+    pub(crate) rt: &'a R,
+    pub(crate) jobs: Receiver<Job>,
+    pub(crate) delay: Duration,
 }
 
 impl<R: Wait + Clock> Background for Store<'_, R> {
@@ -48,11 +48,11 @@ impl<R: Wait + Clock> Background for Store<'_, R> {
 /// Hands the updates of segments 0 and 1 over and answers them by their number, those of other
 /// segments by a refusal, and everything else at once by 0.
 #[derive(Drop)]
-pub struct Desk<'a, R: Wait> {
-    pub rt: &'a R,
-    pub worker: usize,
-    pub first: Sender<Job>,
-    pub second: Sender<Job>,
+pub(crate) struct Desk<'a, R: Wait> {
+    pub(crate) rt: &'a R,
+    pub(crate) worker: usize,
+    pub(crate) first: Sender<Job>,
+    pub(crate) second: Sender<Job>,
 }
 
 impl<R: Wait> Service for Desk<'_, R> {
@@ -108,7 +108,7 @@ impl<R: Wait> Service for Desk<'_, R> {
 }
 
 /// So many desks, and their two stores, which rest so long over each update.
-pub fn open<'a, R: Wait + Clock>(
+pub(crate) fn open<'a, R: Wait + Clock>(
     rt: &'a R,
     alloc: Global,
     workers: usize,

@@ -5,13 +5,13 @@ use std::sync::atomic::{AtomicU64, Ordering};
 
 /// How many requests entered and left.
 #[derive(Drop)]
-pub struct Tally {
+pub(crate) struct Tally {
     entered: AtomicU64,
     left: AtomicU64,
 }
 
 impl Tally {
-    pub fn new() -> Tally {
+    pub(crate) fn new() -> Tally {
         Tally {
             entered: AtomicU64::new(0),
             left: AtomicU64::new(0),
@@ -19,7 +19,7 @@ impl Tally {
     }
 
     /// Both counts.
-    pub fn counts(&self) -> (u64, u64) {
+    pub(crate) fn counts(&self) -> (u64, u64) {
         let entered = self.entered.load(Ordering::SeqCst);
         let left = self.left.load(Ordering::SeqCst);
         (entered, left)

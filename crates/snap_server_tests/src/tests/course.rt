@@ -6,7 +6,7 @@ use std::sync::atomic::{AtomicU64, Ordering};
 
 /// Where the request stands that a worker is at, where no two are under way at once.
 #[derive(Clone, Copy)]
-pub enum Stand {
+pub(crate) enum Stand {
     Outside,
     Entered,
     HandedOver,
@@ -26,7 +26,7 @@ impl Stand {
 
 /// Counts of what a server did.
 #[derive(Drop)]
-pub struct Course {
+pub(crate) struct Course {
     stand: AtomicU64,
     /// Steps that came from another stand than they had to.
     wrong: AtomicU64,
@@ -41,16 +41,16 @@ pub struct Course {
 
 /// How many connections ended how, and the port of the last one's peer.
 #[derive(Clone, Copy, Debug, PartialEq, Eq, Drop)]
-pub struct Ends {
-    pub closed: u64,
-    pub truncated: u64,
-    pub too_large: u64,
-    pub failed: u64,
-    pub port: u64,
+pub(crate) struct Ends {
+    pub(crate) closed: u64,
+    pub(crate) truncated: u64,
+    pub(crate) too_large: u64,
+    pub(crate) failed: u64,
+    pub(crate) port: u64,
 }
 
 impl Course {
-    pub fn new() -> Course {
+    pub(crate) fn new() -> Course {
         Course {
             stand: AtomicU64::new(0),
             wrong: AtomicU64::new(0),
@@ -64,14 +64,14 @@ impl Course {
     }
 
     /// A request goes from one stand to the next.
-    pub fn step(&self, from: Stand, to: Stand) {
+    pub(crate) fn step(&self, from: Stand, to: Stand) {
         if self.stand.swap(to.number(), Ordering::SeqCst) != from.number() {
             self.wrong.fetch_add(1, Ordering::SeqCst);
         }
     }
 
     /// A connection has ended.
-    pub fn note(&self, ended: &Ended) {
+    pub(crate) fn note(&self, ended: &Ended) {
         let count = match ended.end {
             End::Closed => &self.closed,
             End::Truncated => &self.truncated,
@@ -84,14 +84,14 @@ impl Course {
     }
 
     /// How many requests have left the gate, and how many steps were wrong.
-    pub fn passed(&self) -> (u64, u64) {
+    pub(crate) fn passed(&self) -> (u64, u64) {
         let left = self.left.load(Ordering::SeqCst);
         let wrong = self.wrong.load(Ordering::SeqCst);
         (left, wrong)
     }
 
     /// How the connections ended.
-    pub fn ends(&self) -> Ends {
+    pub(crate) fn ends(&self) -> Ends {
         Ends {
             closed: self.closed.load(Ordering::SeqCst),
             truncated: self.truncated.load(Ordering::SeqCst),

@@ -10,7 +10,7 @@ use std::sync::Wait;
 
 /// An update that was handed over.
 #[derive(Drop)]
-pub struct Job {
+pub(crate) struct Job {
     worker: usize,
     key: usize,
     number: u64,
@@ -18,9 +18,9 @@ pub struct Job {
 
 /// Is done with every update at once, and tells its number.
 #[derive(Drop)]
-pub struct Store<'a, R: Wait> {
-    pub rt: &'a R,
-    pub jobs: Receiver<Job>,
+pub(crate) struct Store<'a, R: Wait> {
+    pub(crate) rt: &'a R,
+    pub(crate) jobs: Receiver<Job>,
 }
 
 impl<R: Wait> Background for Store<'_, R> {
@@ -40,11 +40,11 @@ impl<R: Wait> Background for Store<'_, R> {
 
 /// Hands updates over and answers them by their number, and all others at once by 0.
 #[derive(Drop)]
-pub struct Shop<'a, R: Wait> {
-    pub rt: &'a R,
-    pub worker: usize,
-    pub to: Sender<Job>,
-    pub course: &'a Course,
+pub(crate) struct Shop<'a, R: Wait> {
+    pub(crate) rt: &'a R,
+    pub(crate) worker: usize,
+    pub(crate) to: Sender<Job>,
+    pub(crate) course: &'a Course,
 }
 
 impl<R: Wait> Service for Shop<'_, R> {
