@@ -3,7 +3,7 @@
 
 .PHONY: build programs demo test tests bench clean
 
-# The program is proved before it is built, so the first build takes some minutes and the next ones seconds. `rt run`
+# The program is proved before it is built, so the first build takes a quarter of an hour or more and the next ones seconds. `rt run`
 # ends with the status of the program, and leaves it in crates/snapd/out.
 build:
 	cd crates/snapd && rt run -- --version
@@ -34,6 +34,7 @@ bench: build
 	cd crates/bench_restart && rt run -- memory . 0
 	cd crates/bench_service && rt run -- scan 3 2 8
 	python3 bench/run.py
+	python3 bench/server.py
 
 clean:
 	rm -rf bin crates/*/out

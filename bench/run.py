@@ -18,7 +18,8 @@ of its own: the medians, and the median of the ratios of each pair. On a file an
 of 16 files for 16 scanners is to take at most 10 ms more than their bare syncs and reads.
 
 The very last are requests to a node over files in memory, by the time of the processor: how many a second, and a scan of 16 segments of
-4,080 bytes beside a plain copy of its bytes, which it is to take at most 2.5 times.
+4,080 bytes beside a plain copy of its bytes, which it is to take at most 2.5 times. Nothing is updated between these scans, so only the
+first one reads values out of the registers.
 """
 
 import argparse

@@ -21,6 +21,18 @@ def library(name):
     return target
 
 
+class Accepts:
+    """What servers that are started with `env` can't accept: so many calls from the first of them on, or what really fails."""
+
+    def __init__(self, folder, first=0, count=0):
+        self.failed = folder / "failed"
+        self.env = {"LD_PRELOAD": library("accepts"), "ACCEPTS_FAILED": str(self.failed), "ACCEPTS_REFUSE": f"{first} {count}"}
+
+    def count(self):
+        """How many calls have failed."""
+        return self.failed.stat().st_size if self.failed.exists() else 0
+
+
 @functools.cache
 def _folder():
     """Goes with the process."""

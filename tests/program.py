@@ -5,6 +5,8 @@ import pathlib
 import subprocess
 from dataclasses import dataclass
 
+from waiting import PATIENCE
+
 
 class Skipped(Exception):
     """The test can't run on this machine; the text says why."""
@@ -57,7 +59,7 @@ class Program:
             cwd=self.folder,
             stderr=subprocess.PIPE,
             env={**os.environ, **(env or {})},
-            timeout=60,
+            timeout=PATIENCE,
             **fed,
             **more,
         )

@@ -13,6 +13,7 @@ import importlib
 import pathlib
 import random
 import shutil
+import signal
 import sys
 import tempfile
 import time
@@ -53,6 +54,8 @@ def main():
     words.add_argument("--only", default="")
     words.add_argument("--seed", type=int, default=20261122)
     words = words.parse_args()
+    # A job in a shell's background ignores an interrupt, and would hand that on to the programs under test.
+    signal.signal(signal.SIGINT, signal.default_int_handler)
     program = Program(words.program)
     print(f"seed {words.seed}")
     passed = failed = 0

@@ -155,7 +155,7 @@ def test_wrong_words(snapd, _):
     for words, parts in [
         ([], ["requires a subcommand"]),
         (["frobnicate"], ["unrecognized subcommand 'frobnicate'"]),
-        (["serve", "127.0.0.1:1", "F"], ["unrecognized subcommand 'serve'"]),
+        (["serve", "127.0.0.1:1"], ["<FILE>"]),
         (["get"], ["<FILE>"]),
         (["get", "F", "G"], ["unexpected argument 'G'"]),
         (["get", "F", "--index"], ["--index"]),
@@ -260,4 +260,4 @@ def test_full_disk(snapd, _):
         snapd("format", "disk/F").refused(13, "DeviceFailed")
         snapd("get", "disk/F").refused(11, "Unformatted")
     finally:
-        subprocess.run(["umount", disk], check=True)
+        subprocess.run(["umount", "-l", disk], check=True)

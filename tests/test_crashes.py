@@ -1,6 +1,7 @@
 """Crashes, replayed from outside.
 
-How it works. A real `put` (or `format`, or a migration: tests/test_migrate.py) is run once, and its writes and syncs on the file are recorded with their bytes.
+How it works. A real `put` (or `format`, or a migration: tests/test_migrate.py) is run once, and its writes and syncs on the
+file are recorded with their bytes.
 Then the machine is made to crash at every point of that record: each write before the last sync has reached the disk,
 and each write after it is pending. A disk may have kept any part of what is pending, so many files are made, in
 which the pending ranges hold
@@ -23,6 +24,7 @@ import time
 import recorder
 import segment_file as layout
 from recorder import SYNC, Write
+from waiting import gets_on, moment
 
 
 def put_in(data, write, kept=None):
@@ -206,37 +208,41 @@ def test_killed_at_every_call(snapd, _):
 
 
 def test_killed_two_hundred_times(snapd, random):
-    """A loop of puts is killed at a random moment, two hundred times: `get` answers the last value that was
-    acknowledged, or the one that was in flight."""
+    """A loop of puts is killed two hundred times, each time a moment after some of them were acknowledged: `get` answers the
+    last value that was, or the one that was in flight."""
     snapd.formatted()
-    began = time.monotonic()
-    for _ in range(20):
-        assert snapd("put", "F", stdin="warm").status == 0
-    moment = min(0.1, 12 * (time.monotonic() - began) / 20)
     loop = 'n=$1; while :; do n=$((n + 1)); printf "value %d" $n | "$0" put F; done'
-    number = start = 20
-    in_flight = 0
+    number = in_flight = 0
     for _ in range(200):
         output = snapd.file("output")
+        began = time.monotonic()
         with open(output, "wb") as written:
             run = subprocess.Popen(
-                ["sh", "-c", loop, snapd.path, str(number)], cwd=snapd.folder, stdout=written, start_new_session=True
+                ["sh", "-c", loop, snapd.path, str(number)], cwd=snapd.folder, stdout=written, stderr=subprocess.PIPE,
+                start_new_session=True
             )
-            time.sleep(random.uniform(0, moment))
-            os.killpg(run.pid, signal.SIGKILL)
-            run.wait()
+        wanted = random.randrange(4)
+        gets_on(lambda: number + len(acknowledged(output)), wanted, lambda: run.poll() is not None)
+        # About as long as a put takes.
+        moment(random, min(0.1, (time.monotonic() - began) / (wanted + 1)))
+        os.killpg(run.pid, signal.SIGKILL)
+        # Whatever the loop has started has ended once nobody holds its standard error, and its lock ends with it.
+        said = run.communicate()[1]
+        assert said == b"", said
         with open(snapd.file(), "rb") as file:
-            # The killed put may outlive its shell for a moment, and its lock ends with it.
             fcntl.flock(file, fcntl.LOCK_SH)
-        acknowledged = number
-        for line in output.read_text().splitlines(keepends=True):
-            if line.endswith("\n"):
-                acknowledged = int(line.removeprefix("stored "))
+        told = acknowledged(output)
+        assert told == list(range(number + 1, number + 1 + len(told))) and len(told) >= wanted, (number, told)
+        last = number + len(told)
         answer = layout.answer_of(snapd.file().read_bytes())
-        assert answer is not None and answer[0] in (acknowledged, acknowledged + 1), (answer, acknowledged)
-        value = b"value %d" % answer[0] if answer[0] > start else b"warm"
-        snapd("get", "F").gave(0, value)
-        in_flight += answer[0] == acknowledged + 1
+        assert answer is not None and answer[0] in (last, last + 1), (answer, last)
+        snapd("get", "F").gave(0, b"value %d" % answer[0] if answer[0] else b"")
+        in_flight += answer[0] == last + 1
         number = answer[0]
-    print(f"  {number - start} puts; {in_flight} were stored when the kill came, and not acknowledged")
-    assert number > start + 20, "hardly a put came through: the machine is too busy to tell anything"
+    print(f"  {number} puts; {in_flight} were stored when the kill came, and not acknowledged")
+
+
+def acknowledged(output):
+    """The numbers in the whole lines that puts have printed."""
+    lines = output.read_text().splitlines(keepends=True)
+    return [int(line.removeprefix("stored ")) for line in lines if line.endswith("\n")]

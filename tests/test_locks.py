@@ -2,9 +2,9 @@
 
 import fcntl
 import subprocess
-import time
 
 import segment_file as layout
+from waiting import is_read
 
 IN_USE = "snapd: F: it is in use by another snapd\n"
 WRITERS = [("format", "F"), ("put", "F")]
@@ -87,17 +87,17 @@ def test_put_has_its_file_from_its_beginning(snapd, _):
             [snapd.path, "put", "F"], cwd=snapd.folder, stdin=subprocess.PIPE, stdout=subprocess.PIPE, stderr=subprocess.PIPE
         )
         try:
-            until = time.monotonic() + 10
-            while not is_locked(file):
-                assert time.monotonic() < until, "the put never locked its file"
-                time.sleep(0.002)
+            # It has its lock before it reads. To look for the lock by another one would be in its way.
+            put.stdin.write(b"h")
+            put.stdin.flush()
+            is_read(put.stdin)
             for words in WRITERS + READERS:
                 snapd(*words, stdin="ho").gave(1, errors=IN_USE)
             if ends == "by a kill":
                 put.kill()
                 assert put.communicate()[0] == b""
             else:
-                assert put.communicate(b"hi")[0] == b"stored 1\n"
+                assert put.communicate(b"i")[0] == b"stored 1\n"
         finally:
             put.kill()
             put.wait()

@@ -12,6 +12,7 @@ import segment_file as layout
 from recorder import SYNC, Write
 from segment_file import BLOCK, NOW, OLD
 from test_crashes import outcomes
+from waiting import moment
 
 AS_OLD = "OLD: refused as the old file"
 AS_NEW = "F: refused as the new file"
@@ -250,20 +251,15 @@ def test_killed_a_hundred_times(snapd, random):
         snapd.file().unlink(missing_ok=True)
         assert snapd("migrate", "OLD", "F").status == 0
     whole = (time.monotonic() - began) / 10
-    ends = set()
     for _ in range(100):
         snapd.file().unlink(missing_ok=True)
         run = subprocess.Popen([snapd.path, "migrate", "OLD", "F"], cwd=snapd.folder, stdout=subprocess.DEVNULL)
-        time.sleep(random.uniform(0, 1.2 * whole))
+        moment(random, 1.2 * whole)
         run.send_signal(signal.SIGKILL)
         run.wait()
         left = snapd.file().read_bytes() if snapd.file().exists() else b""
         assert len(left) in (0, NOW.length), len(left)
         if left == b"" or NOW.header_of(left) == "unformatted":
-            ends.add("again")
             snapd("migrate", "OLD", "F").gave(0, "migrated 0 of 1 number 6\n")
-        else:
-            ends.add("whole")
         assert snapd.file().read_bytes() == done
         assert old.read_bytes() == data
-    assert ends, ends

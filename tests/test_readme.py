@@ -1,11 +1,15 @@
 """What the README shows is what happens: its first commands, and its job, killed at random moments."""
 
+import contextlib
 import fcntl
 import os
 import pathlib
 import re
+import signal
+import socket
 import subprocess
-import time
+
+from waiting import PATIENCE, gets_on, moment, wait_until
 
 TOP = pathlib.Path(__file__).resolve().parent.parent
 README = (TOP / "README.md").read_text()
@@ -27,7 +31,7 @@ def test_readme_shows_what_is_printed(snapd, random):
     env = {**os.environ, "PATH": f"{pathlib.Path(snapd.path).parent}:{os.environ['PATH']}"}
     count = 0
     for command, printed in shown():
-        run = subprocess.run(command, shell=True, cwd=snapd.folder, env=env, capture_output=True, text=True, timeout=60)
+        run = subprocess.run(command, shell=True, cwd=snapd.folder, env=env, capture_output=True, text=True, timeout=2 * PATIENCE)
         assert (run.returncode, run.stdout, run.stderr) == (0, printed, ""), (command, run)
         count += 1
     assert count == 4
@@ -41,42 +45,90 @@ def test_readme_script_prints_what_it_shows(snapd, random):
     assert (run.stdout, run.stderr) == (printed, ""), run
 
 
+def test_server_of_the_readme_survives_its_kill(snapd, random):
+    """The commands of the server's story in one shell, each printing what the README shows behind it. The port is a free one."""
+    block = next(it for it in EXAMPLES if "$ snapd serve" in it)
+    commands, printed = [], ""
+    for line in block.splitlines():
+        if line.startswith("$ "):
+            commands.append(line.removeprefix("$ "))
+        else:
+            printed += line + "\n"
+    assert len(commands) == 6 and sum(it.startswith("snapd serve") for it in commands) == 2
+    with socket.create_server(("127.0.0.1", 0)) as listener:
+        port = listener.getsockname()[1]
+    # Where the README sleeps for a second, the story goes on once the server answers, however long that takes.
+    waits = "sleep() { until snapd call 127.0.0.1:7070 status > status.txt 2>&1; do command sleep 0.02; done; }"
+    assert all(it.endswith("& sleep 1") for it in commands if it.startswith("snapd serve"))
+    story = "\n".join([waits, *commands, "kill $!", ""]).replace("7070", str(port))
+    env = {**os.environ, "PATH": f"{pathlib.Path(snapd.path).parent}:{os.environ['PATH']}"}
+    run = subprocess.run(["sh", "-c", story], cwd=snapd.folder, env=env, capture_output=True, text=True, timeout=2 * PATIENCE)
+    # A shell may say that the first server was killed.
+    assert (run.returncode, run.stdout) == (0, printed), run
+
+
 def wait_for_lock(file):
     """A killed command ends a moment later where it was in a call of the disk, and its lock ends with it."""
-    if not file.exists():
-        return
-    until = time.monotonic() + 30
     with open(file, "rb") as holder:
-        while True:
+        def has_ended():
             try:
-                return fcntl.flock(holder, fcntl.LOCK_EX | fcntl.LOCK_NB)
+                fcntl.flock(holder, fcntl.LOCK_EX | fcntl.LOCK_NB)
+                return True
             except BlockingIOError:
-                assert time.monotonic() < until, "a killed job keeps its lock"
-                time.sleep(0.005)
+                return False
+
+        wait_until(has_ended, "the end of a killed job's lock")
+
+
+class Job:
+    """The job of the README in a process group of its own. Its steps note themselves in the file `done`."""
+
+    def __init__(self, snapd):
+        (snapd.folder / "job").write_text(re.search(r"```sh\n(.*?)```", README, re.S)[1])
+        step = snapd.folder / "do_step"
+        step.write_text("#!/bin/sh\necho $1 >> done\n")
+        step.chmod(0o755)
+        self.done, self.file = snapd.file("done"), snapd.file("job.seg")
+        env = {**os.environ, "PATH": f"{pathlib.Path(snapd.path).parent}:{os.environ['PATH']}"}
+        self.run = subprocess.Popen(["sh", "./job"], cwd=snapd.folder, env=env, start_new_session=True,
+                                    stdin=subprocess.DEVNULL, stdout=subprocess.PIPE, stderr=subprocess.STDOUT)
+
+    def steps(self):
+        return [int(it) for it in self.done.read_text().split()] if self.done.exists() else []
+
+    def has_ended(self):
+        return self.run.poll() is not None
+
+    def kill(self):
+        """Kills all that it started. They have ended when this returns, since nobody holds its output any more."""
+        with contextlib.suppress(ProcessLookupError):
+            os.killpg(self.run.pid, signal.SIGKILL)
+        self.run.communicate()
+        if self.file.exists():
+            wait_for_lock(self.file)
 
 
 def test_job_of_the_readme_restarts_where_it_was(snapd, random):
-    job = re.search(r"```sh\n(.*?)```", README, re.S)[1]
-    (snapd.folder / "job").write_text(job)
-    step = snapd.folder / "do_step"
-    step.write_text("#!/bin/sh\necho $1 >> done\n")
-    step.chmod(0o755)
-    env = {**os.environ, "PATH": f"{pathlib.Path(snapd.path).parent}:{os.environ['PATH']}"}
-    quiet = {"stdin": subprocess.DEVNULL, "stdout": subprocess.DEVNULL, "stderr": subprocess.DEVNULL}
-    for life in range(200):
-        run = subprocess.Popen(["sh", "./job"], cwd=snapd.folder, env=env, start_new_session=True, **quiet)
+    """It is killed while it starts, then each time once it has done some more steps; at last it ends by itself."""
+    for life in range(60):
+        job = Job(snapd)
         try:
-            # The lives grow, so that the job ends, and the first ones end inside a format.
-            ended = run.wait(random.uniform(0, 0.004 + 0.02 * life))
-            assert ended == 0, ended
-            break
-        except subprocess.TimeoutExpired:
-            os.killpg(run.pid, 9)
-            run.wait()
-            wait_for_lock(snapd.file("job.seg"))
+            if life < 10:
+                # These end inside a format, or before their first step.
+                moment(random, 0.002 * life)
+            elif life < 50:
+                gets_on(lambda: len(job.steps()), random.randrange(5), job.has_ended)
+                moment(random, 0.01)
+            else:
+                job.run.communicate(timeout=10 * PATIENCE)
+            if job.has_ended():
+                assert job.run.returncode == 0, job.run.returncode
+                break
+        finally:
+            job.kill()
     else:
         raise AssertionError("the job never ended")
-    steps = [int(it) for it in (snapd.folder / "done").read_text().split()]
+    steps = job.steps()
     twice = [b for a, b in zip(steps, steps[1:]) if a == b]
     assert sorted(set(steps)) == list(range(1, 101)), steps
     assert steps == sorted(steps) and len(steps) == 100 + len(twice), steps

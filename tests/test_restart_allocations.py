@@ -8,6 +8,7 @@ import subprocess
 
 from preload import library
 from program import Skipped
+from waiting import PATIENCE
 
 PROGRAM = pathlib.Path(__file__).resolve().parent.parent / "crates" / "restart_allocations" / "out" / "restart_allocations"
 STEPS = ("made", "opened", "updated", "closed", "reopened", "scanned")
@@ -18,7 +19,7 @@ def run(step, **env):
     if not PROGRAM.is_file():
         raise Skipped(f"{PROGRAM.name} isn't built")
     more = {"LD_PRELOAD": library("allocations"), **env}
-    done = subprocess.run([PROGRAM, step], env={**os.environ, **more}, stdout=subprocess.PIPE, stderr=subprocess.PIPE, timeout=60)
+    done = subprocess.run([PROGRAM, step], env={**os.environ, **more}, capture_output=True, timeout=PATIENCE)
     return done.returncode, done.stdout.decode()
 
 

@@ -3,6 +3,8 @@
 import os
 import subprocess
 
+from waiting import PATIENCE
+
 # The most bytes of a line, without its end.
 LIMIT = 1_048_576
 
@@ -259,7 +261,7 @@ class Typed:
 
     def ends(self):
         """The rest of what it prints, and its status."""
-        output, _ = self.run.communicate(timeout=60)
+        output, _ = self.run.communicate(timeout=PATIENCE)
         return output.decode(), self.run.returncode
 
 

@@ -3,50 +3,40 @@ has rested over it, and everything else at once by 0. The end-to-end tests want 
 
 import os
 import pathlib
-import resource
-import signal
+import select
 import socket
 import struct
 import subprocess
 import time
 
+from preload import Accepts
 from program import Skipped
+from serving import frame, limited, open_files, received, refused, reset, stored, to_its_end
+from waiting import PATIENCE, comes_to
 
 PROGRAM = pathlib.Path(__file__).resolve().parent.parent / "crates" / "server_trial" / "out" / "server_trial"
-
-
-def frame(payload):
-    return struct.pack(">I", len(payload)) + payload
 
 
 def update(segment=0, number=1):
     return frame(bytes([1, segment]) + number.to_bytes(8, "big") + b"hi")
 
 
-def stored(number):
-    return frame(b"\x81" + number.to_bytes(8, "big"))
-
-
-def refused(why, detail):
-    return frame(bytes([0xE0, why]) + detail.to_bytes(8, "big"))
-
-
 UPDATE, STORED = update(), stored(1)
 SCAN, SCANNED = frame(b"\x02"), stored(0)
-NO_REQUEST, MALFORMED = frame(b"\x03\x00"), refused(1, 0)
+NO_REQUEST, MALFORMED = frame(b"\x03\x00"), refused(1)
 TOO_LONG, TOO_LARGE = struct.pack(">I", 65_537 + 464), refused(15, 66_000)
 
 
 class Trial:
     """A server that runs until so many connections have ended, or without end."""
 
-    def __init__(self, workers, micros=0, connections=None, descriptors=None):
+    def __init__(self, workers, micros=0, connections=None, descriptors=None, env=None):
         if not PROGRAM.is_file():
             raise Skipped(f"{PROGRAM.name} isn't built")
-        words = [PROGRAM, workers, micros] + ([] if connections is None else [connections])
-        limits = (lambda: resource.setrlimit(resource.RLIMIT_NOFILE, (descriptors,) * 2)) if descriptors else None
+        words = [str(PROGRAM), str(workers), str(micros)] + ([] if connections is None else [str(connections)])
+        words = words if descriptors is None else limited(descriptors, words)
         self.process = subprocess.Popen(
-            list(map(str, words)), stdout=subprocess.PIPE, stderr=subprocess.PIPE, preexec_fn=limits
+            words, stdout=subprocess.PIPE, stderr=subprocess.PIPE, env={**os.environ, **(env or {})}
         )
         port = self.process.stderr.readline().decode().removeprefix("listening 127.0.0.1:")
         self.address = ("127.0.0.1", int(port))
@@ -59,7 +49,7 @@ class Trial:
         self.process.communicate()
 
     def connect(self):
-        stream = socket.create_connection(self.address, timeout=10)
+        stream = socket.create_connection(self.address, timeout=PATIENCE)
         stream.setsockopt(socket.IPPROTO_TCP, socket.TCP_NODELAY, 1)
         return stream
 
@@ -69,8 +59,12 @@ class Trial:
             stream.sendall(request)
             assert received(stream, len(reply)) == reply
 
+    def connections(self):
+        """How many connections it has: of its sockets one listens."""
+        return sum(it.startswith("socket:") for it in open_files(self.process.pid)) - 1
+
     def descriptors(self):
-        return len(os.listdir(f"/proc/{self.process.pid}/fd"))
+        return len(open_files(self.process.pid))
 
     def memory(self):
         """Resident, in kB."""
@@ -79,43 +73,10 @@ class Trial:
 
     def end(self):
         """What it printed: how each connection ended, by its port, then the counts of the gate, then the last line."""
-        output, errors = self.process.communicate(timeout=30)
+        output, errors = self.process.communicate(timeout=PATIENCE)
         assert (self.process.returncode, errors) == (0, b"")
         *ends, gate, last = output.decode().splitlines()
         return [(int(line.split()[0].split(":")[1]), line.split()[1]) for line in ends], gate, last
-
-
-def received(stream, count):
-    """So many bytes, or fewer where the stream ends before."""
-    got = b""
-    while len(got) < count:
-        piece = stream.recv(count - len(got))
-        if not piece:
-            break
-        got += piece
-    return got
-
-
-def to_its_end(stream):
-    got = b""
-    while piece := stream.recv(65_536):
-        got += piece
-    return got
-
-
-def reset(stream):
-    """Closes it so that the other end is told of an error."""
-    stream.setsockopt(socket.SOL_SOCKET, socket.SO_LINGER, struct.pack("ii", 1, 0))
-    stream.close()
-
-
-def comes_to(wanted, value):
-    """Waits until a value is the wanted one."""
-    for _ in range(500):
-        if value() == wanted:
-            return
-        time.sleep(0.01)
-    assert value() == wanted, (value(), wanted)
 
 
 def test_each_end_is_noted_with_its_peer(_, __):
@@ -195,7 +156,7 @@ def test_five_hundred_connect_at_once(_, __):
             stream.setblocking(False)
             stream.connect_ex(trial.address)
         for stream in streams:
-            stream.settimeout(10)
+            stream.settimeout(PATIENCE)
             stream.sendall(SCAN)
         for stream in streams:
             assert received(stream, 13) == SCANNED
@@ -209,6 +170,8 @@ def test_a_peer_that_does_not_read_is_read_no_more(_, __):
         with Trial(workers) as trial, trial.connect() as flood:
             trial.ask(UPDATE, STORED)
             before = trial.memory()
+            # What the system itself keeps of it has a limit that no machine's settings raise.
+            flood.setsockopt(socket.SOL_SOCKET, socket.SO_SNDBUF, 1 << 17)
             flood.setblocking(False)
             chunk, sent, waits = SCAN * 8_192, 0, 0
             while waits < 30:
@@ -221,30 +184,36 @@ def test_a_peer_that_does_not_read_is_read_no_more(_, __):
                     waits += 1
             for _ in range(2 * workers):
                 trial.ask(UPDATE, STORED)
-            assert trial.memory() < before + 1_024, (before, trial.memory())
+            assert trial.memory() < before + 8_192, (before, trial.memory())
             # Once its peer reads, it gets every reply.
-            flood.settimeout(10)
+            flood.settimeout(PATIENCE)
             flood.shutdown(socket.SHUT_WR)
             assert to_its_end(flood) == SCANNED * (sent // len(SCAN))
 
 
-def test_a_request_that_is_out_holds_nobody_up(_, __):
-    with Trial(1, 1_000_000) as trial, trial.connect() as slow:
+def answered_while_one_is_out(rest):
+    """How many are answered on one worker, each on a connection of its own, while an update is out for so many seconds."""
+    with Trial(1, int(rest * 1_000_000)) as trial, trial.connect() as slow:
         slow.sendall(UPDATE + SCAN)
-        for _ in range(50):
+        count = 0
+        while count < 50 and not select.select([slow], [], [], 0)[0]:
             trial.ask(SCAN, SCANNED)
-        slow.settimeout(0.01)
-        try:
-            assert slow.recv(1) == b"", "answered before its outcome"
-        except TimeoutError:
-            slow.settimeout(10)
+            count += 1
         assert received(slow, 26) == STORED + SCANNED
+    # The last one may have been answered behind it.
+    return count - 1
+
+
+def test_a_request_that_is_out_holds_nobody_up(_, __):
+    """A slow machine answers few in a second. If the request held the others up, each of them would wait for it, however long
+    it is out."""
+    assert any(answered_while_one_is_out(rest) >= 10 for rest in (1, 4, 16, 50))
 
 
 def test_peers_that_vanish_harm_nobody(_, __):
     with Trial(2, 20_000, 42) as trial:
         trial.ask(SCAN, SCANNED)
-        time.sleep(0.1)
+        comes_to(0, trial.connections)
         before = trial.descriptors()
         for number in range(20):
             for ending in (reset, socket.socket.close):
@@ -272,22 +241,36 @@ def test_random_bytes(_, rng):
         assert trial.end()[2] == "served 101"
 
 
-def test_a_short_want_of_descriptors_passes(_, __):
-    with Trial(2, 0, None, 30) as trial:
-        streams = [trial.connect() for _ in range(40)]
-        time.sleep(0.1)
-        for stream in streams:
+def test_a_short_want_of_descriptors_passes(program, _):
+    """Fifteen faults in a row, and the connections that came meanwhile are served."""
+    accepts = Accepts(program.folder, first=2, count=15)
+    with Trial(2, env=accepts.env) as trial, trial.connect() as first:
+        streams = [trial.connect() for _ in range(3)]
+        for stream in [first, *streams]:
+            stream.sendall(SCAN)
+            assert received(stream, 13) == SCANNED
             stream.close()
-        time.sleep(0.3)
-        trial.ask(SCAN, SCANNED)
+        assert accepts.count() == 15
 
 
-def test_sixteen_faults_of_accept_in_a_row(_, __):
-    with Trial(2, 0, None, 30) as trial:
+def test_a_sixteenth_fault_in_a_row_ends_it(program, _):
+    accepts = Accepts(program.folder, first=2, count=16)
+    with Trial(2, env=accepts.env) as trial:
+        with trial.connect() as first:
+            comes_to(16, accepts.count)
+            first.sendall(SCAN)
+            assert received(first, 13) == SCANNED
+        assert trial.end()[1:] == ("entered 1, left 1", "16 connections in a row couldn't be accepted")
+
+
+def test_sixteen_faults_of_accept_in_a_row(program, _):
+    """Where there really are no descriptors any more."""
+    accepts = Accepts(program.folder)
+    with Trial(2, 0, None, 30, accepts.env) as trial:
         streams = [trial.connect() for _ in range(40)]
         streams[0].sendall(SCAN)
         assert received(streams[0], 13) == SCANNED
-        time.sleep(1)
+        comes_to(16, accepts.count)
         # Those that are there are still served.
         streams[1].sendall(SCAN)
         assert received(streams[1], 13) == SCANNED

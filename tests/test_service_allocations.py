@@ -7,6 +7,7 @@ import subprocess
 
 from preload import library
 from program import Skipped
+from waiting import PATIENCE
 
 PROGRAM = pathlib.Path(__file__).resolve().parent.parent / "crates" / "bench_service" / "out" / "bench_service"
 SEGMENTS = 3
@@ -18,7 +19,8 @@ def run(work, rounds, **env):
         raise Skipped(f"{PROGRAM.name} isn't built")
     line = [PROGRAM, work, str(SEGMENTS), str(rounds), "40"]
     more = {"LD_PRELOAD": library("allocations"), **env}
-    return subprocess.run(line, env={**os.environ, **more}, check=True, stdout=subprocess.PIPE, text=True, timeout=60).stdout
+    env = {**os.environ, **more}
+    return subprocess.run(line, env=env, check=True, stdout=subprocess.PIPE, text=True, timeout=PATIENCE).stdout
 
 
 def count(folder, work, rounds):

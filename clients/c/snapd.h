@@ -1,7 +1,6 @@
 /* snapd.h: a client of the snapd server in one header. C99 and POSIX sockets; it allocates nothing.
  *
- * THE SERVER ITSELF ISN'T THERE YET: this client follows its message formats (docs/FORMATS.md, "Frames and messages")
- * and is tested against a model of it.
+ * It speaks with `snapd serve` in the frames of docs/FORMATS.md, "Frames and messages".
  *
  *     #define _POSIX_C_SOURCE 200809L     // before the first include of a file that is compiled with -std=c99
  *     #include "snapd.h"

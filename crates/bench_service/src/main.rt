@@ -1,5 +1,5 @@
-//! Requests to a node over files in memory, for `make bench` and for
-//! tests/test_service_allocations.py.
+//! Requests to a node over files in memory, and calls of clients, for `make bench` and for
+//! tests/test_service_allocations.py and tests/test_client_allocations.py.
 //!
 //!     bench_service update|scan|status SEGMENTS ROUNDS LENGTH
 //!
@@ -7,16 +7,24 @@
 //! prints its last reply. The update is that of the first segment to number 2: the first round
 //! stores it, and the others repeat it.
 //!
+//!     bench_service call SEGMENTS ROUNDS LENGTH
+//!
+//! calls for an update, a status and a scan ROUNDS times, each on a connection in memory of its own
+//! that has the reply of such a server, and prints the last answer, or why there was none.
+//!
 //!     bench_service copy SEGMENTS ROUNDS LENGTH
 //!
 //! makes a plain copy of as many bytes ROUNDS times.
 #![tactic(auto)]
+
+mod calls;
 
 ghost use Rattle.std.specs.Prelude.{◌≡◌, ◌<◌, ◌≤◌, length, IfOk};
 ghost use Rattle.snap_restart.specs.Closed.{AreBack};
 ghost use Rattle.snap_service.specs.Memory.{AreWriters, IsOf};
 
 use bytes::Bytes;
+use calls::call_rounds;
 use snap_disk::{Disk, FILE_LEN, MemDisk};
 use snap_frame::{Reply, Request};
 use snap_memory::{Scanner, Snapshot};
@@ -204,7 +212,14 @@ fn main(rt: HostRuntime) -> io::Result<()> {
             println!(rt; "copied {read}")?;
             return Ok(());
         }
-        _ => return Err(io::Error::other("WORK is update, scan, status or copy")),
+        "call" => {
+            return match call_rounds(rt.alloc(), segments, rounds, length)? {
+                Some(Ok(reply)) => print_reply(&rt, Some(reply)),
+                Some(Err(fault)) => println!(rt; "fault {fault:?}"),
+                None => print_reply(&rt, None),
+            };
+        }
+        _ => return Err(io::Error::other("WORK is update, scan, status, call or copy")),
     };
     let task = Task {
         work,

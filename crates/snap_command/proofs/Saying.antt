@@ -19,9 +19,9 @@ use Rattle.snap_disk.specs.declared.refusal.Refusal.TheVariants.{
   NotNow,
   Worn,
 }
-use Rattle.snap_stream.specs.Streams.{refused_line}
+use Rattle.snap_stream.specs.Streams.{SaysLines, refused_line}
 use Rattle.snap_old_slot.specs.declared.layout.TheConstants.{OLD_FILE_LEN}
-use Rattle.snap_command.specs.Failure.{Says, SaysLines, SaysOf, advice_line}
+use Rattle.snap_command.specs.Failure.{Says, SaysOf, advice_line}
 use Rattle.snap_command.specs.declared.failure.Failure.{Failure}
 use Rattle.snap_command.specs.declared.failure.Failure.TheVariants.{Refused, Input, Output, Unsaid}
 

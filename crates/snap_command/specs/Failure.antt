@@ -1,9 +1,8 @@
 -- How a command ends after a failure, and what it says.
-use Rattle.std.specs.Prelude.{◌≡◌, ◌≢◌, ◌++◌, Bool, true, List, ℕ, Option, codes}
-use Rattle.std.specs.Io.KnownBytes.{Appends}
+use Rattle.std.specs.Prelude.{◌≡◌, ◌≢◌, ◌++◌, Bool, List, ℕ, Option, codes}
 use Rattle.snap_order.specs.declared.status.Status.{Status}
 use Rattle.snap_order.specs.declared.status.Status.TheVariants as status
-use Rattle.snap_stream.specs.Streams.{AppendsBeginning, refused_line}
+use Rattle.snap_stream.specs.Streams.{SaysLines, refused_line}
 use Rattle.snap_disk.specs.declared.refusal.Refusal.TheVariants as refusal
 use Rattle.snap_old_slot.specs.declared.layout.TheConstants.{OLD_FILE_LEN}
 use Rattle.snap_command.specs.declared.failure.Failure.{Failure}
@@ -14,11 +13,6 @@ status_of (Refused why) = status.Refused
 status_of (Input error) = status.Failed
 status_of (Output error) = status.Failed
 status_of (Unsaid number error) = status.Failed
-
--- standard error got a beginning of these lines, and where it took them whole, all of them
-abbrev pub SaysLines : List ℕ → (is_told : Bool) (old new : Option (List ℕ)) → Type 0
-SaysLines lines is_told old new =
-    AppendsBeginning old new lines × (is_told ≡ true → Appends old new lines)
 
 -- What standard error got: of a refusal its line. The other lines have a text of the system in them.
 abbrev pub Says : Failure → (is_told : Bool) (old new : Option (List ℕ)) → Type 0

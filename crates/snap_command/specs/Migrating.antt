@@ -29,11 +29,11 @@ use Rattle.snap_old_slot.specs.Reading.{IsNoOldOpening}
 use Rattle.snap_segment.specs.Migration.{CountsFault}
 use Rattle.snap_segment.specs.declared.migration.Which.{Which}
 use Rattle.snap_segment.specs.declared.migration.Which.TheVariants.{Old, New}
-use Rattle.snap_stream.specs.Streams.{AppendsBeginning, refused_line}
+use Rattle.snap_stream.specs.Streams.{AppendsBeginning, SaysLines, refused_line}
 use Rattle.snap_order.specs.declared.order.Migration.{Migration}
 use Rattle.snap_order.specs.declared.status.Status.{Status}
 use Rattle.snap_order.specs.declared.status.Status.TheVariants as status
-use Rattle.snap_command.specs.Failure.{Says, SaysLines, status_of}
+use Rattle.snap_command.specs.Failure.{Says, status_of}
 use Rattle.snap_command.specs.declared.failure.Failure.TheVariants.{Output, Refused}
 use Rattle.snap_command.specs.declared.migrating.MigrationFailure.{MigrationFailure}
 use Rattle.snap_command.specs.declared.migrating.MigrationFailure.TheVariants.{OfFile, Other}

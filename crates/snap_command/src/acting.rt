@@ -62,18 +62,42 @@ pub fn act<D: Disk, R: Read, W: Write, E: Write>(
         (OrderLeaves order.now (R.remaining reader.old) (D.device disk)) }
 {
     let len = disk.len();
-    let (disk, end) = match *order {
-        FileOrder::Format { index, count, .. } => format_file(alloc, disk, index, count, writer),
-        FileOrder::Put { index, count, .. } => put(alloc, disk, index, count, reader, writer),
-        FileOrder::Get { index, count, .. } => get(alloc, disk, index, count, writer),
-        FileOrder::Check { .. } => check_file(alloc, disk, writer),
-    };
+    let (disk, end) = carry_out(alloc, order, disk, reader, writer);
     match end {
         Ok(status) => {
             let is_told = true;
             (disk, Ended { status, is_told })
         }
         Err(failure) => (disk, failure.report_of(alloc, order.file(), len, errors)),
+    }
+}
+
+/// Does the order on its device, and says how it ended.
+fn carry_out<D: Disk, R: Read, W: Write>(
+    alloc: Global,
+    order: &FileOrder<'_>,
+    disk: D,
+    reader: &mut R,
+    writer: &mut W,
+) -> (D, Result<Status, Failure>)
+    requires limits { IsFileWithinLimits order.now }
+    requires headroom { D.failure_count disk < 2 ^ 64 - 1 }
+    ensures honest { D.is_honest result.0 → D.is_honest disk }
+    ensures count { CountsEnd result.1 (D.failure_count disk) (D.failure_count result.0) }
+    ensures keeps { OrderKeeps order.now (result.0 ≡ disk) (D.is_honest result.0 → LeavesOnly
+        D.clock D.might_have_left disk result.0 (MayLeave (D.device disk))) result.1 }
+    ensures ends { EndsOrder order.now (D.is_honest result.0) (R.remaining reader.old)
+        (D.device disk) (D.device result.0) (W.contents writer.old) (W.contents writer.new)
+        result.1 }
+    ensures wrong_length { length (D.device disk).bytes ≢ FILE_LEN → result.0 ≡ disk }
+    ensures any_time { D.is_honest result.0 → LeavesOnly D.clock D.might_have_left disk result.0
+        (OrderLeaves order.now (R.remaining reader.old) (D.device disk)) }
+{
+    match *order {
+        FileOrder::Format { index, count, .. } => format_file(alloc, disk, index, count, writer),
+        FileOrder::Put { index, count, .. } => put(alloc, disk, index, count, reader, writer),
+        FileOrder::Get { index, count, .. } => get(alloc, disk, index, count, writer),
+        FileOrder::Check { .. } => check_file(alloc, disk, writer),
     }
 }
 

@@ -1,13 +1,11 @@
 //! Why a command did not do what was asked.
-ghost use Rattle.std.specs.Prelude.{◌≡◌, ◌++◌, List, ℕ, IfSome};
-ghost use Rattle.std.specs.Prelude.{string_bytes};
-ghost use Rattle.snap_stream.specs.Streams.{refused_line};
-ghost use Rattle.snap_command.specs.Failure.{Says, SaysLines, SaysOf, advice_line, status_of};
+ghost use Rattle.std.specs.Prelude.{◌≡◌, IfSome, string_bytes};
+ghost use Rattle.snap_command.specs.Failure.{Says, SaysOf, advice_line, status_of};
 
 use snap_disk::Refusal;
 use snap_order::{Ended, Status};
 use snap_segment::OLD_FILE_LEN;
-use snap_stream::{complain, complain_of_refusal, write_whole};
+use snap_stream::{complain, complain_of_refusal, complain_twice};
 use std::alloc::Global;
 use std::io::{self, Write};
 use thiserror::Error;
@@ -84,21 +82,5 @@ fn advice(alloc: Global, file: &str) -> Option<String>
     match format!(in alloc; "snapd: {file}: {known} {file} NEW\n") {
         Ok(line) => Some(line),
         Err(_) => None,
-    }
-}
-
-/// Writes the line of a refusal, and behind it another one, where there was memory for it. Says
-/// whether both were taken whole.
-pub(crate) fn complain_twice<E: Write>(errors: &mut E, why: Refusal, more: Option<String>) -> bool
-    ensures { (line : List ℕ) → IfSome more (λ m. string_bytes m ≡ line)
-        → SaysLines (refused_line why ++ line) result (E.contents errors.old)
-        (E.contents errors.new) }
-{
-    if !complain_of_refusal(errors, why) {
-        return false;
-    }
-    match more {
-        Some(line) => write_whole(errors, line.as_bytes()).is_ok(),
-        None => false,
     }
 }

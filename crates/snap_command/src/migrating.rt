@@ -17,12 +17,11 @@ ghost use Rattle.snap_command.specs.Migrating.{as_old_line, migrated_beginning, 
 ghost use Rattle.snap_command.specs.Migrating.{migration_status_of};
 
 use crate::Failure;
-use crate::failure::complain_twice;
 use itoa::Buffer;
 use snap_disk::{Disk, Refusal};
 use snap_order::{Ended, Migration, Status};
 use snap_segment::{Which, migrate};
-use snap_stream::write_whole;
+use snap_stream::{complain_twice, write_whole};
 use std::alloc::{AllocError, Global};
 use std::io::Write;
 

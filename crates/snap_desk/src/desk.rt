@@ -1,5 +1,5 @@
 //! One worker's half of the service, which waits for no store.
-ghost use Rattle.std.specs.Prelude.{◌≡◌, ℕ, ◌<◌, All, IfOk, IfSome, IfNone, length};
+ghost use Rattle.std.specs.Prelude.{◌≡◌, ℕ, ◌<◌, All, IfOk, IfSome, IfNone, length, true};
 ghost use Rattle.snap_slot.specs.Layout.{IsShort};
 ghost use Rattle.snap_register.specs.Rule.{segments};
 ghost use Rattle.snap_register.specs.Seat.{own_of};
@@ -14,7 +14,7 @@ ghost use Rattle.snap_service.specs.Answers.{
   AnswersStatus,
 };
 
-use crate::job::{Errand, Job, Payload};
+use crate::job::{Job, Payload};
 use crate::lent::Outcome;
 use crossbeam_channel::Sender;
 use snap_disk::{Disk, Refusal};
@@ -24,31 +24,81 @@ use snap_service::{Memory, answer_by_look, answer_scan, refuse_place};
 use snap_session::Service;
 use std::alloc::{AllocError, Global};
 use std::marker::{Model, PhantomData};
-use std::sync::Wait;
 use std::sync::atomic::{AtomicU64, Ordering};
+use std::sync::{Arc, Wait};
 
-/// What all desks see of a segment's store: where its updates go, and where it stands.
+/// What a desk sees of a segment's store: where its updates go, and where it stands. Its value is the
+/// segment. The store works until all its windows are gone.
 #[derive(Drop)]
 pub struct Window {
-    pub errands: Sender<Errand>,
+    segment: usize,
+    jobs: Sender<Job>,
     /// Twice the number, and one more where it is fenced.
-    pub standing: AtomicU64,
+    standing: Arc<AtomicU64, Global>,
 }
 
-/// A scanner, and the windows that all desks share: a [`Service`] that hands updates over. Its state
-/// is what its scanner knows. It takes no lock and waits for no store.
+impl Model for Window {
+    ghost use Rattle.std.specs.Prelude.{ℕ};
+
+    ghost Value = { ℕ };
+
+    ghost view = { λ w. w.segment };
+}
+
+impl Window {
+    pub(crate) fn new(segment: usize, jobs: Sender<Job>, standing: Arc<AtomicU64, Global>) -> Window
+        ensures { result ≡ segment }
+    {
+        Window {
+            segment,
+            jobs,
+            standing,
+        }
+    }
+
+    /// Hands an update of this segment over to its store. `false`, and nothing handed over, where the
+    /// store is another segment's or gone, or no memory is left.
+    fn send<R: Wait>(&self, rt: &R, segment: usize, job: Job) -> bool
+        ensures { result ≡ true → self.now ≡ segment }
+    {
+        self.segment == segment && self.jobs.send(rt, job).is_ok()
+    }
+
+    /// Where its store stood when it last told.
+    fn status(&self) -> SegmentStatus
+        ensures { IsStatus result }
+    {
+        let word = self.standing.load(Ordering::SeqCst);
+        SegmentStatus {
+            number: word / 2,
+            is_fenced: word % 2 == 1,
+        }
+    }
+}
+
+impl Clone for Window {
+    fn clone(&self) -> Result<Window, AllocError> {
+        Ok(Window {
+            segment: self.segment,
+            jobs: self.jobs.clone()?,
+            standing: Arc::try_clone(&self.standing)?,
+        })
+    }
+}
+
+/// A scanner, and a window for each segment: a [`Service`] that hands updates over. Its state is
+/// what its scanner knows. It takes no lock and waits for no store.
 #[derive(Drop)]
-pub struct Desk<'a, R: Wait + Copy, M: Memory, D: Disk + Drop> {
+pub struct Desk<R: Wait + Copy, M: Memory, D: Disk + Drop> {
     rt: R,
     alloc: Global,
     worker: usize,
-    windows: &'a [Window],
+    windows: Vec<Window>,
     scanner: Scanner,
-    snapshot: Snapshot,
     of: PhantomData<(M, D)>,
 }
 
-impl<'a, R: Wait + Copy, M: Memory, D: Disk + Drop> Model for Desk<'a, R, M, D> {
+impl<R: Wait + Copy, M: Memory, D: Disk + Drop> Model for Desk<R, M, D> {
     ghost use Rattle.std.specs.Prelude.{◌≡◌, length};
     ghost use Rattle.snap_register.specs.Rule.{segments};
     ghost use Rattle.snap_register.specs.Seat.{Known};
@@ -59,8 +109,7 @@ impl<'a, R: Wait + Copy, M: Memory, D: Disk + Drop> Model for Desk<'a, R, M, D> 
     ghost view = { λ d. d.scanner };
 
     ghost invariant = { λ d. IsOf M.table M.plan d.scanner
-        × (length d.windows.now ≡ segments d.scanner.plan)
-        × (length d.snapshot ≡ segments d.scanner.plan) };
+        × (length d.windows.items ≡ segments d.scanner.plan) };
 }
 
 /// The reply to an update whose outcome came. Its writer is at rest meanwhile, and goes home behind
@@ -78,7 +127,8 @@ pub fn answer_outcome<R: Wait + Copy, M: Memory, D: Disk + Drop>(
     ensures answer { AnswersUpdate scanner.old segment number value.now result scanner.new }
     ensures limits { IsInLimits result }
     ensures told { own_of outcome.writer.seat ≡ segment → outcome.number ≡ number
-        → outcome.value ≡ value.now → (c : ℕ) × (result ≡ reply_of c outcome.told) }
+        → outcome.value ≡ value.now
+        → result ≡ reply_of (number_of outcome.writer) outcome.told }
 {
     if !outcome.is_of(segment, number, value) {
         return answer_by_look(scanner, segment, number, value);
@@ -93,27 +143,23 @@ fn list_statuses(alloc: Global, windows: &[Window]) -> Result<Vec<SegmentStatus>
 {
     let mut statuses = Vec::new(alloc);
     for window in windows {
-        let word = window.standing.load(Ordering::SeqCst);
-        statuses.push(SegmentStatus {
-            number: word / 2,
-            is_fenced: word % 2 == 1,
-        })?;
+        statuses.push(window.status())?;
     }
     Ok(statuses)
 }
 
-impl<'a, R: Wait + Copy, M: Memory, D: Disk + Drop> Desk<'a, R, M, D> {
+impl<R: Wait + Copy, M: Memory, D: Disk + Drop> Desk<R, M, D> {
     /// The desk of this worker, with a window for each segment and room for a snapshot.
     pub fn new(
         rt: R,
         alloc: Global,
         worker: usize,
-        windows: &'a [Window],
+        windows: Vec<Window>,
         scanner: Scanner,
         snapshot: Snapshot,
-    ) -> Desk<'a, R, M, D>
+    ) -> Desk<R, M, D>
         requires memory { IsOf M.table M.plan scanner }
-        requires windows { length windows.now ≡ segments M.plan }
+        requires windows { length windows.items ≡ segments M.plan }
         requires room { length snapshot ≡ segments M.plan }
         ensures { result ≡ scanner }
     {
@@ -122,13 +168,12 @@ impl<'a, R: Wait + Copy, M: Memory, D: Disk + Drop> Desk<'a, R, M, D> {
             alloc,
             worker,
             windows,
-            scanner,
-            snapshot,
+            scanner: scanner.with_room(snapshot),
             of: PhantomData,
         }
     }
 
-    /// Hands an update over to its store's thread; `false` where that is gone.
+    /// Hands an update over to its store's thread; `false` where that is gone, or no memory is left.
     fn hand_over(&self, segment: usize, number: u64, value: &[u8], key: usize) -> bool
         requires segment { segment < segments self.now.plan }
         requires size { IsShort value.now }
@@ -139,10 +184,7 @@ impl<'a, R: Wait + Copy, M: Memory, D: Disk + Drop> Desk<'a, R, M, D> {
             number,
             value: Payload::of(value),
         };
-        self.windows[segment]
-            .errands
-            .send(&self.rt, Errand::Store(job))
-            .is_ok()
+        self.windows[segment].send(&self.rt, segment, job)
     }
 
     /// An update goes to its store.
@@ -185,7 +227,7 @@ impl<'a, R: Wait + Copy, M: Memory, D: Disk + Drop> Desk<'a, R, M, D> {
     {
         // how many segments there are
         let _segments = self.scanner.segments();
-        match list_statuses(self.alloc, self.windows) {
+        match list_statuses(self.alloc, &self.windows) {
             Ok(statuses) => Reply::Status(statuses),
             Err(AllocError) => Reply::Refused {
                 why: Refusal::NoMemory,
@@ -198,11 +240,11 @@ impl<'a, R: Wait + Copy, M: Memory, D: Disk + Drop> Desk<'a, R, M, D> {
         ensures answer { AnswersScan self.old result self.new }
         ensures limits { IsInLimits result }
     {
-        answer_scan(self.alloc, &mut self.scanner, &mut self.snapshot)
+        answer_scan(self.alloc, &mut self.scanner)
     }
 }
 
-impl<'a, R: Wait + Copy, M: Memory, D: Disk + Drop> Service for Desk<'a, R, M, D> {
+impl<R: Wait + Copy, M: Memory, D: Disk + Drop> Service for Desk<R, M, D> {
     ghost use Rattle.snap_service.specs.Answers.{Answers};
 
     type Outcome = Outcome<R, M, D>;

@@ -54,11 +54,3 @@ pub struct Job {
     pub number: u64,
     pub value: Payload,
 }
-
-/// What comes to a store's thread.
-#[derive(Drop)]
-pub enum Errand {
-    Store(Job),
-    /// A desk hands over no more.
-    Leave,
-}

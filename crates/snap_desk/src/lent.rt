@@ -1,7 +1,8 @@
 //! A writer that is lent to a desk.
-ghost use Rattle.std.specs.Prelude.{◌≡◌, ℕ, List, true, false};
+ghost use Rattle.std.specs.Prelude.{◌≡◌, ◌+◌, ◌*◌, ℕ, List, true, false, None, IsSome};
 ghost use Rattle.snap_register.specs.Seat.{Meets, own_of};
 ghost use Rattle.snap_frame.specs.Messages.{IsInLimits};
+ghost use Rattle.snap_writer.specs.Writer.{number_of};
 ghost use Rattle.snap_service.specs.Memory.{IsOf};
 ghost use Rattle.snap_service.specs.Settled.{IsSettledAt, IsTellable, reply_of};
 ghost use Rattle.snap_desk.specs.Came.{Came};
@@ -14,6 +15,15 @@ use snap_memory::Scanner;
 use snap_service::{Memory, WriterOf};
 use std::marker::Model;
 use std::sync::Wait;
+
+/// Where a writer stands, in one word: twice its number, and one more where it is fenced.
+pub(crate) fn standing_of<M: Memory, D: Disk>(writer: &WriterOf<M, D>) -> u64
+    ensures fenced { IsSome writer.now.segment.begun → result ≡ number_of writer.now * 2 + 1 }
+    ensures open { writer.now.segment.begun ≡ None → result ≡ number_of writer.now * 2 }
+{
+    let twice = writer.number() * 2;
+    if writer.is_fenced() { twice + 1 } else { twice }
+}
 
 /// A writer away from its store's thread, which waits for it. Wherever it is let go, it goes home.
 pub struct Lent<R: Wait + Copy, M: Memory, D: Disk + Drop> {
@@ -67,14 +77,14 @@ impl<R: Wait + Copy, M: Memory, D: Disk + Drop> Outcome<R, M, D> {
         Outcome { job, told, lent }
     }
 
-    /// Where the writer stands, in one word: twice its number, and one more where it is fenced.
-    pub fn standing(&self) -> u64 {
-        let twice = self.lent.writer.number() * 2;
-        if self.lent.writer.is_fenced() {
-            twice + 1
-        } else {
-            twice
-        }
+    /// Where the writer stands, as [`standing_of`] says it.
+    pub fn standing(&self) -> u64
+        ensures fenced { IsSome self.now.writer.segment.begun
+            → result ≡ number_of self.now.writer * 2 + 1 }
+        ensures open { self.now.writer.segment.begun ≡ None
+            → result ≡ number_of self.now.writer * 2 }
+    {
+        standing_of(&self.lent.writer)
     }
 
     /// Whether it is the outcome of this update of this segment.
@@ -94,7 +104,7 @@ impl<R: Wait + Copy, M: Memory, D: Disk + Drop> Outcome<R, M, D> {
     /// seen, and no look is taken. Then the writer goes home.
     pub fn tell(mut self, scanner: &mut Scanner) -> Reply
         requires memory { IsOf M.table M.plan scanner.old }
-        ensures told { (c : ℕ) × (result ≡ reply_of c self.told) }
+        ensures told { result ≡ reply_of (number_of self.writer) self.told }
         ensures settled { (i k : ℕ) (v : List ℕ) → own_of self.writer.seat ≡ i → self.number ≡ k
             → self.value ≡ v → IsSettledAt scanner.new i k v result }
         ensures limits { IsInLimits result }

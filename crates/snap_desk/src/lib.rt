@@ -13,6 +13,6 @@ mod lent;
 mod store;
 
 pub use desk::{Desk, Window, answer_outcome};
-pub use job::{Errand, Job, Payload};
+pub use job::{Job, Payload};
 pub use lent::{Lent, Outcome};
-pub use store::{Told, store_all, store_one};
+pub use store::{StoreThread, Told, store_one};

@@ -1,3 +1,4 @@
 pub mod Gathering
 pub mod Answering
 pub mod Popped
+pub mod Keeping

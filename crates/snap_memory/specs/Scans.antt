@@ -2,7 +2,15 @@
 use Rattle.std.specs.Prelude.{◌≡◌, ℕ, ◌+◌, ◌<◌, ◌≤◌, List, length, Some, slice_get}
 use Rattle.snap_history.specs.History.{Update, IsBeginning}
 use Rattle.snap_register.specs.Rule.{segments}
-use Rattle.snap_register.specs.Seat.{Known, looked, number_in, HasFoundUpdate, IsMemory, IsValue}
+use Rattle.snap_register.specs.Seat.{
+  Known,
+  looked,
+  number_in,
+  value_in,
+  HasFoundUpdate,
+  IsMemory,
+  IsValue,
+}
 use Rattle.snap_register.specs.declared.view.View.{View}
 use Rattle.snap_register.specs.declared.view.View.TheVariants.{Collected, Borrowed}
 use Rattle.snap_scan.specs.Looks.{most_looks}
@@ -50,3 +58,16 @@ pub record AreLooked (seat : Known) (memory : List (ℕ × List ℕ)) : Type 0 w
   pub size : length memory ≡ segments seat.plan
   pub each : (i : ℕ) → i < segments seat.plan → (x : ℕ × List ℕ) × (slice_get memory i ≡ Some x)
       × (looked seat i ≡ Some x.0) × IsValue seat i x.1
+
+-- the number and the value of the segment i after a beginning of what the seat has seen
+pub record WasSeen (seat : Known) (i : ℕ) (x : ℕ × List ℕ) : Type 0 where
+  pub part : List Update
+  pub within : IsBeginning part seat.seen
+  pub number_is : x.0 ≡ number_in seat part i
+  pub value_is : x.1 ≡ value_in seat part i
+
+-- the list has for each segment a number and a value that the seat has seen
+pub record IsKept (seat : Known) (memory : List (ℕ × List ℕ)) : Type 0 where
+  pub size : length memory ≡ segments seat.plan
+  pub each : (i : ℕ) (x : ℕ × List ℕ) → i < segments seat.plan → slice_get memory i ≡ Some x
+      → WasSeen seat i x

@@ -9,6 +9,7 @@
 #![tactic(auto)]
 
 mod looks;
+mod room;
 mod scanner;
 mod snapshot;
 mod update;
@@ -18,6 +19,3 @@ pub use scanner::Scanner;
 pub use snap_register::View;
 pub use snapshot::Snapshot;
 pub use update::{prepare, show};
-
-#[cfg(test)]
-mod tests;

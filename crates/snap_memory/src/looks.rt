@@ -2,7 +2,14 @@
 ghost use Rattle.std.specs.Prelude.{◌≡◌, ℕ, ◌<◌, ◌≤◌, length, slice_index, Some};
 ghost use Rattle.snap_register.specs.Rule.{segments};
 ghost use Rattle.snap_register.specs.Seat.{Grows, IsBelow, looked};
-ghost use Rattle.snap_memory.specs.Scans.{IsScan, IsSnapshot, CanScan, TakesLooks, AreLooked};
+ghost use Rattle.snap_memory.specs.Scans.{
+  IsScan,
+  IsSnapshot,
+  CanScan,
+  TakesLooks,
+  AreLooked,
+  IsKept,
+};
 
 use snap_register::{Looker, SnapshotBuf, View};
 use snap_scan::{MAX_SEGMENTS, Next, Scan};
@@ -54,11 +61,7 @@ pub fn scan<L: Looker>(seat: &mut L, out: &mut SnapshotBuf)
 }
 
 /// Fills `out` with the values of the last looks, one at each segment, which told these numbers.
-pub(crate) fn read_all<L: Looker>(
-    seat: &mut L,
-    numbers: &[u64; MAX_SEGMENTS],
-    out: &mut SnapshotBuf,
-)
+fn read_all<L: Looker>(seat: &mut L, numbers: &[u64; MAX_SEGMENTS], out: &mut SnapshotBuf)
     requires room { length out.old ≡ segments (L.known seat.old).plan }
     requires looked { (i : ℕ) → i < segments (L.known seat.old).plan
         → looked (L.known seat.old) i ≡ Some (slice_index numbers.now i) }
@@ -67,5 +70,38 @@ pub(crate) fn read_all<L: Looker>(
 {
     for i in 0..seat.segments() {
         out.read(seat, i, numbers[i]);
+    }
+}
+
+/// Fills `out` with the memory of one moment, as [`scan`] does, where it holds what the seat has seen
+/// before: the value of a segment that still has the number held isn't read again.
+pub(crate) fn scan_again<L: Looker>(seat: &mut L, out: &mut SnapshotBuf)
+    requires left { CanScan (L.known seat.old) }
+    requires kept { IsKept (L.known seat.old) out.old }
+    ensures seen { Grows (L.known seat.old) (L.known seat.new) }
+    ensures below { IsBelow (L.known seat.new) }
+    ensures snapshot { IsSnapshot (L.known seat.old) (L.known seat.new) out.new }
+    ensures left { TakesLooks (L.known seat.old) (L.known seat.new) }
+{
+    let mut numbers = [0; MAX_SEGMENTS];
+    match gather(seat, &mut numbers) {
+        View::Collected => read_changed(seat, &numbers, out),
+        View::Borrowed(segment) => seat.view(segment, out),
+    }
+}
+
+/// Fills `out` as [`read_all`] does, where it holds what the seat has seen before.
+fn read_changed<L: Looker>(seat: &mut L, numbers: &[u64; MAX_SEGMENTS], out: &mut SnapshotBuf)
+    requires kept { IsKept (L.known seat.old) out.old }
+    requires looked { (i : ℕ) → i < segments (L.known seat.old).plan
+        → looked (L.known seat.old) i ≡ Some (slice_index numbers.now i) }
+    ensures values { AreLooked (L.known seat.old) out.new }
+    ensures same { L.known seat.new ≡ L.known seat.old }
+{
+    for i in 0..seat.segments() {
+        let number = numbers[i];
+        if out.number(i) != number {
+            out.read(seat, i, number);
+        }
     }
 }

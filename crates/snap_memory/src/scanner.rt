@@ -1,40 +1,62 @@
 //! The scanners.
-ghost use Rattle.std.specs.Prelude.{◌≡◌, ℕ, ◌+◌, ◌<◌, ◌≤◌, length, take, OnOk, OnErr, IfErr};
+ghost use Rattle.std.specs.Prelude.{◌≡◌, ℕ, ◌+◌, ◌<◌, ◌≤◌, ◌⊎◌, length, take};
+ghost use Rattle.std.specs.Prelude.{OnOk, OnErr, IfOk, IfErr, IsTrue, ◌↔◌};
 ghost use Rattle.snap_slot.specs.declared.layout.TheConstants.{MAX_COUNT, MAX_VALUE_LEN};
 ghost use Rattle.snap_register.specs.Rule.{segments};
 ghost use Rattle.snap_register.specs.Seat.{Grows, Meets, IsBelow, AreTogether, number_in, value_in};
 ghost use Rattle.snap_scan.specs.Looks.{most_looks};
-ghost use Rattle.snap_memory.specs.Scans.{IsSnapshot, CanScan, TakesLooks};
+ghost use Rattle.snap_memory.specs.Scans.{IsSnapshot, CanScan, TakesLooks, IsKept};
 ghost use Rattle.snap_disk.specs.declared.refusal.Refusal.{Refusal};
 
-use crate::looks::scan;
+use crate::looks::{scan, scan_again};
+use crate::room::Room;
 use crate::snapshot::Snapshot;
 use snap_disk::Refusal;
 use snap_register::{Looker, ReadSeat, WriteSeat};
 use snap_scan::most_looks;
 use snap_slot::MAX_VALUE_LEN;
+use std::alloc::{AllocError, Global};
 use std::marker::Model;
+use std::mem;
 
-/// One scanner, on a seat of its own. It waits for nobody, and takes no memory.
+/// One scanner, on a seat of its own. It waits for nobody. Only [`Scanner::scan`] may take memory.
 #[derive(Drop)]
 pub struct Scanner {
     seat: ReadSeat,
+    room: Room,
 }
 
 impl Model for Scanner {
     ghost use Rattle.snap_register.specs.Seat.{Known};
+    ghost use Rattle.snap_memory.specs.Rooms.{Fits};
 
     ghost Value = { Known };
 
     ghost view = { λ s. s.seat };
+
+    ghost invariant = { λ s. Fits s.seat s.room };
 }
 
 impl Scanner {
-    /// The scanner on this seat.
+    /// The scanner on this seat, with no room for its scans.
     pub fn new(seat: ReadSeat) -> Scanner
         ensures { result ≡ seat }
     {
-        Scanner { seat }
+        Scanner {
+            seat,
+            room: Room::Absent,
+        }
+    }
+
+    /// The same scanner with this room for its scans, whatever it holds.
+    pub fn with_room(self, room: Snapshot) -> Scanner
+        requires room { length room ≡ segments self.plan }
+        ensures { result ≡ self }
+    {
+        Scanner {
+            seat: self.seat,
+            room: Room::Blank(room),
+        }
     }
 
     /// How many segments there are, 1 to 16.
@@ -50,6 +72,13 @@ impl Scanner {
         ensures { result ≡ self.now.left }
     {
         self.seat.looks_left()
+    }
+
+    /// Whether fewer looks are left than a scan might take.
+    fn is_worn(&self) -> bool
+        ensures { IsTrue result ↔ (self.now.left < most_looks (segments self.now.plan)) }
+    {
+        self.seat.looks_left() < most_looks(self.seat.segments()) as u64
     }
 
     /// Fills `out` with the number and the value of each segment, all of one moment: the memory
@@ -70,11 +99,53 @@ impl Scanner {
         ensures kept { OnErr result (out.new ≡ out.old) }
         ensures unchanged { OnErr result (self.new ≡ self.old) }
     {
-        if self.seat.looks_left() < most_looks(self.seat.segments()) as u64 {
+        if self.is_worn() {
             return Err(Refusal::Worn);
         }
         scan(&mut self.seat, &mut out.buf);
         Ok(())
+    }
+
+    /// The number and the value of each segment, all of one moment, as [`Scanner::scan_into`] gives
+    /// them, in the scanner's room. Of what was kept there ([`Scanner::keep`]) the value of a segment
+    /// that still has the same number isn't read again: a number has one value.
+    ///
+    /// Where fewer looks are left than a scan might take it answers `Worn`. Where it has no room it
+    /// takes memory for one, and answers `NoMemory` where that is refused. Both change nothing.
+    pub fn scan(&mut self, alloc: Global) -> Result<Snapshot, Refusal>
+        ensures enough { OnOk result (CanScan self.old) }
+        ensures refused { IfErr result (λ why. (why ≡ Refusal.NoMemory) ⊎ ((why ≡ Refusal.Worn)
+            × (self.old.left < most_looks (segments self.old.plan)))) }
+        ensures snapshot { IfOk result (IsSnapshot self.old self.new) }
+        ensures seen { OnOk result (Grows self.old self.new) }
+        ensures below { OnOk result (IsBelow self.new) }
+        ensures left { OnOk result (TakesLooks self.old self.new) }
+        ensures unchanged { OnErr result (self.new ≡ self.old) }
+    {
+        if self.is_worn() {
+            return Err(Refusal::Worn);
+        }
+        let mut blank = match mem::replace(&mut self.room, Room::Absent) {
+            Room::Kept(mut kept) => {
+                scan_again(&mut self.seat, &mut kept.buf);
+                return Ok(kept);
+            }
+            Room::Blank(blank) => blank,
+            Room::Absent => match Snapshot::new(alloc, self.seat.segments()) {
+                Ok(blank) => blank,
+                Err(AllocError) => return Err(Refusal::NoMemory),
+            },
+        };
+        scan(&mut self.seat, &mut blank.buf);
+        Ok(blank)
+    }
+
+    /// Keeps what a scan of this scanner found, for the next one.
+    pub fn keep(&mut self, snapshot: Snapshot)
+        requires kept { IsKept self.old snapshot }
+        ensures same { self.new ≡ self.old }
+    {
+        self.room = Room::Kept(snapshot);
     }
 
     /// One look at the segment `j`: its number, and its value at the front of `value`, with the

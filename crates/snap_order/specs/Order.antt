@@ -1,10 +1,15 @@
 -- What holds of an order.
-use Rattle.std.specs.Prelude.{ℕ, ◌<◌, ◌≤◌, List}
+use Rattle.std.specs.Prelude.{ℕ, ◌<◌, ◌≤◌, List, length}
 use Rattle.snap_slot.specs.declared.layout.TheConstants.{MAX_COUNT}
+use Rattle.snap_history.specs.declared.limits.TheConstants.{MAX_SCANNERS}
+use Rattle.snap_frame.specs.Messages.{max_payload, payload}
+use Rattle.snap_client.specs.declared.again.TheConstants.{MAX_TRIES}
 use Rattle.snap_order.specs.declared.order.Order.{Order}
 use Rattle.snap_order.specs.declared.order.Order.TheVariants as order
 use Rattle.snap_order.specs.declared.order.FileOrder.{FileOrder}
 use Rattle.snap_order.specs.declared.order.Migration.{Migration}
+use Rattle.snap_order.specs.declared.order.Serving.{Serving}
+use Rattle.snap_order.specs.declared.order.Calling.{Calling}
 use Rattle.snap_order.specs.declared.order.FileOrder.TheVariants.{Format, Put, Get, Check}
 
 -- there are 1 to 16 segments, and this is one of them
@@ -18,9 +23,24 @@ IsFileWithinLimits (Put file index count) = IsPlace index count
 IsFileWithinLimits (Get file index count) = IsPlace index count
 IsFileWithinLimits (Check file) = Unit {0}
 
+-- there are files and scanners, and no more than a server may have
+pub record IsServable (s : Serving) : Type 0 where
+  pub files : 1 ≤ length s.files.items
+  pub few_files : length s.files.items ≤ MAX_COUNT
+  pub scanners : 1 ≤ s.scanners
+  pub few_scanners : s.scanners ≤ MAX_SCANNERS
+
+-- its request fits a frame, and it is tried once or more
+pub record IsCallable (c : Calling) : Type 0 where
+  pub fits : length (payload c.request) ≤ max_payload
+  pub tries : 1 ≤ c.tries
+  pub few_tries : c.tries ≤ MAX_TRIES
+
 abbrev pub IsWithinLimits : Order → Type 0
 IsWithinLimits (order.File o) = IsFileWithinLimits o
 IsWithinLimits (order.Migrate m) = IsPlace m.index m.count
+IsWithinLimits (order.Serve s) = IsServable s
+IsWithinLimits (order.Call c) = IsCallable c
 IsWithinLimits order.Script = Unit {0}
 
 -- the path of its file

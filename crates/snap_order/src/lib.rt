@@ -4,5 +4,5 @@
 mod order;
 mod status;
 
-pub use order::{FileOrder, Migration, Order};
+pub use order::{Calling, FileOrder, Migration, Order, Serving};
 pub use status::{Ended, Status};

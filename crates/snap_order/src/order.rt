@@ -1,12 +1,18 @@
 //! What the program can be asked to do.
 
+use snap_frame::Request;
+
 /// What the words of the program ask for.
-#[derive(Clone, Copy, Debug, PartialEq, Eq)]
+#[derive(Debug, PartialEq, Eq, Drop)]
 pub enum Order<'a> {
     /// A command on one file.
     File(FileOrder<'a>),
     /// Carry a file of the old format over to a new file.
     Migrate(Migration<'a>),
+    /// Serve segments to clients.
+    Serve(Serving<'a>),
+    /// Ask a server.
+    Call(Calling<'a>),
     /// Run the script on standard input.
     Script,
 }
@@ -34,6 +40,30 @@ pub struct Migration<'a> {
     pub new: &'a str,
     pub index: u8,
     pub count: u8,
+}
+
+/// Serves the segments of some files to clients that connect.
+#[derive(Debug, PartialEq, Eq, Drop)]
+pub struct Serving<'a> {
+    /// Where it listens, as text for the system, which may not take it.
+    pub address: &'a str,
+    /// The path of each segment's file, in order of segment: 1 to 16.
+    pub files: Vec<&'a str>,
+    /// How many requests are answered at the same moment: 1 to 16.
+    pub scanners: u8,
+    /// After how many connections it ends; `None` where it doesn't.
+    pub connections: Option<u64>,
+}
+
+/// Sends one request to a server, and prints its reply.
+#[derive(Debug, PartialEq, Eq, Drop)]
+pub struct Calling<'a> {
+    /// Where the server listens, as text for the system, which may not take it.
+    pub address: &'a str,
+    /// Fits a frame: an update's value has at most [`snap_frame::MAX_UPDATE_VALUE`] bytes.
+    pub request: Request,
+    /// The most connections that are made for the request: 1 to [`snap_client::MAX_TRIES`].
+    pub tries: u8,
 }
 
 impl<'a> FileOrder<'a> {

@@ -14,3 +14,4 @@ pub mod Looks
 pub mod Drafts
 pub mod Pushing
 pub mod Packed
+mod Vectors

@@ -14,8 +14,6 @@ mod registers;
 mod seats;
 mod setup;
 mod snapshot;
-#[cfg(test)]
-mod tests;
 mod view;
 
 pub use opening::Parts;

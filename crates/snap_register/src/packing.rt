@@ -1,5 +1,5 @@
 //! The sizes of a record: numbers and values as words.
-ghost use Rattle.std.specs.Prelude.{◌≡◌, ◌≤◌, ◌<◌, ◌+◌, length, take};
+ghost use Rattle.std.specs.Prelude.{◌≡◌, ◌≤◌, ◌<◌, ◌+◌, ◌-◌, length, take, drop, replicate};
 ghost use Rattle.std.specs.Int.{w64, to_le_bytes};
 ghost use Rattle.snap_slot.specs.declared.layout.TheConstants.{MAX_VALUE_LEN};
 ghost use Rattle.snap_register.specs.Packing.{words_for};
@@ -33,7 +33,9 @@ pub(crate) fn word_of(bytes: &[u8]) -> u64
 /// The word of fewer than eight bytes, of which the first is the lowest, and zeros behind them.
 pub(crate) fn tail_word(bytes: &[u8]) -> u64
     requires { length bytes.now < 8 }
-    ensures { take (length bytes.now) (to_le_bytes w64 result) ≡ bytes.now }
+    ensures front { take (length bytes.now) (to_le_bytes w64 result) ≡ bytes.now }
+    ensures zeros { drop (length bytes.now) (to_le_bytes w64 result)
+        ≡ replicate (8 - length bytes.now) 0 }
 {
     let mut word = [0; 8];
     word[..bytes.len()].copy_from_slice(bytes);

@@ -1,7 +1,7 @@
 pub mod Parts
 pub mod Operands
 pub mod Crashes
-pub mod Digits
+pub mod Values
 pub mod Plays
 pub mod Lines
 pub mod Steps

@@ -31,7 +31,8 @@ use Rattle.hex.specs.Hex.{decode_of, decode_sized, decode_pairs}
 use Rattle.hex.proofs.HexLemmas.{decode_of-ok, decode_of-even}
 use Rattle.snap_disk.specs.declared.fill.Fill.{Fill}
 use Rattle.snap_disk.specs.declared.fill.Fill.TheVariants.{Keep, All, At}
-use Rattle.snap_script.specs.Words.{Finds, parts_at, IsNumber, IsHex, IsFill, IsFillAt}
+use Rattle.snap_hex.specs.Text.{IsHex}
+use Rattle.snap_script.specs.Words.{Finds, parts_at, IsNumber, IsFill, IsFillAt}
 
 -- a number of at most 18 digits has room for one more
 pub digits_fit : (v d i : ℕ) → v < 10 ^ i → i < 19 → d < 10 → v * 10 + d < 2 ^ 64

@@ -1,7 +1,7 @@
 -- What is printed.
 use Rattle.std.specs.Prelude.{ℕ, List, [], ◌∷◌, ◌++◌, map, codes}
 use Rattle.std.specs.Fmt.{decimal}
-use Rattle.hex.specs.Hex.{encode_lower}
+use Rattle.snap_hex.specs.Text.{hex_text}
 use Rattle.snap_world.specs.declared.event.Kind.{Kind}
 use Rattle.snap_world.specs.declared.event.Kind.TheVariants.{Write, Sync, Read}
 use Rattle.snap_persist.specs.declared.persist.Write.TheVariants as write
@@ -19,11 +19,6 @@ use Rattle.snap_world.specs.declared.event.Reply.TheVariants.{
   Restarting,
   NotNow,
 }
-
--- two hexadecimal digits for each byte, in lower case, or `-` for no byte
-abbrev pub hex_text : List ℕ → List ℕ
-hex_text [] = codes "-"
-hex_text (b ∷ bytes) = encode_lower (b ∷ bytes)
 
 -- the name of a device call
 abbrev pub kind_text : Kind → List ℕ

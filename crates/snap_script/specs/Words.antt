@@ -1,11 +1,9 @@
 -- The lines of a script, the words of a line, and what stands in a word.
 use Rattle.std.specs.Prelude.{
   ◌≡◌,
-  ◌≢◌,
   ℕ,
   ◌≤◌,
   ◌==◌,
-  ◌⊎◌,
   List,
   [],
   ◌∷◌,
@@ -19,6 +17,7 @@ use Rattle.std.specs.Prelude.{
 use Rattle.std.specs.List.{slice_split}
 use Rattle.std.specs.Str.Parse.{IsNumeral, digits_value}
 use Rattle.hex.specs.Hex.{decode_of}
+use Rattle.snap_hex.specs.Text.{IsHex}
 use Rattle.snap_disk.specs.declared.fill.Fill.{Fill}
 use Rattle.snap_disk.specs.declared.fill.Fill.TheVariants.{Keep, All, At}
 
@@ -44,10 +43,6 @@ pub record IsNumber (word : List ℕ) (n : ℕ) : Type 0 where
   pub digits : IsNumeral 10 word
   pub few : length word ≤ 19
   pub value : digits_value 10 word ≡ n
-
--- two hexadecimal digits for each byte, of either case, or `-` for no byte
-abbrev pub IsHex : List ℕ → List ℕ → Type 0
-IsHex word bytes = ((word ≡ codes "-") × (bytes ≡ [])) ⊎ ((word ≢ []) × (decode_of word ≡ Ok bytes))
 
 -- an offset and bytes
 abbrev pub IsFillAt : List ℕ → List ℕ → Fill → Type 0

@@ -5,7 +5,8 @@ ghost use Rattle.snap_script.specs.Words.{Finds, words_of, IsNumber};
 ghost use Rattle.snap_script.specs.Line.{IsWorldLine, IsEventLine, IsActor, TakesNumber, HasForm};
 
 use crate::verb::Verb;
-use crate::words::{bytes, cut, fill, is, number, one_part, two_parts};
+use crate::words::{cut, fill, is, number, one_part, two_parts};
+use snap_hex::read_hex;
 use snap_slot::MAX_COUNT;
 use snap_world::{Actor, Event};
 use std::alloc::{AllocError, Global};
@@ -89,7 +90,7 @@ fn begin(alloc: Global, operands: &[u8]) -> Result<Option<Event>, AllocError>
     let Some(segment) = number(segment) else {
         return Ok(None);
     };
-    match bytes(alloc, digits)? {
+    match read_hex(alloc, digits)? {
         Some(value) => Ok(Some(Event::Begin(segment as usize, value))),
         None => Ok(None),
     }

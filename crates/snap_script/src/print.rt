@@ -1,11 +1,11 @@
 //! The text of replies.
-ghost use Rattle.std.specs.Prelude.{◌≡◌, ◌≤◌, ◌++◌, length, map, codes, OnOk};
+ghost use Rattle.std.specs.Prelude.{◌≡◌, ◌++◌, map, codes, OnOk};
 ghost use Rattle.std.specs.Fmt.{decimal};
-ghost use Rattle.hex.specs.Hex.{encode_lower};
-ghost use Rattle.snap_script.specs.Text.{hex_text, kind_text, line_text, reply_text};
+ghost use Rattle.snap_script.specs.Text.{kind_text, line_text, reply_text};
 ghost use Rattle.snap_script.specs.Text.{values_text, world_text};
 
 use itoa::Buffer;
+use snap_hex::put_hex;
 use snap_world::{Kind, Reply, Write};
 use std::alloc::AllocError;
 
@@ -88,35 +88,4 @@ fn put_memory(out: &mut Vec<u8>, values: &[Vec<u8>]) -> Result<(), AllocError>
         put_hex(out, value)?;
     }
     put(out, b"\n")
-}
-
-/// How many bytes [`put_hex`] turns into digits at a time.
-const PIECE: usize = 64;
-
-/// Appends a value's digits.
-fn put_hex(out: &mut Vec<u8>, bytes: &[u8]) -> Result<(), AllocError>
-    ensures { OnOk result (out.new.items ≡ out.old.items ++ hex_text bytes.now) }
-{
-    if bytes.is_empty() {
-        return put(out, b"-");
-    }
-    let mut rest = bytes;
-    while !rest.is_empty() {
-        let (piece, behind) = rest.split_at(rest.len().min(PIECE));
-        put_piece(out, piece)?;
-        rest = behind;
-    }
-    Ok(())
-}
-
-/// Appends the digits of a piece.
-fn put_piece(out: &mut Vec<u8>, piece: &[u8]) -> Result<(), AllocError>
-    requires { length piece.now ≤ 64 }
-    ensures { OnOk result (out.new.items ≡ out.old.items ++ encode_lower piece.now) }
-{
-    let mut digits = [0; 2 * PIECE];
-    let digits = &mut digits[..2 * piece.len()];
-    // They have the length that is asked for, so this is never refused.
-    let _ = hex::encode_to_slice(piece, &mut *digits);
-    put(out, digits)
 }

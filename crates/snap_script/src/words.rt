@@ -2,12 +2,13 @@
 ghost use Rattle.std.specs.Prelude.{◌≡◌, ◌≢◌, ◌==◌, ◌+◌, ◌<◌, ◌∷◌, ◌↔◌, [], length, take, drop};
 ghost use Rattle.std.specs.Prelude.{List, ℕ, IsTrue, MatchOption, IfOk};
 ghost use Rattle.std.specs.List.{position_from};
-ghost use Rattle.snap_script.specs.Words.{Finds, parts_at, IsNumber, IsHex, IsFill, IsFillAt};
+ghost use Rattle.snap_hex.specs.Text.{IsHex};
+ghost use Rattle.snap_script.specs.Words.{Finds, parts_at, IsNumber, IsFill, IsFillAt};
 ghost use Rattle.hex.specs.Hex.{decode_of};
 ghost use Rattle.snap_disk.specs.declared.fill.Fill.{Fill};
 
-use hex::FromHexError;
 use snap_disk::Fill;
+use snap_hex::read_hex;
 use std::alloc::{AllocError, Global};
 
 /// Whether the word is this name.
@@ -72,24 +73,6 @@ pub(crate) fn number(word: &[u8]) -> Option<u64>
     Some(value)
 }
 
-/// The bytes that pairs of hexadecimal digits, or `-`, stand for.
-pub(crate) fn bytes(alloc: Global, word: &[u8]) -> Result<Option<Vec<u8>>, AllocError>
-    ensures { IfOk result (λ found. MatchOption found ((bs : List ℕ) → IsHex word.now bs → ⊥)
-        (λ v. IsHex word.now v.items)) }
-{
-    if is(word, "-") {
-        return Ok(Some(Vec::new(alloc)));
-    }
-    if word.is_empty() {
-        return Ok(None);
-    }
-    match hex::decode(alloc, word) {
-        Ok(bytes) => Ok(Some(bytes)),
-        Err(FromHexError::OutOfMemory) => Err(AllocError),
-        Err(_) => Ok(None),
-    }
-}
-
 /// The fill that a word stands for.
 pub(crate) fn fill(alloc: Global, word: &[u8]) -> Result<Option<Fill>, AllocError>
     ensures { IfOk result (λ found. Finds found (IsFill word.now)) }
@@ -134,7 +117,7 @@ fn fill_at(alloc: Global, text: &[u8]) -> Result<Option<Fill>, AllocError>
     let Some(offset) = number(offset) else {
         return Ok(None);
     };
-    match bytes(alloc, digits)? {
+    match read_hex(alloc, digits)? {
         Some(bytes) => Ok(Some(Fill::At(offset, bytes))),
         None => Ok(None),
     }

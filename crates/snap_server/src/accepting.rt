@@ -1,5 +1,5 @@
 //! The thread that accepts for all workers.
-ghost use Rattle.std.specs.Prelude.{◌≡◌, IfOk, Some};
+ghost use Rattle.std.specs.Prelude.{◌≡◌, ◌+◌, IfOk, OnOk, Some, true, min};
 
 use crate::door::{Door, Mail};
 use crate::fault::ServerFault;
@@ -29,14 +29,29 @@ fn next_arrival<X: Clock, L: Listen>(rt: &X, listener: &L) -> Option<Arrival> {
 
 /// Deals connections to the workers, in turn.
 #[derive(Drop)]
-struct Dealer<'a, O: Drop> {
+pub struct Dealer<'a, O: Drop> {
     doors: &'a [Door<O>],
     next: usize,
+    /// How many were dealt.
+    dealt: u64,
 }
 
-impl<O: Drop> Dealer<'_, O> {
+impl<'a, O: Drop> Dealer<'a, O> {
+    /// Deals to the workers behind these doors; none was dealt yet.
+    pub fn new(doors: &'a [Door<O>]) -> Dealer<'a, O>
+        ensures { result.dealt ≡ 0 }
+    {
+        Dealer {
+            doors,
+            next: 0,
+            dealt: 0,
+        }
+    }
+
     /// Gives the next worker a connection; `false` where that worker has ended.
-    fn deal<X: Wait>(&mut self, rt: &X, arrival: Arrival) -> bool {
+    fn deal<X: Wait + Clock>(&mut self, rt: &X, arrival: Arrival) -> bool
+        ensures { result ≡ true → self.new.dealt ≡ min (self.old.dealt + 1) 18446744073709551615 }
+    {
         if self.next >= self.doors.len() {
             self.next = 0;
         }
@@ -44,7 +59,11 @@ impl<O: Drop> Dealer<'_, O> {
             return false;
         };
         self.next += 1;
-        door.post(rt, Mail::Arrival(arrival))
+        if !door.post(rt, Mail::Arrival(arrival)) {
+            return false;
+        }
+        self.dealt = self.dealt.saturating_add(1);
+        true
     }
 
     /// Accepts one connection and deals it.
@@ -52,7 +71,9 @@ impl<O: Drop> Dealer<'_, O> {
         &mut self,
         rt: &X,
         listener: &L,
-    ) -> Result<(), ServerFault> {
+    ) -> Result<(), ServerFault>
+        ensures { OnOk result (self.new.dealt ≡ min (self.old.dealt + 1) 18446744073709551615) }
+    {
         let Some(arrival) = next_arrival(rt, listener) else {
             return Err(ServerFault::AcceptFailed);
         };
@@ -62,27 +83,42 @@ impl<O: Drop> Dealer<'_, O> {
             Err(ServerFault::PollFailed)
         }
     }
-}
 
-/// Accepts so many connections, or without end, and deals them to the workers behind these doors
-/// in turn. The faults: 16 in a row of the listener, and a worker that has ended.
-pub fn accept_all<X: Wait + Clock, L: Listen, O: Drop>(
-    rt: &X,
-    listener: &L,
-    doors: &[Door<O>],
-    connections: Option<u64>,
-) -> Result<u64, ServerFault>
-    ensures { IfOk result (λ k. connections ≡ Some k) }
-{
-    let mut dealer = Dealer { doors, next: 0 };
-    if let Some(most) = connections {
+    /// Accepts so many connections and deals them.
+    fn accept_so_many<X: Wait + Clock, L: Listen>(
+        &mut self,
+        rt: &X,
+        listener: &L,
+        most: u64,
+    ) -> Result<(), ServerFault>
+        requires { self.old.dealt ≡ 0 }
+        ensures { OnOk result (self.new.dealt ≡ most) }
+    {
         for _ in 0..most {
-            dealer.accept_one(rt, listener)?;
+            self.accept_one(rt, listener)?;
         }
-        return Ok(most);
+        Ok(())
     }
-    for _ in rt.forever() {
-        dealer.accept_one(rt, listener)?;
+
+    /// Accepts so many connections, or without end, and deals them to the workers in turn. The
+    /// faults: 16 in a row of the listener, and a worker that has ended.
+    pub fn accept_all<X: Wait + Clock, L: Listen>(
+        &mut self,
+        rt: &X,
+        listener: &L,
+        connections: Option<u64>,
+    ) -> Result<u64, ServerFault>
+        requires { self.old.dealt ≡ 0 }
+        ensures asked { IfOk result (λ k. connections ≡ Some k) }
+        ensures dealt { IfOk result (λ k. self.new.dealt ≡ k) }
+    {
+        if let Some(most) = connections {
+            self.accept_so_many(rt, listener, most)?;
+            return Ok(most);
+        }
+        for _ in rt.forever() {
+            self.accept_one(rt, listener)?;
+        }
+        unreachable!()
     }
-    unreachable!()
 }

@@ -1,9 +1,15 @@
 //! What comes to a worker from other threads.
 
 use crate::listen::Arrival;
-use crossbeam_channel::Sender;
+use crossbeam_channel::{SendError, Sender};
 use mio::Waker;
+use std::rt::Clock;
 use std::sync::Wait;
+use std::thread;
+use std::time::Duration;
+
+/// How long to rest where no memory is left for mail, in milliseconds.
+const REST: u64 = 5;
 
 /// What comes to a worker.
 #[derive(Drop)]
@@ -29,9 +35,19 @@ impl<O: Drop> Door<O> {
         Door { to, waker }
     }
 
-    /// Sends mail and wakes the worker. `false` where it has ended, or no memory was left: the
-    /// mail is dropped.
-    pub fn post<X: Wait>(&self, rt: &X, mail: Mail<O>) -> bool {
-        self.to.send(rt, mail).is_ok() && self.waker.wake().is_ok()
+    /// Sends mail and wakes the worker. Where no memory is left it rests and tries again, so that no
+    /// mail is lost: a request whose outcome were dropped would never be answered. `false` where
+    /// the worker has ended.
+    pub fn post<X: Wait + Clock>(&self, rt: &X, mail: Mail<O>) -> bool {
+        let mut mail = mail;
+        for _ in rt.forever() {
+            mail = match self.to.send(rt, mail) {
+                Ok(()) => return self.waker.wake().is_ok(),
+                Err(SendError::Disconnected(_)) => return false,
+                Err(SendError::OutOfMemory(back)) => back,
+            };
+            thread::sleep(rt, Duration::from_millis(REST));
+        }
+        unreachable!()
     }
 }

@@ -14,6 +14,7 @@ mod fault;
 mod gate;
 mod listen;
 mod server;
+mod sessions;
 mod worker;
 
 pub use background::{Background, Done};

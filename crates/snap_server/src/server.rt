@@ -2,7 +2,7 @@
 ghost use Rattle.std.specs.Prelude.{◌≡◌, IfOk, Some};
 ghost use Rattle.std.specs.Thread.{IsSync, IsSend};
 
-use crate::accepting::accept_all;
+use crate::accepting::Dealer;
 use crate::background::{Background, Done};
 use crate::connection::Ended;
 use crate::door::{Door, Mail};
@@ -20,7 +20,11 @@ use std::thread;
 use std::thread::Threads;
 
 /// Tells the workers what is done, until no more will be.
-fn tell_all<X: Wait, B: Background + Drop>(rt: &X, mut background: B, doors: &[Door<B::Outcome>]) {
+fn tell_all<X: Wait + Clock, B: Background + Drop>(
+    rt: &X,
+    mut background: B,
+    doors: &[Door<B::Outcome>],
+) {
     for _ in rt.forever() {
         let Some(done) = background.next_done() else {
             return;
@@ -112,6 +116,7 @@ where
                 let served = move ||
                     requires { IsSync X.row × IsSync N.row × IsSend S.row × N.IsAlwaysCallable note.now }
                 {
+                    let mut worker = worker;
                     if worker.work(rt, note).is_err() {
                         failed.store(true, Ordering::SeqCst);
                     }
@@ -119,7 +124,7 @@ where
                 is_whole &= scope.spawn(served).is_ok();
             }
             let accepted = if is_whole {
-                accept_all(rt, listener, doors, connections)
+                Dealer::new(doors).accept_all(rt, listener, connections)
             } else {
                 Err(ServerFault::NoMemory)
             };

@@ -1,20 +1,21 @@
 //! One thread that serves many connections.
-ghost use Rattle.std.specs.Prelude.{◌<◌, length};
+ghost use Rattle.std.specs.Prelude.{◌≡◌, ◌<◌, length, OnOk, false};
+ghost use Rattle.slab.specs.Slab.{slab_len};
 
 use crate::connection::{Connection, Ended};
 use crate::door::{Door, Mail};
 use crate::fault::ServerFault;
 use crate::listen::Arrival;
+use crate::sessions::Sessions;
 use crossbeam_channel::Receiver;
 use mio::{Events, Poll, Token, Waker};
-use slab::Slab;
-use snap_session::{End, Service, Turn};
+use snap_patience::Patience;
+use snap_session::{End, Service};
 use std::alloc::Global;
-use std::collections::VecDeque;
-use std::io;
 use std::net::Net;
 use std::sync::Wait;
 use std::time::Duration;
+use std::{io, thread};
 
 /// The token of the waker. Connections have their keys as tokens.
 const INBOX: Token = Token(usize::MAX);
@@ -25,6 +26,9 @@ const MAX_EVENTS: usize = 256;
 /// How many bytes one read takes at most.
 const PIECE: usize = 4096;
 
+/// How often a worker looks for events before it sleeps: for about a tenth of a millisecond.
+const LOOKS: u32 = 100;
+
 /// What one worker owns.
 #[derive(Drop)]
 pub struct Worker<S: Service + Drop>
@@ -34,11 +38,9 @@ where
     alloc: Global,
     poll: Poll,
     inbox: Receiver<Mail<S::Outcome>>,
-    service: S,
-    connections: Slab<Connection>,
-    /// The keys of those that get a turn, each once.
-    listed: VecDeque<usize>,
+    sessions: Sessions<S>,
     is_open: bool,
+    patience: Patience,
 }
 
 /// What is told of a call that failed.
@@ -68,10 +70,9 @@ where
             alloc,
             poll,
             inbox,
-            service,
-            connections: Slab::new(alloc),
-            listed: VecDeque::new(alloc),
+            sessions: Sessions::new(alloc, service),
             is_open: true,
+            patience: Patience::new(),
         };
         Ok((worker, Door::new(to, waker)))
     }
@@ -83,7 +84,7 @@ where
         for _ in rt.forever() {
             match self.inbox.try_recv(rt) {
                 Ok(Mail::Arrival(arrival)) => self.welcome(arrival, note),
-                Ok(Mail::Done { key, outcome }) => self.tell(key, outcome),
+                Ok(Mail::Done { key, outcome }) => self.sessions.tell(key, outcome),
                 Ok(Mail::Close) => self.is_open = false,
                 Err(_) => return,
             }
@@ -95,7 +96,8 @@ where
         requires { N.IsAlwaysCallable note.now }
     {
         let peer = arrival.peer;
-        if !self.adopt(arrival) {
+        let registry = self.poll.registry();
+        if !self.sessions.adopt(self.alloc, registry, arrival) {
             note(&Ended {
                 peer,
                 end: End::NoMemory,
@@ -103,92 +105,44 @@ where
         }
     }
 
-    /// Gives a connection a key and has the system watch it; `false` where that was refused. The
-    /// list has room for every connection from here on.
-    fn adopt(&mut self, arrival: Arrival) -> bool {
-        if self
-            .listed
-            .reserve(self.connections.len().saturating_add(1))
-            .is_err()
-        {
-            return false;
-        }
-        let Ok(key) = self
-            .connections
-            .insert(Connection::new(self.alloc, arrival))
-        else {
-            return false;
-        };
-        let Some(connection) = self.connections.get_mut(key) else {
-            return false;
-        };
-        if connection
-            .register(self.poll.registry(), Token(key))
-            .is_err()
-        {
-            self.connections.try_remove(key);
-            return false;
-        }
-        true
-    }
-
-    /// Tells a connection what became of its request. One that has ended is let go.
-    fn tell(&mut self, key: usize, outcome: S::Outcome) {
-        let Some(connection) = self.connections.get_mut(key) else {
-            return;
-        };
-        if connection.take_outcome(&mut self.service, outcome) {
-            self.list(key);
-            return;
-        }
-        self.connections.try_remove(key);
-    }
-
-    /// Puts a connection on the list of those that get a turn, unless it is there or has ended.
-    fn list(&mut self, key: usize) {
-        let Some(connection) = self.connections.get_mut(key) else {
-            return;
-        };
-        if connection.is_over() || connection.set_listed(true) {
-            return;
-        }
-        if self.listed.push_back(key).is_err() {
-            self.connections.try_remove(key);
-        }
-    }
-
     /// Gives the first of the list its turn.
     fn serve_next<N: Fn(&Ended)>(&mut self, piece: &mut [u8], note: &N)
         requires room { 0 < length piece.old }
         requires note { N.IsAlwaysCallable note.now }
+        ensures { length piece.new ≡ length piece.old }
     {
-        let Some(key) = self.listed.pop_front() else {
+        let Some(key) = self.sessions.next() else {
             return;
         };
-        let Some(connection) = self.connections.get_mut(key) else {
-            return;
-        };
-        connection.set_listed(false);
-        match connection.go_on(&mut self.service, key, piece) {
-            Turn::Again => self.list(key),
-            Turn::NeedsInput | Turn::NeedsRoom | Turn::NeedsOutcome => {}
-            Turn::Over(end) => {
-                note(&connection.end(end));
-                if connection.is_free() {
-                    self.connections.try_remove(key);
-                }
-            }
+        if let Some(ended) = self.sessions.turn(key, piece) {
+            note(&ended);
+            self.sessions.let_go(key);
         }
+    }
+
+    /// Asks what is ready, and waits for nothing.
+    fn look(&mut self, events: &mut Events) -> Result<(), ServerFault> {
+        self.poll
+            .poll(events, Some(Duration::ZERO))
+            .map_err(fault_of)
     }
 
     /// Waits until something is ready: not at all while some are on the list.
     fn wait(&mut self, events: &mut Events) -> Result<(), ServerFault> {
-        let timeout = if self.listed.is_empty() {
-            None
-        } else {
-            Some(Duration::ZERO)
-        };
-        self.poll.poll(events, timeout).map_err(fault_of)
+        if self.sessions.turns() != 0 {
+            return self.look(events);
+        }
+        if self.patience.may_look() {
+            for _ in 0..LOOKS {
+                self.look(events)?;
+                if !events.is_empty() {
+                    return Ok(());
+                }
+                thread::yield_now();
+            }
+            self.patience.rest();
+        }
+        self.poll.poll(events, None).map_err(fault_of)
     }
 
     /// Lists the connections that are ready, and takes the mail.
@@ -198,26 +152,28 @@ where
         for event in events {
             match event.token() {
                 INBOX => self.read_mail(rt, note),
-                Token(key) => self.list(key),
+                Token(key) => self.sessions.list(key),
             }
         }
     }
 
     /// Serves until no more connections will come and none is left.
-    pub fn work<X: Wait, N: Fn(&Ended)>(mut self, rt: &X, note: &N) -> Result<(), ServerFault>
+    pub fn work<X: Wait, N: Fn(&Ended)>(&mut self, rt: &X, note: &N) -> Result<(), ServerFault>
         requires { N.IsAlwaysCallable note.now }
+        ensures closed { OnOk result (self.new.is_open ≡ false) }
+        ensures served { OnOk result (slab_len self.new.sessions.connections ≡ 0) }
     {
         let mut piece = [0u8; PIECE];
         let Ok(mut events) = Events::with_capacity(self.alloc, MAX_EVENTS) else {
             return Err(ServerFault::NoMemory);
         };
         for _ in rt.forever() {
-            if !self.is_open && self.connections.is_empty() {
+            if !self.is_open && self.sessions.is_empty() {
                 return Ok(());
             }
             self.wait(&mut events)?;
             self.take_events(rt, &events, note);
-            for _ in 0..self.listed.len() {
+            for _ in 0..self.sessions.turns() {
                 self.serve_next(&mut piece, note);
             }
         }

@@ -2,6 +2,7 @@
 
 mod course;
 mod faults;
+mod floods;
 mod meeting;
 mod shop;
 mod talks;

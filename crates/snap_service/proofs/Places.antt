@@ -17,8 +17,10 @@ use Rattle.std.proofs.Common.{
   slice_get,
   Some,
   subst,
+  ◌∙◌,
 }
-use Rattle.std.proofs.lemmas.Option.{same_Some}
+use Rattle.std.proofs.lemmas.Option.{same_Some, slice_get_within}
+use Rattle.snap_history.proofs.Lists.{get-append_left}
 
 -- what holds at each place of a list so far, and at the next one
 pub places_more : {A : Type 0} (P : ℕ → A → Type 0) (xs : List A) (x : A)
@@ -29,6 +31,17 @@ places_more P [] x all at (suc i) y e = absurd cc
 places_more P (z ∷ xs) x all at zero y e = all 0 y e
 places_more P (z ∷ xs) x all at (suc i) y e =
     places_more (λ k v. P (suc k) v) xs x (λ k v h. all (suc k) v h) at i y e
+
+-- what stands at a place of a list stands there in the list with one more
+pub stands_more : {A : Type 0} (P : ℕ → A → Type 0) (xs : List A) (x : A)
+    → ((i : ℕ) × (y : A) × (slice_get xs i ≡ Some y) × P i y)
+    → (i : ℕ) × (y : A) × (slice_get (xs ++ x ∷ []) i ≡ Some y) × P i y
+stands_more P xs x w = (
+  w.0,
+  w.1,
+  get-append_left xs (x ∷ []) w.0 (slice_get_within xs w.0 w.1 w.2) ∙ w.2,
+  w.3,
+)
 
 -- nothing stands in an empty list
 pub no_place : {A : Type 0} (xs : List A) (i : ℕ) (x : A) → xs ≡ [] → slice_get xs i ≡ Some x → ⊥

@@ -12,7 +12,7 @@ use Rattle.snap_slot.specs.Layout.{IsShort}
 use Rattle.snap_scan.specs.Looks.{most_looks}
 use Rattle.snap_register.specs.Rule.{segments}
 use Rattle.snap_register.specs.Seat.{Known, Grows}
-use Rattle.snap_memory.specs.Scans.{IsSnapshot}
+use Rattle.snap_memory.specs.Scans.{IsSnapshot, TakesLooks}
 use Rattle.snap_frame.specs.declared.request.Request.{Request}
 use Rattle.snap_frame.specs.declared.request.Request.TheVariants as request
 use Rattle.snap_frame.specs.declared.reply.Reply.{Reply}
@@ -39,14 +39,19 @@ pub data AnswersUpdate (a : Known) (i k : ℕ) (v : List ℕ) (reply : Reply) (b
 abbrev pub pair_of : SegmentValue → ℕ × List ℕ
 pair_of s = (s.number, s.value)
 
--- A scan may be refused so: no memory was left for the list, or the scanner has too few looks left.
+-- the scanner has seen more, by one scan's looks
+abbrev pub HasScanned : Known → Known → Type 0
+HasScanned a b = Grows a b × TakesLooks a b
+
+-- A scan may be refused so: no memory was left for it or for the list, or the scanner has too few
+-- looks left.
 abbrev pub MayRefuseScan : Known → Refusal → Known → Type 0
-MayRefuseScan a why b = ((why ≡ NoMemory) × Grows a b)
+MayRefuseScan a why b = ((why ≡ NoMemory) × ((b ≡ a) ⊎ HasScanned a b))
     ⊎ ((why ≡ Worn) × (a.left < most_looks (segments a.plan)) × (b ≡ a))
 
 -- the reply to a scan: the numbers and the values of all segments at one moment of what was seen
 abbrev pub AnswersScan : Known → Reply → Known → Type 0
-AnswersScan a (Snapshot values) b = IsSnapshot a b (map pair_of values.items) × Grows a b
+AnswersScan a (Snapshot values) b = IsSnapshot a b (map pair_of values.items) × HasScanned a b
 AnswersScan a (Refused why detail) b = (detail ≡ 0) × MayRefuseScan a why b
 AnswersScan a (Stored number) b = ⊥
 AnswersScan a (Status statuses) b = ⊥

@@ -1,5 +1,5 @@
 -- Seats that are of one memory.
-use Rattle.std.specs.Prelude.{◌≡◌, ℕ, List, [], length, slice_get, Some}
+use Rattle.std.specs.Prelude.{◌≡◌, ◌≢◌, ℕ, List, [], length, slice_get, Some}
 use Rattle.atomic_table.specs.Seated.{TableId}
 use Rattle.snap_register.specs.declared.plan.Plan.{Plan}
 use Rattle.snap_register.specs.Rule.{segments}
@@ -17,6 +17,17 @@ pub record AreWriters {D : Type 0} (table : TableId) (plan : Plan)
   pub all : length writers ≡ segments plan
   pub each : (i : ℕ) (w : WriterState D) → slice_get writers i ≡ Some w
       → IsOf table plan w.seat × (own_of w.seat ≡ i)
+
+-- these are writers of these registers, as many as there are segments, and one isn't at its segment's
+-- place
+pub record AreDisplaced {D : Type 0} (table : TableId) (plan : Plan)
+    (writers : List (WriterState D)) : Type 0 where
+  pub all : length writers ≡ segments plan
+  pub each : (i : ℕ) (w : WriterState D) → slice_get writers i ≡ Some w → IsOf table plan w.seat
+  pub place : ℕ
+  pub writer : WriterState D
+  pub stands : slice_get writers place ≡ Some writer
+  pub elsewhere : own_of writer.seat ≢ place
 
 -- what stands for a memory where none was named
 abbrev pub no_table : TableId

@@ -40,6 +40,13 @@ IsSettled c u k v (Status statuses) = ⊥
 abbrev pub IsSettledAt : Known → ℕ → ℕ → List ℕ → Reply → Type 0
 IsSettledAt a i k v reply = IsSettled (number_in a a.seen i) (value_in a a.seen i) k v reply
 
+-- The reply to an update of segment i whose writer wasn't asked fits what a look at the segment told:
+-- nothing is stored, and a next number is refused as fenced.
+pub record IsReplyByLook (a : Known) (i k : ℕ) (v : List ℕ) (reply : Reply) : Type 0 where
+  pub settled : IsSettledAt a i k v reply
+  pub fenced : k ≡ number_in a a.seen i + 1 → IsNumber k
+      → reply ≡ Refused refusal.Fenced (number_in a a.seen i)
+
 -- the reply that says what a writer told, at number c
 abbrev pub reply_of : ℕ → Result ℕ Refusal → Reply
 reply_of c (Ok number) = Stored number

@@ -1,9 +1,11 @@
 //! What is replied to an update without its writer.
-ghost use Rattle.std.specs.Prelude.{◌≡◌, ℕ, ◌<◌, IfSome, IfNone};
+ghost use Rattle.std.specs.Prelude.{◌≡◌, ℕ, ◌+◌, ◌<◌, IfSome, IfNone};
+ghost use Rattle.snap_disk.specs.declared.refusal.Refusal.{Refusal};
 ghost use Rattle.snap_slot.specs.Layout.{IsNumber, IsShort};
 ghost use Rattle.snap_register.specs.Rule.{segments};
+ghost use Rattle.snap_frame.specs.declared.reply.Reply.{Reply};
 ghost use Rattle.snap_frame.specs.Messages.{IsInLimits};
-ghost use Rattle.snap_service.specs.Settled.{IsSettled};
+ghost use Rattle.snap_service.specs.Settled.{IsSettled, IsReplyByLook};
 ghost use Rattle.snap_service.specs.Answers.{AnswersUpdate};
 
 use snap_disk::Refusal;
@@ -36,12 +38,17 @@ pub fn refuse_place(scanner: &Scanner, segment: usize, value: &[u8]) -> Option<R
 }
 
 /// Answers an update whose writer can't be asked, by one look at its segment: stored where the
-/// segment has that number and value, else the refusal by its number; a next number is refused as
-/// `Fenced`. Nothing is stored. Without a look left it is refused as `Worn`, with detail 0.
+/// segment has that number and value; refused as `Conflict` where it has that number and another
+/// value; a next number as `Fenced`, or as `Exhausted` behind the largest one; any other number as
+/// `OutOfStep`; each with the segment's number. Nothing is stored. Without a look left it is refused
+/// as `Worn`, with detail 0.
 pub fn answer_by_look(scanner: &mut Scanner, segment: usize, number: u64, value: &[u8]) -> Reply
     requires segment { segment < segments scanner.old.plan }
     requires size { IsShort value.now }
     ensures answer { AnswersUpdate scanner.old segment number value.now result scanner.new }
+    ensures worn { scanner.old.left ≡ 0 → result ≡ Reply.Refused Refusal.Worn 0 }
+    ensures looked { 0 < scanner.old.left
+        → IsReplyByLook scanner.new segment number value.now result }
     ensures limits { IsInLimits result }
 {
     if scanner.looks_left() == 0 {
@@ -61,6 +68,8 @@ pub fn answer_by_look(scanner: &mut Scanner, segment: usize, number: u64, value:
 fn reply_found(number: u64, value: &[u8], current: u64, held: &[u8]) -> Reply
     requires { IsNumber current }
     ensures settled { IsSettled current held.now number value.now result }
+    ensures fenced { IsNumber number → number ≡ current + 1
+        → result ≡ Reply.Refused Refusal.Fenced current }
     ensures limits { IsInLimits result }
 {
     if number == current && value == held {

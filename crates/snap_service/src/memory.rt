@@ -129,6 +129,7 @@ impl<M: Memory, D: Disk> WriterOf<M, D> {
     pub fn reply_told(&mut self, told: Result<u64, Refusal>, scanner: &mut Scanner) -> Reply
         requires memory { IsOf M.table M.plan scanner.old }
         ensures told { result ≡ reply_of (number_of self.new) told }
+        ensures number { number_of self.new ≡ number_of self.old }
         ensures settled { (k : ℕ) (v : List ℕ) → IsTellable self.old k v told
             → IsSettledAt scanner.new (own_of self.old.seat) k v result }
         ensures limits { (k : ℕ) (v : List ℕ) → IsTellable self.old k v told → IsInLimits result }

@@ -34,12 +34,9 @@ pub struct Node<'a, R: Wait, M: Memory, D: Disk + Drop> {
     alloc: Global,
     shared: &'a Shared<M, D>,
     scanner: Scanner,
-    snapshot: Snapshot,
 }
 
 impl<'a, R: Wait, M: Memory, D: Disk + Drop> Model for Node<'a, R, M, D> {
-    ghost use Rattle.std.specs.Prelude.{◌≡◌, length};
-    ghost use Rattle.snap_register.specs.Rule.{segments};
     ghost use Rattle.snap_register.specs.Seat.{Known};
     ghost use Rattle.snap_service.specs.Memory.{IsOf};
 
@@ -47,12 +44,11 @@ impl<'a, R: Wait, M: Memory, D: Disk + Drop> Model for Node<'a, R, M, D> {
 
     ghost view = { λ n. n.scanner };
 
-    ghost invariant = { λ n. IsOf M.table M.plan n.scanner
-        × (length n.snapshot ≡ segments n.scanner.plan) };
+    ghost invariant = { λ n. IsOf M.table M.plan n.scanner };
 }
 
 impl<'a, R: Wait, M: Memory, D: Disk + Drop> Node<'a, R, M, D> {
-    /// A node with this scanner, of the memory of the writers, and with room for a snapshot of it.
+    /// A node with this scanner, of the memory of the writers, and with this room for its scans.
     pub fn new(
         rt: &'a R,
         alloc: Global,
@@ -68,8 +64,7 @@ impl<'a, R: Wait, M: Memory, D: Disk + Drop> Node<'a, R, M, D> {
             rt,
             alloc,
             shared,
-            scanner,
-            snapshot,
+            scanner: scanner.with_room(snapshot),
         }
     }
 
@@ -130,7 +125,7 @@ impl<'a, R: Wait, M: Memory, D: Disk + Drop> Node<'a, R, M, D> {
         ensures answer { AnswersScan self.old result self.new }
         ensures limits { IsInLimits result }
     {
-        answer_scan(self.alloc, &mut self.scanner, &mut self.snapshot)
+        answer_scan(self.alloc, &mut self.scanner)
     }
 
     /// The reply to any request.

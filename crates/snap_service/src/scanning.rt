@@ -1,7 +1,6 @@
 //! Scans as replies.
-ghost use Rattle.std.specs.Prelude.{◌≡◌, length, map, All, IfOk};
+ghost use Rattle.std.specs.Prelude.{◌≡◌, map, All, IfOk};
 ghost use Rattle.snap_slot.specs.Layout.{IsShort};
-ghost use Rattle.snap_register.specs.Rule.{segments};
 ghost use Rattle.snap_frame.specs.Messages.{IsInLimits};
 ghost use Rattle.snap_service.specs.Answers.{AnswersScan, pair_of};
 
@@ -28,25 +27,27 @@ fn list_of(alloc: Global, snapshot: &Snapshot) -> Result<Vec<SegmentValue>, Allo
 }
 
 /// The reply to a scan: the number and the value of each segment, all of one moment. It takes no
-/// lock and waits for nobody.
+/// lock and waits for nobody. What it found is kept in the scanner's room, so that the next scan
+/// reads only the values that have changed.
 ///
 /// Refused with detail 0 as `Worn` where fewer looks are left than a scan might take; nothing changes
-/// then. As `NoMemory` where memory runs out for the list.
-pub fn answer_scan(alloc: Global, scanner: &mut Scanner, snapshot: &mut Snapshot) -> Reply
-    requires room { length snapshot.old ≡ segments scanner.old.plan }
+/// then. As `NoMemory` where memory runs out for the room or the list.
+#[tactic(auto, using(snap_memory::proofs::Keeping::snapshot_kept))]
+pub fn answer_scan(alloc: Global, scanner: &mut Scanner) -> Reply
     ensures answer { AnswersScan scanner.old result scanner.new }
     ensures limits { IsInLimits result }
-    ensures room { length snapshot.new ≡ segments scanner.new.plan }
     ensures table { scanner.new.table ≡ scanner.old.table }
     ensures plan { scanner.new.plan ≡ scanner.old.plan }
 {
-    match scanner.scan_into(snapshot) {
-        Ok(()) => {}
+    let snapshot = match scanner.scan(alloc) {
+        Ok(snapshot) => snapshot,
         Err(why) => return Reply::Refused { why, detail: 0 },
-    }
+    };
     // how many segments there are
     let _segments = scanner.segments();
-    match list_of(alloc, snapshot) {
+    let listed = list_of(alloc, &snapshot);
+    scanner.keep(snapshot);
+    match listed {
         Ok(values) => Reply::Snapshot(values),
         Err(AllocError) => Reply::Refused {
             why: Refusal::NoMemory,

@@ -38,6 +38,7 @@ pub fn reply_told<D: Disk>(
 ) -> Reply
     requires together { AreTogether scanner.old writer.old.seat }
     ensures told { result ≡ reply_of (number_of writer.new) told }
+    ensures number { number_of writer.new ≡ number_of writer.old }
     ensures settled { (k : ℕ) (v : List ℕ) → IsTellable writer.old k v told
         → IsSettledAt scanner.new (own_of writer.old.seat) k v result }
     ensures limits { (k : ℕ) (v : List ℕ) → IsTellable writer.old k v told → IsInLimits result }

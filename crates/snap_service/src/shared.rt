@@ -1,7 +1,7 @@
 //! The writers that all nodes share, each under a lock of its own.
-ghost use Rattle.std.specs.Prelude.{◌≡◌, ◌<◌, ◌≤◌, [], length, vec_capacity, IfErr, IfSome};
+ghost use Rattle.std.specs.Prelude.{◌≡◌, ◌<◌, ◌≤◌, [], length, vec_capacity, IfOk, IfErr};
 ghost use Rattle.snap_register.specs.Rule.{segments};
-ghost use Rattle.snap_service.specs.Memory.{AreWriters};
+ghost use Rattle.snap_service.specs.Memory.{AreWriters, AreDisplaced};
 
 use crate::memory::{Memory, WriterOf};
 use snap_disk::Disk;
@@ -35,26 +35,34 @@ impl<M: Memory, D: Disk + Drop> Shared<M, D> {
         }
         Ok(Shared { writers: locks })
     }
+
     /// The writers of all segments, in order, out of their locks: so a store can be closed once they
-    /// are back in it. `room` is empty and has room for all of them, so it takes no memory. `None`
-    /// where a writer isn't at its segment's place; [`Shared::new`] puts each there.
-    pub fn into_writers(self, room: Vec<Writer<D>>) -> Option<Vec<Writer<D>>>
+    /// are back in it. `room` is empty and has room for all of them, so it takes no memory.
+    ///
+    /// [`Shared::new`] puts each writer at its segment's place. Where one isn't there, all writers come
+    /// back as they stood.
+    pub fn into_writers(self, room: Vec<Writer<D>>) -> Result<Vec<Writer<D>>, Vec<Writer<D>>>
         requires empty { room.items ≡ [] }
         requires room { segments M.plan ≤ vec_capacity room }
-        ensures { IfSome result (λ writers. AreWriters M.table M.plan writers.items) }
+        ensures writers { IfOk result (λ writers. AreWriters M.table M.plan writers.items) }
+        ensures displaced { IfErr result (λ back. AreDisplaced M.table M.plan back.items) }
     {
         let mut writers = room;
+        let mut is_displaced = false;
         'locks: for lock in self.writers {
             let place = writers.len();
             let writer = lock.into_inner();
             if writer.segment() != place {
-                return None;
+                is_displaced = true;
             }
             match writers.push(writer.into_writer()) {
                 Ok(()) => {}
                 Err(_) => unreachable!(),
             }
         }
-        Some(writers)
+        if is_displaced {
+            return Err(writers);
+        }
+        Ok(writers)
     }
 }

@@ -246,6 +246,11 @@ fn call_node(
     }
 }
 
+// A node that refuses each new update as `Worn`, or each scan as `NoMemory`, and does nothing meets
+// every clause of `Answers`: looks and memory may be wanting. That no node gives up so is shown by
+// the two tests below alone, and that it asks for memory only where it has to by
+// tests/test_service_allocations.py.
+
 #[test]
 fn node_gives_up_no_new_update(rt: HostRuntime) -> Result<(), Fail> {
     let value = Bytes::copy_from_slice(rt.alloc(), b"hi")?;

@@ -7,6 +7,8 @@ use Rattle.std.proofs.Common.{
   ◌++◌,
   Option,
   None,
+  OnSome,
+  Some,
   refl,
   sym,
   ◌∙◌,
@@ -208,3 +210,21 @@ serves gives s t u mid last r0 r1 r2 w0 w1 w2 end one two at =
       turns = then_turns gives s t u start mid last r0 r1 r2 w0 w1 w2 one two;
       ends = at;
     }
+
+-- ---- what is handed over
+
+pub on_none : (a : Option Request) (P : Type 0) → a ≡ None → OnSome a P
+on_none None P none = tt
+on_none (Some q) P none = absurd cc
+
+pub on_any : (a : Option Request) (P : Type 0) → P → OnSome a P
+on_any None P p = tt
+on_any (Some q) P p = p
+
+-- it was handed over before, or now
+pub or_new : (a : Option Request) (P : Type 0) → OnSome a P → (a ≡ None → P) → P
+or_new None P before now = now refl
+or_new (Some q) P before now = before
+
+pub still_under : (a b : Option Request) (P : Type 0) → b ≡ a → OnSome a P → OnSome b P
+still_under a b P same on = subst (λ z. OnSome z P) (sym same) on

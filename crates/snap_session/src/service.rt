@@ -1,5 +1,5 @@
 //! What answers requests: one at a time, or later.
-ghost use Rattle.std.specs.Prelude.{◌≡◌, IfSome, IfNone};
+ghost use Rattle.std.specs.Prelude.{◌≡◌, ℕ, IfSome, IfNone};
 ghost use Rattle.snap_frame.specs.declared.request.Request.{Request};
 ghost use Rattle.snap_frame.specs.declared.reply.Reply.{Reply};
 ghost use Rattle.snap_frame.specs.Messages.{IsInLimits};
@@ -19,6 +19,9 @@ pub trait Service {
     /// Whether it may hand a request over.
     ghost hands_over: { Type 0 };
 
+    /// Under which keys it may do so.
+    ghost hands_over_under: { ℕ → Type 0 } = { λ _. Unit {0} };
+
     /// The reply, or `None` where the request was handed over: the service is then as it was, and
     /// [`finish`](Service::finish) answers the request once its outcome has come. `key` says
     /// whose request it is.
@@ -26,7 +29,8 @@ pub trait Service {
         ensures gives { IfSome result (λ r. Self.gives self.old request.now r self.new) }
         ensures limits { IfSome result (λ r. IsInLimits r) }
         ensures later { IfNone result (self.new ≡ self.old) }
-        ensures may { IfNone result Self.hands_over };
+        ensures may { IfNone result Self.hands_over }
+        ensures under { IfNone result (Self.hands_over_under key) };
 
     /// The reply to a request that was handed over.
     fn finish(&mut self, request: &Request, outcome: Self::Outcome) -> Reply

@@ -207,7 +207,7 @@ impl Session {
         requires going { self.old.over ≡ None }
         requires free { self.old.asked ≡ None }
         ensures goes { Goes Stays S.gives service.old service.new self.old [] [] self.new }
-        ensures wants { WantsAt S.hands_over result self.new }
+        ensures wants { WantsAt (S.hands_over × S.hands_over_under key) result self.new }
         ensures bounded { length self.new.owed ≤ length self.old.owed + longest_frame }
     {
         match self.hear() {
@@ -245,7 +245,8 @@ impl Session {
     pub fn answer<S: Service>(&mut self, service: &mut S, key: usize) -> Wants
         requires { self.old.over ≡ None }
         ensures goes { Goes Stays S.gives service.old service.new self.old [] [] self.new }
-        ensures wants { WantsAt (self.old.asked ≡ None → S.hands_over) result self.new }
+        ensures wants { WantsAt
+            (self.old.asked ≡ None → S.hands_over × S.hands_over_under key) result self.new }
         ensures bounded { length self.old.owed ≤ most_owed → length self.new.owed ≤ most_owed }
     {
         if !self.is_free() {

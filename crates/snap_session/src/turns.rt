@@ -1,5 +1,5 @@
 //! A session over any reader and writer, by turns.
-ghost use Rattle.std.specs.Prelude.{◌≡◌, ◌<◌, ◌≤◌, ◌↔◌, length, [], None};
+ghost use Rattle.std.specs.Prelude.{◌≡◌, ◌<◌, ◌≤◌, ◌↔◌, length, [], None, OnSome};
 ghost use Rattle.snap_session.specs.Talk.{Stays, most_owed};
 ghost use Rattle.snap_session.specs.Turns.{Turns, Sends, StandsAt, Serves};
 
@@ -93,6 +93,8 @@ pub fn proceed<R: Read, W: Write, S: Service>(
     ensures free { (S.hands_over → ⊥) → session.old.asked ≡ None → session.new.asked ≡ None }
     ensures outcome { (S.hands_over → ⊥) → session.old.asked ≡ None
         → result ≡ Turn.NeedsOutcome → ⊥ }
+    ensures under { session.old.asked ≡ None
+        → OnSome session.new.asked (S.hands_over_under key) }
 {
     for _ in 0..MAX_ROUNDS {
         match send_owed(session, writer) {

@@ -1,7 +1,8 @@
 //! What a program says before it stops.
-ghost use Rattle.std.specs.Prelude.{◌≡◌, true};
+ghost use Rattle.std.specs.Prelude.{◌≡◌, ◌++◌, List, ℕ, IfSome, IsNone, false, true};
+ghost use Rattle.std.specs.Prelude.{string_bytes};
 ghost use Rattle.std.specs.Io.KnownBytes.{Appends};
-ghost use Rattle.snap_stream.specs.Streams.{AppendsBeginning, refused_line};
+ghost use Rattle.snap_stream.specs.Streams.{AppendsBeginning, SaysLines, refused_line};
 
 use crate::write_whole;
 use snap_disk::Refusal;
@@ -29,6 +30,23 @@ pub fn complain_of_refusal<E: Write>(errors: &mut E, why: Refusal) -> bool
     match write_whole(errors, line_of(why).as_bytes()) {
         Ok(()) => true,
         Err(_) => false,
+    }
+}
+
+/// Writes the line of a refusal, and behind it another one, where there was memory for it. Says
+/// whether both were taken whole.
+pub fn complain_twice<E: Write>(errors: &mut E, why: Refusal, more: Option<String>) -> bool
+    ensures says { (line : List ℕ) → IfSome more (λ m. string_bytes m ≡ line)
+        → SaysLines (refused_line why ++ line) result (E.contents errors.old)
+        (E.contents errors.new) }
+    ensures none { IsNone more → result ≡ false }
+{
+    if !complain_of_refusal(errors, why) {
+        return false;
+    }
+    match more {
+        Some(line) => write_whole(errors, line.as_bytes()).is_ok(),
+        None => false,
     }
 }
 

@@ -1,14 +1,14 @@
 //! Whole reads and writes of a program's streams.
 //!
 //! [`write_whole`] and [`read_up_to`] go on after a call that moved fewer bytes than asked for,
-//! and end at the first one that failed. [`complain`] and [`complain_of_refusal`] say on standard
-//! error why a program stops. [`TestStream`] is a stream for tests.
+//! and end at the first one that failed. [`complain`], [`complain_of_refusal`] and
+//! [`complain_twice`] say on standard error why a program stops. [`TestStream`] is a stream for tests.
 #![tactic(auto)]
 
 mod complaint;
 mod test_stream;
 mod whole;
 
-pub use complaint::{complain, complain_of_refusal};
+pub use complaint::{complain, complain_of_refusal, complain_twice};
 pub use test_stream::TestStream;
 pub use whole::{read_up_to, write_whole};

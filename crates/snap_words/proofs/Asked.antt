@@ -4,6 +4,7 @@ use Rattle.std.proofs.Common.{
   ◌≢◌,
   ◌⊎◌,
   ◌∙◌,
+  ℕ,
   sym,
   ap,
   ap₂,
@@ -11,38 +12,58 @@ use Rattle.std.proofs.Common.{
   inl,
   inr,
   List,
+  [],
   Option,
   Some,
   None,
   option_map,
   option_and_then,
+  unwrap_or,
   true,
   refl,
   codes,
 }
-use Rattle.clap.specs.Words.{first_of, fault_of, kind_of, is_simple_and_free, HasKind, IsAmong}
+use Rattle.clap.specs.Words.{all_of, first_of, fault_of, kind_of, is_simple_and_free, HasKind, IsAmong}
 use Rattle.clap.specs.declared.error.Error.{Error}
 use Rattle.clap.specs.declared.error.kind.ErrorKind.{ErrorKind}
 use Rattle.clap.specs.declared.error.kind.ErrorKind.TheVariants.{OutOfMemory}
 use Rattle.snap_words.specs.Faults.{
+  HasWord,
+  IsCallingFault,
   IsCommandName,
   IsFaultOf,
+  IsFilesFault,
+  IsLaterFault,
   IsMigrationFault,
   IsMissing,
-  IsNoNumber,
-  IsNumberOf,
   IsParseFault,
   IsPathFault,
-  IsPlaceFault,
   IsRequest,
-  word_of,
+  IsServingFault,
 }
+use Rattle.snap_words.specs.Numbers.{
+  IsConnectionsFault,
+  IsNoLargeNumber,
+  IsNoNumber,
+  IsNumberOf,
+  IsPlaceFault,
+  IsScannersFault,
+  IsTriesFault,
+}
+use Rattle.snap_words.specs.Orders.{IsCommand, IsPair}
+use Rattle.snap_words.specs.Requests.{IsNoRequest, IsRequestFault}
+use Rattle.snap_words.specs.Words.{all_values, word_of, words_of}
 use Rattle.snap_words.specs.declared.fault.WordFault.{WordFault}
 use Rattle.snap_words.specs.declared.fault.WordFault.TheVariants.{
   Help,
   Words,
   Count,
   Index,
+  Files,
+  Scanners,
+  Connections,
+  Tries,
+  Request,
   Number,
   Missing,
   NoCommand,
@@ -64,8 +85,8 @@ use Rattle.clap.specs.Words.{
 }
 use Rattle.clap.specs.declared.ArgMatches.{ArgMatches}
 use Rattle.clap.proofs.OnLiterals.{clap_on_literals}
-use Rattle.clap.proofs.WalkLemmas.{first_value-rows}
-use Rattle.snap_words.specs.Grammar.{IsCommand, IsLaterFault, IsPair, grammar_of}
+use Rattle.clap.proofs.WalkLemmas.{first_value-rows, raw_values-rows}
+use Rattle.snap_words.specs.Grammar.{grammar_of}
 
 simple : is_simple grammar_of ≡ true
 unfolding clap_on_literals
@@ -82,50 +103,73 @@ both f g (Some x) name rows named rowed =
     let same_rows : g x ≡ rows = cc in
     ap₂ (λ (n : Text) (r : List Row). Some (n, r)) same_name same_rows
 
-pub met : (words : List Text) (app : App) → app ≡ grammar_of → (m : ArgMatches)
-    → HasMatchesOf app words m → (name : Text) (rows : List Row) → subcommand_name_of m ≡ Some name
-    → option_map (λ p. p.1) (subcommand_rows_of m) ≡ Some rows
-    → subcommand_of grammar_of words ≡ Some (name, rows)
-met words app is m has name rows named rowed =
+-- the command that a parse met, and its words among the matches
+pub record Met (words : List Text) (sub : ArgMatches) (name : Text) : Type 0 where
+  pub command : subcommand_of grammar_of words ≡ Some (name, rows_of (found_of sub))
+  pub word : (what : Text) → first_value (found_of sub) what ≡ word_of words what
+  pub all : (what : Text) → all_values (found_of sub) what ≡ words_of words what
+
+pub met : (words : List Text) (app : App) → app ≡ grammar_of → (m sub : ArgMatches)
+    → HasMatchesOf app words m → (name : Text) → Some name ≡ subcommand_name_of m
+    → Some (rows_of (found_of sub)) ≡ option_map (λ p. p.1) (subcommand_rows_of m)
+    → Met words sub name
+met words app is m sub has name named rowed =
+    let rows = rows_of (found_of sub) in
     let found = (has (ap is_simple is ∙ simple)).1 in
-    let here : subcommand_rows_of m ≡ Some (name, rows) = both _ _ _ name rows named rowed in
-    ap (λ (a : App). subcommand_of a words) (sym is) ∙ sym found ∙ here
+    let here : subcommand_rows_of m ≡ Some (name, rows) =
+    both _ _ _ name rows (sym named) (sym rowed) in
+    let command : subcommand_of grammar_of words ≡ Some (name, rows) =
+    ap (λ (a : App). subcommand_of a words) (sym is) ∙ sym found ∙ here in
+    record {
+      command = command;
+      word = λ what. first_value-rows (found_of sub) what
+          ∙ sym (ap (option_and_then (λ (found : Text × List Row). first_of what found.1)) command);
+      all = λ what. ap (λ (o : Option (List Text)). unwrap_or o [])
+          (raw_values-rows (found_of sub) what
+          ∙ sym (ap (option_and_then (λ (found : Text × List Row). all_of what found.1)) command));
+    }
+
+-- the command has this name
+pub named : {words : List Text} {sub : ArgMatches} {name : Text} → Met words sub name
+    → (want : Text) → name ≡ want
+    → subcommand_of grammar_of words ≡ Some (want, rows_of (found_of sub))
+named {words} {sub} its want is =
+    subst (λ (n : Text). subcommand_of grammar_of words ≡ Some (n, rows_of (found_of sub))) is
+    its.command
 
 -- the words are those of this command with this file
-pub asked : (words : List Text) (app : App) → app ≡ grammar_of → (m sub : ArgMatches)
-    → HasMatchesOf app words m → (name file : Text) → subcommand_name_of m ≡ Some name
-    → option_map (λ p. p.1) (subcommand_rows_of m) ≡ Some (rows_of (found_of sub))
-    → Some file ≡ first_value (found_of sub) (codes "file")
-    → IsCommand (subcommand_of grammar_of words) name file
-asked words app is m sub has name file named rowed got = (
+pub asked : {words : List Text} {sub : ArgMatches} {name : Text} → Met words sub name
+    → (want file : Text) → name ≡ want → Some file ≡ first_value (found_of sub) (codes "file")
+    → IsCommand (subcommand_of grammar_of words) want file
+asked {words} {sub} its want file is got = (
   rows_of (found_of sub),
-  met words app is m has name (rows_of (found_of sub)) named rowed,
+  named its want is,
   sym (first_value-rows (found_of sub) (codes "file")) ∙ sym got,
 )
 
 -- the words are those of this command with these files
-pub asked_pair : (words : List Text) (app : App) → app ≡ grammar_of → (m sub : ArgMatches)
-    → HasMatchesOf app words m → (name old new : Text) → subcommand_name_of m ≡ Some name
-    → option_map (λ p. p.1) (subcommand_rows_of m) ≡ Some (rows_of (found_of sub))
-    → Some old ≡ first_value (found_of sub) (codes "old")
+pub asked_pair : {words : List Text} {sub : ArgMatches} {name : Text} → Met words sub name
+    → (want old new : Text) → name ≡ want → Some old ≡ first_value (found_of sub) (codes "old")
     → Some new ≡ first_value (found_of sub) (codes "new")
-    → IsPair (subcommand_of grammar_of words) name old new
-asked_pair words app is m sub has name old new named rowed got_old got_new = (
+    → IsPair (subcommand_of grammar_of words) want old new
+asked_pair {words} {sub} its want old new is got_old got_new = (
   rows_of (found_of sub),
-  met words app is m has name (rows_of (found_of sub)) named rowed,
+  named its want is,
   sym (first_value-rows (found_of sub) (codes "old")) ∙ sym got_old,
   sym (first_value-rows (found_of sub) (codes "new")) ∙ sym got_new,
 )
 
--- what the matches have for this is the word that the command has
-pub word_is : (words : List Text) (app : App) → app ≡ grammar_of → (m sub : ArgMatches)
-    → HasMatchesOf app words m → (name : Text) → subcommand_name_of m ≡ Some name
-    → option_map (λ p. p.1) (subcommand_rows_of m) ≡ Some (rows_of (found_of sub)) → (what : Text)
-    → first_value (found_of sub) what ≡ word_of words what
-word_is words app is m sub has name named rowed what =
-    first_value-rows (found_of sub) what
-    ∙ sym (ap (option_and_then (λ (found : Text × List Row). first_of what found.1))
-    (met words app is m has name (rows_of (found_of sub)) named rowed))
+-- a number of the matches is that of the command's word
+pub number_is : {words : List Text} {sub : ArgMatches} {name : Text} → Met words sub name
+    → (what : Text) (n : ℕ) → IsNumberOf (first_value (found_of sub) what) n
+    → IsNumberOf (word_of words what) n
+number_is its what n is = subst (λ (o : Option Text). IsNumberOf o n) (its.word what) is
+
+-- a word that the command takes, and that isn't there
+pub missing : {words : List Text} {sub : ArgMatches} {name : Text} → Met words sub name
+    → (what : Text) → HasWord name what → word_of words what ≡ None → IsMissing words what
+missing {words} {sub} {name} its what takes none =
+    (name, rows_of (found_of sub), its.command, takes, none)
 
 request_not_wanting : (kind : ErrorKind) → IsRequest kind → kind ≡ OutOfMemory → ⊥
 request_not_wanting kind (inl help) wanting = cc
@@ -151,6 +195,11 @@ parse_fault words error (Words e) is (inr among) = (
 )
 parse_fault words error (Count n) is kind = absurd is
 parse_fault words error (Index i n) is kind = absurd is
+parse_fault words error (Files n) is kind = absurd is
+parse_fault words error (Scanners n) is kind = absurd is
+parse_fault words error Connections is kind = absurd is
+parse_fault words error (Tries n) is kind = absurd is
+parse_fault words error (Request r) is kind = absurd is
 parse_fault words error (Number what) is kind = absurd is
 parse_fault words error (Missing what) is kind = absurd is
 parse_fault words error NoCommand is kind = absurd is
@@ -164,6 +213,11 @@ parse_later error (Help e) is wanting = absurd (request_not_wanting (kind_of err
 parse_later error (Words e) is wanting = absurd (is.2 wanting)
 parse_later error (Count n) is wanting = tt
 parse_later error (Index i n) is wanting = tt
+parse_later error (Files n) is wanting = tt
+parse_later error (Scanners n) is wanting = tt
+parse_later error Connections is wanting = tt
+parse_later error (Tries n) is wanting = tt
+parse_later error (Request r) is wanting = tt
 parse_later error (Number what) is wanting = tt
 parse_later error (Missing what) is wanting = tt
 parse_later error NoCommand is wanting = tt
@@ -171,7 +225,7 @@ parse_later error NotText is wanting = absurd is
 parse_later error Memory is wanting = tt
 
 -- a fault of the place, by the words of the command
-pub place_fault : (words : List Text) (of : Text → Option Text)
+place_fault : (words : List Text) (of : Text → Option Text)
     → ((what : Text) → of what ≡ word_of words what)
     → ((what : Text) → (what ≡ codes "index") ⊎ (what ≡ codes "count")
     → word_of words what ≡ None → IsMissing words what) → (why : WordFault)
@@ -188,6 +242,16 @@ place_fault words of same gone (Index i n) is = (
   is.2,
   is.3,
 )
+place_fault words of same gone (Files n) (inl is) = absurd is
+place_fault words of same gone (Files n) (inr is) = absurd is
+place_fault words of same gone (Scanners n) (inl is) = absurd is
+place_fault words of same gone (Scanners n) (inr is) = absurd is
+place_fault words of same gone Connections (inl is) = absurd is
+place_fault words of same gone Connections (inr is) = absurd is
+place_fault words of same gone (Tries n) (inl is) = absurd is
+place_fault words of same gone (Tries n) (inr is) = absurd is
+place_fault words of same gone (Request r) (inl is) = absurd is
+place_fault words of same gone (Request r) (inr is) = absurd is
 place_fault words of same gone (Number what) (inl is) =
     subst IsNoNumber (same (codes "index") ∙ ap (word_of words) (sym is.0)) is.1
 place_fault words of same gone (Number what) (inr is) =
@@ -211,6 +275,11 @@ path_fault words of path same gone (Help e) is = absurd is
 path_fault words of path same gone (Words e) is = absurd is
 path_fault words of path same gone (Count n) is = absurd is
 path_fault words of path same gone (Index i n) is = absurd is
+path_fault words of path same gone (Files n) is = absurd is
+path_fault words of path same gone (Scanners n) is = absurd is
+path_fault words of path same gone Connections is = absurd is
+path_fault words of path same gone (Tries n) is = absurd is
+path_fault words of path same gone (Request r) is = absurd is
 path_fault words of path same gone (Number what) is = absurd is
 path_fault words of path same gone (Missing what) is =
     gone what.now is.0 (ap (word_of words) is.0 ∙ sym same ∙ is.1)
@@ -219,7 +288,7 @@ path_fault words of path same gone NotText is = absurd is
 path_fault words of path same gone Memory is = absurd is
 
 -- a fault of a migration, by the words of the command
-pub migration_fault : (words : List Text) (of : Text → Option Text)
+migration_fault : (words : List Text) (of : Text → Option Text)
     → ((what : Text) → of what ≡ word_of words what)
     → ((what : Text) → (what ≡ codes "index") ⊎ (what ≡ codes "count")
     → word_of words what ≡ None → IsMissing words what)
@@ -234,6 +303,181 @@ migration_fault words of same gone gone_file why (inr (inr is)) =
     path_fault words of (codes "new") (same (codes "new")) (λ what its. gone_file what (inr its)) why
     is
 
+-- a fault of this number, by the words of the command
+scanners_fault : (words : List Text) (of : Text → Option Text)
+    → ((what : Text) → of what ≡ word_of words what)
+    → ((what : Text) → what ≡ codes "scanners" → word_of words what ≡ None → IsMissing words what)
+    → (why : WordFault) → IsScannersFault (of (codes "scanners")) why → IsFaultOf words why
+scanners_fault words of same gone (Help e) is = absurd is
+scanners_fault words of same gone (Words e) is = absurd is
+scanners_fault words of same gone (Count n) is = absurd is
+scanners_fault words of same gone (Index i n) is = absurd is
+scanners_fault words of same gone (Files n) is = absurd is
+scanners_fault words of same gone (Scanners n) is =
+    (subst (λ (o : Option Text). IsNumberOf o n) (same (codes "scanners")) is.0, is.1)
+scanners_fault words of same gone Connections is = absurd is
+scanners_fault words of same gone (Tries n) is = absurd is
+scanners_fault words of same gone (Request r) is = absurd is
+scanners_fault words of same gone (Number what) is =
+    subst IsNoNumber (same (codes "scanners") ∙ ap (word_of words) (sym is.0)) is.1
+scanners_fault words of same gone (Missing what) is =
+    gone what.now is.0 (sym (same (codes "scanners") ∙ ap (word_of words) (sym is.0)) ∙ is.1)
+scanners_fault words of same gone NoCommand is = absurd is
+scanners_fault words of same gone NotText is = absurd is
+scanners_fault words of same gone Memory is = absurd is
+
+-- a fault of this number, by the words of the command
+tries_fault : (words : List Text) (of : Text → Option Text)
+    → ((what : Text) → of what ≡ word_of words what)
+    → ((what : Text) → what ≡ codes "tries" → word_of words what ≡ None → IsMissing words what)
+    → (why : WordFault) → IsTriesFault (of (codes "tries")) why → IsFaultOf words why
+tries_fault words of same gone (Help e) is = absurd is
+tries_fault words of same gone (Words e) is = absurd is
+tries_fault words of same gone (Count n) is = absurd is
+tries_fault words of same gone (Index i n) is = absurd is
+tries_fault words of same gone (Files n) is = absurd is
+tries_fault words of same gone (Scanners n) is = absurd is
+tries_fault words of same gone Connections is = absurd is
+tries_fault words of same gone (Tries n) is =
+    (subst (λ (o : Option Text). IsNumberOf o n) (same (codes "tries")) is.0, is.1)
+tries_fault words of same gone (Request r) is = absurd is
+tries_fault words of same gone (Number what) is =
+    subst IsNoNumber (same (codes "tries") ∙ ap (word_of words) (sym is.0)) is.1
+tries_fault words of same gone (Missing what) is =
+    gone what.now is.0 (sym (same (codes "tries") ∙ ap (word_of words) (sym is.0)) ∙ is.1)
+tries_fault words of same gone NoCommand is = absurd is
+tries_fault words of same gone NotText is = absurd is
+tries_fault words of same gone Memory is = absurd is
+
+-- a fault of the number of connections
+connections_fault : (words : List Text) (word : Option Text)
+    → word ≡ word_of words (codes "connections") → (why : WordFault) → IsConnectionsFault word why
+    → IsFaultOf words why
+connections_fault words word same (Help e) is = absurd is
+connections_fault words word same (Words e) is = absurd is
+connections_fault words word same (Count n) is = absurd is
+connections_fault words word same (Index i n) is = absurd is
+connections_fault words word same (Files n) is = absurd is
+connections_fault words word same (Scanners n) is = absurd is
+connections_fault words word same Connections is = subst IsNoLargeNumber same is
+connections_fault words word same (Tries n) is = absurd is
+connections_fault words word same (Request r) is = absurd is
+connections_fault words word same (Number what) is = absurd is
+connections_fault words word same (Missing what) is = absurd is
+connections_fault words word same NoCommand is = absurd is
+connections_fault words word same NotText is = absurd is
+connections_fault words word same Memory is = absurd is
+
+-- a fault of the files
+files_fault : (words files : List Text) → files ≡ words_of words (codes "files")
+    → (why : WordFault) → IsFilesFault files why → IsFaultOf words why
+files_fault words files same (Help e) is = absurd is
+files_fault words files same (Words e) is = absurd is
+files_fault words files same (Count n) is = absurd is
+files_fault words files same (Index i n) is = absurd is
+files_fault words files same (Files n) is =
+    subst (λ (fs : List Text). IsFilesFault fs (Files n)) same is
+files_fault words files same (Scanners n) is = absurd is
+files_fault words files same Connections is = absurd is
+files_fault words files same (Tries n) is = absurd is
+files_fault words files same (Request r) is = absurd is
+files_fault words files same (Number what) is = absurd is
+files_fault words files same (Missing what) is = absurd is
+files_fault words files same NoCommand is = absurd is
+files_fault words files same NotText is = absurd is
+files_fault words files same Memory is = tt
+
+-- a fault of the request
+request_fault : (words asked : List Text) → asked ≡ words_of words (codes "request")
+    → (why : WordFault) → IsRequestFault asked why → IsFaultOf words why
+request_fault words asked same (Help e) is = absurd is
+request_fault words asked same (Words e) is = absurd is
+request_fault words asked same (Count n) is = absurd is
+request_fault words asked same (Index i n) is = absurd is
+request_fault words asked same (Files n) is = absurd is
+request_fault words asked same (Scanners n) is = absurd is
+request_fault words asked same Connections is = absurd is
+request_fault words asked same (Tries n) is = absurd is
+request_fault words asked same (Request r) is =
+    subst (λ (ws : List Text). IsNoRequest ws r) same is
+request_fault words asked same (Number what) is = absurd is
+request_fault words asked same (Missing what) is = absurd is
+request_fault words asked same NoCommand is = absurd is
+request_fault words asked same NotText is = absurd is
+request_fault words asked same Memory is = tt
+
+-- a fault of a server's words, by the words of the command
+serving_fault : (words : List Text) (of : Text → Option Text) (all : Text → List Text)
+    → ((what : Text) → of what ≡ word_of words what)
+    → ((what : Text) → all what ≡ words_of words what)
+    → ((what : Text) → (what ≡ codes "address") ⊎ (what ≡ codes "scanners")
+    → word_of words what ≡ None → IsMissing words what) → (why : WordFault)
+    → IsServingFault of all why → IsFaultOf words why
+serving_fault words of all same same_all gone why (inl is) =
+    path_fault words of (codes "address") (same (codes "address")) (λ what its. gone what (inl its))
+    why is
+serving_fault words of all same same_all gone why (inr (inl is)) =
+    files_fault words (all (codes "files")) (same_all (codes "files")) why is
+serving_fault words of all same same_all gone why (inr (inr (inl is))) =
+    scanners_fault words of same (λ what its. gone what (inr its)) why is
+serving_fault words of all same same_all gone why (inr (inr (inr is))) =
+    connections_fault words (of (codes "connections")) (same (codes "connections")) why is
+
+-- a fault of a call's words, by the words of the command
+calling_fault : (words : List Text) (of : Text → Option Text) (all : Text → List Text)
+    → ((what : Text) → of what ≡ word_of words what)
+    → ((what : Text) → all what ≡ words_of words what)
+    → ((what : Text) → (what ≡ codes "address") ⊎ (what ≡ codes "tries")
+    → word_of words what ≡ None → IsMissing words what) → (why : WordFault)
+    → IsCallingFault of all why → IsFaultOf words why
+calling_fault words of all same same_all gone why (inl is) =
+    path_fault words of (codes "address") (same (codes "address")) (λ what its. gone what (inl its))
+    why is
+calling_fault words of all same same_all gone why (inr (inl is)) =
+    tries_fault words of same (λ what its. gone what (inr its)) why is
+calling_fault words of all same same_all gone why (inr (inr is)) =
+    request_fault words (all (codes "request")) (same_all (codes "request")) why is
+
+-- the same of the command that was met, by its name
+pub serve_fault : {words : List Text} {sub : ArgMatches} {name : Text} → Met words sub name
+    → name ≡ codes "serve" → (why : WordFault)
+    → IsServingFault (first_value (found_of sub)) (all_values (found_of sub)) why
+    → IsFaultOf words why
+serve_fault {words} {sub} its is why fault =
+    serving_fault words (first_value (found_of sub)) (all_values (found_of sub)) its.word its.all
+    (λ what takes none. missing its what (inl (is, takes)) none) why fault
+
+pub call_fault : {words : List Text} {sub : ArgMatches} {name : Text} → Met words sub name
+    → name ≡ codes "call" → (why : WordFault)
+    → IsCallingFault (first_value (found_of sub)) (all_values (found_of sub)) why
+    → IsFaultOf words why
+call_fault {words} {sub} its is why fault =
+    calling_fault words (first_value (found_of sub)) (all_values (found_of sub)) its.word its.all
+    (λ what takes none. missing its what (inr (inl (is, takes))) none) why fault
+
+-- of a command about one segment, which none of these is
+pub placed_fault : {words : List Text} {sub : ArgMatches} {name : Text} → Met words sub name
+    → name ≢ codes "script" → name ≢ codes "serve" → name ≢ codes "call" → name ≢ codes "check"
+    → (why : WordFault)
+    → IsPlaceFault (first_value (found_of sub) (codes "index"))
+    (first_value (found_of sub) (codes "count")) why
+    → IsFaultOf words why
+placed_fault {words} {sub} its script serve call check why fault =
+    place_fault words (first_value (found_of sub)) its.word
+    (λ what takes none. missing its what (inr (inr (script, serve, call, inr (check, takes)))) none)
+    why fault
+
+pub migrate_fault : {words : List Text} {sub : ArgMatches} {name : Text} → Met words sub name
+    → name ≡ codes "migrate" → name ≢ codes "script" → name ≢ codes "serve" → name ≢ codes "call"
+    → name ≢ codes "check" → (why : WordFault)
+    → IsMigrationFault (first_value (found_of sub)) why → IsFaultOf words why
+migrate_fault {words} {sub} its is script serve call check why fault =
+    migration_fault words (first_value (found_of sub)) its.word
+    (λ what takes none. missing its what (inr (inr (script, serve, call, inr (check, takes)))) none)
+    (λ what takes none.
+    missing its what (inr (inr (script, serve, call, inl (inl (is, takes))))) none)
+    why fault
+
 same_first : (o : Option (Text × List Row)) (a a' : Text) (b b' : List Row) → o ≡ Some (a, b)
     → o ≡ Some (a', b') → a ≡ a'
 same_first o a a' b b' is is' =
@@ -243,20 +487,28 @@ same_first o a a' b b' is is' =
 
 none_of : (command name : Text) → command ≡ name → command ≢ codes "format"
     → command ≢ codes "put" → command ≢ codes "get" → command ≢ codes "check"
-    → command ≢ codes "migrate" → command ≢ codes "script" → IsCommandName name → ⊥
-none_of command name same n0 n1 n2 n3 n4 n5 (inl is) = n0 (same ∙ is)
-none_of command name same n0 n1 n2 n3 n4 n5 (inr (inl is)) = n1 (same ∙ is)
-none_of command name same n0 n1 n2 n3 n4 n5 (inr (inr (inl is))) = n2 (same ∙ is)
-none_of command name same n0 n1 n2 n3 n4 n5 (inr (inr (inr (inl is)))) = n3 (same ∙ is)
-none_of command name same n0 n1 n2 n3 n4 n5 (inr (inr (inr (inr (inl is))))) = n4 (same ∙ is)
-none_of command name same n0 n1 n2 n3 n4 n5 (inr (inr (inr (inr (inr is))))) = n5 (same ∙ is)
+    → command ≢ codes "migrate" → command ≢ codes "serve" → command ≢ codes "call"
+    → command ≢ codes "script" → IsCommandName name → ⊥
+none_of command name same n0 n1 n2 n3 n4 n5 n6 n7 (inl is) = n0 (same ∙ is)
+none_of command name same n0 n1 n2 n3 n4 n5 n6 n7 (inr (inl is)) = n1 (same ∙ is)
+none_of command name same n0 n1 n2 n3 n4 n5 n6 n7 (inr (inr (inl is))) = n2 (same ∙ is)
+none_of command name same n0 n1 n2 n3 n4 n5 n6 n7 (inr (inr (inr (inl is)))) = n3 (same ∙ is)
+none_of command name same n0 n1 n2 n3 n4 n5 n6 n7 (inr (inr (inr (inr (inl is))))) =
+    n4 (same ∙ is)
+none_of command name same n0 n1 n2 n3 n4 n5 n6 n7 (inr (inr (inr (inr (inr (inl is)))))) =
+    n5 (same ∙ is)
+none_of command name same n0 n1 n2 n3 n4 n5 n6 n7 (inr (inr (inr (inr (inr (inr (inl is))))))) =
+    n6 (same ∙ is)
+none_of command name same n0 n1 n2 n3 n4 n5 n6 n7 (inr (inr (inr (inr (inr (inr (inr is))))))) =
+    n7 (same ∙ is)
 
 -- a command of another name is none of them
 pub no_command : (words : List Text) (command : Text) (its : List Row)
     → subcommand_of grammar_of words ≡ Some (command, its) → command ≢ codes "format"
     → command ≢ codes "put" → command ≢ codes "get" → command ≢ codes "check"
-    → command ≢ codes "migrate" → command ≢ codes "script" → (name : Text) (rows : List Row)
+    → command ≢ codes "migrate" → command ≢ codes "serve" → command ≢ codes "call"
+    → command ≢ codes "script" → (name : Text) (rows : List Row)
     → subcommand_of grammar_of words ≡ Some (name, rows) → IsCommandName name → ⊥
-no_command words command its is n0 n1 n2 n3 n4 n5 name rows found named =
+no_command words command its is n0 n1 n2 n3 n4 n5 n6 n7 name rows found named =
     let same : command ≡ name = same_first _ command name its rows is found in
-    none_of command name same n0 n1 n2 n3 n4 n5 named
+    none_of command name same n0 n1 n2 n3 n4 n5 n6 n7 named

@@ -3,22 +3,16 @@ use Rattle.std.specs.Prelude.{
   ◌≡◌,
   ◌≢◌,
   ◌⊎◌,
-  ℕ,
   ◌<◌,
-  ◌≤◌,
-  ◌^◌,
   List,
-  [],
-  ◌∷◌,
+  length,
   Option,
   Some,
   None,
   codes,
-  option_and_then,
 }
-use Rattle.std.specs.Str.Parse.{IsNumeral, digits_value, without_leading_plus}
 use Rattle.snap_slot.specs.declared.layout.TheConstants.{MAX_COUNT}
-use Rattle.clap.specs.Words.{IsAmong, Row, Text, fault_of, first_of, kind_of, subcommand_of}
+use Rattle.clap.specs.Words.{IsAmong, Row, Text, fault_of, kind_of, subcommand_of}
 use Rattle.clap.specs.declared.error.Error.{Error}
 use Rattle.clap.specs.declared.error.kind.ErrorKind.{ErrorKind}
 use Rattle.clap.specs.declared.error.kind.ErrorKind.TheVariants.{
@@ -31,40 +25,20 @@ use Rattle.snap_order.specs.declared.order.Order.TheVariants as order
 use Rattle.snap_order.specs.declared.order.FileOrder.{FileOrder}
 use Rattle.snap_order.specs.declared.order.FileOrder.TheVariants.{Format, Put, Get, Check}
 use Rattle.snap_words.specs.Grammar.{grammar_of}
+use Rattle.snap_words.specs.Numbers.{
+  IsConnectionsFault,
+  IsLargeNumberOf,
+  IsNoNumber,
+  IsNumberFault,
+  IsNumberOf,
+  IsPlaceFault,
+  IsScannersFault,
+  IsTriesFault,
+}
+use Rattle.snap_words.specs.Requests.{IsNoRequest, IsRequestFault}
+use Rattle.snap_words.specs.Words.{word_of, words_of}
 use Rattle.snap_words.specs.declared.fault.WordFault.{WordFault}
 use Rattle.snap_words.specs.declared.fault.WordFault.TheVariants as fault
-
--- the word that the command has for this
-abbrev pub word_of : List Text → Text → Option Text
-word_of words what = option_and_then (λ (found : Text × List Row). first_of what found.1)
-    (subcommand_of grammar_of words)
-
--- the word is a decimal number, with or without a plus sign, and n is its value
-abbrev pub IsNumberOf : Option Text → ℕ → Type 0
-IsNumberOf None n = ⊥
-IsNumberOf (Some word) n =
-    IsNumeral 10 (without_leading_plus word) × (digits_value 10 (without_leading_plus word) ≡ n)
-
--- the word is no such number below 256
-abbrev pub IsNoNumber : Option Text → Type 0
-IsNoNumber None = ⊥
-IsNoNumber (Some word) =
-    IsNumeral 10 (without_leading_plus word) × (digits_value 10 (without_leading_plus word) < 2 ^ 8)
-    → ⊥
-
--- what is wrong with this word for a number
-abbrev pub IsNumberFault : Option Text → Text → WordFault → Type 0
-IsNumberFault word what (fault.Number name) = (name.now ≡ what) × IsNoNumber word
-IsNumberFault word what (fault.Missing name) = (name.now ≡ what) × (word ≡ None)
-IsNumberFault word what why = ⊥
-
--- what is wrong with these words for an index and a count
-abbrev pub IsPlaceFault : (index count : Option Text) → WordFault → Type 0
-IsPlaceFault index count (fault.Count n) = IsNumberOf count n × ((n ≡ 0) ⊎ (MAX_COUNT < n))
-IsPlaceFault index count (fault.Index i n) = IsNumberOf index i × IsNumberOf count n × (n ≤ i)
-    × (n ≤ MAX_COUNT)
-IsPlaceFault index count why = IsNumberFault index (codes "index") why
-    ⊎ IsNumberFault count (codes "count") why
 
 -- what is wrong with this word for a path: there is none
 abbrev pub IsPathFault : Option Text → Text → WordFault → Type 0
@@ -76,6 +50,23 @@ abbrev pub IsMigrationFault : (of : Text → Option Text) → WordFault → Type
 IsMigrationFault of why = IsPlaceFault (of (codes "index")) (of (codes "count")) why
     ⊎ (IsPathFault (of (codes "old")) (codes "old") why
     ⊎ IsPathFault (of (codes "new")) (codes "new") why)
+
+-- what is wrong with these words for files: there are none, or more than a server may have
+abbrev pub IsFilesFault : List Text → WordFault → Type 0
+IsFilesFault files (fault.Files n) = (length files ≡ n) × ((n ≡ 0) ⊎ (MAX_COUNT < n))
+IsFilesFault files fault.Memory = Unit {0}
+IsFilesFault files why = ⊥
+
+-- what is wrong with the words of a server
+abbrev pub IsServingFault : (of : Text → Option Text) (all : Text → List Text) → WordFault → Type 0
+IsServingFault of all why = IsPathFault (of (codes "address")) (codes "address") why
+    ⊎ (IsFilesFault (all (codes "files")) why ⊎ (IsScannersFault (of (codes "scanners")) why
+    ⊎ IsConnectionsFault (of (codes "connections")) why))
+
+-- what is wrong with the words of a call
+abbrev pub IsCallingFault : (of : Text → Option Text) (all : Text → List Text) → WordFault → Type 0
+IsCallingFault of all why = IsPathFault (of (codes "address")) (codes "address") why
+    ⊎ (IsTriesFault (of (codes "tries")) why ⊎ IsRequestFault (all (codes "request")) why)
 
 -- the kinds of what is asked for in place of an order
 abbrev pub IsRequest : ErrorKind → Type 0
@@ -92,17 +83,26 @@ IsParseFault error why = ⊥
 abbrev pub IsCommandName : Text → Type 0
 IsCommandName name =
     (name ≡ codes "format") ⊎ ((name ≡ codes "put") ⊎ ((name ≡ codes "get")
-    ⊎ ((name ≡ codes "check") ⊎ ((name ≡ codes "migrate") ⊎ (name ≡ codes "script")))))
+    ⊎ ((name ≡ codes "check") ⊎ ((name ≡ codes "migrate") ⊎ ((name ≡ codes "serve")
+    ⊎ ((name ≡ codes "call") ⊎ (name ≡ codes "script")))))))
 
 -- the words for files that the command takes
 abbrev pub HasFile : Text → Text → Type 0
 HasFile command what = ((command ≡ codes "migrate") × ((what ≡ codes "old") ⊎ (what ≡ codes "new")))
     ⊎ ((command ≢ codes "migrate") × (what ≡ codes "file"))
 
+-- the command, which is about one segment, takes this word behind its name
+abbrev pub HasSegmentWord : Text → Text → Type 0
+HasSegmentWord command what = (command ≢ codes "script") × (command ≢ codes "serve")
+    × (command ≢ codes "call") × (HasFile command what
+    ⊎ ((command ≢ codes "check") × ((what ≡ codes "index") ⊎ (what ≡ codes "count"))))
+
 -- the command takes this word behind its name
 abbrev pub HasWord : Text → Text → Type 0
-HasWord command what = (command ≢ codes "script") × (HasFile command what
-    ⊎ ((command ≢ codes "check") × ((what ≡ codes "index") ⊎ (what ≡ codes "count"))))
+HasWord command what =
+    ((command ≡ codes "serve") × ((what ≡ codes "address") ⊎ (what ≡ codes "scanners")))
+    ⊎ (((command ≡ codes "call") × ((what ≡ codes "address") ⊎ (what ≡ codes "tries")))
+    ⊎ HasSegmentWord command what)
 
 -- the command takes this word, and none was found
 abbrev pub IsMissing : List Text → Text → Type 0
@@ -121,6 +121,13 @@ IsFaultOf words (fault.Count n) =
     IsPlaceFault (word_of words (codes "index")) (word_of words (codes "count")) (fault.Count n)
 IsFaultOf words (fault.Index i n) =
     IsPlaceFault (word_of words (codes "index")) (word_of words (codes "count")) (fault.Index i n)
+IsFaultOf words (fault.Files n) = IsFilesFault (words_of words (codes "files")) (fault.Files n)
+IsFaultOf words (fault.Scanners n) =
+    IsScannersFault (word_of words (codes "scanners")) (fault.Scanners n)
+IsFaultOf words fault.Connections =
+    IsConnectionsFault (word_of words (codes "connections")) fault.Connections
+IsFaultOf words (fault.Tries n) = IsTriesFault (word_of words (codes "tries")) (fault.Tries n)
+IsFaultOf words (fault.Request why) = IsNoRequest (words_of words (codes "request")) why
 IsFaultOf words (fault.Number name) = IsNoNumber (word_of words name.now)
 IsFaultOf words (fault.Missing name) = IsMissing words name.now
 IsFaultOf words fault.NoCommand =
@@ -128,6 +135,22 @@ IsFaultOf words fault.NoCommand =
     → IsCommandName name → ⊥
 IsFaultOf words fault.NotText = ⊥
 IsFaultOf words fault.Memory = Unit {0}
+
+-- a fault that words of the grammar may have: their numbers are outside the limits, or memory is
+-- wanting
+abbrev pub IsLaterFault : WordFault → Type 0
+IsLaterFault (fault.Count count) = Unit {0}
+IsLaterFault (fault.Index index count) = Unit {0}
+IsLaterFault (fault.Files count) = Unit {0}
+IsLaterFault (fault.Scanners scanners) = Unit {0}
+IsLaterFault fault.Connections = Unit {0}
+IsLaterFault (fault.Tries tries) = Unit {0}
+IsLaterFault (fault.Request why) = Unit {0}
+IsLaterFault (fault.Number what) = Unit {0}
+IsLaterFault (fault.Missing what) = Unit {0}
+IsLaterFault fault.NoCommand = Unit {0}
+IsLaterFault fault.Memory = Unit {0}
+IsLaterFault why = ⊥
 
 -- an index and a count are those of their words
 abbrev pub AreFileNumbersOf : List Text → FileOrder → Type 0
@@ -143,4 +166,7 @@ abbrev pub AreNumbersOf : List Text → Order → Type 0
 AreNumbersOf words (order.File o) = AreFileNumbersOf words o
 AreNumbersOf words (order.Migrate m) = IsNumberOf (word_of words (codes "index")) m.index
     × IsNumberOf (word_of words (codes "count")) m.count
+AreNumbersOf words (order.Serve s) = IsNumberOf (word_of words (codes "scanners")) s.scanners
+    × IsLargeNumberOf (word_of words (codes "connections")) s.connections
+AreNumbersOf words (order.Call c) = IsNumberOf (word_of words (codes "tries")) c.tries
 AreNumbersOf words order.Script = Unit {0}

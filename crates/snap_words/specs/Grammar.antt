@@ -1,30 +1,28 @@
 -- The commands and their words, as the parser of words reads them.
-use Rattle.std.specs.Prelude.{◌≡◌, List, [], ◌∷◌, Option, Some, true, codes, pos}
+use Rattle.std.specs.Prelude.{◌≡◌, [], ◌∷◌, Some, false, true, codes, pos}
 use Rattle.clap.specs.Words.{
   App,
-  Row,
   Rule,
   Shape,
   Text,
-  first_of,
+  app_of,
   new_app,
   new_rule,
-  subcommand_of,
   with_rule,
   with_subcommand,
 }
-use Rattle.clap.specs.declared.builder.ArgAction.TheVariants.{Set}
+use Rattle.clap.specs.declared.builder.Command.{Command}
+use Rattle.clap.specs.declared.builder.Command.TheViews.{out-Command}
+use Rattle.clap.specs.declared.builder.ArgAction.TheVariants.{Append, Set}
 use Rattle.clap.specs.declared.builder.value_parser.ValueParser.TheVariants as parser
-use Rattle.snap_order.specs.declared.order.Order.{Order}
-use Rattle.snap_order.specs.declared.order.Order.TheVariants as order
-use Rattle.snap_order.specs.declared.order.FileOrder.{FileOrder}
-use Rattle.snap_words.specs.declared.fault.WordFault.{WordFault}
-use Rattle.snap_words.specs.declared.fault.WordFault.TheVariants as fault
-use Rattle.snap_order.specs.declared.order.FileOrder.TheVariants.{Format, Put, Get, Check}
 
--- a word for a file's path, under this name
-abbrev pub file_rule : Text → Rule
-file_rule name = record (new_rule name) { value_names = 1; required = true; action = Some Set }
+-- a word that has to be there, under this name
+abbrev pub word_rule : Text → Rule
+word_rule name = record (new_rule name) { value_names = 1; required = true; action = Some Set }
+
+-- one word or more, under this name
+abbrev pub words_rule : Text → Rule
+words_rule name = record (word_rule name) { action = Some Append }
 
 -- an option that takes a number from 0 to 255
 abbrev pub number_rule : Text → Text → Rule
@@ -36,8 +34,16 @@ number_rule name default = record (new_rule name) {
   defaults = default ∷ [];
 }
 
+-- an option that takes a number of 64 bits, and may be left out
+abbrev pub large_number_rule : Text → Rule
+large_number_rule name = record (new_rule name) {
+  long = Some name;
+  value_names = 1;
+  parser = Some (parser.Unsigned 0 18446744073709551615);
+}
+
 abbrev pub filed : App → App
-filed app = with_rule app (file_rule (codes "file"))
+filed app = with_rule app (word_rule (codes "file"))
 
 -- with the place of a segment
 abbrev pub placed : App → App
@@ -46,7 +52,21 @@ placed app = with_rule (with_rule app (number_rule (codes "index") (codes "0")))
 
 -- with an old file, a new one and their place
 abbrev pub paired : App → App
-paired app = placed (with_rule (with_rule app (file_rule (codes "old"))) (file_rule (codes "new")))
+paired app = placed (with_rule (with_rule app (word_rule (codes "old"))) (word_rule (codes "new")))
+
+abbrev pub addressed : App → App
+addressed app = with_rule app (word_rule (codes "address"))
+
+-- with an address, files, and the numbers of a server
+abbrev pub served : App → App
+served app = with_rule
+    (with_rule (with_rule (addressed app) (words_rule (codes "files")))
+    (number_rule (codes "scanners") (codes "4"))) (large_number_rule (codes "connections"))
+
+-- with an address, the words of a request, and the number of tries
+abbrev pub called : App → App
+called app = with_rule (with_rule (addressed app) (words_rule (codes "request")))
+    (number_rule (codes "tries") (codes "1"))
 
 abbrev pub top_shape : Shape
 top_shape = record ((new_app (codes "snapd")).top) {
@@ -60,48 +80,17 @@ program_of = record { top = top_shape; subs = [] }
 
 abbrev pub grammar_of : App
 grammar_of = with_subcommand
-    (with_subcommand (with_subcommand (with_subcommand (with_subcommand (with_subcommand program_of
+    (with_subcommand (with_subcommand (with_subcommand (with_subcommand (with_subcommand
+    (with_subcommand (with_subcommand program_of
     (placed (filed (new_app (codes "format")))).top)
     (placed (filed (new_app (codes "put")))).top)
     (placed (filed (new_app (codes "get")))).top)
     (filed (new_app (codes "check"))).top)
-    (paired (new_app (codes "migrate"))).top) (new_app (codes "script")).top
+    (paired (new_app (codes "migrate"))).top)
+    (served (new_app (codes "serve"))).top)
+    (called (new_app (codes "call"))).top) (new_app (codes "script")).top
 
--- the command's name and the words of its rules
-abbrev pub IsCommand : Option (Text × List Row) → Text → Text → Type 0
-IsCommand found name file = (rows : List Row) × (found ≡ Some (name, rows))
-    × (first_of (codes "file") rows ≡ Some file)
-
--- the command's name and the words of its rules, with an old file and a new one
-abbrev pub IsPair : Option (Text × List Row) → Text → (old new : Text) → Type 0
-IsPair found name old new = (rows : List Row) × (found ≡ Some (name, rows))
-    × (first_of (codes "old") rows ≡ Some old) × (first_of (codes "new") rows ≡ Some new)
-
--- the words are those of this order: its command, and its file
-abbrev pub IsFileAskedBy : List Text → FileOrder → Type 0
-IsFileAskedBy words (Format file index count) =
-    IsCommand (subcommand_of grammar_of words) (codes "format") file.now
-IsFileAskedBy words (Put file index count) =
-    IsCommand (subcommand_of grammar_of words) (codes "put") file.now
-IsFileAskedBy words (Get file index count) =
-    IsCommand (subcommand_of grammar_of words) (codes "get") file.now
-IsFileAskedBy words (Check file) =
-    IsCommand (subcommand_of grammar_of words) (codes "check") file.now
-
-abbrev pub IsAskedBy : List Text → Order → Type 0
-IsAskedBy words (order.File o) = IsFileAskedBy words o
-IsAskedBy words (order.Migrate m) =
-    IsPair (subcommand_of grammar_of words) (codes "migrate") m.old.now m.new.now
-IsAskedBy words order.Script = (rows : List Row)
-    × (subcommand_of grammar_of words ≡ Some (codes "script", rows))
-
--- a fault that words of the grammar may have: their numbers are outside the limits, or memory is
--- wanting
-abbrev pub IsLaterFault : WordFault → Type 0
-IsLaterFault (fault.Count count) = Unit {0}
-IsLaterFault (fault.Index index count) = Unit {0}
-IsLaterFault (fault.Number what) = Unit {0}
-IsLaterFault (fault.Missing what) = Unit {0}
-IsLaterFault fault.NoCommand = Unit {0}
-IsLaterFault fault.Memory = Unit {0}
-IsLaterFault why = ⊥
+-- the command has these words, and none that holds for other commands too
+pub record IsCommandOf (words : App) (command : Command) : Type 0 where
+  pub app : app_of command ≡ words
+  pub local : (out-Command command).has_globals ≡ false

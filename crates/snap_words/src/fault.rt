@@ -1,9 +1,30 @@
 //! Why words are no order.
+use snap_frame::MAX_UPDATE_VALUE;
 use std::alloc::AllocError;
 use thiserror::Error;
 
 /// Where to read on.
 const MORE: &str = "\n\nFor more information, try '--help'.";
+
+/// Why words are no request. Its text says it in a sentence that begins in lower case.
+#[derive(Clone, Copy, Debug, PartialEq, Eq, Error)]
+pub enum RequestFault {
+    /// They are of no request's form.
+    #[error("the request is not `update I NUMBER HEX`, `scan` or `status`")]
+    Form,
+    /// An update's segment is no number from 0 to 255.
+    #[error("the update's segment is not a number from 0 to 255")]
+    Segment,
+    /// An update's number is no number of 64 bits.
+    #[error("the update's number is not a number from 0 to {max}", max = u64::MAX)]
+    Number,
+    /// An update's value is no text of bytes.
+    #[error("the update's value is not `-` or two hexadecimal digits for each byte")]
+    Value,
+    /// An update's value doesn't fit a request.
+    #[error("the update's value has {len} bytes, and a request holds at most {max}", max = MAX_UPDATE_VALUE)]
+    TooLong { len: usize },
+}
 
 /// Why words are no order. Its text is what standard error gets behind `snapd: `; that of `Help`
 /// is for standard output.
@@ -21,7 +42,22 @@ pub enum WordFault {
     /// The index isn't below the count.
     #[error("error: the index {index} is not below the count {count}{more}", more = MORE)]
     Index { index: u8, count: u8 },
-    /// The word for this, which is an index or a count, is no number from 0 to 255.
+    /// A server's files are none, or more than it may have.
+    #[error("error: the number of files {count} is not from 1 to 16{more}", more = MORE)]
+    Files { count: usize },
+    /// A server's scanners are none, or more than it may have.
+    #[error("error: the number of scanners {scanners} is not from 1 to 16{more}", more = MORE)]
+    Scanners { scanners: u8 },
+    /// The word for a server's connections is no number of 64 bits.
+    #[error("error: the number of connections is not from 0 to {max}{more}", max = u64::MAX, more = MORE)]
+    Connections,
+    /// The tries are none, or more than there may be.
+    #[error("error: the number of tries {tries} is not from 1 to 10{more}", more = MORE)]
+    Tries { tries: u8 },
+    /// The words for a request are none.
+    #[error("error: {0}{more}", more = MORE)]
+    Request(RequestFault),
+    /// The word for this is no number from 0 to 255.
     #[error("error: the {what} is not a number from 0 to 255{more}", more = MORE)]
     Number { what: &'static str },
     /// There is no word for this.

@@ -6,9 +6,11 @@ Example:
   echo 'step 100' | snapd put manifest.snap
   snapd get manifest.snap
 
+Many values for many readers: see `snapd serve --help` and `snapd call --help`.
+
 Exit status:
   0  done
-  1  a path or a standard stream failed
+  1  a path, an address, a connection or a standard stream failed
   2  the words can't be read
   3  refused; the number and the name of the refusal are on standard error";
 
@@ -47,6 +49,61 @@ Cut off before, it can be run again: NEW is then unformatted, or refused as
 
 Example:
   snapd migrate manifest.snap manifest.new && mv manifest.new manifest.snap";
+
+pub(crate) const SERVE_HELP: &str = "\
+Each FILE is one segment, made before by `snapd format FILE --index I --count N`, where I counts
+from 0 in the order of the files and N is how many there are. All files are locked while it runs,
+so there is one server on its files, and `put` on one of them says that it is in use.
+
+It recovers all files, prints `segment I number K length L spare closed` (or `open`) for each and
+`segments N`, binds ADDR, and prints `listening ADDRESS`, with the port that it got where ADDR has
+port 0. From then on it answers `snapd call` and other clients, and says of each connection that
+ends how it ended, as one line on standard error. It runs until it is killed, or until K
+connections have ended; then it prints `served K`.
+
+Any number of clients may be connected. A scanner answers one request after the other, so as many
+requests are answered at the same moment as there are scanners. A store that waits for its disk
+holds up no scanner.
+
+There is no login: who reaches ADDR may read and write all segments. Use 127.0.0.1 or ::1, and a
+tunnel from elsewhere.
+
+Killing it is a proper stop, with any signal and at any time: what was acknowledged or shown is in
+the files, and the next start gives it back.
+
+Exit status:
+  0  K connections were served
+  1  a file, ADDR, standard output or accepting failed
+  2  the words can't be read
+  3  a file was refused, or memory is wanting; the number and the name are on standard error
+
+Example:
+  snapd format a.snap --index 0 --count 2
+  snapd format b.snap --index 1 --count 2
+  snapd serve 127.0.0.1:7878 a.snap b.snap";
+
+pub(crate) const CALL_HELP: &str = "\
+Requests:
+  update I NUMBER HEX  store HEX as value NUMBER of segment I; prints `stored NUMBER`
+  scan                 all values at one moment; prints `segment I number K value HEX` for each
+  status               prints `segment I number K fenced 0`, or `fenced 1`, for each segment
+
+I is 0 to 255. NUMBER is one more than the segment's number, or that number and its value again:
+a repeat is answered as stored. HEX is two hexadecimal digits for each byte, and `-` for no byte.
+A fenced segment takes no update until its server is started again, since a store of it failed.
+
+A connection that fails is tried again up to T times in all, with the same request. That is safe:
+an update whose number is stored already isn't stored twice.
+
+Exit status:
+  0  done
+  1  no connection gave an answer, or standard output failed; an update may have been stored
+  2  the words can't be read
+  3  refused, with `snapd: refused CODE NAME DETAIL` on standard error, or memory is wanting
+
+Examples:
+  snapd call 127.0.0.1:7878 update 0 1 6869
+  snapd call 127.0.0.1:7878 scan --tries 3";
 
 pub(crate) const SCRIPT_HELP: &str = "\
 A script is lines of words, which single spaces part. Empty lines are skipped. The first other

@@ -5,10 +5,14 @@
 //! words.
 #![tactic(auto)]
 
+mod calling;
 mod fault;
 mod grammar;
 mod help;
+mod numbers;
+mod request;
+mod serving;
 mod words;
 
-pub use fault::WordFault;
+pub use fault::{RequestFault, WordFault};
 pub use words::order;

@@ -2,16 +2,20 @@
 ghost use Rattle.std.specs.Prelude.{◌≡◌, ◌↔◌, IfErr, IfOk, IsTrue, Some, codes, map, true};
 ghost use Rattle.clap.specs.Words.{first_value, found_of, takes};
 ghost use Rattle.snap_order.specs.Order.{IsPlace, IsWithinLimits};
-ghost use Rattle.snap_words.specs.Faults.{AreNumbersOf, IsFaultOf, IsNumberFault, IsNumberOf};
-ghost use Rattle.snap_words.specs.Faults.{IsMigrationFault, IsParseFault, IsPlaceFault};
-ghost use Rattle.snap_words.specs.Grammar.{IsAskedBy, IsLaterFault, grammar_of};
+ghost use Rattle.snap_words.specs.Faults.{AreNumbersOf, IsFaultOf, IsLaterFault};
+ghost use Rattle.snap_words.specs.Faults.{IsMigrationFault, IsParseFault};
+ghost use Rattle.snap_words.specs.Numbers.{IsNumberOf};
+ghost use Rattle.snap_words.specs.Grammar.{grammar_of};
+ghost use Rattle.snap_words.specs.Orders.{IsAskedBy};
 
 use crate::WordFault;
+use crate::calling::calling;
 use crate::grammar::grammar;
+use crate::numbers::place;
+use crate::serving::serving;
 use clap::ArgMatches;
 use clap::error::ErrorKind;
 use snap_order::{FileOrder, Migration, Order};
-use snap_slot::MAX_COUNT;
 use std::alloc::Global;
 use std::convert::AsStr;
 
@@ -41,6 +45,12 @@ pub fn order<'a, S: AsStr>(alloc: Global, words: &'a [S]) -> Result<Order<'a>, W
     if command == "script" {
         return Ok(Order::Script);
     }
+    if is(command, "serve") {
+        return Ok(Order::Serve(serving(alloc, matches)?));
+    }
+    if is(command, "call") {
+        return Ok(Order::Call(calling(alloc, matches)?));
+    }
     if is(command, "migrate") {
         return Ok(Order::Migrate(migration(matches)?));
     }
@@ -61,7 +71,7 @@ pub fn order<'a, S: AsStr>(alloc: Global, words: &'a [S]) -> Result<Order<'a>, W
 }
 
 /// The command has this name.
-fn is(command: &str, name: &'static str) -> bool
+pub(crate) fn is(command: &str, name: &'static str) -> bool
     ensures { IsTrue result ↔ (command.now ≡ name.now) }
 {
     command == name
@@ -93,43 +103,6 @@ fn migration<'a>(matches: &ArgMatches<'a>) -> Result<Migration<'a>, WordFault>
         index,
         count,
     })
-}
-
-/// The place of a file's segment, within the limits.
-fn place(matches: &ArgMatches<'_>) -> Result<(u8, u8), WordFault>
-    ensures place { IfOk result (λ place. IsPlace place.0 place.1) }
-    ensures index { IfOk result
-        (λ place. IsNumberOf (first_value (found_of matches.now) (codes "index")) place.0) }
-    ensures count { IfOk result
-        (λ place. IsNumberOf (first_value (found_of matches.now) (codes "count")) place.1) }
-    ensures fault { IfErr result
-        (IsPlaceFault (first_value (found_of matches.now) (codes "index"))
-        (first_value (found_of matches.now) (codes "count"))) }
-{
-    let index = number_of(matches, "index")?;
-    let count = number_of(matches, "count")?;
-    if count == 0 || count > MAX_COUNT {
-        return Err(WordFault::Count { count });
-    }
-    if index >= count {
-        return Err(WordFault::Index { index, count });
-    }
-    Ok((index, count))
-}
-
-/// The number that stands for this, from 0 to 255.
-fn number_of(matches: &ArgMatches<'_>, what: &'static str) -> Result<u8, WordFault>
-    ensures number { IfOk result (IsNumberOf (first_value (found_of matches.now) what.now)) }
-    ensures fault { IfErr result
-        (IsNumberFault (first_value (found_of matches.now) what.now) what.now) }
-{
-    let Some(word) = matches.get_str(what) else {
-        return Err(WordFault::Missing { what });
-    };
-    match word.parse::<u8>() {
-        Ok(number) => Ok(number),
-        Err(_) => Err(WordFault::Number { what }),
-    }
 }
 
 /// What a parse answered in place of matches.

@@ -1,4 +1,6 @@
 //! What no clause says: defaults, and the texts of faults and of help.
+mod server;
+
 use snap_order::{FileOrder, Migration, Order};
 use snap_words::{WordFault, order};
 use std::process::Abort;
@@ -84,12 +86,12 @@ fn faults_of_words_say_what_is_wrong(rt: HostRuntime) -> Result<(), Fail> {
     Ok(())
 }
 
-/// The command's help says this of its file, and has an example.
-fn is_helped(rt: &(impl Abort + AllocGlobal), command: &str, file: &str) -> Result<(), Fail> {
+/// The command's help says this, and has an example.
+fn is_helped(rt: &(impl Abort + AllocGlobal), command: &str, says: &str) -> Result<(), Fail> {
     let (is_help, text) = fault(rt, &["snapd", command, "--help"])?;
     assert!(rt; is_help, "{command}");
-    assert!(rt; text.contains(file), "{command}");
-    assert!(rt; text.contains("\nExample:\n  "), "{command}");
+    assert!(rt; text.contains(says), "{command}");
+    assert!(rt; text.contains("\nExample"), "{command}");
     Ok(())
 }
 

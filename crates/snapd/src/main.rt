@@ -5,28 +5,35 @@
 //! its standard streams.
 #![tactic(auto)]
 
-ghost use Rattle.snap_order.specs.Order.{IsFileWithinLimits, IsPlace};
+ghost use Rattle.snap_order.specs.Order.{IsCallable, IsFileWithinLimits, IsPlace};
+ghost use Rattle.snap_order.specs.Order.{IsServable, IsWithinLimits};
 
+mod calling;
 mod opening;
+mod serving;
 
+use calling::call;
 use opening::{PairFault, check_streams, open_file, open_pair};
+use serving::{FilesFault, open_files, serve};
 use snap_command::{Failure, MigrationFailure, act, act_pair};
 use snap_disk::{FileFault, Refusal};
-use snap_order::{FileOrder, Migration, Order, Status};
+use snap_order::{Calling, FileOrder, Migration, Order, Serving, Status};
 use snap_script::play;
 use snap_stream::complain;
 use snap_words::{WordFault, order};
+use std::alloc::AllocError;
 use std::env;
 use std::io::{BufWriter, ErrorKind};
+use std::net::Net;
 use std::process::ExitCode;
+use std::rt::Clock;
 use std::sync::Wait;
+use std::thread::Threads;
 
 fn main(rt: HostRuntime) -> ExitCode {
     let status = match words_of(&rt) {
         Ok(words) => match order(rt.alloc(), words.as_slice()) {
-            Ok(Order::File(order)) => run(&rt, &order),
-            Ok(Order::Migrate(order)) => run_migration(&rt, &order),
-            Ok(Order::Script) => play_script(&rt, &rt),
+            Ok(order) => do_order(&rt, &rt, &order),
             Err(fault) => explain(&rt, &fault),
         },
         Err(fault) => explain(&rt, &fault),
@@ -40,6 +47,24 @@ fn words_of(rt: &HostRuntime) -> Result<Vec<String>, WordFault> {
         Ok(words) => Ok(words.collect(rt.alloc())?),
         Err(error) if error.kind() == ErrorKind::OutOfMemory => Err(WordFault::Memory),
         Err(_) => Err(WordFault::NotText),
+    }
+}
+
+/// Does what the words ask for. `threads` is the runtime as what may wait, start threads and open
+/// sockets.
+fn do_order<X: Threads + Wait + Clock + Net + Sync + Send + Copy>(
+    threads: &X,
+    rt: &HostRuntime,
+    order: &Order<'_>,
+) -> Status
+    requires { IsWithinLimits order.now }
+{
+    match order {
+        Order::File(order) => run(rt, order),
+        Order::Migrate(order) => run_migration(rt, order),
+        Order::Serve(order) => run_server(threads, rt, order),
+        Order::Call(order) => run_call(rt, order),
+        Order::Script => play_script(threads, rt),
     }
 }
 
@@ -116,6 +141,48 @@ fn run_migration(rt: &HostRuntime, order: &Migration<'_>) -> Status
         &mut rt.stderr(),
     );
     ended.status
+}
+
+/// Opens the order's files, and serves them: `threads` is the runtime as what may wait, start
+/// threads and open sockets.
+fn run_server<X: Threads + Wait + Clock + Net + Sync + Send + Copy>(
+    threads: &X,
+    rt: &HostRuntime,
+    order: &Serving<'_>,
+) -> Status
+    requires { IsServable order.now }
+{
+    if !are_streams_open(rt) {
+        return Status::Failed;
+    }
+    let devices = match open_files(rt, rt.alloc(), order) {
+        Ok(devices) => devices,
+        Err(FilesFault::Path { file, fault }) => return fail_at(rt, file, &fault),
+        Err(FilesFault::NoMemory) => return stop(rt, &Failure::Refused(Refusal::NoMemory)),
+    };
+    let served = serve(
+        threads,
+        rt.alloc(),
+        order,
+        devices,
+        &mut rt.stdout(),
+        &mut rt.stderr(),
+        rt.stderr(),
+    );
+    match served {
+        Ok(ended) => ended.status,
+        Err(AllocError) => stop(rt, &Failure::Refused(Refusal::NoMemory)),
+    }
+}
+
+/// Asks a server.
+fn run_call(rt: &HostRuntime, order: &Calling<'_>) -> Status
+    requires { IsCallable order.now }
+{
+    if !are_streams_open(rt) {
+        return Status::Failed;
+    }
+    call(rt, rt.alloc(), order, &mut rt.stdout(), &mut rt.stderr())
 }
 
 /// The standard streams are open. Says which one isn't.

@@ -35,7 +35,7 @@ pub(crate) struct Worker<R: Wait + Copy, M: Memory> {
 
 /// Answers what the session holds, until it waits.
 fn answer<R: Wait + Copy, M: Memory>(
-    desk: &mut Desk<'_, R, M, Held>,
+    desk: &mut Desk<R, M, Held>,
     session: &mut Session,
     key: usize,
 ) {
@@ -48,7 +48,7 @@ fn answer<R: Wait + Copy, M: Memory>(
 
 /// These bytes come to the session.
 fn ask<R: Wait + Copy, M: Memory>(
-    desk: &mut Desk<'_, R, M, Held>,
+    desk: &mut Desk<R, M, Held>,
     session: &mut Session,
     bytes: &[u8],
     key: usize,
@@ -69,7 +69,7 @@ impl<R: Wait + Copy, M: Memory> Worker<R, M> {
     }
 
     /// Finishes what the session waits for, until it waits for nothing.
-    fn finish(&self, rt: &R, desk: &mut Desk<'_, R, M, Held>, session: &mut Session, key: usize) {
+    fn finish(&self, rt: &R, desk: &mut Desk<R, M, Held>, session: &mut Session, key: usize) {
         for _ in 0..100u64 {
             if session.over().is_some() || session.is_free() {
                 return;
@@ -86,7 +86,7 @@ impl<R: Wait + Copy, M: Memory> Worker<R, M> {
     fn talk(
         &mut self,
         rt: &R,
-        desk: &mut Desk<'_, R, M, Held>,
+        desk: &mut Desk<R, M, Held>,
         bytes: &[u8],
     ) -> Result<(), AllocError> {
         let mut session = Session::new(self.alloc);
@@ -99,7 +99,7 @@ impl<R: Wait + Copy, M: Memory> Worker<R, M> {
     fn pass(
         &mut self,
         rt: &R,
-        desk: &mut Desk<'_, R, M, Held>,
+        desk: &mut Desk<R, M, Held>,
         update: &[u8],
         released: &AtomicU64,
     ) -> Result<(), AllocError> {
@@ -119,7 +119,7 @@ impl<R: Wait + Copy, M: Memory> Worker<R, M> {
     fn forget(
         &mut self,
         rt: &R,
-        desk: &mut Desk<'_, R, M, Held>,
+        desk: &mut Desk<R, M, Held>,
         update: &[u8],
     ) -> Result<(), AllocError> {
         let mut gone = Session::new(self.alloc);
@@ -134,7 +134,7 @@ impl<R: Wait + Copy, M: Memory> Worker<R, M> {
     pub(crate) fn run(
         &mut self,
         rt: &R,
-        desk: &mut Desk<'_, R, M, Held>,
+        desk: &mut Desk<R, M, Held>,
         course: Course,
         bytes: &[u8],
         released: &AtomicU64,

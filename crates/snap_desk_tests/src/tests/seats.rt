@@ -4,8 +4,8 @@ ghost use Rattle.snap_restart.specs.Closed.{AreBack};
 ghost use Rattle.snap_service.specs.Memory.{AreWriters, IsOf};
 
 use crate::tests::course::{Course, Worker};
-use crossbeam_channel::{Receiver, Sender, bounded};
-use snap_desk::{Desk, Errand, Told, Window, store_all};
+use crossbeam_channel::{Sender, bounded};
+use snap_desk::{Desk, StoreThread, Told};
 use snap_disk::Held;
 use snap_memory::{Scanner, Snapshot};
 use snap_restart::Store;
@@ -18,16 +18,6 @@ use std::sync::Wait;
 use std::sync::atomic::AtomicU64;
 use std::thread::{Threads, join};
 
-/// What a store's thread owns.
-#[derive(Drop)]
-struct StoreSeat<M: Memory> {
-    /// None where it didn't come back.
-    writer: Option<WriterOf<M, Held>>,
-    errands: Receiver<Errand>,
-    home: Sender<WriterOf<M, Held>>,
-    back: Receiver<WriterOf<M, Held>>,
-}
-
 /// What came of a run.
 #[derive(Drop)]
 pub(crate) struct Seen {
@@ -39,117 +29,85 @@ pub(crate) struct Seen {
     pub flag: u64,
 }
 
-impl<M: Memory> StoreSeat<M> {
-    /// The seat, whose window is added to the others.
-    fn new(
-        alloc: Global,
-        writer: WriterOf<M, Held>,
-        windows: &mut Vec<Window>,
-    ) -> Result<StoreSeat<M>, AllocError> {
-        let (to, errands) = bounded(alloc, 16)?;
-        let (home, back) = bounded(alloc, 1)?;
-        windows.push(Window {
-            errands: to,
-            standing: AtomicU64::new(0),
-        })?;
-        Ok(StoreSeat {
-            writer: Some(writer),
-            errands,
-            home,
-            back,
-        })
-    }
-
-    /// Stores until the desk leaves.
-    fn work<R: Wait + Copy>(
-        &mut self,
-        rt: &R,
-        window: &Window,
-        desks: &[Sender<Told<R, M, Held>>],
-    ) {
-        if let Some(writer) = self.writer.take() {
-            self.writer = store_all(
-                *rt,
-                writer,
-                window,
-                &self.errands,
-                &self.home,
-                &self.back,
-                desks,
-            );
+/// Stores what is handed over, until no desk is left.
+fn work_store<R: Wait + Copy, M: Memory>(
+    rt: &R,
+    store: &mut StoreThread<R, M, Held>,
+    desks: &[Sender<Told<R, M, Held>>],
+) {
+    for _ in rt.forever() {
+        let Some(told) = store.next() else {
+            return;
+        };
+        if let Some(desk) = desks.get(told.worker) {
+            // An outcome that nobody takes lets its writer go home.
+            let _ = desk.send(rt, told);
         }
-    }
-
-    /// Adds what its writer shows at the end.
-    fn tell(self, seen: &mut Seen) -> Result<(), AllocError> {
-        let StoreSeat { writer, .. } = self;
-        if let Some(writer) = writer {
-            seen.numbers.push(writer.number())?;
-            let (segment, _) = writer.into_writer().into_parts();
-            if let Some(waited) = segment.into_device().waited() {
-                seen.flag = waited.flag;
-            }
-        }
-        Ok(())
     }
 }
 
-/// The worker's course, and then the desk leaves.
+/// Adds what the store's writer shows at the end.
+fn tell<R: Wait + Copy, M: Memory>(
+    store: StoreThread<R, M, Held>,
+    seen: &mut Seen,
+) -> Result<(), AllocError> {
+    if let Some(writer) = store.into_writer() {
+        seen.numbers.push(writer.number())?;
+        let (segment, _) = writer.into_writer().into_parts();
+        if let Some(waited) = segment.into_device().waited() {
+            seen.flag = waited.flag;
+        }
+    }
+    Ok(())
+}
+
+/// The worker's course, and then the desk is gone.
 fn work_desk<R: Wait + Copy, M: Memory>(
     rt: &R,
     worker: &mut Worker<R, M>,
-    desk: &mut Desk<'_, R, M, Held>,
-    windows: &[Window],
+    mut desk: Desk<R, M, Held>,
     work: (Course, &[u8], &AtomicU64),
 ) -> Result<(), AllocError> {
     let (course, bytes, released) = work;
-    let done = worker.run(rt, desk, course, bytes, released);
-    for window in windows {
-        let _ = window.errands.send(rt, Errand::Leave);
-    }
-    done
+    worker.run(rt, &mut desk, course, bytes, released)
 }
 
 /// All three at once.
 fn run_threads<R: Threads + Wait + Sync + Send + Copy, M: Memory + Send>(
     rt: &R,
-    stores: (&mut StoreSeat<M>, &mut StoreSeat<M>),
+    stores: (&mut StoreThread<R, M, Held>, &mut StoreThread<R, M, Held>),
     worker: &mut Worker<R, M>,
-    desk: &mut Desk<'_, R, M, Held>,
-    windows: &[Window],
+    desk: Desk<R, M, Held>,
     desks: &[Sender<Told<R, M, Held>>],
     work: (Course, &[u8], &AtomicU64),
 ) -> Result<(), AllocError> {
     let (first, second) = stores;
-    let (Some(one), Some(two)) = (windows.get(0), windows.get(1)) else {
-        return Err(AllocError);
-    };
     let (_, done) = join(
         rt,
         || join(
             rt,
-            || first.work(rt, one, desks),
-            || second.work(rt, two, desks),
+            || work_store(rt, first, desks),
+            || work_store(rt, second, desks),
         ),
-        || work_desk(rt, worker, desk, windows, work),
+        || work_desk(rt, worker, desk, work),
     );
     done
 }
 
 /// What the stores and the worker have at the end.
-fn seen_by<M: Memory>(
+fn seen_by<R: Wait + Copy, M: Memory>(
     alloc: Global,
     written: Vec<u8>,
-    first: StoreSeat<M>,
-    second: StoreSeat<M>,
+    first: StoreThread<R, M, Held>,
+    second: StoreThread<R, M, Held>,
 ) -> Result<Seen, AllocError> {
     let mut seen = Seen {
         written,
         numbers: Vec::new(alloc),
         flag: 0,
     };
-    first.tell(&mut seen)?;
-    second.tell(&mut seen)?;
+    tell(first, &mut seen)?;
+    tell(second, &mut seen)?;
     Ok(seen)
 }
 
@@ -157,9 +115,8 @@ fn seen_by<M: Memory>(
 fn run_desk<R: Threads + Wait + Sync + Send + Copy, M: Memory + Send>(
     rt: &R,
     alloc: Global,
-    stores: (&mut StoreSeat<M>, &mut StoreSeat<M>),
-    desk: &mut Desk<'_, R, M, Held>,
-    windows: &[Window],
+    stores: (&mut StoreThread<R, M, Held>, &mut StoreThread<R, M, Held>),
+    desk: Desk<R, M, Held>,
     work: (Course, &[u8], &AtomicU64),
 ) -> Result<Vec<u8>, AllocError> {
     let (to, inbox) = bounded(alloc, 4)?;
@@ -170,7 +127,7 @@ fn run_desk<R: Threads + Wait + Sync + Send + Copy, M: Memory + Send>(
         inbox: Some(inbox),
         written: Vec::new(alloc),
     };
-    run_threads(rt, stores, &mut worker, desk, windows, &desks, work)?;
+    run_threads(rt, stores, &mut worker, desk, &desks, work)?;
     let Worker { written, .. } = worker;
     Ok(written)
 }
@@ -187,16 +144,16 @@ fn run_writers<R: Threads + Wait + Sync + Send + Copy, M: Memory + Send>(
 {
     let (first, second) = writers;
     let segments = scanner.segments();
-    let mut windows = Vec::new(alloc);
-    let mut first = StoreSeat::new(alloc, first, &mut windows)?;
-    let mut second = StoreSeat::new(alloc, second, &mut windows)?;
+    let (mut first, one) = StoreThread::new(*rt, alloc, first)?;
+    let (mut second, two) = StoreThread::new(*rt, alloc, second)?;
+    let windows = vec![in alloc; one, two]?;
     if windows.len() != segments {
         return Err(AllocError);
     }
     let snapshot = Snapshot::new(alloc, segments)?;
-    let mut desk = Desk::new(*rt, alloc, 0, &windows, scanner, snapshot);
+    let desk = Desk::new(*rt, alloc, 0, windows, scanner, snapshot);
     let stores = (&mut first, &mut second);
-    let written = run_desk(rt, alloc, stores, &mut desk, &windows, work)?;
+    let written = run_desk(rt, alloc, stores, desk, work)?;
     seen_by(alloc, written, first, second)
 }
 

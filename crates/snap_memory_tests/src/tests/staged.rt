@@ -16,7 +16,8 @@ fn has(snapshot: &SnapshotBuf, i: usize, number: u64, value: &[u8]) -> bool {
     i < snapshot.len() && snapshot.number(i) == number && snapshot.value(i) == value
 }
 
-/// An update of the segment to this one byte, before the look so many looks after the first.
+/// An update of the segment to this one byte, before the look so many looks after the first, or
+/// before a value is read so many looks after it.
 #[derive(Drop)]
 struct Late {
     look: usize,
@@ -97,6 +98,45 @@ impl Looker for Staged<'_> {
     }
 
     fn value(&mut self, j: usize, out: &mut [u8]) -> usize {
+        self.show_all();
+        self.seat.value(j, out)
+    }
+
+    fn view(&mut self, j: usize, out: &mut SnapshotBuf) {
+        self.seat.view(j, out);
+    }
+}
+
+/// A scanner's seat that reads no value before another one has scanned.
+#[derive(Drop)]
+struct Patient<'a> {
+    seat: ReadSeat,
+    other: Staged<'a>,
+    found: SnapshotBuf,
+    is_told: bool,
+}
+
+impl Looker for Patient<'_> {
+    ghost known = { λ s. s.seat };
+
+    fn looks_left(&self) -> u64 {
+        self.seat.looks_left()
+    }
+
+    fn segments(&self) -> usize {
+        self.seat.segments()
+    }
+
+    fn has_looked(&self, j: usize) -> bool {
+        self.seat.has_looked(j)
+    }
+
+    fn look(&mut self, j: usize) -> u64 {
+        self.seat.look(j)
+    }
+
+    fn value(&mut self, j: usize, out: &mut [u8]) -> usize {
+        self.is_told = tells(&mut self.other, &mut self.found, &[1, 1]);
         self.seat.value(j, out)
     }
 
@@ -222,5 +262,64 @@ fn late_show_inside_a_scan(rt: HostRuntime) -> Result<(), Fail> {
     );
     assert!(rt; shown && told);
     assert!(rt; has(&out, 0, 1, b"a") && has(&out, 1, 1, b"b"));
+    Ok(())
+}
+
+/// An update before the first look, and a hundred before the value is read.
+fn hundred_and_one(alloc: Global) -> Result<Vec<Late>, AllocError> {
+    let mut updates = Vec::new(alloc);
+    for byte in 1..102u8 {
+        updates.push(Late {
+            look: if byte == 1 { 0 } else { 2 },
+            segment: 0,
+            byte,
+        })?;
+    }
+    Ok(updates)
+}
+
+/// A scan of one segment.
+fn scans_one(patient: &mut Patient, out: &mut SnapshotBuf) -> bool {
+    if patient.segments() != 1 || out.len() != 1 {
+        return false;
+    }
+    if patient.looks_left() < most_looks(1) as u64 {
+        return false;
+    }
+    scan(patient, out);
+    true
+}
+
+/// Both scans read their values at the end: the first one behind an update and the whole other scan,
+/// and the other one behind a hundred updates.
+#[test]
+fn two_pins_and_a_hundred_updates(rt: HostRuntime) -> Result<(), Fail> {
+    let Parts {
+        writers,
+        mut scanners,
+    } = open(rt.alloc(), 1, 2, 1000)?;
+    let (Some(seat), Some(other)) = (scanners.pop(), scanners.pop()) else {
+        panic!(rt; "a seat is missing")
+    };
+    let updates = hundred_and_one(rt.alloc())?;
+    let mut patient = Patient {
+        seat,
+        other: Staged {
+            seat: other,
+            writers,
+            updates: updates.as_slice(),
+            turn: None,
+            told: [0; 8],
+            looks: 0,
+        },
+        found: SnapshotBuf::new(rt.alloc(), 1)?,
+        is_told: false,
+    };
+    let mut out = SnapshotBuf::new(rt.alloc(), 1)?;
+    assert!(rt; scans_one(&mut patient, &mut out));
+    assert!(rt; patient.is_told && has(&patient.found, 0, 1, &[1]));
+    let writers = patient.other.writers.as_slice();
+    assert!(rt; writers.len() == 1 && writers[0].number() == 101);
+    assert!(rt; has(&out, 0, 0, &[]));
     Ok(())
 }

@@ -13,9 +13,9 @@ use std::time::Duration;
 use std::{io, thread};
 
 /// A scan, and the reply to it.
-const SCAN: &[u8] = b"\x00\x00\x00\x01\x02";
+pub(crate) const SCAN: &[u8] = b"\x00\x00\x00\x01\x02";
 
-const ZERO: &[u8] = b"\x00\x00\x00\x09\x81\x00\x00\x00\x00\x00\x00\x00\x00";
+pub(crate) const ZERO: &[u8] = b"\x00\x00\x00\x09\x81\x00\x00\x00\x00\x00\x00\x00\x00";
 
 /// An update of number 5, and the reply to it.
 const UPDATE: &[u8] = b"\x00\x00\x00\x0c\x01\x00\x00\x00\x00\x00\x00\x00\x00\x05hi";
@@ -30,7 +30,7 @@ fn gets(mut stream: &TcpStream, wanted: &[u8]) -> io::Result<bool> {
 }
 
 /// Asks once. Whether this is the reply.
-fn asks(mut stream: &TcpStream, request: &[u8], reply: &[u8]) -> io::Result<bool> {
+pub(crate) fn asks(mut stream: &TcpStream, request: &[u8], reply: &[u8]) -> io::Result<bool> {
     stream.write_all(request)?;
     gets(stream, reply)
 }

@@ -1,5 +1,5 @@
 use Rattle.std.proofs.Common.{◌≡◌, refl, sym, ◌∙◌, subst}
-use Rattle.snap_script.specs.Words.{IsHex}
+use Rattle.snap_hex.specs.Text.{IsHex}
 use Rattle.snap_script.proofs.line.begin.Goals as goal
 
 pub returns-in-Some-2 : goal.returns-in-Some-2

@@ -1,5 +1,5 @@
 use Rattle.std.proofs.Common.{codes}
-use Rattle.snap_script.proofs.Digits.{memory_on}
+use Rattle.snap_script.proofs.Values.{memory_on}
 use Rattle.snap_script.proofs.print.put_memory.Goals as goal
 
 pub loop-value-preserved : goal.loop-value-preserved

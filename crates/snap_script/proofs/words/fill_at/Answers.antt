@@ -1,5 +1,5 @@
 use Rattle.std.proofs.Common.{◌≡◌, subst}
-use Rattle.snap_script.specs.Words.{IsHex}
+use Rattle.snap_hex.specs.Text.{IsHex}
 use Rattle.snap_script.proofs.words.fill_at.Goals as goal
 
 pub returns-in-None : goal.returns-in-None

@@ -1,4 +1,4 @@
-use Rattle.std.proofs.Common.{◌≡◌, ℕ, List, false, ◌∙◌}
+use Rattle.std.proofs.Common.{◌≡◌, ℕ, List, false, ◌∙◌, rules}
 use Rattle.snap_disk.specs.Device.{MayLeave, LeavesOnly}
 use Rattle.snap_slot.specs.States.{IsAtRest}
 use Rattle.snap_slot.specs.Findings.{value_in}
@@ -61,3 +61,15 @@ returns-in-Ok-make_file-clause-last g c old_honest new_honest k v holds =
           found.number k c.value-value.result.now v same.0 value
           (c.in-Ok-make_file.ensures.last new_honest),
     )
+
+pub returns-in-Err-make_file-clause-count_err : goal.returns-in-Err-make_file-clause-count_err
+returns-in-Err-make_file-clause-count_err g c = search rules
+
+pub returns-in-Err-make_file-clause-refusals : goal.returns-in-Err-make_file-clause-refusals
+returns-in-Err-make_file-clause-refusals g c = search rules
+
+pub returns-in-Err-make_file-clause-new_untouched : goal.returns-in-Err-make_file-clause-new_untouched
+returns-in-Err-make_file-clause-new_untouched g c = search rules
+
+pub returns-in-Err-make_file-clause-old_refused : goal.returns-in-Err-make_file-clause-old_refused
+returns-in-Err-make_file-clause-old_refused g c = search rules

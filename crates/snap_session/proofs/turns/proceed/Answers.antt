@@ -9,6 +9,10 @@ use Rattle.snap_session.proofs.Turning.{
   then_keeps,
   then_ends,
   few_left,
+  on_any,
+  on_none,
+  or_new,
+  still_under,
 }
 use Rattle.snap_session.proofs.turns.proceed.Goals as goal
 
@@ -16,6 +20,7 @@ pub loop-init : goal.loop-init
 loop-init g c = record {
   turns = begins g.S.Service.gives _ _ _ _;
   free = λ no at. at;
+  under = λ none. on_none _ _ none;
   bounded =
       λ few. few;
 }
@@ -46,6 +51,7 @@ loop-preserved-in-Turn g c =
       turns = then_round g.S.Service.gives _ _ _ _ _ _ _ _ _ _ _ _ c.loop.invariant.turns
           c.send_owed.ensures.sends c.answer.ensures.goes;
       free = λ no at. c.in-Turn.ensures.wants.0;
+      under = λ none. on_none _ _ c.in-Turn.ensures.wants.0;
       bounded = λ few. c.answer.ensures.bounded
           (few_left _ _ _ c.send_owed.ensures.sends.owed (c.loop.invariant.bounded few));
     }
@@ -62,7 +68,9 @@ loop-preserved-in-Outcome-2 g c =
           c.send_owed.ensures.sends c.answer.ensures.goes;
       free =
           λ no at. absurd (no (c.in-Outcome-2.ensures.wants.0 (c.send_owed.ensures.sends.asked
-          ∙ c.loop.invariant.free no at)));
+          ∙ c.loop.invariant.free no at)).0);
+      under = λ none. on_any _ _ (or_new _ _ (c.loop.invariant.under none)
+          (λ free. (c.in-Outcome-2.ensures.wants.0 (c.send_owed.ensures.sends.asked ∙ free)).1));
       bounded =
           λ few. c.answer.ensures.bounded
           (few_left _ _ _ c.send_owed.ensures.sends.owed (c.loop.invariant.bounded few));
@@ -74,6 +82,7 @@ loop-preserved-then-not-is_empty g c =
       turns = then_round g.S.Service.gives _ _ _ _ _ _ _ _ _ _ _ _ c.loop.invariant.turns
           c.send_owed.ensures.sends c.answer.ensures.goes;
       free = λ no at. c.in-Bytes.ensures.wants.1;
+      under = λ none. on_none _ _ c.in-Bytes.ensures.wants.1;
       bounded = λ few. c.answer.ensures.bounded
           (few_left _ _ _ c.send_owed.ensures.sends.owed (c.loop.invariant.bounded few));
     }
@@ -116,6 +125,8 @@ loop-preserved g c =
           c.send_owed.ensures.sends c.answer.ensures.goes) c.in-Bytes.ensures.wants.0
           c.in-Ok.ensures.bytes.0 c.take_in.ensures;
       free = λ no at. taken_asked _ _ _ c.take_in.ensures ∙ c.in-Bytes.ensures.wants.1;
+      under = λ none. on_none _ _
+          (taken_asked _ _ _ c.take_in.ensures ∙ c.in-Bytes.ensures.wants.1);
       bounded = λ few. subst (λ zs. length zs ≤ most_owed)
           (sym (taken_owed _ _ _ c.take_in.ensures))
           (c.answer.ensures.bounded
@@ -162,3 +173,35 @@ pub returns-in-Err-2-clause-bounded : goal.returns-in-Err-2-clause-bounded
 returns-in-Err-2-clause-bounded g c =
     λ few. c.answer.ensures.bounded
     (few_left _ _ _ c.send_owed.ensures.sends.owed (c.loop.invariant.bounded few))
+
+pub returns-in-Blocked-clause-under : goal.returns-in-Blocked-clause-under
+returns-in-Blocked-clause-under g c =
+    λ none. still_under _ _ _ c.send_owed.ensures.sends.asked (c.loop.invariant.under none)
+
+pub returns-in-Failed-clause-under : goal.returns-in-Failed-clause-under
+returns-in-Failed-clause-under g c =
+    λ none. still_under _ _ _ c.send_owed.ensures.sends.asked (c.loop.invariant.under none)
+
+pub returns-in-Some-TooLarge-clause-under : goal.returns-in-Some-TooLarge-clause-under
+returns-in-Some-TooLarge-clause-under g c =
+    λ none. still_under _ _ _ c.send_owed.ensures.sends.asked (c.loop.invariant.under none)
+
+pub returns-in-Some-NoMemory-clause-under : goal.returns-in-Some-NoMemory-clause-under
+returns-in-Some-NoMemory-clause-under g c =
+    λ none. still_under _ _ _ c.send_owed.ensures.sends.asked (c.loop.invariant.under none)
+
+pub returns-in-Outcome-clause-under : goal.returns-in-Outcome-clause-under
+returns-in-Outcome-clause-under g c = λ none. on_any _ _ (or_new _ _ (c.loop.invariant.under none)
+    (λ free. (c.in-Outcome.ensures.wants.0 (c.send_owed.ensures.sends.asked ∙ free)).1))
+
+pub returns-in-Ok-eq0-clause-under : goal.returns-in-Ok-eq0-clause-under
+returns-in-Ok-eq0-clause-under g c = λ none. on_none _ _ c.in-Bytes.ensures.wants.1
+
+pub returns-in-Ok-eq0-2-clause-under : goal.returns-in-Ok-eq0-2-clause-under
+returns-in-Ok-eq0-2-clause-under g c = λ none. on_none _ _ c.in-Bytes.ensures.wants.1
+
+pub returns-in-Err-clause-under : goal.returns-in-Err-clause-under
+returns-in-Err-clause-under g c = λ none. on_none _ _ c.in-Bytes.ensures.wants.1
+
+pub returns-in-Err-2-clause-under : goal.returns-in-Err-2-clause-under
+returns-in-Err-2-clause-under g c = λ none. on_none _ _ c.in-Bytes.ensures.wants.1

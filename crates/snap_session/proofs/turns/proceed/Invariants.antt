@@ -1,4 +1,4 @@
-use Rattle.std.proofs.Common.{None, ◌≡◌, ◌≤◌, length}
+use Rattle.std.proofs.Common.{None, ◌≡◌, ◌≤◌, length, OnSome}
 use Rattle.snap_session.specs.Talk.{Stays, most_owed}
 use Rattle.snap_session.specs.Turns.{Turns}
 use Rattle.snap_session.proofs.turns.proceed.Given as goal
@@ -9,5 +9,6 @@ invariant-loop g l = record {
       (g.R.Read.remaining l.fn.reader) (g.R.Read.remaining l.reader)
       (g.W.Write.contents l.fn.writer) (g.W.Write.contents l.writer) l.session;
   free : (g.S.Service.hands_over → ⊥) → l.fn.session.asked ≡ None → l.session.asked ≡ None;
+  under : l.fn.session.asked ≡ None → OnSome l.session.asked (g.S.Service.hands_over_under l.fn.key);
   bounded : length l.fn.session.owed ≤ most_owed → length l.session.owed ≤ most_owed;
 }

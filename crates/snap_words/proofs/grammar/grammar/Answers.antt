@@ -16,7 +16,11 @@ returns c =
     ∙ ap₂ with_subcommand three (ap top c.in_ok-check_command.ensures.app) in
     let five = c.in_ok-commands-5.ensures.shape c.in_ok-migrate_command.ensures.local
     ∙ ap₂ with_subcommand four (ap top c.in_ok-migrate_command.ensures.app) in
-    IfOk-weaker c.subcommand-6.result _ _
+    let six = c.in_ok-commands-6.ensures.shape c.in_ok-serve_command.ensures.local
+    ∙ ap₂ with_subcommand five (ap top c.in_ok-serve_command.ensures.app) in
+    let seven = c.in_ok-commands-7.ensures.shape c.in_ok-call_command.ensures.local
+    ∙ ap₂ with_subcommand six (ap top c.in_ok-call_command.ensures.app) in
+    IfOk-weaker c.subcommand-8.result _ _
     (λ r h. h.shape c.script_command.ensures.local
-    ∙ ap₂ with_subcommand five (ap top c.script_command.ensures.app))
-    c.subcommand-6.ensures
+    ∙ ap₂ with_subcommand seven (ap top c.script_command.ensures.app))
+    c.subcommand-8.ensures

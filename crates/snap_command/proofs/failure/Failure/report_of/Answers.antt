@@ -11,7 +11,7 @@ returns-in-Refused-WrongFile-clause-says g c =
     let why : c.args.self.now ≡ Refused WrongFile = grind (arith, common_steps) in
     says_of_old c.args.self.now why c.args.file.now c.args.len c.if-len-eq-OLD_FILE_LEN.true
     c.complain_twice.result _ _
-    (c.complain_twice.ensures (advice_line c.args.file.now) c.advice.ensures)
+    (c.complain_twice.ensures.says (advice_line c.args.file.now) c.advice.ensures)
 
 pub returns-in_default-clause-says : goal.returns-in_default-clause-says
 returns-in_default-clause-says g c =

@@ -12,7 +12,7 @@ returns-in-Old-clause-says g c =
     c.in-OfFile.is ∙ ap (λ (which : Which). OfFile which c.in-OfFile.why) c.in-Old.is in
     subst (λ (x : MigrationFailure). SaysMigration x c.args.order.now c.complain_twice.result
     (g.E.Write.contents c.args.errors.now) (g.E.Write.contents c.complain_twice.new.errors))
-    (sym is) (c.complain_twice.ensures (as_old_line c.args.order.now.old.now) c.as_old.ensures)
+    (sym is) (c.complain_twice.ensures.says (as_old_line c.args.order.now.old.now) c.as_old.ensures)
 
 pub returns-in-New-clause-says : goal.returns-in-New-clause-says
 returns-in-New-clause-says g c =
@@ -22,4 +22,4 @@ returns-in-New-clause-says g c =
     c.complain_twice-in-New.result (g.E.Write.contents c.args.errors.now)
     (g.E.Write.contents c.complain_twice-in-New.new.errors))
     (sym is)
-    (c.complain_twice-in-New.ensures (as_new_line c.args.order.now.new.now) c.as_new.ensures)
+    (c.complain_twice-in-New.ensures.says (as_new_line c.args.order.now.new.now) c.as_new.ensures)

@@ -7,9 +7,10 @@ use Rattle.snap_desk.proofs.lent.Outcome.tell.Goals as goal
 
 pub returns-clause-told : goal.returns-clause-told
 returns-clause-told g c =
-    let P : Came _ → Type 0 = λ o. (x : ℕ) × (c.reply_told.result ≡ reply_of x o.told) in
-    subst P c.self.view_is
-    (number_of c.reply_told.new.self, c.reply_told.ensures.told)
+    let told = c.self.inside.told in
+    let P : Came _ → Type 0 = λ o. c.reply_told.result ≡ reply_of (number_of o.writer) o.told in
+    let Q : ℕ → Type 0 = λ n. c.reply_told.result ≡ reply_of n told in
+    subst P c.self.view_is (subst Q c.reply_told.ensures.number c.reply_told.ensures.told)
 
 pub returns-clause-settled : goal.returns-clause-settled
 returns-clause-settled g c i k v own number value =

@@ -1,4 +1,4 @@
-use Rattle.std.proofs.Common.{◌∙◌, sym, ap, subst}
+use Rattle.std.proofs.Common.{◌∙◌, sym, ap, subst, rules}
 use Rattle.snap_frame.specs.Stream.{Held, HasFrame}
 use Rattle.snap_frame.proofs.Exact.{same_frame}
 use Rattle.snap_frame.proofs.feed.Feed.next.Goals as goal
@@ -14,3 +14,6 @@ returns-in-Ok-Some-read_request-clause-malformed c x rest none has bad =
     found.0 in
     let is = rw c.in-Ok-Some-read_request.field-0-is at c.in-Ok-Some-read_request.ensures.request in
     absurd (bad c.in-Ok-Some-read_request.request (same.0 ∙ is))
+
+pub returns-in-Ok-None-read_request-clause-next : goal.returns-in-Ok-None-read_request-clause-next
+returns-in-Ok-None-read_request-clause-next c = search rules

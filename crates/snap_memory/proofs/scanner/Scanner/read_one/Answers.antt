@@ -1,8 +1,16 @@
-use Rattle.std.proofs.Common.{take, sym, ap, ◌∙◌}
+use Rattle.std.proofs.Common.{take, sym, ap, subst, ◌∙◌}
 use Rattle.snap_history.proofs.Beginnings.{beginning-self}
 use Rattle.snap_register.specs.Seat.{Known, value_in}
+use Rattle.snap_memory.specs.Rooms.{Fits}
 use Rattle.snap_memory.proofs.Answering.{value_told}
+use Rattle.snap_memory.proofs.Keeping.{fits_grown}
 use Rattle.snap_memory.proofs.scanner.Scanner.read_one.Goals as goal
+
+pub invariant_of-self : goal.invariant_of-self
+invariant_of-self c =
+    subst (λ (z : Known). Fits z c.self.inside.room) (sym c.value-length.ensures.same)
+    (fits_grown c.self.inside.seat c.look-number.new.self c.self.inside.room
+    c.look-number.ensures.seen c.self.invariant)
 
 pub returns-clause-value : goal.returns-clause-value
 returns-clause-value c =

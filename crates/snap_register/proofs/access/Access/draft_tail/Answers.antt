@@ -40,7 +40,7 @@ returns-then-from-value-clause-bytes c =
       arith,
       length-drop (8 * c.args.whole) value,
     )) in
-    let first : take (length slice) (to_le_bytes w64 x) ≡ slice = c.tail_word.ensures in
+    let first : take (length slice) (to_le_bytes w64 x) ≡ slice = c.tail_word.ensures.front in
     let bytes : take (length tail) (to_le_bytes w64 x) ≡ tail =
     subst (λ (l : List ℕ). take (length l) (to_le_bytes w64 x) ≡ l) all first in
     let le : to_le_bytes w64 x ≡ tail ++ drop (length tail) (to_le_bytes w64 x) =

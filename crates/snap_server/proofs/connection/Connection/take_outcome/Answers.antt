@@ -6,8 +6,8 @@ use Rattle.snap_server.proofs.connection.Connection.take_outcome.Goals.{
   else-is_none,
 }
 
-pub returns : goal.returns
-returns g c = elim c.if-is_none.branch [
+pub returns-clause-goes : goal.returns-clause-goes
+returns-clause-goes g c = elim c.if-is_none.branch [
   | then-is_none w ↦
       rw w.self-is (rw w.service-is
       (then_answers g.S.Service.gives _ _ _ _ _ _ None None None None

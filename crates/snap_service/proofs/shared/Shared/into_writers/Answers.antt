@@ -1,8 +1,11 @@
-use Rattle.std.proofs.Common.{◌≡◌, ◌+◌, length, slice_get, Some, ap, subst, ◌∙◌, arith}
+use Rattle.std.proofs.Common.{◌≡◌, ◌≢◌, ℕ, ◌+◌, length, slice_get, Some, ap, sym, subst, ◌∙◌, arith}
+use Rattle.std.proofs.lemmas.Bool.{false≢true}
 use Rattle.std.proofs.lemmas.List.{length_push}
+use Rattle.snap_history.proofs.Lists.{get-append_last}
 use Rattle.snap_register.specs.Seat.{own_of}
 use Rattle.snap_service.specs.Memory.{IsOf}
-use Rattle.snap_service.proofs.Places.{places_more, no_place}
+use Rattle.snap_service.proofs.Places.{places_more, stands_more, no_place}
+use Rattle.snap_service.proofs.shared.Shared.into_writers.Goals.{then-segment-place, else-segment-place}
 use Rattle.snap_service.proofs.shared.Shared.into_writers.Goals as goal
 
 pub locks-init : goal.locks-init
@@ -15,6 +18,8 @@ locks-init g c =
           let ok = c.args.self.writers.ok in omega arith);
       room = c.requires.room;
       each = λ i w at. absurd (no_place c.args.room.items i w c.requires.empty at);
+      order = λ off i w at. absurd (no_place c.args.room.items i w c.requires.empty at);
+      displaced = λ on. absurd (false≢true on);
     }
 
 pub locks-preserved : goal.locks-preserved
@@ -24,11 +29,10 @@ locks-preserved g c =
     let w = c.into_writer.result in
     let short = ap length c.in-Some.ensures.steps.0 in
     let one_less = c.in-Some.ensures.steps.1 in
-    let more : length c.push.new.self.items ≡ length ws + 1 =
-    ap length c.in-Ok.ensures.items ∙ length_push ws w in
+    let items = c.in-Ok.ensures.items in
+    let more : length c.push.new.self.items ≡ length ws + 1 = ap length items ∙ length_push ws w in
     let own = ap (λ s. own_of s.seat) c.into_writer.ensures.writer in
     let there = c.segment.ensures.own in
-    let same = c.if-segment-place.false in
     let count = c.len-place.ensures in
     let ok = c.locks.writers.ok in
     record {
@@ -36,16 +40,53 @@ locks-preserved g c =
       long = (let was = inv.long in omega arith);
       room = (let was = inv.room in let kept = c.in-Ok.ensures.capacity in omega arith);
       each = λ i x at.
-          places_more (λ k s. IsOf g.M.Memory.table g.M.Memory.plan s.seat × (own_of s.seat ≡ k)) ws w
-          inv.each (c.into_writer.ensures.memory, omega arith) i x
-          (subst (λ l. slice_get l i ≡ Some x) c.in-Ok.ensures.items at);
+          places_more (λ k s. IsOf g.M.Memory.table g.M.Memory.plan s.seat) ws w inv.each
+          c.into_writer.ensures.memory i x (subst (λ l. slice_get l i ≡ Some x) items at);
+      order = λ off i x at.
+          elim c.if-segment-place.branch [
+            | then-segment-place b ↦ absurd (false≢true (sym off ∙ b.is_displaced-is))
+            | else-segment-place b ↦ (
+                let same = b.if-segment-place.false in
+                places_more (λ k s. own_of s.seat ≡ k) ws w
+                (inv.order (sym b.is_displaced-is ∙ off)) (omega arith) i x
+                (subst (λ l. slice_get l i ≡ Some x) items at))
+          ];
+      displaced = λ on.
+          subst (λ l. (i : ℕ) × (x : _) × (slice_get l i ≡ Some x) × (own_of x.seat ≢ i)) (sym items)
+          (elim c.if-segment-place.branch [
+            | then-segment-place b ↦ (
+                let other = b.if-segment-place.true in
+                (length ws, w, get-append_last ws w, λ e. absurd (other (omega arith))))
+            | else-segment-place b ↦ stands_more (λ k s. own_of s.seat ≢ k) ws w
+                (inv.displaced (sym b.is_displaced-is ∙ on))
+          ]);
     }
 
-pub returns : goal.returns
-returns g c =
+pub returns-then-is_displaced-clause-displaced : goal.returns-then-is_displaced-clause-displaced
+returns-then-is_displaced-clause-displaced g c =
     let inv = c.locks.invariant in
     let left = inv.left in
     let long = inv.long in
     let none = c.in-None.ensures.steps.0 in
     let all = c.args.self.all in
-    record { all = omega arith; each = inv.each }
+    let one = inv.displaced c.if-is_displaced.true in
+    record {
+      all = omega arith;
+      each = inv.each;
+      place = one.0;
+      writer = one.1;
+      stands = one.2;
+      elsewhere = one.3;
+    }
+
+pub returns-clause-writers : goal.returns-clause-writers
+returns-clause-writers g c =
+    let inv = c.locks.invariant in
+    let left = inv.left in
+    let long = inv.long in
+    let none = c.in-None.ensures.steps.0 in
+    let all = c.args.self.all in
+    record {
+      all = omega arith;
+      each = λ i w at. (inv.each i w at, inv.order c.if-is_displaced.false i w at);
+    }

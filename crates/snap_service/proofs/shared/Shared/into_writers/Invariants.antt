@@ -1,4 +1,4 @@
-use Rattle.std.proofs.Common.{◌≡◌, ℕ, ◌+◌, ◌≤◌, length, slice_get, Some}
+use Rattle.std.proofs.Common.{◌≡◌, ◌≢◌, ℕ, ◌+◌, ◌≤◌, true, false, length, slice_get, Some}
 use Rattle.std.specs.Prelude.{vec_capacity}
 use Rattle.std.specs.Vec.Iter.{into_iter_items, into_iter_len}
 use Rattle.snap_register.specs.Rule.{segments}
@@ -13,5 +13,9 @@ invariant-locks g l = record {
   long : into_iter_len l.lock-iterator ≡ length (into_iter_items l.lock-iterator);
   room : segments g.M.Memory.plan ≤ vec_capacity l.writers;
   each : (i : ℕ) (w : _) → slice_get l.writers.items i ≡ Some w
-      → IsOf g.M.Memory.table g.M.Memory.plan w.seat × (own_of w.seat ≡ i);
+      → IsOf g.M.Memory.table g.M.Memory.plan w.seat;
+  order : l.is_displaced ≡ false → (i : ℕ) (w : _) → slice_get l.writers.items i ≡ Some w
+      → own_of w.seat ≡ i;
+  displaced : l.is_displaced ≡ true → (i : ℕ) × (w : _) × (slice_get l.writers.items i ≡ Some w)
+      × (own_of w.seat ≢ i);
 }

@@ -1,4 +1,4 @@
-use Rattle.std.proofs.Common.{◌≡◌, ◌<◌, length, Some, map, refl, ap, subst, ◌∙◌, sym, arith}
+use Rattle.std.proofs.Common.{◌≡◌, ◌<◌, length, Some, map, refl, ap, subst, ◌∙◌, sym, arith, rules}
 use Rattle.snap_world.specs.Answers.{IsAnswer}
 use Rattle.snap_world.specs.Machine.{Closed, with_scanner}
 use Rattle.snap_world.specs.Phases.{ScannerIs}
@@ -47,3 +47,6 @@ returns-in_default-clause-step c =
     refused w _ (λ x stands e.
     other_scanner w c.args.at c.index.result.now scanner.Ready l c.index.ensures
     c.in_default.not-Ready e.1)
+
+pub returns-then-at-len-clause-memory : goal.returns-then-at-len-clause-memory
+returns-then-at-len-clause-memory c = search rules

@@ -1,20 +1,6 @@
 use Rattle.std.proofs.lemmas.Option.{slice_get_read}
 use Rattle.snap_world.specs.NodePhases.{NeedsMemory}
-use Rattle.std.proofs.Common.{
-  inr,
-  length,
-  refl,
-  ◌+◌,
-  [],
-  ◌∷◌,
-  ◌++◌,
-  take,
-  ap,
-  sym,
-  subst,
-  ◌∙◌,
-  arith,
-}
+use Rattle.std.proofs.Common.{inr, length, refl, ◌+◌, [], ◌∷◌, ◌++◌, take, ap, sym, subst, ◌∙◌, arith, rules}
 use Rattle.snap_world.specs.Surface.{IsRun, phases_of}
 use Rattle.snap_world.proofs.Runs.{IsRun-append, IsRun-grows, IsRun-same, take-event}
 use Rattle.snap_world.proofs.world.World.run.Goals as goal
@@ -68,3 +54,6 @@ returns-in-Err-clause-memory c =
       subst (λ w. NeedsMemory (phases_of w) event)
           (sym c.in-Err.ensures.err) c.in-Err.ensures.memory,
     )
+
+pub loop-i-init : goal.loop-i-init
+loop-i-init c = search rules

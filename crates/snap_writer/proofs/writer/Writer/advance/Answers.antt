@@ -72,3 +72,6 @@ returns-in_err-store-clause-either g c = λ honest.
     c.self.invariant.number_is
     (subst (λ (u : List ℕ). IsEither s.index s.count s.number u c.args.value.now b)
     c.self.invariant.value_is is)))
+
+pub show-requires-clause-view : goal.show-requires-clause-view
+show-requires-clause-view g c = search rules

@@ -1,0 +1,241 @@
+"""Times `snapd serve` beside as little of a server as does the same work (`echo.c`), as ratios, in one run.
+
+    python3 bench/server.py [--folder FOLDER] [--rounds N] [--program bin/snapd]
+
+Each figure is the median of the ratios of some rounds; in a round all that is compared runs in turn, for half a second each.
+The files lie in FOLDER, by default a fresh folder beside this repository's own files, so that they are on a disk and not in
+memory.
+
+An update is compared with its device calls alone (aim 1.1), and with the yardstick, which makes the same calls behind a socket
+(aim 1.3); updates a second of 1 and 16 writers with bare calls (aim 0.8); a scan with the yardstick's reply of the same size
+(aim 1.5), alone and beside 16 writers; the time to the line `listening` with 16 files, with their bare opening (aim 20 ms more).
+
+Then come the memory resident, with 2,000 idle connections too, and a scan on one worker beside stores that are held 2 ms at each
+sync, which is to take as long as without them. Where `redis-server` is installed, it is measured with its log synced at every
+write.
+"""
+
+import argparse
+import pathlib
+import shutil
+import socket
+import statistics
+import subprocess
+import sys
+import tempfile
+import time
+
+TOP = pathlib.Path(__file__).resolve().parent.parent
+sys.dont_write_bytecode = True
+sys.path.insert(0, str(TOP / "tests"))
+
+import segment_file as layout  # noqa: E402
+from preload import library  # noqa: E402
+from program import Program  # noqa: E402
+from serving import SCAN, Server, entries_of, reply, segments  # noqa: E402
+
+SEGMENTS, SPAN = 16, 500
+
+
+def show(label, mine, other, unit, more):
+    print(f"{label:<48} {mine:>9,.1f} {unit} {other:>9,.1f} {unit}   {more}")
+
+
+class Yardstick:
+    """`echo serve`, as `Server` is for snapd."""
+
+    def __init__(self, echo, folder, count, length):
+        words = [echo, "serve", folder, str(count), str(length)]
+        self.process = subprocess.Popen(words, stdout=subprocess.PIPE, text=True)
+        self.place = ("127.0.0.1", int(self.process.stdout.readline().rpartition(":")[2]))
+
+    def __enter__(self):
+        return self
+
+    def __exit__(self, *_):
+        self.process.kill()
+        self.process.communicate()
+
+
+class Bench:
+    def __init__(self, folder, program, rounds):
+        self.folder, self.rounds = folder, rounds
+        self.snapd = Program(program, folder)
+        self.echo, self.client = self.compiled("echo"), self.compiled("load")
+
+    def compiled(self, name):
+        target = self.folder / name
+        subprocess.run(["gcc", "-O2", "-Wall", "-pthread", "-o", target, TOP / "bench" / f"{name}.c"], check=True)
+        return target
+
+    def files(self, place, length, count=SEGMENTS):
+        """Files of so many segments whose values have so many bytes, in a folder of their own."""
+        (self.folder / place).mkdir(exist_ok=True)
+        held = [(1, b"v" * length), (2, b"v" * length)]
+        return segments(self.snapd, *[held] * count, folder=place)
+
+    def load(self, server, length, writers, readers, kind="snapd", count=SEGMENTS):
+        """Updates a second, their median and 99th percentile in microseconds, and the same of scans."""
+        words = [self.client, server.place[1], kind, count, length, writers, readers, SPAN]
+        run = subprocess.run(list(map(str, words)), check=True, stdout=subprocess.PIPE, text=True)
+        lines = [line.split()[1:] for line in run.stdout.splitlines()]
+        return [(float(rate), int(median) / 1e3, int(most) / 1e3) for rate, median, most in lines]
+
+    def calls(self, place, writers):
+        """Stores a second that are nothing but their calls, and the median of their microseconds."""
+        words = [self.echo, "calls", self.folder / place, str(writers), str(SPAN)]
+        run = subprocess.run(words, check=True, stdout=subprocess.PIPE, text=True)
+        rate, median = run.stdout.split()
+        return float(rate), int(median) / 1e3
+
+    def yardstick(self, length):
+        return Yardstick(self.echo, self.folder / "yardstick", SEGMENTS, length)
+
+    def updates(self):
+        """An update beside its calls, and updates a second."""
+        length = 1_000
+        # The calls alone, the yardstick and the server each have files of their own.
+        for place in ("bare", "yardstick", "files"):
+            files = self.files(place, length)
+        with Server(self.snapd, *files, scanners=4) as server, self.yardstick(length) as echo:
+            for writers in (1, SEGMENTS):
+                found = []
+                for _ in range(self.rounds):
+                    bare = self.calls("bare", writers)
+                    behind, mine = (self.load(it, length, writers, 0)[0] for it in (echo, server))
+                    found.append((*bare, *behind[:2], *mine[:2]))
+                ratio = lambda top, bottom: statistics.median(it[top] / it[bottom] for it in found)  # noqa: E731
+                bare_rate, bare, echo_rate, behind, rate, mine = (statistics.median(each) for each in zip(*found))
+                if writers == 1:
+                    show("update, and its device calls alone", mine, bare, "us", f"{ratio(5, 1):.3f}   (aim 1.1)")
+                    show("update, and the yardstick with the same calls", mine, behind, "us", f"{ratio(5, 3):.3f}   (aim 1.3)")
+                name = f"updates a second, {writers} writer{'s' * (writers > 1)}, and bare calls"
+                show(name, rate, bare_rate, "/s", f"{ratio(4, 0):.3f}   (aim 0.8; the yardstick's {echo_rate:,.0f})")
+
+    def scans(self):
+        """A scan beside the yardstick's reply of the same size, alone and beside writers."""
+        for length in (8, 1_000, layout.MAX_VALUE):
+            for place in ("yardstick", "files"):
+                files = self.files(place, length)
+            with Server(self.snapd, *files, scanners=4) as server, self.yardstick(length) as echo:
+                for writers in (0, SEGMENTS):
+                    pairs = []
+                    for _ in range(self.rounds):
+                        pairs.append([self.load(it, length, writers, 1)[1][1] for it in (server, echo)])
+                    mine, bare = (statistics.median(each) for each in zip(*pairs))
+                    ratio = statistics.median(a / b for a, b in pairs)
+                    name = f"scan of 16 x {length:,} bytes" + (", beside 16 writers" if writers else "")
+                    show(name, mine, bare, "us", f"{ratio:.3f}   (aim 1.5)")
+
+    def starts(self):
+        """From the start of the process to its line `listening`."""
+        files = self.files("files", 1_000)
+        bare_words = [self.echo, "start", *[self.folder / file for file in files]]
+        pairs = []
+        for _ in range(4 * self.rounds):
+            began = time.perf_counter()
+            with Server(self.snapd, *files, scanners=16):
+                mine = time.perf_counter() - began
+            began = time.perf_counter()
+            subprocess.run(bare_words, check=True, stdout=subprocess.PIPE)
+            pairs.append((mine * 1e3, (time.perf_counter() - began) * 1e3))
+        mine, bare = (statistics.median(each) for each in zip(*pairs))
+        more = statistics.median(a - b for a, b in pairs)
+        show("start of 16 files to its line, and bare opening", mine, bare, "ms", f"{more:.2f} ms more   (aim 20)")
+
+    def memory(self):
+        """kB resident, with the longest values, and with idle connections."""
+        files = self.files("files", layout.MAX_VALUE)
+        for scanners in (1, 4, 16):
+            with Server(self.snapd, *files, scanners=scanners) as server:
+                opened = server.memory()
+                self.load(server, layout.MAX_VALUE, SEGMENTS, 8)
+                used = server.memory()
+                idle = [server.connect() for _ in range(2_000)]
+                # All of them have been taken once one behind them is answered on each worker.
+                for _ in range(scanners):
+                    with server.connect() as stream:
+                        stream.sendall(SCAN)
+                        assert len(entries_of(reply(stream))) == SEGMENTS
+                many = server.memory()
+                for stream in idle:
+                    stream.close()
+            name = f"kB resident with {scanners} scanner{'s' * (scanners > 1)}"
+            print(f"{name:<48} opened {opened:,}, after a load {used:,}, with 2,000 idle connections {many:,}")
+
+    def held(self):
+        """A scan on one worker beside stores that are held at each sync."""
+        control = self.folder / "control"
+        env = {"LD_PRELOAD": library("disk_control"), "DISK_CONTROL": str(control)}
+        files = self.files("files", 1_000)
+        control.write_text("")
+        pairs = []
+        with Server(self.snapd, *files, scanners=1, env=env) as server:
+            for _ in range(self.rounds):
+                alone = self.load(server, 1_000, 0, 1)[1]
+                control.write_text("".join(f"S{segment} sync rest 2000\n" for segment in range(SEGMENTS)))
+                updates, beside = self.load(server, 1_000, SEGMENTS, 1)
+                control.write_text("")
+                pairs.append((*alone[1:], *beside[1:], updates[1]))
+        alone, alone99, beside, beside99, update = (statistics.median(each) for each in zip(*pairs))
+        more = f"an update takes {update:,.0f} us"
+        show("scan beside stores held 2 ms at each sync, alone", beside, alone, "us", f"{beside / alone:.3f}   (aim 1; {more})")
+        show("  the 99th percentiles", beside99, alone99, "us", f"{beside99 / alone99:.3f}   (aim 1)")
+
+    def redis(self):
+        """The same beside a redis whose log is synced at every write."""
+        if shutil.which("redis-server") is None:
+            print("beside redis: skipped, redis-server isn't installed (apt-get install redis-server)")
+            return
+        length = 1_000
+        with socket.create_server(("127.0.0.1", 0)) as listener:
+            port = listener.getsockname()[1]
+        place = self.folder / "redis"
+        place.mkdir()
+        words = ["redis-server", "--bind", "127.0.0.1", "--port", port, "--dir", place, "--save", ""]
+        words += ["--appendonly", "yes", "--appendfsync", "always"]
+        process = subprocess.Popen(list(map(str, words)), stdout=subprocess.DEVNULL)
+        try:
+            redis = argparse.Namespace(place=("127.0.0.1", port))
+            for _ in range(500):
+                try:
+                    socket.create_connection(redis.place).close()
+                    break
+                except OSError:
+                    time.sleep(0.01)
+            self.load(redis, length, SEGMENTS, 0, "redis")
+            with Server(self.snapd, *self.files("files", length), scanners=4) as server:
+                for kind, writers, readers in ((0, 1, 0), (0, SEGMENTS, 0), (1, 0, 1), (1, SEGMENTS, 1)):
+                    found = []
+                    for _ in range(self.rounds):
+                        mine = self.load(server, length, writers, readers)[kind]
+                        other = self.load(redis, length, writers, readers, "redis")[kind]
+                        found.append((mine[0], mine[1], other[0], other[1]))
+                    rate, mine, other_rate, other = (statistics.median(each) for each in zip(*found))
+                    label = f"{('update', 'scan')[kind]}, {writers} writers: snapd, and redis"
+                    more = f"{mine / other:.3f}   (a second {rate:,.0f} and {other_rate:,.0f})"
+                    show(label, mine, other, "us", more)
+        finally:
+            process.kill()
+            process.wait()
+
+
+def main():
+    words = argparse.ArgumentParser()
+    words.add_argument("--folder")
+    words.add_argument("--rounds", type=int, default=5)
+    words.add_argument("--program", default=str(TOP / "bin" / "snapd"))
+    words = words.parse_args()
+    with tempfile.TemporaryDirectory(prefix="bench-", dir=words.folder or TOP) as folder:
+        bench = Bench(pathlib.Path(folder).resolve(), words.program, words.rounds)
+        print(f"{'the server':<48} {'snapd':>12} {'yardstick':>12}   ratio")
+        bench.updates()
+        bench.scans()
+        bench.starts()
+        bench.memory()
+        bench.held()
+        bench.redis()
+
+
+if __name__ == "__main__":
+    main()

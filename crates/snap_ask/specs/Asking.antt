@@ -1,0 +1,59 @@
+-- How a call ends.
+use Rattle.std.specs.Prelude.{◌≡◌, ◌⊎◌, ℕ, List, Option, Result, Ok, Err, true}
+use Rattle.std.specs.Io.KnownBytes.{Appends, Keeps}
+use Rattle.snap_client.specs.declared.fault.ClientFault.{ClientFault}
+use Rattle.snap_client.specs.declared.fault.ClientFault.TheVariants.{NoMemory}
+use Rattle.snap_disk.specs.declared.refusal.Refusal.{Refusal}
+use Rattle.snap_disk.specs.declared.refusal.Refusal.TheVariants as refusal
+use Rattle.snap_frame.specs.declared.reply.Reply.{Reply}
+use Rattle.snap_frame.specs.declared.reply.Reply.TheVariants.{Refused}
+use Rattle.snap_order.specs.declared.status.Ended.{Ended}
+use Rattle.snap_order.specs.declared.status.Status.TheVariants as status
+use Rattle.snap_stream.specs.Streams.{AppendsBeginning, refused_line}
+use Rattle.snap_ask.specs.Text.{detailed_line, reply_text}
+
+-- it ends as refused, and standard error got a beginning of this line, and all of it where that is
+-- told
+pub record SaysRefused (text : List ℕ) (ended : Ended) (errs errs' : Option (List ℕ))
+    : Type 0 where
+  pub status : ended.status ≡ status.Refused
+  pub beginning : AppendsBeginning errs errs' text
+  pub whole : ended.is_told ≡ true → Appends errs errs' text
+
+-- memory was wanting
+abbrev pub WantsMemory : Ended → (errs errs' : Option (List ℕ)) → Type 0
+WantsMemory ended errs errs' = SaysRefused (refused_line refusal.NoMemory) ended errs errs'
+
+-- the server's refusal is said, or memory was wanting for it
+abbrev pub IsRefused : Refusal → (detail : ℕ) → Ended → (errs errs' : Option (List ℕ)) → Type 0
+IsRefused why detail ended errs errs' = SaysRefused (detailed_line why detail) ended errs errs'
+    ⊎ WantsMemory ended errs errs'
+
+-- the text was printed, and nothing else was said
+pub record IsPrinted (text : List ℕ) (ended : Ended) (out out' errs errs' : Option (List ℕ))
+    : Type 0 where
+  pub status : ended.status ≡ status.Done
+  pub told : ended.is_told ≡ true
+  pub whole : Appends out out' text
+  pub silent : Keeps errs errs'
+
+-- standard output failed behind a beginning of the text
+pub record IsCutShort (text : List ℕ) (ended : Ended) (out out' : Option (List ℕ)) : Type 0 where
+  pub status : ended.status ≡ status.Failed
+  pub beginning : AppendsBeginning out out' text
+
+-- the text was printed, or cut short, or memory was wanting before the first byte
+abbrev pub Prints : List ℕ → Ended → (out out' errs errs' : Option (List ℕ)) → Type 0
+Prints text ended out out' errs errs' = IsPrinted text ended out out' errs errs'
+    ⊎ (IsCutShort text ended out out' ⊎ (WantsMemory ended errs errs' × Keeps out out'))
+
+-- How a call ends that is answered so: `out` and `out'` are what standard output held before and
+-- after, `errs` and `errs'` what standard error did.
+abbrev pub EndsAsked : Result Reply ClientFault → Ended → (out out' errs errs' : Option (List ℕ))
+    → Type 0
+EndsAsked (Ok (Refused why detail)) ended out out' errs errs' =
+    IsRefused why detail ended errs errs' × Keeps out out'
+EndsAsked (Ok reply) ended out out' errs errs' =
+    Prints (reply_text reply) ended out out' errs errs'
+EndsAsked (Err NoMemory) ended out out' errs errs' = WantsMemory ended errs errs' × Keeps out out'
+EndsAsked (Err fault) ended out out' errs errs' = (ended.status ≡ status.Failed) × Keeps out out'

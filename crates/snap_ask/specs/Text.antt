@@ -1,0 +1,47 @@
+-- What is printed of a reply (docs/FORMATS.md).
+use Rattle.std.specs.Prelude.{ℕ, ◌+◌, Bool, true, false, List, [], ◌∷◌, ◌++◌, codes}
+use Rattle.std.specs.Fmt.{decimal}
+use Rattle.snap_disk.specs.Refusal.{refusal_text}
+use Rattle.snap_disk.specs.declared.refusal.Refusal.{Refusal}
+use Rattle.snap_slot.specs.Text.{line}
+use Rattle.snap_frame.specs.declared.reply.Reply.{Reply}
+use Rattle.snap_frame.specs.declared.reply.Reply.TheVariants.{Stored, Snapshot, Status, Refused}
+use Rattle.snap_frame.specs.declared.entries.SegmentValue.{SegmentValue}
+use Rattle.snap_frame.specs.declared.entries.SegmentStatus.{SegmentStatus}
+use Rattle.snap_hex.specs.Text.{hex_text}
+
+-- the lines of these, the first of which is number i
+abbrev pub lines_from : {X : Type 0} → (ℕ → X → List ℕ) → ℕ → List X → List ℕ
+lines_from line_of i [] = []
+lines_from line_of i (x ∷ xs) = line_of i x ++ lines_from line_of (i + 1) xs
+
+abbrev pub stored_line : ℕ → List ℕ
+stored_line k = line (codes "stored " ++ decimal k)
+
+-- what a line says first of segment i
+abbrev pub segment_text : ℕ → ℕ → List ℕ
+segment_text i k = codes "segment " ++ (decimal i ++ (codes " number " ++ decimal k))
+
+-- the number and the value of segment i
+abbrev pub value_line : ℕ → SegmentValue → List ℕ
+value_line i v = line (segment_text i v.number ++ (codes " value " ++ hex_text v.value))
+
+abbrev pub fence_text : Bool → List ℕ
+fence_text true = codes "1"
+fence_text false = codes "0"
+
+-- the number of segment i, and whether it is fenced
+abbrev pub status_line : ℕ → SegmentStatus → List ℕ
+status_line i s = line (segment_text i s.number ++ (codes " fenced " ++ fence_text s.is_fenced))
+
+-- what standard output gets of a reply
+abbrev pub reply_text : Reply → List ℕ
+reply_text (Stored number) = stored_line number
+reply_text (Snapshot values) = lines_from value_line 0 values.items
+reply_text (Status statuses) = lines_from status_line 0 statuses.items
+reply_text (Refused why detail) = []
+
+-- what standard error gets of a server's refusal
+abbrev pub detailed_line : Refusal → ℕ → List ℕ
+detailed_line why detail = codes "snapd: refused "
+    ++ (refusal_text why ++ (codes " " ++ (decimal detail ++ codes "\n")))

@@ -1,0 +1,6 @@
+use Rattle.std.proofs.lemmas.Grind.{common_steps}
+use Rattle.std.proofs.Common.{arith}
+use Rattle.snap_frame.proofs.request.append_request.Goals as goal
+
+pub returns-in_ok-start_frame-in-Update-clause-ok : goal.returns-in_ok-start_frame-in-Update-clause-ok
+returns-in_ok-start_frame-in-Update-clause-ok c = grind (arith, common_steps)

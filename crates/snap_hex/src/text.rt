@@ -1,0 +1,57 @@
+//! Bytes of text to a value and back.
+ghost use Rattle.std.specs.Prelude.{◌≡◌, ◌≤◌, ◌++◌, length, List, ℕ, IfOk, MatchOption, OnOk};
+ghost use Rattle.hex.specs.Hex.{encode_lower};
+ghost use Rattle.snap_hex.specs.Text.{IsHex, hex_text};
+
+use hex::FromHexError;
+use std::alloc::{AllocError, Global};
+
+/// The value that a word stands for: pairs of hexadecimal digits of either case, or `-` for the
+/// empty value. `None` where the word is neither; the empty word is none.
+pub fn read_hex(alloc: Global, word: &[u8]) -> Result<Option<Vec<u8>>, AllocError>
+    ensures { IfOk result (λ found. MatchOption found ((bs : List ℕ) → IsHex word.now bs → ⊥)
+        (λ v. IsHex word.now v.items)) }
+{
+    if word == b"-".as_slice() {
+        return Ok(Some(Vec::new(alloc)));
+    }
+    if word.is_empty() {
+        return Ok(None);
+    }
+    match hex::decode(alloc, word) {
+        Ok(bytes) => Ok(Some(bytes)),
+        Err(FromHexError::OutOfMemory) => Err(AllocError),
+        Err(_) => Ok(None),
+    }
+}
+
+/// How many bytes [`put_hex`] turns into digits at a time.
+const PIECE: usize = 64;
+
+/// Appends a value's text, in lower case. After a refused growth a beginning of it may stand there.
+pub fn put_hex(out: &mut Vec<u8>, bytes: &[u8]) -> Result<(), AllocError>
+    ensures { OnOk result (out.new.items ≡ out.old.items ++ hex_text bytes.now) }
+{
+    if bytes.is_empty() {
+        return out.extend_from_slice(b"-");
+    }
+    let mut rest = bytes;
+    while !rest.is_empty() {
+        let (piece, behind) = rest.split_at(rest.len().min(PIECE));
+        put_piece(out, piece)?;
+        rest = behind;
+    }
+    Ok(())
+}
+
+/// Appends the digits of a piece.
+fn put_piece(out: &mut Vec<u8>, piece: &[u8]) -> Result<(), AllocError>
+    requires { length piece.now ≤ 64 }
+    ensures { OnOk result (out.new.items ≡ out.old.items ++ encode_lower piece.now) }
+{
+    let mut digits = [0; 2 * PIECE];
+    let digits = &mut digits[..2 * piece.len()];
+    // They have the length that is asked for, so this is never refused.
+    let _ = hex::encode_to_slice(piece, &mut *digits);
+    out.extend_from_slice(digits)
+}

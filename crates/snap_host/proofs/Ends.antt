@@ -1,0 +1,47 @@
+-- How a server's end follows from its opening.
+use Rattle.std.proofs.Common.{◌≡◌, ℕ, List, map, length, Option, Ok, Err, sym, ◌∙◌}
+use Rattle.std.proofs.lemmas.Simd.{map-map}
+use Rattle.std.specs.declared.io.Error.{Error}
+use Rattle.std.specs.declared.net.socket_addr.SocketAddr.{SocketAddr}
+use Rattle.std.proofs.KnownBytes.{Keeps-refl}
+use Rattle.snap_disk.specs.Device.{Device}
+use Rattle.snap_disk.specs.declared.refusal.Refusal.{Refusal}
+use Rattle.snap_history.specs.Pairs.{Pairs}
+use Rattle.snap_segment.specs.Segment.{SegmentState}
+use Rattle.snap_writer.specs.Writer.{WriterState}
+use Rattle.snap_restart.specs.Opened.{IsOpened, recovered}
+use Rattle.snap_restart.specs.declared.report.Report.{Report}
+use Rattle.snap_host.specs.declared.failure.HostFailure.TheVariants.{
+  Refused,
+  NoMemory,
+  Address,
+  Output,
+  Server,
+}
+use Rattle.snap_host.specs.Hosting.{End, EndsHost, EndsServing, IsReportOf}
+
+pub ends_opened : (IsReport : Report → Type 0) (IsStop : ℕ → Refusal → Type 0)
+    (bound : SocketAddr → Type 0) (refused : Error → Type 0) (connections : Option ℕ) (r : Report)
+    (o n : Option (List ℕ)) (end : End) → IsReport r
+    → EndsServing bound refused connections r o n end
+    → EndsHost IsReport IsStop bound refused connections o n end
+ends_opened IsReport IsStop bound refused connections r o n (Ok k) is ends = (r, is, ends)
+ends_opened IsReport IsStop bound refused connections r o n (Err (Refused segment why)) is ends =
+    absurd ends
+ends_opened IsReport IsStop bound refused connections r o n (Err NoMemory) is ends = (r, is, ends)
+ends_opened IsReport IsStop bound refused connections r o n (Err (Address error)) is ends = (r, is, ends)
+ends_opened IsReport IsStop bound refused connections r o n (Err (Output error)) is ends = (r, is, ends)
+ends_opened IsReport IsStop bound refused connections r o n (Err (Server fault)) is ends = (r, is, ends)
+
+pub reported : {D : Type 0} (device : D → Device) (failures : D → ℕ) (honest : D → Type 0)
+    (clock : D → ℕ) (might_have_left : D → ℕ → List ℕ → Type 0) (devices : List D)
+    (writers : List (WriterState D)) (r : Report)
+    → Pairs (IsOpened device failures honest clock might_have_left (length devices)) devices
+    (map (λ w. w.segment) writers)
+    → r.segments.items ≡ map (λ w. recovered w.segment) writers
+    → IsReportOf device failures honest clock might_have_left devices r
+reported device failures honest clock might_have_left devices writers r opened says = record {
+  segments = map (λ w. w.segment) writers;
+  opened = opened;
+  says = says ∙ sym (map-map recovered (λ w. w.segment) writers);
+}

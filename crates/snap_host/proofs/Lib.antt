@@ -1,0 +1,4 @@
+mod Ends
+mod Memories
+mod Printing
+mod Remedies

@@ -1,0 +1,181 @@
+-- How a server ends, and what it has written by then.
+use Rattle.std.specs.Prelude.{
+  ◌≡◌,
+  ◌≢◌,
+  ◌⊎◌,
+  ℕ,
+  Bool,
+  true,
+  List,
+  ◌++◌,
+  length,
+  map,
+  slice_get,
+  Option,
+  Some,
+  Result,
+  Ok,
+  Err,
+  codes,
+}
+use Rattle.std.specs.Fmt.{decimal}
+use Rattle.std.specs.Io.KnownBytes.{Appends, Keeps}
+use Rattle.std.specs.Net.Text.{socket_text}
+use Rattle.std.specs.declared.io.Error.{Error}
+use Rattle.std.specs.declared.net.socket_addr.SocketAddr.{SocketAddr}
+use Rattle.snap_disk.specs.Device.{Device}
+use Rattle.snap_disk.specs.declared.refusal.Refusal.{Refusal}
+use Rattle.snap_disk.specs.declared.refusal.Refusal.TheVariants as refusal
+use Rattle.snap_history.specs.Pairs.{Pairs}
+use Rattle.snap_segment.specs.Segment.{SegmentState}
+use Rattle.snap_stream.specs.Streams.{AppendsBeginning, SaysLines, refused_line}
+use Rattle.snap_order.specs.declared.status.Status.{Status}
+use Rattle.snap_order.specs.declared.status.Status.TheVariants as status
+use Rattle.snap_restart.specs.Opened.{IsOpened, IsStopped, recovered}
+use Rattle.snap_restart.specs.Report.{report_text}
+use Rattle.snap_restart.specs.declared.report.Report.{Report}
+use Rattle.snap_server.specs.declared.fault.ServerFault.TheVariants as faults
+use Rattle.snap_host.specs.declared.failure.HostFailure.{HostFailure}
+use Rattle.snap_host.specs.declared.failure.HostFailure.TheVariants.{
+  Refused,
+  NoMemory,
+  Address,
+  Output,
+  Server,
+}
+
+-- it ends with the number of connections that were served, or early
+abbrev pub End : Type 0
+End = Result ℕ HostFailure
+
+abbrev pub status_of : HostFailure → Status
+status_of (Refused segment why) = status.Refused
+status_of NoMemory = status.Refused
+status_of (Address error) = status.Failed
+status_of (Output error) = status.Failed
+status_of (Server fault) = status.Failed
+
+abbrev pub status_at : End → Status
+status_at (Ok k) = status.Done
+status_at (Err failure) = status_of failure
+
+-- what is printed
+abbrev pub listening_line : SocketAddr → List ℕ
+listening_line a = codes "listening " ++ (socket_text a ++ codes "\n")
+
+abbrev pub served_line : ℕ → List ℕ
+served_line k = codes "served " ++ (decimal k ++ codes "\n")
+
+-- up to the moment at which it serves
+abbrev pub opening_text : Report → SocketAddr → List ℕ
+opening_text report a = report_text report ++ listening_line a
+
+abbrev pub whole_text : Report → SocketAddr → ℕ → List ℕ
+whole_text report a k = opening_text report a ++ served_line k
+
+-- each of the devices was opened, and the report says what was found
+pub record IsReportOf {D : Type 0} (device : D → Device) (failures : D → ℕ) (honest : D → Type 0)
+    (clock : D → ℕ) (might_have_left : D → ℕ → List ℕ → Type 0) (devices : List D)
+    (report : Report) : Type 0 where
+  pub segments : List (SegmentState D)
+  pub opened : Pairs (IsOpened device failures honest clock might_have_left (length devices))
+      devices segments
+  pub says : report.segments.items ≡ map recovered segments
+
+-- the opening of these devices was refused at this segment
+abbrev pub IsStopOf : {D : Type 0} (device : D → Device) (failures : D → ℕ) (honest : D → Type 0)
+    (clock : D → ℕ) (might_have_left : D → ℕ → List ℕ → Type 0) (devices : List D) → ℕ → Refusal
+    → Type 0
+IsStopOf device failures honest clock might_have_left devices segment why =
+    (news : List _)
+    × IsStopped device failures honest clock might_have_left devices news why segment
+
+-- Of the text no more than a beginning was written: no address that isn't bound, and no number but
+-- the one that was asked for.
+abbrev pub IsCutShort : (bound : SocketAddr → Type 0) (connections : Option ℕ) → Report
+    → (out out' : Option (List ℕ)) → Type 0
+IsCutShort bound connections report out out' = AppendsBeginning out out' (report_text report)
+    ⊎ ((a : SocketAddr) × bound a × (AppendsBeginning out out' (opening_text report a)
+    ⊎ ((k : ℕ) × (connections ≡ Some k) × AppendsBeginning out out' (whole_text report a k))))
+
+-- want of memory cuts no line short, and comes before the last one
+abbrev pub IsStarved : (bound : SocketAddr → Type 0) → Report → (out out' : Option (List ℕ))
+    → Type 0
+IsStarved bound report out out' = Keeps out out'
+    ⊎ ((a : SocketAddr) × bound a × (Appends out out' (report_text report)
+    ⊎ Appends out out' (opening_text report a)))
+
+-- The server opened its files and then ended so. `bound` says which addresses its own may be bound
+-- to, `refused` why it may not be, and `out` and `out'` what the writer held before and after.
+abbrev pub EndsServing : (bound : SocketAddr → Type 0) (refused : Error → Type 0)
+    (connections : Option ℕ) → Report → (out out' : Option (List ℕ)) → End → Type 0
+EndsServing bound refused connections report out out' (Ok k) =
+    (a : SocketAddr) × bound a × (connections ≡ Some k) × Appends out out' (whole_text report a k)
+EndsServing bound refused connections report out out' (Err (Refused segment why)) = ⊥
+EndsServing bound refused connections report out out' (Err NoMemory) =
+    IsStarved bound report out out'
+EndsServing bound refused connections report out out' (Err (Address error)) =
+    refused error × Appends out out' (report_text report)
+EndsServing bound refused connections report out out' (Err (Output error)) =
+    IsCutShort bound connections report out out'
+EndsServing bound refused connections report out out' (Err (Server fault)) =
+    (fault ≢ faults.NoMemory)
+    × ((a : SocketAddr) × bound a × Appends out out' (opening_text report a))
+
+-- The same from the opening on. `IsReport` says which reports are of its devices, and `IsStop`
+-- where and why their opening may be refused.
+abbrev pub EndsHost : (IsReport : Report → Type 0) (IsStop : ℕ → Refusal → Type 0)
+    (bound : SocketAddr → Type 0) (refused : Error → Type 0) (connections : Option ℕ)
+    (out out' : Option (List ℕ)) → End → Type 0
+EndsHost IsReport IsStop bound refused connections out out' (Err (Refused segment why)) =
+    IsStop segment why × Keeps out out'
+EndsHost IsReport IsStop bound refused connections out out' end =
+    (report : Report) × IsReport report
+    × EndsServing bound refused connections report out out' end
+
+-- ---- the steps
+
+-- a text was not written whole
+abbrev pub PrintFails : (out out' : Option (List ℕ)) (text : List ℕ) → HostFailure → Type 0
+PrintFails out out' text (Output error) = AppendsBeginning out out' text
+PrintFails out out' text NoMemory = Keeps out out'
+PrintFails out out' text failure = ⊥
+
+-- the address was not bound, or not printed whole
+abbrev pub ListenFails : (bound : SocketAddr → Type 0) (refused : Error → Type 0)
+    (out out' : Option (List ℕ)) → HostFailure → Type 0
+ListenFails bound refused out out' (Address error) = refused error × Keeps out out'
+ListenFails bound refused out out' (Output error) =
+    (a : SocketAddr) × bound a × AppendsBeginning out out' (listening_line a)
+ListenFails bound refused out out' NoMemory = (a : SocketAddr) × bound a × Keeps out out'
+ListenFails bound refused out out' failure = ⊥
+
+-- ---- standard error
+
+-- a line that names a file
+abbrev pub file_line : (file text : List ℕ) → List ℕ
+file_line file text = codes "snapd: " ++ (file ++ (codes ": " ++ (text ++ codes "\n")))
+
+-- of a refusal at this segment, what stands behind the refusal's line: a line that names its file,
+-- save for want of memory
+abbrev pub IsRemedy : {F : Type 0} (path : F → List ℕ) (files : List F) (segment : ℕ) → Refusal
+    → List ℕ → Type 0
+IsRemedy path files segment why more = (file : _) → slice_get files segment ≡ Some file
+    → why ≢ refusal.NoMemory → (text : List ℕ) × (more ≡ file_line (path file) text)
+
+-- what standard error got of the failure: of a refusal its line, and the remedy where it took all.
+-- The other lines have a text of the system in them.
+abbrev pub SaysFailure : {F : Type 0} (path : F → List ℕ) (files : List F) → HostFailure
+    → (is_told : Bool) (old new : Option (List ℕ)) → Type 0
+SaysFailure path files (Refused segment why) is_told old new =
+    (more : List ℕ) × SaysLines (refused_line why ++ more) is_told old new
+    × (is_told ≡ true → IsRemedy path files segment why more)
+SaysFailure path files NoMemory is_told old new =
+    SaysLines (refused_line refusal.NoMemory) is_told old new
+SaysFailure path files failure is_told old new = Unit {0}
+
+-- what it got at the end: nothing where it didn't end early
+abbrev pub SaysEnd : {F : Type 0} (path : F → List ℕ) (files : List F) → End → (is_told : Bool)
+    (old new : Option (List ℕ)) → Type 0
+SaysEnd path files (Ok k) is_told old new = (is_told ≡ true) × Keeps old new
+SaysEnd path files (Err failure) is_told old new = SaysFailure path files failure is_told old new

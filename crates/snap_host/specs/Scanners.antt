@@ -1,0 +1,20 @@
+-- The scanners of one memory.
+use Rattle.std.specs.Prelude.{◌≡◌, ℕ, List, [], ◌∷◌, slice_get, Some}
+use Rattle.atomic_table.specs.Seated.{TableId}
+use Rattle.snap_register.specs.declared.plan.Plan.{Plan}
+use Rattle.snap_register.specs.Seat.{Known}
+use Rattle.snap_service.specs.Memory.{IsOf, no_table, no_plan}
+
+-- these are scanners of these registers
+abbrev pub AreScanners : TableId → Plan → List Known → Type 0
+AreScanners table plan scanners = (k : ℕ) (b : Known) → slice_get scanners k ≡ Some b
+    → IsOf table plan b
+
+-- whose registers they are: those of the first
+abbrev pub table_of : List Known → TableId
+table_of [] = no_table
+table_of (b ∷ rest) = b.table
+
+abbrev pub plan_of : List Known → Plan
+plan_of [] = no_plan
+plan_of (b ∷ rest) = b.plan

@@ -1,0 +1,126 @@
+//! Why a server did not serve.
+ghost use Rattle.std.specs.Prelude.{◌≡◌, IfSome, string_bytes};
+ghost use Rattle.snap_host.specs.Hosting.{IsRemedy, SaysFailure, file_line, status_of};
+
+use snap_disk::Refusal;
+use snap_order::{Ended, Serving, Status};
+use snap_server::ServerFault;
+use snap_stream::{complain, complain_of_refusal, complain_twice};
+use std::alloc::Global;
+use std::io::{self, Write};
+
+/// Why a server ended early.
+#[derive(Debug, Drop)]
+pub enum HostFailure {
+    /// The file of this segment was refused, or there was no memory at it.
+    Refused { segment: usize, why: Refusal },
+    /// No memory, or no thread.
+    NoMemory,
+    /// The address couldn't be bound.
+    Address(io::Error),
+    /// The writer failed.
+    Output(io::Error),
+    /// No more connections could be accepted or watched.
+    Server(ServerFault),
+}
+
+impl HostFailure {
+    /// Says on standard error why the server ended, as one line that begins `snapd: `. Behind the
+    /// line of a file's refusal one more names the file and says what to do.
+    pub fn report<E: Write>(&self, alloc: Global, order: &Serving<'_>, errors: &mut E) -> Ended
+        ensures status { result.status ≡ status_of self.now }
+        ensures says { SaysFailure (λ file. file.now) order.now.files.items self.now
+            result.is_told (E.contents errors.old) (E.contents errors.new) }
+    {
+        let address = order.address;
+        match self {
+            HostFailure::Refused { segment, why } => {
+                let more = remedy_line(alloc, &order.files, *segment, *why);
+                Ended {
+                    status: Status::Refused,
+                    is_told: complain_twice(errors, *why, more),
+                }
+            }
+            HostFailure::NoMemory => Ended {
+                status: Status::Refused,
+                is_told: complain_of_refusal(errors, Refusal::NoMemory),
+            },
+            HostFailure::Address(error) => {
+                let advice = "give an address of this machine whose port is free";
+                let text = format_args!("{address}: can't listen there: {error}: {advice}");
+                failed(complain(alloc, errors, &text))
+            }
+            HostFailure::Output(error) => {
+                let text = format_args!("standard output: {error}");
+                failed(complain(alloc, errors, &text))
+            }
+            HostFailure::Server(fault) => {
+                let text = format_args!("{address}: {fault}");
+                failed(complain(alloc, errors, &text))
+            }
+        }
+    }
+}
+
+/// The end of a server whose stream or socket failed.
+fn failed(is_told: bool) -> Ended
+    ensures { result.status ≡ Status.Failed }
+{
+    Ended {
+        status: Status::Failed,
+        is_told,
+    }
+}
+
+/// The line behind that of a refusal at this segment, or none for want of memory. It is empty where
+/// the refusal is want of memory.
+fn remedy_line(alloc: Global, files: &Vec<&str>, segment: usize, why: Refusal) -> Option<String>
+    ensures { IfSome result (λ more.
+        IsRemedy (λ file. file.now) files.now.items segment why (string_bytes more)) }
+{
+    let Some(file) = files.get(segment) else {
+        return Some(String::new(alloc));
+    };
+    if why == Refusal::NoMemory {
+        return Some(String::new(alloc));
+    }
+    let remedy = remedy_of(alloc, *file, segment, files.len(), why)?;
+    line_of(alloc, *file, &remedy)
+}
+
+/// A line that names a file.
+fn line_of(alloc: Global, file: &str, text: &String) -> Option<String>
+    ensures { IfSome result (λ line.
+        string_bytes line ≡ file_line file.now (string_bytes text.now)) }
+{
+    match format!(in alloc; "snapd: {file}: {text}\n") {
+        Ok(line) => Some(line),
+        Err(_) => None,
+    }
+}
+
+/// What to do about a file that was refused.
+fn remedy_of(
+    alloc: Global,
+    file: &str,
+    segment: usize,
+    count: usize,
+    why: Refusal,
+) -> Option<String> {
+    let text = match why {
+        Refusal::Unformatted => format!(in alloc;
+            "format it first: snapd format {file} --index {segment} --count {count}"
+        ),
+        Refusal::WrongFile => format!(in alloc;
+            "it isn't the file of segment {segment} of {count}: see snapd check {file}"
+        ),
+        Refusal::DeviceFailed => format!(in alloc;
+            "it couldn't be synced and read: look after its disk, and start again"
+        ),
+        _ => format!(in alloc; "it doesn't hold a segment's number: see snapd check {file}"),
+    };
+    match text {
+        Ok(text) => Some(text),
+        Err(_) => None,
+    }
+}

@@ -1,0 +1,254 @@
+//! A server from its files to its end.
+ghost use Rattle.std.specs.Prelude.{
+  ◌≡◌,
+  ◌-◌,
+  ◌^◌,
+  ◌<◌,
+  length,
+  All,
+  OnOk,
+  IfOk,
+  IfErr,
+  string_bytes,
+};
+ghost use Rattle.std.specs.Io.KnownBytes.{Appends};
+ghost use Rattle.std.specs.declared.net.socket_addr.SocketAddr.{SocketAddr};
+ghost use Rattle.snap_stream.specs.Streams.{AppendsBeginning};
+ghost use Rattle.snap_order.specs.Order.{IsServable};
+ghost use Rattle.snap_restart.specs.Closed.{AreBack};
+ghost use Rattle.snap_restart.specs.Report.{report_text};
+ghost use Rattle.snap_host.specs.Hosting.{End, EndsHost, EndsServing, IsReportOf, IsStopOf};
+ghost use Rattle.snap_host.specs.Hosting.{ListenFails, PrintFails, SaysEnd};
+ghost use Rattle.snap_host.specs.Hosting.{listening_line, served_line, status_at};
+
+use crate::bind::Bind;
+use crate::failure::HostFailure;
+use crate::stores::serve_store;
+use snap_disk::Disk;
+use snap_order::{Ended, Serving, Status};
+use snap_restart::{Report, Store, open_all};
+use snap_server::{Gate, ServerFault};
+use snap_stream::write_whole;
+use std::alloc::Global;
+use std::io::{self, Write};
+use std::net::Net;
+use std::rt::Clock;
+use std::sync::Wait;
+use std::thread::Threads;
+
+/// What a server meets at its edge.
+#[derive(Clone, Copy)]
+pub struct Edge<'a, B, G, N> {
+    /// Binds the address.
+    pub bind: &'a B,
+    /// Is told of each request before it is answered and after.
+    pub gate: &'a G,
+    /// Is told of each connection that has ended.
+    pub note: &'a N,
+}
+
+/// Serves the order's segments, one device for each of its files in order, and says how the program
+/// ends.
+///
+/// All files are opened first. Then the report of the opening is written; then the address is
+/// bound, and `listening ADDRESS` written and flushed, with the address that is really bound; then
+/// as many connections are served as the order says, or without end; and at the end `served K` is
+/// written.
+/// Nothing is served before the report and the line are out.
+///
+/// Why it ended early goes to `errors`, as one line that begins `snapd: `; behind the line of a
+/// file's refusal one more names the file and says what to do.
+pub fn host<X, D, B, G, N, W, E>(
+    rt: &X,
+    alloc: Global,
+    order: &Serving<'_>,
+    devices: Vec<D>,
+    edge: Edge<'_, B, G, N>,
+    writer: &mut W,
+    errors: &mut E,
+) -> Ended
+where
+    X: Threads + Wait + Clock + Net + Sync + Send + Copy,
+    D: Disk + Send + Drop,
+    B: Bind,
+    B::Listener: Drop,
+    G: Gate + Sync,
+    N: Fn(&snap_server::Ended) + Sync,
+    W: Write,
+    E: Write,
+    requires order { IsServable order.now }
+    requires devices { length devices.items ≡ length order.now.files.items }
+    requires headroom { All (λ d. D.failure_count d < 2 ^ 64 - 1) devices.items }
+    requires note { N.IsAlwaysCallable edge.note.now }
+
+    // The status is that of an end which says what was written, to the writer and to `errors`.
+    ensures { (end : End) × (result.status ≡ status_at end)
+        × SaysEnd (λ file. file.now) order.now.files.items end result.is_told
+        (E.contents errors.old) (E.contents errors.new)
+        × EndsHost (IsReportOf D.device D.failure_count D.is_honest D.clock D.might_have_left
+        devices.items) (IsStopOf D.device D.failure_count D.is_honest D.clock D.might_have_left
+        devices.items) (B.binds edge.entry.bind.now order.now.address.now)
+        (B.refuses edge.entry.bind.now order.now.address.now) order.now.connections
+        (W.contents writer.old) (W.contents writer.new) end }
+{
+    match open_and_serve(rt, alloc, order, devices, edge, writer) {
+        Ok(_) => Ended {
+            status: Status::Done,
+            is_told: true,
+        },
+        Err(failure) => failure.report(alloc, order, errors),
+    }
+}
+
+/// Opens, reports, listens, serves, and says how many connections were served.
+fn open_and_serve<X, D, B, G, N, W>(
+    rt: &X,
+    alloc: Global,
+    order: &Serving<'_>,
+    devices: Vec<D>,
+    edge: Edge<'_, B, G, N>,
+    writer: &mut W,
+) -> Result<u64, HostFailure>
+where
+    X: Threads + Wait + Clock + Net + Sync + Send + Copy,
+    D: Disk + Send + Drop,
+    B: Bind,
+    B::Listener: Drop,
+    G: Gate + Sync,
+    N: Fn(&snap_server::Ended) + Sync,
+    W: Write,
+    requires order { IsServable order.now }
+    requires devices { length devices.items ≡ length order.now.files.items }
+    requires headroom { All (λ d. D.failure_count d < 2 ^ 64 - 1) devices.items }
+    requires note { N.IsAlwaysCallable edge.note.now }
+    ensures { EndsHost (IsReportOf D.device D.failure_count D.is_honest D.clock D.might_have_left
+        devices.items) (IsStopOf D.device D.failure_count D.is_honest D.clock D.might_have_left
+        devices.items) (B.binds edge.entry.bind.now order.now.address.now)
+        (B.refuses edge.entry.bind.now order.now.address.now) order.now.connections
+        (W.contents writer.old) (W.contents writer.new) result }
+{
+    match open_all(alloc, devices, usize::from(order.scanners)) {
+        Ok((store, report)) => serve_opened(rt, alloc, order, store, &report, edge, writer),
+        Err(stopped) => Err(HostFailure::Refused {
+            segment: stopped.segment,
+            why: stopped.refusal,
+        }),
+    }
+}
+
+/// Reports, listens, serves, and says how many connections were served.
+#[tactic(auto, using(crate::proofs::Printing::report_failed))]
+fn serve_opened<X, D, B, G, N, W>(
+    rt: &X,
+    alloc: Global,
+    order: &Serving<'_>,
+    store: Store<D>,
+    report: &Report,
+    edge: Edge<'_, B, G, N>,
+    writer: &mut W,
+) -> Result<u64, HostFailure>
+where
+    X: Threads + Wait + Clock + Net + Sync + Send + Copy,
+    D: Disk + Send + Drop,
+    B: Bind,
+    B::Listener: Drop,
+    G: Gate + Sync,
+    N: Fn(&snap_server::Ended) + Sync,
+    W: Write,
+    requires back { AreBack store.writers.items store.scanners.items }
+    requires note { N.IsAlwaysCallable edge.note.now }
+    ensures { EndsServing (B.binds edge.entry.bind.now order.now.address.now)
+        (B.refuses edge.entry.bind.now order.now.address.now) order.now.connections
+        report.now (W.contents writer.old) (W.contents writer.new) result }
+{
+    match print_report(alloc, report, writer) {
+        Ok(()) => {}
+        Err(failure) => return Err(failure),
+    }
+    let listener = match listen(alloc, order.address, edge.bind, writer) {
+        Ok(listener) => listener,
+        Err(failure) => return Err(failure),
+    };
+    let Edge { gate, note, .. } = edge;
+    let connections = order.connections;
+    match serve_store(rt, alloc, store, &listener, connections, gate, note) {
+        Ok(served) => match print_served(alloc, served, writer) {
+            Ok(()) => Ok(served),
+            Err(failure) => Err(failure),
+        },
+        Err(ServerFault::NoMemory) => Err(HostFailure::NoMemory),
+        Err(fault) => Err(HostFailure::Server(fault)),
+    }
+}
+
+/// Writes what was found in the files.
+fn print_report<W: Write>(alloc: Global, report: &Report, writer: &mut W) -> Result<(), HostFailure>
+    ensures whole { OnOk result
+        (Appends (W.contents writer.old) (W.contents writer.new) (report_text report.now)) }
+    ensures failed { IfErr result
+        (PrintFails (W.contents writer.old) (W.contents writer.new) (report_text report.now)) }
+{
+    let Ok(text) = report.to_string(alloc) else {
+        return Err(HostFailure::NoMemory);
+    };
+    match print_line(&text, writer) {
+        Ok(()) => Ok(()),
+        Err(error) => Err(HostFailure::Output(error)),
+    }
+}
+
+/// Binds the address, and says where it really is.
+fn listen<B: Bind, W: Write>(
+    alloc: Global,
+    address: &str,
+    bind: &B,
+    writer: &mut W,
+) -> Result<B::Listener, HostFailure>
+where
+    B::Listener: Drop,
+    ensures whole { OnOk result ((a : SocketAddr) × B.binds bind.now address.now a
+        × Appends (W.contents writer.old) (W.contents writer.new) (listening_line a)) }
+    ensures failed { IfErr result (ListenFails (B.binds bind.now address.now)
+        (B.refuses bind.now address.now) (W.contents writer.old) (W.contents writer.new)) }
+{
+    let (listener, bound) = match bind.bind(address) {
+        Ok(bound) => bound,
+        Err(error) => return Err(HostFailure::Address(error)),
+    };
+    let Ok(line) = format!(in alloc; "listening {bound}\n") else {
+        return Err(HostFailure::NoMemory);
+    };
+    match print_line(&line, writer) {
+        Ok(()) => Ok(listener),
+        Err(error) => Err(HostFailure::Output(error)),
+    }
+}
+
+/// Says how many connections were served.
+fn print_served<W: Write>(alloc: Global, served: u64, writer: &mut W) -> Result<(), HostFailure>
+    ensures whole { OnOk result
+        (Appends (W.contents writer.old) (W.contents writer.new) (served_line served)) }
+    ensures failed { IfErr result
+        (PrintFails (W.contents writer.old) (W.contents writer.new) (served_line served)) }
+{
+    let Ok(line) = format!(in alloc; "served {served}\n") else {
+        return Err(HostFailure::NoMemory);
+    };
+    match print_line(&line, writer) {
+        Ok(()) => Ok(()),
+        Err(error) => Err(HostFailure::Output(error)),
+    }
+}
+
+/// Writes a text at once.
+fn print_line<W: Write>(text: &String, writer: &mut W) -> io::Result<()>
+    ensures whole { OnOk result
+        (Appends (W.contents writer.old) (W.contents writer.new) (string_bytes text.now)) }
+    ensures beginning { AppendsBeginning (W.contents writer.old) (W.contents writer.new)
+        (string_bytes text.now) }
+{
+    match write_whole(writer, text.as_bytes()) {
+        Ok(()) => writer.flush(),
+        Err(error) => Err(error),
+    }
+}

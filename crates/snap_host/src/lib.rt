@@ -1,0 +1,18 @@
+//! Everything between a server's files and its clients: [`host`] opens the files, prints what it
+//! found, listens, and serves.
+//!
+//! Each worker is a desk with a scanner of its own, and each segment's updates are stored by a
+//! thread of its own. What the system gives, an address and what is told of ended connections,
+//! comes from the caller ([`Edge`]).
+#![tactic(auto)]
+
+mod bind;
+mod failure;
+mod hosting;
+mod notes;
+mod stores;
+
+pub use bind::{Bind, Network};
+pub use failure::HostFailure;
+pub use hosting::{Edge, host};
+pub use notes::{Notes, write_notes};

@@ -1,0 +1,155 @@
+//! The threads that store, and the workers' desks.
+ghost use Rattle.std.specs.Prelude.{◌≡◌, ℕ, length, slice_get, Some, IfOk};
+ghost use Rattle.snap_register.specs.Rule.{segments};
+ghost use Rattle.snap_register.specs.Seat.{Known};
+ghost use Rattle.snap_service.specs.Memory.{AreWriters, IsOf};
+ghost use Rattle.snap_restart.specs.Closed.{AreBack};
+ghost use Rattle.snap_host.specs.Scanners.{AreScanners};
+
+use snap_desk::{Desk, Outcome, StoreThread, Told, Window};
+use snap_disk::Disk;
+use snap_memory::{Scanner, Snapshot};
+use snap_restart::Store;
+use snap_server::{Background, Done, Ended, Gate, Listen, ServerFault, run};
+use snap_service::{Memory, WriterOf, name_writers};
+use snap_writer::Writer;
+use std::alloc::{AllocError, Global};
+use std::marker::Brand;
+use std::mem;
+use std::net::Net;
+use std::rt::Clock;
+use std::sync::Wait;
+use std::thread::Threads;
+
+/// A segment's store in a thread of the server.
+#[derive(Drop)]
+struct Storing<R: Wait + Copy, M: Memory, D: Disk + Drop> {
+    store: StoreThread<R, M, D>,
+}
+
+impl<R: Wait + Copy, M: Memory, D: Disk + Drop> Background for Storing<R, M, D> {
+    type Outcome = Outcome<R, M, D>;
+
+    fn next_done(&mut self) -> Option<Done<Outcome<R, M, D>>> {
+        let Told {
+            worker,
+            key,
+            outcome,
+        } = self.store.next()?;
+        Some(Done {
+            worker,
+            key,
+            outcome,
+        })
+    }
+}
+
+/// A store for each writer, and their windows in the same order.
+fn open_stores<R: Wait + Copy, M: Memory, D: Disk + Drop>(
+    rt: R,
+    alloc: Global,
+    writers: Vec<WriterOf<M, D>>,
+) -> Result<(Vec<Storing<R, M, D>>, Vec<Window>), AllocError>
+    ensures stores { IfOk result (λ r. length r.0.items ≡ length writers.items) }
+    ensures windows { IfOk result (λ r. length r.1.items ≡ length writers.items) }
+{
+    let mut stores = Vec::with_capacity(alloc, writers.len())?;
+    let mut windows = Vec::with_capacity(alloc, writers.len())?;
+    'writers: for writer in writers {
+        let (store, window) = StoreThread::new(rt, alloc, writer)?;
+        stores.push(Storing { store })?;
+        windows.push(window)?;
+    }
+    Ok((stores, windows))
+}
+
+/// A desk for each scanner.
+fn open_desks<R: Wait + Copy, M: Memory, D: Disk + Drop>(
+    rt: R,
+    alloc: Global,
+    windows: Vec<Window>,
+    scanners: Vec<Scanner>,
+) -> Result<Vec<Desk<R, M, D>>, AllocError>
+    requires windows { length windows.items ≡ segments M.plan }
+    requires scanners { AreScanners M.table M.plan scanners.items }
+{
+    let mut desks = Vec::with_capacity(alloc, scanners.len())?;
+    'scanners: for scanner in scanners {
+        let worker = desks.len();
+        let snapshot = Snapshot::new(alloc, windows.len())?;
+        let own = windows.clone()?;
+        desks.push(Desk::new(rt, alloc, worker, own, scanner, snapshot))?;
+    }
+    Ok(desks)
+}
+
+/// Serves the memory of these writers and scanners, as [`run`] does.
+fn serve_memory<M, X, D, L, G, N>(
+    rt: &X,
+    alloc: Global,
+    writers: Vec<Writer<D>>,
+    scanners: Vec<Scanner>,
+    listener: &L,
+    connections: Option<u64>,
+    gate: &G,
+    note: &N,
+) -> Result<u64, ServerFault>
+where
+    M: Memory + Send,
+    X: Threads + Wait + Clock + Net + Sync + Send + Copy,
+    D: Disk + Send + Drop,
+    L: Listen,
+    G: Gate + Sync,
+    N: Fn(&Ended) + Sync,
+    requires writers { AreWriters M.table M.plan writers.items }
+    requires scanners { AreScanners M.table M.plan scanners.items }
+    requires note { N.IsAlwaysCallable note.now }
+    ensures { IfOk result (λ k. connections ≡ Some k) }
+{
+    let Ok(writers) = name_writers::<M, D>(alloc, writers) else {
+        return Err(ServerFault::NoMemory);
+    };
+    let Ok((stores, windows)) = open_stores(*rt, alloc, writers) else {
+        return Err(ServerFault::NoMemory);
+    };
+    let Ok(desks) = open_desks::<X, M, D>(*rt, alloc, windows, scanners) else {
+        return Err(ServerFault::NoMemory);
+    };
+    run(rt, alloc, listener, desks, stores, connections, gate, note)
+}
+
+/// Serves this store, as [`run`] does: a worker for each scanner, and a thread that stores for each
+/// writer.
+pub(crate) fn serve_store<X, D, L, G, N>(
+    rt: &X,
+    alloc: Global,
+    store: Store<D>,
+    listener: &L,
+    connections: Option<u64>,
+    gate: &G,
+    note: &N,
+) -> Result<u64, ServerFault>
+where
+    X: Threads + Wait + Clock + Net + Sync + Send + Copy,
+    D: Disk + Send + Drop,
+    L: Listen,
+    G: Gate + Sync,
+    N: Fn(&Ended) + Sync,
+    requires back { AreBack store.writers.items store.scanners.items }
+    requires note { N.IsAlwaysCallable note.now }
+    ensures { IfOk result (λ k. connections ≡ Some k) }
+{
+    let mut store = store;
+    let writers = mem::replace(&mut store.writers, Vec::new(alloc));
+    let scanners = mem::replace(&mut store.scanners, Vec::new(alloc));
+    serve_memory::<Brand, X, D, L, G, N>(
+        rt,
+        alloc,
+        writers,
+        scanners,
+        listener,
+        connections,
+        gate,
+        note,
+    )
+}

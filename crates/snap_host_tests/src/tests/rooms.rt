@@ -1,0 +1,144 @@
+//! Servers over two segments in memory.
+
+use snap_disk::{Disk, FILE_LEN, Held, MemDisk};
+use snap_host::{Bind, Edge, host};
+use snap_order::{Serving, Status};
+use snap_segment::format;
+use snap_server::{Arrival, Ended, Gate, Listen, Tcp};
+use std::alloc::{AllocError, Global};
+use std::io;
+use std::net::{Net, SocketAddr};
+use std::rt::Clock;
+use std::sync::atomic::AtomicU64;
+use std::sync::{Arc, Wait};
+use std::test::Fail;
+use std::thread::Threads;
+
+/// A listener that is there already.
+#[derive(Drop)]
+pub(crate) struct Ready<'a> {
+    tcp: &'a Tcp,
+    address: SocketAddr,
+}
+
+/// The connections of another listener.
+#[derive(Drop)]
+pub(crate) struct Shared<'a> {
+    tcp: &'a Tcp,
+}
+
+impl<'a> Ready<'a> {
+    pub(crate) fn new(tcp: &'a Tcp, address: SocketAddr) -> Ready<'a> {
+        Ready { tcp, address }
+    }
+}
+
+impl Listen for Shared<'_> {
+    fn accept(&self) -> io::Result<Arrival> {
+        self.tcp.accept()
+    }
+}
+
+impl<'a> Bind for Ready<'a> {
+    type Listener = Shared<'a>;
+
+    fn bind(&self, _address: &str) -> io::Result<(Shared<'a>, SocketAddr)> {
+        Ok((Shared { tcp: self.tcp }, self.address))
+    }
+}
+
+/// How a server is to serve.
+#[derive(Clone, Copy)]
+pub(crate) struct Plan {
+    scanners: u8,
+    connections: Option<u64>,
+}
+
+impl Plan {
+    pub(crate) fn of(scanners: u8, connections: Option<u64>) -> Plan {
+        Plan {
+            scanners,
+            connections,
+        }
+    }
+}
+
+/// What came of a server.
+#[derive(Drop)]
+pub(crate) struct Seen {
+    pub status: Status,
+    pub out: Vec<u8>,
+    pub errors: Vec<u8>,
+}
+
+/// How many turns of yielding a held store waits at most.
+const TURNS: u64 = 1_000_000;
+
+/// The new files of two segments, whose stores may begin once the flag is set.
+pub(crate) fn held_files(alloc: Global, flag: &Arc<AtomicU64, Global>) -> Result<Vec<Held>, Fail> {
+    let mut files = Vec::new(alloc);
+    for disk in new_files(alloc)? {
+        files.push(Held::new(disk, Arc::try_clone(flag)?, TURNS))?;
+    }
+    Ok(files)
+}
+
+/// The new files of two segments.
+pub(crate) fn new_files(alloc: Global) -> Result<Vec<MemDisk>, Fail> {
+    let mut files = Vec::new(alloc);
+    for index in 0..2u8 {
+        let mut disk = MemDisk::zeroed(alloc, FILE_LEN as usize)?;
+        format(&mut disk, index, 2)?;
+        files.push(disk)?;
+    }
+    Ok(files)
+}
+
+/// A server over these two devices, with 1 to 16 scanners.
+pub(crate) fn host_over<X, D, B, G>(
+    rt: &X,
+    alloc: Global,
+    devices: Vec<D>,
+    bind: &B,
+    plan: Plan,
+    gate: &G,
+) -> Result<Seen, AllocError>
+where
+    X: Threads + Wait + Clock + Net + Sync + Send + Copy,
+    D: Disk + Send + Drop,
+    B: Bind,
+    B::Listener: Drop,
+    G: Gate + Sync,
+{
+    if devices.len() != 2 || !devices.iter().all(|disk| disk.failures() < 9) {
+        return Err(AllocError);
+    }
+    let mut seen = Seen {
+        status: Status::Failed,
+        out: Vec::new(alloc),
+        errors: Vec::new(alloc),
+    };
+    let order = Serving {
+        address: "loopback",
+        files: vec![in alloc; "first", "second"]?,
+        scanners: plan.scanners.clamp(1, 16),
+        connections: plan.connections,
+    };
+    let note = |_ended: &Ended| {};
+    let edge = Edge {
+        bind,
+        gate,
+        note: &note,
+    };
+    let ended = host(
+        rt,
+        alloc,
+        &order,
+        devices,
+        edge,
+        &mut seen.out,
+        &mut seen.errors,
+    );
+    seen.status = ended.status;
+    Ok(seen)
+}

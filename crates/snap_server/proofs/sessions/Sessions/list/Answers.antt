@@ -1,0 +1,74 @@
+use Rattle.std.proofs.Common.{arith, sym, ap, ◌∙◌, ◌≡◌, true≢false}
+use mathlib.Core.Logic.{∥∥₁_map}
+use Rattle.snap_server.specs.declared.connection.Connection.{Connection}
+use Rattle.snap_server.proofs.Sharing.{written_are}
+use Rattle.snap_server.proofs.Listing.{
+  lists_enlisted,
+  lists_written,
+  lists_room,
+  written_len,
+  enlisted_same,
+}
+use Rattle.snap_server.proofs.sessions.Sessions.list.Goals as goal
+
+pub push_back_reserved-requires : goal.push_back_reserved-requires
+push_back_reserved-requires g c = omega (
+  arith,
+  c.args.self.now.listed.ok.0,
+  lists_room c.args.self.now.listed.items c.args.key _ c.args.self.now.listed.cap
+      (omega (
+        arith,
+        c.args.self.now.room,
+        written_len c.args.self.now.connections c.args.key
+            c.in-Some.connection.now c.enlist.new.self (sym c.in-Some.ensures.value),
+      ))
+      (∥∥₁_map c.args.self.now.lists
+      (lists_enlisted _ c.args.self.now.connections c.args.key c.in-Some.connection.now
+      c.enlist.new.self (sym c.in-Some.ensures.value) (c.enlist.ensures.idle.0 c.if-enlist.true)
+      c.enlist.ensures.listed)),
+)
+
+pub invariant_of-self-then-enlist-clause-are : goal.invariant_of-self-then-enlist-clause-are
+invariant_of-self-then-enlist-clause-are g c = ∥∥₁_map c.args.self.now.are
+    (written_are g.S.Service.gives _ _ c.args.key c.in-Some.connection.now c.enlist.new.self
+    (sym c.in-Some.ensures.value) (ap (λ (z : Connection). z.session) c.enlist.ensures.listed))
+
+pub invariant_of-self-then-enlist-clause-lists : goal.invariant_of-self-then-enlist-clause-lists
+invariant_of-self-then-enlist-clause-lists g c =
+    rw c.push_back_reserved.ensures.items (∥∥₁_map c.args.self.now.lists
+    (lists_enlisted _ _ c.args.key c.in-Some.connection.now c.enlist.new.self
+    (sym c.in-Some.ensures.value) (c.enlist.ensures.idle.0 c.if-enlist.true)
+    c.enlist.ensures.listed))
+
+pub invariant_of-self-then-enlist-clause-room : goal.invariant_of-self-then-enlist-clause-room
+invariant_of-self-then-enlist-clause-room g c = omega (
+  arith,
+  c.args.self.now.room,
+  c.push_back_reserved.ensures.capacity,
+  written_len c.args.self.now.connections c.args.key c.in-Some.connection.now
+      c.enlist.new.self (sym c.in-Some.ensures.value),
+)
+
+pub invariant_of-self-else-enlist-clause-are : goal.invariant_of-self-else-enlist-clause-are
+invariant_of-self-else-enlist-clause-are g c = ∥∥₁_map c.args.self.now.are
+    (written_are g.S.Service.gives _ _ c.args.key c.in-Some.connection.now c.enlist.new.self
+    (sym c.in-Some.ensures.value) (ap (λ (z : Connection). z.session) c.enlist.ensures.listed))
+
+pub invariant_of-self-else-enlist-clause-lists : goal.invariant_of-self-else-enlist-clause-lists
+invariant_of-self-else-enlist-clause-lists g c =
+    let old = c.in-Some.connection.now in
+    let same : c.enlist.new.self.stage ≡ old.stage =
+    ap (λ (z : Connection). z.stage) c.enlist.ensures.listed
+    ∙ enlisted_same old.stage
+    (λ idle. true≢false (sym (c.enlist.ensures.idle.1 idle) ∙ c.if-enlist.false)) in
+    ∥∥₁_map c.args.self.now.lists
+    (lists_written _ _ c.args.key old c.enlist.new.self (sym c.in-Some.ensures.value)
+    (λ on. same ∙ on) (λ on. sym same ∙ on))
+
+pub invariant_of-self-else-enlist-clause-room : goal.invariant_of-self-else-enlist-clause-room
+invariant_of-self-else-enlist-clause-room g c = omega (
+  arith,
+  c.args.self.now.room,
+  written_len c.args.self.now.connections c.args.key c.in-Some.connection.now
+      c.enlist.new.self (sym c.in-Some.ensures.value),
+)

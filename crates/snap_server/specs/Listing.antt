@@ -1,0 +1,27 @@
+-- The list of the connections that get a turn.
+use Rattle.std.specs.Prelude.{◌≡◌, ◌≢◌, ◌↔◌, ℕ, List, Some}
+use Rattle.std.specs.List.{AllPairs, Contains}
+use Rattle.slab.specs.Slab.{Slab, get}
+use Rattle.snap_server.specs.declared.connection.Connection.{Connection}
+use Rattle.snap_server.specs.declared.connection.Stage.{Stage}
+use Rattle.snap_server.specs.declared.connection.Stage.TheVariants.{Idle, Listed, Over}
+
+-- the connection of this key says that it is on the list
+abbrev pub IsListed : Slab Connection → ℕ → Type 0
+IsListed connections key =
+    (c : Connection) × (get connections key ≡ Some c) × (c.stage ≡ Listed)
+
+-- each connection that says so is on the list, and no other key: each once
+pub record Lists (keys : List ℕ) (connections : Slab Connection) : Type 0 where
+  pub once : AllPairs (λ a b. a ≢ b) keys
+  pub same : (key : ℕ) → Contains keys key ↔ IsListed connections key
+
+-- where a connection stands once it was put on the list: one that has ended isn't put there
+abbrev pub enlisted : Stage → Stage
+enlisted Idle = Listed
+enlisted Listed = Listed
+enlisted Over = Over
+
+-- no connection but that of this key was touched
+abbrev pub KeepsOthers : ℕ → Slab Connection → Slab Connection → Type 0
+KeepsOthers key old new = (other : ℕ) → other ≢ key → get new other ≡ get old other

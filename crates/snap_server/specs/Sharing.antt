@@ -1,0 +1,26 @@
+-- Sessions that share a service.
+use Rattle.std.specs.Prelude.{◌≡◌, ℕ, Some, None}
+use Rattle.slab.specs.Slab.{Slab, get}
+use Rattle.snap_frame.specs.declared.request.Request.{Request}
+use Rattle.snap_frame.specs.declared.reply.Reply.{Reply}
+use Rattle.snap_session.specs.Talk.{Talk, Stays, Moves, start}
+use Rattle.snap_session.specs.Turns.{Turns}
+use Rattle.snap_server.specs.declared.connection.Connection.{Connection}
+
+module _ {S : Type 0} (gives : S → Request → Reply → S → Type 0) where
+  -- one session alone went on, while the service went from s to t
+  abbrev pub IsTurn : S → S → Talk → Talk → Type 0
+  IsTurn s t old new = Turns Stays gives s t old None None None None new
+
+  -- a session from its start, while the service went from s to t, with others' requests answered
+  -- between its own
+  abbrev pub IsSession : S → S → Talk → Type 0
+  IsSession s t talk = Turns (Moves gives) gives s t start None None None None talk
+
+  -- The service is at t, and each connection is a session from its start: all from one state that
+  -- the service was in before the first of them came.
+  pub record AreSessions (t : S) (connections : Slab Connection) : Type 0 where
+    pub first : S
+    pub moves : Moves gives first t
+    pub each : (key : ℕ) → (c : Connection) → get connections key ≡ Some c
+        → IsSession first t c.session

@@ -1,0 +1,16 @@
+-- Where a connection stands after a turn.
+use Rattle.std.specs.Prelude.{◌≡◌, ◌⊎◌, None}
+use Rattle.snap_session.specs.Talk.{Talk}
+use Rattle.snap_session.specs.Turns.{StandsAt, EndsAt}
+use Rattle.snap_session.specs.declared.turns.Turn.TheVariants.{NeedsInput, NeedsRoom, NeedsOutcome}
+use Rattle.snap_server.specs.declared.connection.Connection.{Connection}
+use Rattle.snap_server.specs.declared.connection.Ended.{Ended}
+use Rattle.snap_server.specs.declared.connection.Stage.TheVariants.{Over}
+
+-- nothing can be done before the system reports the socket, or the outcome comes
+abbrev pub Waits : Talk → Type 0
+Waits t = StandsAt NeedsInput t None ⊎ (StandsAt NeedsRoom t None ⊎ StandsAt NeedsOutcome t None)
+
+-- the connection has ended as it is told, and gets no further turn
+abbrev pub HasEnded : Connection → Ended → Type 0
+HasEnded c ended = (c.stage ≡ Over) × (ended.peer ≡ c.peer) × EndsAt ended.end c.session None

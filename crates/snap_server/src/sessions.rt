@@ -1,0 +1,209 @@
+//! The connections of a worker, whose sessions share its service.
+ghost use Rattle.std.specs.Prelude.{◌≡◌, ◌≢◌, ◌⊎◌, ◌↔◌, ◌≤◌, ◌<◌, ◌+◌, ◌++◌, ℕ, length, IfSome, IfNone, IsSome, OnSome};
+ghost use Rattle.std.specs.Prelude.{Some, None, true, false, option_to_list};
+ghost use Rattle.std.specs.VecDeque.{deque_len, deque_capacity};
+ghost use Rattle.std.specs.List.{Contains};
+ghost use Rattle.slab.specs.Slab.{get, slab_len, SameValues};
+ghost use Rattle.snap_session.specs.Talk.{Talk, start};
+ghost use Rattle.snap_session.specs.Turns.{EndsAt};
+ghost use Rattle.snap_server.specs.Sharing.{AreSessions, IsTurn};
+ghost use Rattle.snap_server.specs.Listing.{Lists, enlisted, KeepsOthers};
+ghost use Rattle.snap_server.specs.Standing.{Waits, HasEnded};
+
+use crate::connection::{Connection, Ended, Stage};
+use crate::listen::Arrival;
+use mio::{Registry, Token};
+use slab::Slab;
+use snap_session::{Service, Turn};
+use std::alloc::Global;
+use std::collections::VecDeque;
+
+/// A service, the connections whose sessions share it, and the list of those that get a turn.
+///
+/// From its start to now, each connection is one session on the service, with requests of the
+/// others answered between its own.
+#[derive(Drop)]
+pub struct Sessions<S: Service + Drop> {
+    service: S,
+    connections: Slab<Connection>,
+    /// The keys of those that get a turn, each once. It has room for all.
+    listed: VecDeque<usize>,
+    ghost are: { ∥ AreSessions S.gives service connections ∥₁ },
+    ghost lists: { ∥ Lists listed.items connections ∥₁ },
+    ghost room: { slab_len connections ≤ deque_capacity listed },
+}
+
+impl<S: Service + Drop> Sessions<S> {
+    /// With no connection yet.
+    pub fn new(alloc: Global, service: S) -> Sessions<S>
+        ensures service { result.service ≡ service }
+        ensures none { slab_len result.connections ≡ 0 }
+    {
+        Sessions {
+            service,
+            connections: Slab::new(alloc),
+            listed: VecDeque::new(alloc),
+        }
+    }
+
+    /// Whether no connection is left.
+    pub fn is_empty(&self) -> bool
+        ensures { result ≡ true ↔ slab_len self.now.connections ≡ 0 }
+    {
+        self.connections.is_empty()
+    }
+
+    /// How many get a turn.
+    pub fn turns(&self) -> usize
+        ensures { result ≡ deque_len self.now.listed }
+    {
+        self.listed.len()
+    }
+
+    /// Takes a connection in, and has the system watch it under its key. `false` where that was
+    /// refused, or no room was found: then it is closed, and the others go on.
+    pub fn adopt(&mut self, alloc: Global, registry: &Registry, arrival: Arrival) -> bool
+        ensures service { self.new.service ≡ self.old.service }
+        ensures kept { (key : ℕ) → (c : Connection) → get self.old.connections key ≡ Some c
+            → get self.new.connections key ≡ Some c }
+        ensures refused { result ≡ false → SameValues self.old.connections self.new.connections }
+        ensures taken { result ≡ true
+            → slab_len self.new.connections ≡ slab_len self.old.connections + 1 }
+    {
+        let Some(count) = self.connections.len().checked_add(1) else {
+            return false;
+        };
+        if self.listed.reserve(count).is_err() || self.connections.reserve(1).is_err() {
+            return false;
+        }
+        let mut connection = Connection::new(alloc, arrival);
+        let key = self.connections.vacant_key();
+        if connection.register(registry, Token(key)).is_err() {
+            return false;
+        }
+        self.connections.insert_reserved(connection);
+        true
+    }
+
+    /// Puts a connection on the list of those that get a turn, unless it is there or has ended.
+    pub fn list(&mut self, key: usize)
+        ensures service { self.new.service ≡ self.old.service }
+        ensures listed { (c : Connection) → get self.old.connections key ≡ Some c
+            → get self.new.connections key ≡ Some (record c { stage = enlisted c.stage }) }
+        ensures nobody { get self.old.connections key ≡ None
+            → self.new.connections ≡ self.old.connections }
+        ensures others { KeepsOthers key self.old.connections self.new.connections }
+        ensures count { slab_len self.new.connections ≡ slab_len self.old.connections }
+    {
+        let Some(connection) = self.connections.get_mut(key) else {
+            return;
+        };
+        if connection.enlist() {
+            self.listed.push_back_reserved(key);
+        }
+    }
+
+    /// Takes the first key off the list.
+    pub fn next(&mut self) -> Option<usize>
+        ensures service { self.new.service ≡ self.old.service }
+        ensures first { self.old.listed.items ≡ option_to_list result ++ self.new.listed.items }
+        ensures idle { IfSome result (λ key. (c : Connection)
+            → get self.new.connections key ≡ Some c → c.stage ≡ Stage.Idle) }
+        ensures sessions { IfSome result (λ key. (c : Connection)
+            → get self.old.connections key ≡ Some c
+            → get self.new.connections key ≡ Some (record c { stage = Stage.Idle })) }
+        ensures others { IfSome result (λ key.
+            KeepsOthers key self.old.connections self.new.connections) }
+        ensures none { IfNone result (self.new.connections ≡ self.old.connections) }
+    {
+        let key = self.listed.pop_front()?;
+        if let Some(connection) = self.connections.get_mut(key) {
+            connection.delist();
+        }
+        Some(key)
+    }
+
+    /// Gives a connection its turn: what it ends with, if it ends. One that has more to do at once
+    /// is on the list again.
+    pub fn turn(&mut self, key: usize, piece: &mut [u8]) -> Option<Ended>
+        requires room { 0 < length piece.old }
+        requires idle { (c : Connection) → get self.old.connections key ≡ Some c
+            → c.stage ≡ Stage.Idle }
+        ensures ended { IfSome result (λ ended. (c : Connection)
+            × (get self.new.connections key ≡ Some c) × HasEnded c ended) }
+        ensures waits { IfNone result ((c : Connection) → get self.new.connections key ≡ Some c
+            → (c.stage ≡ Stage.Listed) ⊎ Waits c.session) }
+        ensures turn { (c : Connection) → (d : Connection)
+            → get self.old.connections key ≡ Some c → get self.new.connections key ≡ Some d
+            → IsTurn S.gives self.old.service self.new.service c.session d.session }
+        ensures under { (c : Connection) → (d : Connection)
+            → get self.old.connections key ≡ Some c → get self.new.connections key ≡ Some d
+            → c.session.asked ≡ None → OnSome d.session.asked (S.hands_over_under key) }
+        ensures nobody { get self.old.connections key ≡ None
+            → self.new.service ≡ self.old.service }
+        ensures others { KeepsOthers key self.old.connections self.new.connections }
+        ensures count { slab_len self.new.connections ≡ slab_len self.old.connections }
+    {
+        let connection = self.connections.get_mut(key)?;
+        match connection.go_on(&mut self.service, key, piece) {
+            Turn::Again => {
+                self.list(key);
+                None
+            }
+            Turn::NeedsInput | Turn::NeedsRoom | Turn::NeedsOutcome => None,
+            Turn::Over(end) => Some(connection.end(end)),
+        }
+    }
+
+    /// Lets a connection go that has ended, unless an outcome is still to come under its key.
+    pub fn let_go(&mut self, key: usize)
+        ensures service { self.new.service ≡ self.old.service }
+        ensures gone { (c : Connection) → get self.old.connections key ≡ Some c
+            → c.stage ≡ Stage.Over → c.session.asked ≡ None
+            → get self.new.connections key ≡ None }
+        ensures kept { (c : Connection) → get self.old.connections key ≡ Some c
+            → (c.stage ≢ Stage.Over) ⊎ (c.session.asked ≢ None)
+            → get self.new.connections key ≡ Some c }
+        ensures others { KeepsOthers key self.old.connections self.new.connections }
+    {
+        let Some(connection) = self.connections.get(key) else {
+            return;
+        };
+        if connection.is_over() && connection.is_free() {
+            self.connections.try_remove(key);
+        }
+    }
+
+    /// Tells a connection what became of its request: it gets a turn then. One that has ended is
+    /// let go.
+    pub fn tell(&mut self, key: usize, outcome: S::Outcome)
+    where
+        S::Outcome: Drop,
+        ensures answered { (c : Connection) → (d : Connection)
+            → get self.old.connections key ≡ Some c → get self.new.connections key ≡ Some d
+            → c.session.over ≡ None → d.session.asked ≡ None }
+        ensures turn { (c : Connection) → (d : Connection)
+            → get self.old.connections key ≡ Some c → get self.new.connections key ≡ Some d
+            → IsTurn S.gives self.old.service self.new.service c.session d.session }
+        ensures last { (c : Connection) → get self.old.connections key ≡ Some c
+            → (talk : Talk) × IsTurn S.gives self.old.service self.new.service c.session talk }
+        ensures nobody { get self.old.connections key ≡ None
+            → self.new.service ≡ self.old.service }
+        ensures listed { (d : Connection) → get self.new.connections key ≡ Some d
+            → d.stage ≡ Stage.Listed }
+        ensures gone { (c : Connection) → get self.old.connections key ≡ Some c
+            → c.stage ≡ Stage.Over → get self.new.connections key ≡ None }
+        ensures kept { (c : Connection) → get self.old.connections key ≡ Some c
+            → c.stage ≢ Stage.Over → IsSome (get self.new.connections key) }
+        ensures others { KeepsOthers key self.old.connections self.new.connections }
+    {
+        let Some(connection) = self.connections.get_mut(key) else {
+            return;
+        };
+        if connection.take_outcome(&mut self.service, outcome) {
+            self.list(key);
+            return;
+        }
+        self.connections.try_remove(key);
+    }
+}

@@ -1,0 +1,186 @@
+"""What the tests of the clients have in common: the client in C as a program, peers that behave as they are told, the vectors
+of docs/FORMATS.md, and jobs that are killed."""
+
+import functools
+import os
+import pathlib
+import re
+import socket
+import struct
+import subprocess
+import sys
+import tempfile
+import threading
+
+from waiting import PATIENCE
+
+TOP = pathlib.Path(__file__).resolve().parent.parent
+sys.path.insert(0, str(TOP / "clients" / "python"))
+sys.path.insert(0, str(TOP / "tests" / "oracle"))
+
+import server as oracle  # noqa: E402, F401
+import snapd_client  # noqa: E402
+
+STRICT = ["-std=c99", "-Wall", "-Wextra", "-Wpedantic", "-Wshadow", "-Wconversion", "-Werror", "-O2"]
+ENVIRONMENT = {**os.environ, "PYTHONPATH": str(TOP / "clients" / "python"), "PYTHONDONTWRITEBYTECODE": "1"}
+
+STORED_ONE = bytes.fromhex("00000009 81 0000000000000001")
+
+# The client in Python, which waits as long as it takes where a test says nothing else.
+Client = functools.partial(snapd_client.Client, timeout=PATIENCE)
+
+
+@functools.lru_cache(maxsize=None)
+def compiled(name):
+    """The path of an example in C, compiled once with every warning an error."""
+    path = pathlib.Path(_folder().name) / name
+    source = TOP / "clients" / "c" / "examples" / f"{name}.c"
+    subprocess.run(["gcc", *STRICT, "-I", TOP / "clients" / "c", "-o", path, source], check=True)
+    return str(path)
+
+
+@functools.lru_cache(maxsize=None)
+def _folder():
+    """Goes with the process."""
+    return tempfile.TemporaryDirectory(prefix="snapd-c-")
+
+
+def ask(address, *words, timeout=1000 * PATIENCE, tries=1):
+    """Status, output and errors of one request by the client in C."""
+    host, port = address.split(":")
+    run = subprocess.run([compiled("ask"), host, port, str(timeout), str(tries), *map(str, words)],
+                         capture_output=True, text=True, timeout=2 * PATIENCE)
+    return run.returncode, run.stdout, run.stderr
+
+
+class Peer:
+    """A peer that handles its connections one after another, each by the next of these functions; then it hangs up.
+
+    What each connection sent to it stands in `heard`.
+    """
+
+    def __init__(self, *handlers):
+        self.handlers = handlers
+        self.heard = []
+        self.listener = socket.create_server(("127.0.0.1", 0))
+        self.address = "{}:{}".format(*self.listener.getsockname())
+
+    def __enter__(self):
+        self.thread = threading.Thread(target=self.run, daemon=True)
+        self.thread.start()
+        return self
+
+    def run(self):
+        for handle in self.handlers:
+            connection, _ = self.listener.accept()
+            with connection:
+                connection.settimeout(PATIENCE)
+                self.heard.append(b"")
+                handle(self, connection)
+        self.listener.close()
+
+    def __exit__(self, *_):
+        self.thread.join(2 * PATIENCE)
+        assert not self.thread.is_alive(), "the client made fewer connections than it should have"
+
+    def hear(self, connection, count):
+        """Reads so many bytes."""
+        while len(self.heard[-1]) < count:
+            piece = connection.recv(count - len(self.heard[-1]))
+            assert piece, self.heard
+            self.heard[-1] += piece
+
+
+def hangs_up(_, __):
+    pass
+
+
+def hangs_up_after(count):
+    return lambda peer, connection: peer.hear(connection, count)
+
+
+def says(answer, count=5, then=None):
+    """Reads a request of so many bytes, and answers by these bytes."""
+    def handle(peer, connection):
+        peer.hear(connection, count)
+        connection.sendall(answer)
+        if then:
+            then(peer, connection)
+        else:
+            connection.recv(1)
+    return handle
+
+
+def says_nothing(peer, connection):
+    while connection.recv(4096):
+        pass
+
+
+def raised(call):
+    """The exception that the call raises."""
+    try:
+        answer = call()
+    except Exception as error:
+        return error
+    raise AssertionError(f"answered {answer!r}")
+
+
+def refused(call, number, detail):
+    error = raised(call)
+    assert isinstance(error, snapd_client.Refused), repr(error)
+    assert (error.number, error.detail) == (number, detail), error
+    assert type(error).__name__ == error.name and error.name in str(error)
+
+
+def framed(text):
+    payload = bytes.fromhex(text)
+    return struct.pack(">I", len(payload)) + payload
+
+
+def vectors():
+    """The requests and replies of docs/FORMATS.md, one connection to a server of two segments, as frames."""
+    text = (TOP / "docs" / "FORMATS.md").read_text()
+    table = text[text.index("| Request's frame | Reply's frame |"):].splitlines()[2:13]
+    rows = []
+    for line in table:
+        request, reply = [cell.strip() for cell in line.strip("|").split("|")]
+        found = re.search(r"`([0-9A-F. ]+)`", request)
+        if found is None:
+            assert (request, reply) == ("the same again", "the same reply"), line
+            rows.append(rows[-1])
+            continue
+        frame = bytes.fromhex(found.group(1).replace("..", ""))
+        if ".." in found.group(1):
+            assert "segment 1, number 1, with 4,081 bytes" in request
+            frame += (1).to_bytes(8, "big") + b"v" * 4081
+        rows.append((frame, bytes.fromhex(re.search(r"`([0-9A-F ]+)`", reply).group(1))))
+    assert len(rows) == 11
+    return rows
+
+
+def jobs(address):
+    """The words of the examples' jobs, one in each language and on a segment of its own, without the number of steps."""
+    example = TOP / "clients" / "python" / "examples" / "resuming_job.py"
+    return [[sys.executable, str(example), address, "0"], [compiled("resuming_job"), *address.split(":"), "1"]]
+
+
+def begun(words, steps):
+    """A job that does so many steps."""
+    return subprocess.Popen([*words, str(steps)], stdout=subprocess.PIPE, stderr=subprocess.DEVNULL, text=True, env=ENVIRONMENT)
+
+
+def kill(job):
+    """As `kill -9`, unless it has ended."""
+    job.kill()
+    job.communicate()
+
+
+def ends_right(words, steps):
+    """Runs a job to its end, which it comes to by itself, and wants its sum."""
+    job = begun(words, steps)
+    try:
+        output, _ = job.communicate(timeout=10 * PATIENCE)
+        wanted = f"{sum(step * step for step in range(1, steps + 1))}\n"
+        assert (job.returncode, output) == (0, wanted), (job.returncode, output, wanted)
+    finally:
+        kill(job)

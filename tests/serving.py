@@ -1,0 +1,215 @@
+"""A `snapd serve` on real files: started, asked, stopped and killed. Frames and messages are as docs/FORMATS.md has them."""
+
+import contextlib
+import os
+import pathlib
+import select
+import socket
+import struct
+import subprocess
+import time
+
+import segment_file as layout
+from program import Run
+from waiting import PATIENCE, comes_to  # noqa: F401
+
+LOOPBACK = "127.0.0.1:0"
+
+
+# ---- messages ----
+
+def frame(payload):
+    return struct.pack(">I", len(payload)) + payload
+
+
+def update(segment, number, value=b""):
+    return frame(bytes([1, segment]) + number.to_bytes(8, "big") + value)
+
+
+def stored(number):
+    return frame(b"\x81" + number.to_bytes(8, "big"))
+
+
+def refused(number, detail=0):
+    return frame(bytes([0xE0, number]) + detail.to_bytes(8, "big"))
+
+
+SCAN, STATUS = frame(b"\x02"), frame(b"\x03")
+MALFORMED, TOO_LARGE = refused(1), refused(15, 66_000)
+# The beginning of a frame whose length is above the limit.
+OVER_THE_LIMIT = struct.pack(">I", 66_001)
+
+
+def entries_of(payload):
+    """The pairs of number and value of a snapshot."""
+    assert payload[0] == 0x82, payload[:20]
+    entries, at = [], 2
+    for _ in range(payload[1]):
+        number, length = struct.unpack_from(">QI", payload, at)
+        entries.append((number, payload[at + 12 : at + 12 + length]))
+        at += 12 + length
+    assert at == len(payload)
+    return entries
+
+
+def snapshot(*entries):
+    """The frame of a snapshot."""
+    parts = (struct.pack(">QI", number, len(value)) + value for number, value in entries)
+    return frame(bytes([0x82, len(entries)]) + b"".join(parts))
+
+
+def standings(*pairs):
+    """The frame of the reply to a status: pairs of number and fence."""
+    return frame(bytes([0x83, len(pairs)]) + b"".join(struct.pack(">QB", *pair) for pair in pairs))
+
+
+# ---- streams ----
+
+def received(stream, count):
+    """So many bytes, or fewer where the stream ends before."""
+    got = b""
+    while len(got) < count:
+        piece = stream.recv(count - len(got))
+        if not piece:
+            break
+        got += piece
+    return got
+
+
+def to_its_end(stream):
+    got = []
+    while piece := stream.recv(65_536):
+        got.append(piece)
+    return b"".join(got)
+
+
+def reply(stream):
+    """The payload of the next frame."""
+    return received(stream, int.from_bytes(received(stream, 4), "big"))
+
+
+def reset(stream):
+    """Closes it so that the other end is told of an error."""
+    stream.setsockopt(socket.SOL_SOCKET, socket.SO_LINGER, struct.pack("ii", 1, 0))
+    stream.close()
+
+
+# ---- servers ----
+
+def limited(descriptors, words):
+    """The words of a command that has at most so many open files."""
+    return ["sh", "-c", 'ulimit -n "$0" && exec "$@"', str(descriptors), *words]
+
+
+def open_files(process):
+    """What a process has open, as the system names it."""
+    names = []
+    for number in os.listdir(f"/proc/{process}/fd"):
+        with contextlib.suppress(FileNotFoundError):
+            names.append(os.readlink(f"/proc/{process}/fd/{number}"))
+    return names
+
+
+def segments(snapd, *held, folder="."):
+    """Formatted files S0, S1 and so on of one server, each with these pairs of number and value."""
+    names = [f"{folder}/S{index}" if folder != "." else f"S{index}" for index in range(len(held))]
+    for index, (name, values) in enumerate(zip(names, held)):
+        snapd.file(name).write_bytes(layout.holding(*values, index=index, count=len(held)))
+    return names
+
+
+FRESH = [(0, b"")]
+
+
+def fresh(snapd, count, **more):
+    """So many files that were just formatted."""
+    return segments(snapd, *[FRESH] * count, **more)
+
+
+class Server:
+    """A server that has told its address. It is killed at the end of a `with`.
+
+    `report` is what it printed before the line of its address. What it writes on standard error goes to a file.
+    """
+
+    def __init__(self, snapd, *files, address=LOOPBACK, scanners=None, connections=None, env=None, descriptors=None):
+        words = [snapd.path, "serve", address, *map(str, files)]
+        words += [] if scanners is None else ["--scanners", str(scanners)]
+        words += [] if connections is None else ["--connections", str(connections)]
+        words = words if descriptors is None else limited(descriptors, words)
+        self.errors = snapd.file(f"errors-{time.monotonic_ns()}")
+        with open(self.errors, "wb") as errors:
+            self.process = subprocess.Popen(
+                words, cwd=snapd.folder, stdin=subprocess.DEVNULL, stdout=subprocess.PIPE, stderr=errors,
+                env={**os.environ, **(env or {})},
+            )
+        try:
+            self.report, self.address = self._printed()
+        except BaseException:
+            self.kill()
+            raise
+        host, _, port = self.address.rpartition(":")
+        self.place = (host.strip("[]"), int(port))
+
+    def _printed(self):
+        """The report and the address, each byte as it comes."""
+        text, until = b"", time.monotonic() + PATIENCE
+        while b"listening " not in text or not text.endswith(b"\n"):
+            ready, _, _ = select.select([self.process.stdout], [], [], until - time.monotonic())
+            assert ready, f"no line `listening` came: {text!r}"
+            piece = os.read(self.process.stdout.fileno(), 65_536)
+            assert piece, f"it ended with {self.process.wait()}: {text!r}, {self.notes()}"
+            text += piece
+        report, line, address = text.decode().partition("listening ")
+        return report, address.removesuffix("\n")
+
+    def __enter__(self):
+        return self
+
+    def __exit__(self, *_):
+        self.kill()
+
+    def kill(self):
+        """As `kill -9`. It has ended, and its locks with it, when this returns."""
+        self.process.kill()
+        self.process.wait()
+        self.process.stdout.close()
+
+    def notes(self):
+        """The lines on standard error so far."""
+        return self.errors.read_text().splitlines()
+
+    def end(self):
+        """How it ended by itself: its status, what it printed behind its address, and its errors."""
+        output, _ = self.process.communicate(timeout=PATIENCE)
+        return Run(self.process.returncode, output, self.errors.read_text())
+
+    def connect(self, timeout=PATIENCE):
+        stream = socket.create_connection(self.place, timeout=timeout)
+        stream.setsockopt(socket.IPPROTO_TCP, socket.TCP_NODELAY, 1)
+        return stream
+
+    def ask(self, request, wanted):
+        """Asks on a connection of its own, and wants this reply's frame, or these replies' frames."""
+        with self.connect() as stream:
+            stream.sendall(request)
+            got = received(stream, len(wanted))
+            assert got == wanted, f"\n  wanted {wanted[:200].hex()}\n  got    {got[:200].hex()}"
+
+    def scan(self):
+        """The pairs of number and value of a scan on a connection of its own."""
+        with self.connect() as stream:
+            stream.sendall(SCAN)
+            return entries_of(reply(stream))
+
+    def connections(self):
+        """How many connections it has: of its sockets one listens."""
+        return sum(it.startswith("socket:") for it in open_files(self.process.pid)) - 1
+
+    def descriptors(self):
+        return len(open_files(self.process.pid))
+
+    def memory(self):
+        """Resident, in kB."""
+        status = pathlib.Path(f"/proc/{self.process.pid}/status").read_text()
+        return int(status.split("VmRSS:")[1].split()[0])

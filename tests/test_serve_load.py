@@ -1,0 +1,31 @@
+"""Sixteen writers and eight readers on a server of real files, and the judgement of all that they were told."""
+
+import segment_file as layout
+from load import Load
+from serving import Server, fresh
+
+
+def whole_record(snapd, rng, updates, scanners):
+    """Runs so many updates, and more where the scans have hardly shown any of them. Then it judges the record, and looks at the
+    files."""
+    load = Load(16, rng)
+    files = fresh(snapd, 16)
+    with Server(snapd, *files, scanners=scanners) as server:
+        load.run(server, 8, lambda: load.answered >= updates * (1 if len(load.moments) > 200 else 20))
+        load.resume(server)
+        load.judge()
+    assert load.answered >= updates and len(load.moments) > 200, (load.answered, len(load.moments))
+    for segment, file in enumerate(files):
+        last = load.numbers[segment]
+        assert layout.answer_of(snapd.file(file).read_bytes()) == (last, load.values[segment][last])
+    with Server(snapd, *files) as server:
+        load.resume(server)
+        load.judge()
+
+
+def test_ten_thousand_updates(snapd, rng):
+    whole_record(snapd, rng, 10_000, 2)
+
+
+def test_a_scanner_for_each_reader(snapd, rng):
+    whole_record(snapd, rng, 1_000, 8)

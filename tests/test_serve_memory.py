@@ -1,0 +1,122 @@
+"""`snapd serve` while memory is wanting: each allocation of a conversation is refused in turn, and all of them for a while. No
+request waits for ever, nothing that was acknowledged is lost, and what comes behind is served."""
+
+import itertools
+import time
+
+import segment_file as layout
+from preload import library
+from serving import FRESH, SCAN, STATUS, Server, comes_to, frame, received, refused, reply, segments, snapshot, standings, stored
+from serving import update
+from test_serve_disks import Disk
+
+VALUE = b"v" * layout.MAX_VALUE
+# What is read of a connection that was closed.
+EMPTY = frame(b"")
+# A conversation, and what each request is answered with ample memory.
+TALK = [
+    (update(0, 1, VALUE), stored(1)),
+    (SCAN, snapshot((1, VALUE), (0, b""))),
+    (STATUS, standings((1, False), (0, False))),
+    (update(1, 1, b"hi"), stored(1)),
+    (SCAN, snapshot((1, VALUE), (1, b"hi"))),
+]
+
+
+class Memory:
+    """Which allocations of a server that is started with `env` are refused, from when they are."""
+
+    def __init__(self, snapd, number):
+        self.wanting = snapd.file("wanting")
+        self.env = {"LD_PRELOAD": library("allocations"), "ALLOCATIONS_REFUSE": str(number), "ALLOCATIONS_WHILE": str(self.wanting)}
+
+    def runs_out(self):
+        self.wanting.write_bytes(b"")
+
+    def is_there_again(self):
+        self.wanting.unlink(missing_ok=True)
+
+
+def asked(server, request):
+    """The reply's frame, or nothing where the connection is closed."""
+    with server.connect() as stream:
+        try:
+            stream.sendall(request)
+            return frame(reply(stream))
+        except ConnectionError:
+            return EMPTY
+
+
+def talked(server):
+    """The talk, each request on a connection of its own, and once more where it was refused. How many were refused or closed."""
+    refusals = 0
+    for request, wanted in TALK:
+        got = asked(server, request)
+        if got != wanted:
+            # An update that can't be handed over is refused as if its segment were fenced, and stores nothing.
+            assert got in (EMPTY, refused(8), refused(6, 0)), (request[:20], got[:40])
+            refusals += 1
+            assert asked(server, request) == wanted, request[:20]
+    return refusals
+
+
+def started(snapd, count, scanners=1, **more):
+    """A server whose threads all run: each worker has scanned, and each store's thread has told its number."""
+    server = Server(snapd, *segments(snapd, *[FRESH] * count), scanners=scanners, **more)
+    for _ in range(scanners):
+        server.ask(SCAN, snapshot(*[(0, b"")] * count))
+    for segment in range(count):
+        server.ask(update(segment, 0), stored(0))
+    return server
+
+
+def test_each_allocation_of_a_conversation_is_refused(snapd, _):
+    refusals = 0
+    for number in itertools.count(1):
+        memory = Memory(snapd, number)
+        with started(snapd, 2, env=memory.env) as server:
+            memory.runs_out()
+            refusals += talked(server)
+            is_last = memory.wanting.exists()
+            memory.is_there_again()
+            server.ask(SCAN, TALK[-1][1])
+        if is_last:
+            break
+    assert refusals > 2, (number, refusals)
+
+
+def test_an_outcome_waits_for_memory(snapd, _):
+    """While an update is stored, memory runs out for a while: then it is answered, or its connection is closed."""
+    disk, memory = Disk(snapd), Memory(snapd, "all")
+    env = {**disk.env, **memory.env, "LD_PRELOAD": f"{disk.env['LD_PRELOAD']}:{memory.env['LD_PRELOAD']}"}
+    with started(snapd, 1, env=env) as server, server.connect() as stream:
+        disk.says("S0 sync hold 0")
+        stream.sendall(update(0, 1, VALUE))
+        disk.wait_for_hold()
+        memory.runs_out()
+        disk.says()
+        comes_to((1, VALUE), lambda: layout.answer_of(snapd.file("S0").read_bytes()))
+        time.sleep(0.05)
+        memory.is_there_again()
+        assert received(stream, len(stored(1))) in (stored(1), b"")
+        server.ask(update(0, 1, VALUE) + SCAN, stored(1) + snapshot((1, VALUE)))
+
+
+def test_connections_wait_for_memory(snapd, _):
+    """Those that come while there is none are served afterwards, or closed; the server goes on."""
+    memory = Memory(snapd, "all")
+    with started(snapd, 1, scanners=2, env=memory.env) as server:
+        memory.runs_out()
+        streams = [server.connect() for _ in range(8)]
+        for stream in streams:
+            stream.sendall(SCAN)
+        time.sleep(0.05)
+        memory.is_there_again()
+        for stream in streams:
+            with stream:
+                try:
+                    got = frame(reply(stream))
+                except ConnectionError:
+                    got = EMPTY
+                assert got in (snapshot((0, b"")), refused(8), EMPTY)
+        server.ask(update(0, 1, VALUE) + SCAN, stored(1) + snapshot((1, VALUE)))
