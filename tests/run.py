@@ -25,6 +25,9 @@ sys.path.insert(0, str(HERE))
 
 from program import Program, Skipped  # noqa: E402
 
+# How much of what a failed test said is told again at the end, in characters.
+LAST = 400
+
 
 def tests_in(only):
     for path in sorted(HERE.glob("test_*.py")):
@@ -58,7 +61,7 @@ def main():
     signal.signal(signal.SIGINT, signal.default_int_handler)
     program = Program(words.program)
     print(f"seed {words.seed}")
-    passed = failed = 0
+    passed, failures = 0, []
     for name, test in tests_in(words.only):
         began = time.monotonic()
         outcome = run(test, program, words.seed)
@@ -66,11 +69,13 @@ def main():
             passed += 1
             print(f"passed {name} ({time.monotonic() - began:.1f} s)")
         else:
-            failed += outcome[0] == "FAILED"
             print(f"{outcome[0]} {name}: {outcome[1]}")
+            if outcome[0] == "FAILED":
+                failures.append(f"FAILED {name}: {outcome[1].strip()[-LAST:]}")
         sys.stdout.flush()
-    print(f"{passed} passed, {failed} failed")
-    return 1 if failed or not passed else 0
+    # Once more at the end, where a reader of a long log looks first.
+    print(*failures, f"{passed} passed, {len(failures)} failed", sep="\n")
+    return 1 if failures or not passed else 0
 
 
 if __name__ == "__main__":

@@ -51,13 +51,13 @@ impl Patience {
 }
 
 #[test]
-fn looks_again_after_a_rest() {
+fn looks_again_after_a_rest(rt: HostRuntime) {
     let mut patience = Patience::new();
-    assert!(patience.may_look());
-    assert!(patience.may_look());
+    assert!(rt; patience.may_look());
+    assert!(rt; patience.may_look());
     patience.rest();
     for _ in 0..WAITS_IN_A_REST {
-        assert!(!patience.may_look());
+        assert!(rt; !patience.may_look());
     }
-    assert!(patience.may_look());
+    assert!(rt; patience.may_look());
 }
