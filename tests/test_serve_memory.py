@@ -1,13 +1,13 @@
-"""`snapd serve` while memory is wanting: each allocation of a conversation is refused in turn, and all of them for a while. No
-request waits for ever, nothing that was acknowledged is lost, and what comes behind is served."""
+"""`snapd serve` while memory is wanting: each allocation of a start and of a conversation is refused in turn, and all of them
+for a while. No request waits for ever, nothing that was acknowledged is lost, and what comes behind is served."""
 
 import itertools
 import time
 
 import segment_file as layout
 from preload import library
-from serving import FRESH, SCAN, STATUS, Server, comes_to, frame, received, refused, reply, segments, snapshot, standings, stored
-from serving import update
+from serving import FRESH, LOOPBACK, SCAN, STATUS, Server, comes_to, frame, received, refused, reply, segments, snapshot
+from serving import standings, stored, update
 from test_serve_disks import Disk
 
 VALUE = b"v" * layout.MAX_VALUE
@@ -68,6 +68,22 @@ def started(snapd, count, scanners=1, **more):
     for segment in range(count):
         server.ask(update(segment, 0), stored(0))
     return server
+
+
+def test_each_allocation_of_a_start_is_refused(snapd, _):
+    """It serves, or says that memory was wanting and nothing else. The files stay as they are."""
+    words = ("serve", LOOPBACK, *segments(snapd, FRESH, [(0, b""), (1, b"hi")]), "--connections", 0)
+    before = [snapd.file(name).read_bytes() for name in ("S0", "S1")]
+    env, counted = {"LD_PRELOAD": library("allocations")}, snapd.file("count")
+    snapd(*words, env={**env, "ALLOCATIONS_COUNT": str(counted)})
+    refusals = 0
+    for number in range(1, int(counted.read_text()) + 1):
+        run = snapd(*words, env={**env, "ALLOCATIONS_REFUSE": str(number)})
+        wanted = (0, "") if b"served 0" in run.output else (3, "snapd: refused 8 NoMemory\n")
+        assert (run.status, run.errors) == wanted, (number, run)
+        refusals += run.status == 3
+    assert refusals > 100, refusals
+    assert before == [snapd.file(name).read_bytes() for name in ("S0", "S1")]
 
 
 def test_each_allocation_of_a_conversation_is_refused(snapd, _):
