@@ -37,6 +37,9 @@ where
 {
     alloc: Global,
     poll: Poll,
+    /// What the last wait told. Taken at the beginning, so that a worker that serves needs no memory
+    /// of its own.
+    events: Events,
     inbox: Receiver<Mail<S::Outcome>>,
     sessions: Sessions<S>,
     is_open: bool,
@@ -63,12 +66,16 @@ where
     ) -> Result<(Worker<S>, Door<S::Outcome>), ServerFault> {
         let poll = Poll::new(net).map_err(fault_of)?;
         let waker = Waker::new(poll.registry(), INBOX).map_err(fault_of)?;
+        let Ok(events) = Events::with_capacity(alloc, MAX_EVENTS) else {
+            return Err(ServerFault::NoMemory);
+        };
         let Ok((to, inbox)) = crossbeam_channel::unbounded(alloc) else {
             return Err(ServerFault::NoMemory);
         };
         let worker = Worker {
             alloc,
             poll,
+            events,
             inbox,
             sessions: Sessions::new(alloc, service),
             is_open: true,
@@ -120,40 +127,44 @@ where
         }
     }
 
-    /// Asks what is ready, and waits for nothing.
-    fn look(&mut self, events: &mut Events) -> Result<(), ServerFault> {
+    /// Waits so long until something is ready.
+    fn wait_for(&mut self, most: Option<Duration>) -> Result<(), ServerFault> {
         self.poll
-            .poll(events, Some(Duration::ZERO))
-            .map_err(fault_of)
+            .poll(&mut self.events, most)
+            .map_err(|_| ServerFault::PollFailed)
     }
 
     /// Waits until something is ready: not at all while some are on the list.
-    fn wait(&mut self, events: &mut Events) -> Result<(), ServerFault> {
+    fn wait(&mut self) -> Result<(), ServerFault> {
         if self.sessions.turns() != 0 {
-            return self.look(events);
+            return self.wait_for(Some(Duration::ZERO));
         }
         if self.patience.may_look() {
             for _ in 0..LOOKS {
-                self.look(events)?;
-                if !events.is_empty() {
+                self.wait_for(Some(Duration::ZERO))?;
+                if !self.events.is_empty() {
                     return Ok(());
                 }
                 thread::yield_now();
             }
             self.patience.rest();
         }
-        self.poll.poll(events, None).map_err(fault_of)
+        self.wait_for(None)
     }
 
     /// Lists the connections that are ready, and takes the mail.
-    fn take_events<X: Wait, N: Fn(&Ended)>(&mut self, rt: &X, events: &Events, note: &N)
+    fn take_events<X: Wait, N: Fn(&Ended)>(&mut self, rt: &X, note: &N)
         requires { N.IsAlwaysCallable note.now }
     {
-        for event in events {
+        let mut has_mail = false;
+        for event in &self.events {
             match event.token() {
-                INBOX => self.read_mail(rt, note),
+                INBOX => has_mail = true,
                 Token(key) => self.sessions.list(key),
             }
+        }
+        if has_mail {
+            self.read_mail(rt, note);
         }
     }
 
@@ -164,15 +175,12 @@ where
         ensures served { OnOk result (slab_len self.new.sessions.connections ≡ 0) }
     {
         let mut piece = [0u8; PIECE];
-        let Ok(mut events) = Events::with_capacity(self.alloc, MAX_EVENTS) else {
-            return Err(ServerFault::NoMemory);
-        };
         for _ in rt.forever() {
             if !self.is_open && self.sessions.is_empty() {
                 return Ok(());
             }
-            self.wait(&mut events)?;
-            self.take_events(rt, &events, note);
+            self.wait()?;
+            self.take_events(rt, note);
             for _ in 0..self.sessions.turns() {
                 self.serve_next(&mut piece, note);
             }
