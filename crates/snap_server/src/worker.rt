@@ -1,6 +1,7 @@
 //! One thread that serves many connections.
-ghost use Rattle.std.specs.Prelude.{◌≡◌, ◌<◌, length, OnOk, false};
+ghost use Rattle.std.specs.Prelude.{◌≡◌, ◌<◌, length, OnOk, IfOk, IfErr, true, false};
 ghost use Rattle.slab.specs.Slab.{slab_len};
+ghost use Rattle.snap_session.specs.Talk.{Moves};
 
 use crate::connection::{Connection, Ended};
 use crate::door::{Door, Mail};
@@ -54,6 +55,20 @@ fn fault_of(error: io::Error) -> ServerFault {
     }
 }
 
+/// Lists the connections that are ready. Whether there is mail.
+fn list_ready<S: Service + Drop>(sessions: &mut Sessions<S>, events: &Events) -> bool
+    ensures service { sessions.new.service ≡ sessions.old.service }
+{
+    let mut has_mail = false;
+    for event in events {
+        match event.token() {
+            INBOX => has_mail = true,
+            Token(key) => sessions.list(key),
+        }
+    }
+    has_mail
+}
+
 impl<S: Service + Drop> Worker<S>
 where
     S::Outcome: Drop,
@@ -63,7 +78,11 @@ where
         net: &impl Net,
         alloc: Global,
         service: S,
-    ) -> Result<(Worker<S>, Door<S::Outcome>), ServerFault> {
+    ) -> Result<(Worker<S>, Door<S::Outcome>), ServerFault>
+        ensures service { IfOk result (λ made. made.0.sessions.service ≡ service) }
+        ensures none { IfOk result (λ made. slab_len made.0.sessions.connections ≡ 0) }
+        ensures open { IfOk result (λ made. made.0.is_open ≡ true) }
+    {
         let poll = Poll::new(net).map_err(fault_of)?;
         let waker = Waker::new(poll.registry(), INBOX).map_err(fault_of)?;
         let Ok(events) = Events::with_capacity(alloc, MAX_EVENTS) else {
@@ -87,6 +106,7 @@ where
     /// Takes the mail that waits.
     fn read_mail<X: Wait, N: Fn(&Ended)>(&mut self, rt: &X, note: &N)
         requires { N.IsAlwaysCallable note.now }
+        ensures moves { Moves S.gives self.old.sessions.service self.new.sessions.service }
     {
         for _ in rt.forever() {
             match self.inbox.try_recv(rt) {
@@ -101,6 +121,7 @@ where
     /// Takes a connection in. One that finds no room is closed, and the others go on.
     fn welcome<N: Fn(&Ended)>(&mut self, arrival: Arrival, note: &N)
         requires { N.IsAlwaysCallable note.now }
+        ensures service { self.new.sessions.service ≡ self.old.sessions.service }
     {
         let peer = arrival.peer;
         let registry = self.poll.registry();
@@ -116,7 +137,8 @@ where
     fn serve_next<N: Fn(&Ended)>(&mut self, piece: &mut [u8], note: &N)
         requires room { 0 < length piece.old }
         requires note { N.IsAlwaysCallable note.now }
-        ensures { length piece.new ≡ length piece.old }
+        ensures piece { length piece.new ≡ length piece.old }
+        ensures moves { Moves S.gives self.old.sessions.service self.new.sessions.service }
     {
         let Some(key) = self.sessions.next() else {
             return;
@@ -128,14 +150,20 @@ where
     }
 
     /// Waits so long until something is ready.
-    fn wait_for(&mut self, most: Option<Duration>) -> Result<(), ServerFault> {
+    fn wait_for(&mut self, most: Option<Duration>) -> Result<(), ServerFault>
+        ensures sessions { self.new.sessions ≡ self.old.sessions }
+        ensures fault { IfErr result (λ fault. fault ≡ ServerFault.PollFailed) }
+    {
         self.poll
             .poll(&mut self.events, most)
             .map_err(|_| ServerFault::PollFailed)
     }
 
     /// Waits until something is ready: not at all while some are on the list.
-    fn wait(&mut self) -> Result<(), ServerFault> {
+    fn wait(&mut self) -> Result<(), ServerFault>
+        ensures sessions { self.new.sessions ≡ self.old.sessions }
+        ensures fault { IfErr result (λ fault. fault ≡ ServerFault.PollFailed) }
+    {
         if self.sessions.turns() != 0 {
             return self.wait_for(Some(Duration::ZERO));
         }
@@ -155,24 +183,21 @@ where
     /// Lists the connections that are ready, and takes the mail.
     fn take_events<X: Wait, N: Fn(&Ended)>(&mut self, rt: &X, note: &N)
         requires { N.IsAlwaysCallable note.now }
+        ensures moves { Moves S.gives self.old.sessions.service self.new.sessions.service }
     {
-        let mut has_mail = false;
-        for event in &self.events {
-            match event.token() {
-                INBOX => has_mail = true,
-                Token(key) => self.sessions.list(key),
-            }
-        }
-        if has_mail {
+        if list_ready(&mut self.sessions, &self.events) {
             self.read_mail(rt, note);
         }
     }
 
-    /// Serves until no more connections will come and none is left.
+    /// Serves until no more connections will come and none is left. It fails only where the system
+    /// refuses to watch, never for want of memory.
     pub fn work<X: Wait, N: Fn(&Ended)>(&mut self, rt: &X, note: &N) -> Result<(), ServerFault>
         requires { N.IsAlwaysCallable note.now }
         ensures closed { OnOk result (self.new.is_open ≡ false) }
         ensures served { OnOk result (slab_len self.new.sessions.connections ≡ 0) }
+        ensures moves { Moves S.gives self.old.sessions.service self.new.sessions.service }
+        ensures fault { IfErr result (λ fault. fault ≡ ServerFault.PollFailed) }
     {
         let mut piece = [0u8; PIECE];
         for _ in rt.forever() {
@@ -181,7 +206,7 @@ where
             }
             self.wait()?;
             self.take_events(rt, note);
-            for _ in 0..self.sessions.turns() {
+            'turns: for _ in 0..self.sessions.turns() {
                 self.serve_next(&mut piece, note);
             }
         }
