@@ -1,3 +1,4 @@
+pub mod Dealing
 pub mod Sharing
 pub mod Listing
 pub mod Standing

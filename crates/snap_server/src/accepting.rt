@@ -1,5 +1,6 @@
 //! The thread that accepts for all workers.
-ghost use Rattle.std.specs.Prelude.{◌≡◌, ◌+◌, IfOk, OnOk, Some, true, min};
+ghost use Rattle.std.specs.Prelude.{◌≡◌, ◌⊎◌, ◌+◌, IfOk, IfErr, OnOk, OnErr, IsOk, Some, true, false, min, length};
+ghost use Rattle.snap_server.specs.Dealing.{turn_of};
 
 use crate::door::{Door, Mail};
 use crate::fault::ServerFault;
@@ -31,6 +32,7 @@ fn next_arrival<X: Clock, L: Listen>(rt: &X, listener: &L) -> Option<Arrival> {
 #[derive(Drop)]
 pub struct Dealer<'a, O: Drop> {
     doors: &'a [Door<O>],
+    /// The place of the worker that is next, or one behind the last.
     next: usize,
     /// How many were dealt.
     dealt: u64,
@@ -50,7 +52,11 @@ impl<'a, O: Drop> Dealer<'a, O> {
 
     /// Gives the next worker a connection; `false` where that worker has ended.
     fn deal<X: Wait + Clock>(&mut self, rt: &X, arrival: Arrival) -> bool
-        ensures { result ≡ true → self.new.dealt ≡ min (self.old.dealt + 1) 18446744073709551615 }
+        ensures counted { result ≡ true
+            → self.new.dealt ≡ min (self.old.dealt + 1) 18446744073709551615 }
+        ensures refused { result ≡ false → self.new.dealt ≡ self.old.dealt }
+        ensures in_turn { result ≡ true
+            → self.new.next ≡ turn_of self.old.next (length self.old.doors.now) + 1 }
     {
         if self.next >= self.doors.len() {
             self.next = 0;
@@ -72,7 +78,11 @@ impl<'a, O: Drop> Dealer<'a, O> {
         rt: &X,
         listener: &L,
     ) -> Result<(), ServerFault>
-        ensures { OnOk result (self.new.dealt ≡ min (self.old.dealt + 1) 18446744073709551615) }
+        ensures counted { OnOk result
+            (self.new.dealt ≡ min (self.old.dealt + 1) 18446744073709551615) }
+        ensures refused { OnErr result (self.new.dealt ≡ self.old.dealt) }
+        ensures faults { IfErr result (λ fault.
+            (fault ≡ ServerFault.AcceptFailed) ⊎ (fault ≡ ServerFault.PollFailed)) }
     {
         let Some(arrival) = next_arrival(rt, listener) else {
             return Err(ServerFault::AcceptFailed);
@@ -92,7 +102,10 @@ impl<'a, O: Drop> Dealer<'a, O> {
         most: u64,
     ) -> Result<(), ServerFault>
         requires { self.old.dealt ≡ 0 }
-        ensures { OnOk result (self.new.dealt ≡ most) }
+        ensures dealt { OnOk result (self.new.dealt ≡ most) }
+        ensures none { most ≡ 0 → IsOk result }
+        ensures faults { IfErr result (λ fault.
+            (fault ≡ ServerFault.AcceptFailed) ⊎ (fault ≡ ServerFault.PollFailed)) }
     {
         for _ in 0..most {
             self.accept_one(rt, listener)?;
@@ -111,6 +124,9 @@ impl<'a, O: Drop> Dealer<'a, O> {
         requires { self.old.dealt ≡ 0 }
         ensures asked { IfOk result (λ k. connections ≡ Some k) }
         ensures dealt { IfOk result (λ k. self.new.dealt ≡ k) }
+        ensures none { connections ≡ Some 0 → IsOk result }
+        ensures faults { IfErr result (λ fault.
+            (fault ≡ ServerFault.AcceptFailed) ⊎ (fault ≡ ServerFault.PollFailed)) }
     {
         if let Some(most) = connections {
             self.accept_so_many(rt, listener, most)?;

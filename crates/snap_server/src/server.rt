@@ -1,5 +1,5 @@
 //! All threads of a server.
-ghost use Rattle.std.specs.Prelude.{◌≡◌, IfOk, Some};
+ghost use Rattle.std.specs.Prelude.{◌≡◌, IfOk, Some, map, vec_len};
 ghost use Rattle.std.specs.Thread.{IsSync, IsSend};
 
 use crate::accepting::Dealer;
@@ -45,9 +45,11 @@ fn gate_all<'a, S: Service + Drop, G: Gate>(
     alloc: Global,
     services: Vec<S>,
     gate: &'a G,
-) -> Result<Vec<Gated<'a, S, G>>, ServerFault> {
+) -> Result<Vec<Gated<'a, S, G>>, ServerFault>
+    ensures { IfOk result (λ gated. map (λ one. one.service) gated.items ≡ services.items) }
+{
     let mut gated = Vec::new(alloc);
-    for service in services {
+    'services: for service in services {
         if gated.push(Gated::new(service, gate)).is_err() {
             return Err(ServerFault::NoMemory);
         }
@@ -63,10 +65,13 @@ fn open_workers<X: Net, S: Service + Drop>(
 ) -> Result<(Vec<Worker<S>>, Vec<Door<S::Outcome>>), ServerFault>
 where
     S::Outcome: Drop,
+    ensures workers { IfOk result (λ made.
+        map (λ worker. worker.sessions.service) made.0.items ≡ services.items) }
+    ensures doors { IfOk result (λ made. vec_len made.1 ≡ vec_len services) }
 {
     let mut workers = Vec::new(alloc);
     let mut doors = Vec::new(alloc);
-    for service in services {
+    'services: for service in services {
         let (worker, door) = Worker::new(net, alloc, service)?;
         if workers.push(worker).is_err() || doors.push(door).is_err() {
             return Err(ServerFault::NoMemory);

@@ -4,7 +4,7 @@ ghost use Rattle.std.specs.Prelude.{Some, None, true, false, option_to_list};
 ghost use Rattle.std.specs.VecDeque.{deque_len, deque_capacity};
 ghost use Rattle.std.specs.List.{Contains};
 ghost use Rattle.slab.specs.Slab.{get, slab_len, SameValues};
-ghost use Rattle.snap_session.specs.Talk.{Talk, start};
+ghost use Rattle.snap_session.specs.Talk.{Talk, Moves, start};
 ghost use Rattle.snap_session.specs.Turns.{EndsAt};
 ghost use Rattle.snap_server.specs.Sharing.{AreSessions, IsTurn};
 ghost use Rattle.snap_server.specs.Listing.{Lists, enlisted, KeepsOthers};
@@ -139,6 +139,7 @@ impl<S: Service + Drop> Sessions<S> {
         ensures under { (c : Connection) → (d : Connection)
             → get self.old.connections key ≡ Some c → get self.new.connections key ≡ Some d
             → c.session.asked ≡ None → OnSome d.session.asked (S.hands_over_under key) }
+        ensures moves { Moves S.gives self.old.service self.new.service }
         ensures nobody { get self.old.connections key ≡ None
             → self.new.service ≡ self.old.service }
         ensures others { KeepsOthers key self.old.connections self.new.connections }
@@ -187,6 +188,7 @@ impl<S: Service + Drop> Sessions<S> {
             → IsTurn S.gives self.old.service self.new.service c.session d.session }
         ensures last { (c : Connection) → get self.old.connections key ≡ Some c
             → (talk : Talk) × IsTurn S.gives self.old.service self.new.service c.session talk }
+        ensures moves { Moves S.gives self.old.service self.new.service }
         ensures nobody { get self.old.connections key ≡ None
             → self.new.service ≡ self.old.service }
         ensures listed { (d : Connection) → get self.new.connections key ≡ Some d

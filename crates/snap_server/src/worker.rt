@@ -1,6 +1,7 @@
 //! One thread that serves many connections.
-ghost use Rattle.std.specs.Prelude.{◌≡◌, ◌<◌, length, OnOk, false};
+ghost use Rattle.std.specs.Prelude.{◌≡◌, ◌<◌, length, OnOk, IfOk, IfErr, true, false};
 ghost use Rattle.slab.specs.Slab.{slab_len};
+ghost use Rattle.snap_session.specs.Talk.{Moves};
 
 use crate::connection::{Connection, Ended};
 use crate::door::{Door, Mail};
@@ -37,6 +38,9 @@ where
 {
     alloc: Global,
     poll: Poll,
+    /// What the last wait told. Taken at the beginning, so that a worker that serves needs no memory
+    /// of its own.
+    events: Events,
     inbox: Receiver<Mail<S::Outcome>>,
     sessions: Sessions<S>,
     is_open: bool,
@@ -51,6 +55,20 @@ fn fault_of(error: io::Error) -> ServerFault {
     }
 }
 
+/// Lists the connections that are ready. Whether there is mail.
+fn list_ready<S: Service + Drop>(sessions: &mut Sessions<S>, events: &Events) -> bool
+    ensures service { sessions.new.service ≡ sessions.old.service }
+{
+    let mut has_mail = false;
+    for event in events {
+        match event.token() {
+            INBOX => has_mail = true,
+            Token(key) => sessions.list(key),
+        }
+    }
+    has_mail
+}
+
 impl<S: Service + Drop> Worker<S>
 where
     S::Outcome: Drop,
@@ -60,15 +78,23 @@ where
         net: &impl Net,
         alloc: Global,
         service: S,
-    ) -> Result<(Worker<S>, Door<S::Outcome>), ServerFault> {
+    ) -> Result<(Worker<S>, Door<S::Outcome>), ServerFault>
+        ensures service { IfOk result (λ made. made.0.sessions.service ≡ service) }
+        ensures none { IfOk result (λ made. slab_len made.0.sessions.connections ≡ 0) }
+        ensures open { IfOk result (λ made. made.0.is_open ≡ true) }
+    {
         let poll = Poll::new(net).map_err(fault_of)?;
         let waker = Waker::new(poll.registry(), INBOX).map_err(fault_of)?;
+        let Ok(events) = Events::with_capacity(alloc, MAX_EVENTS) else {
+            return Err(ServerFault::NoMemory);
+        };
         let Ok((to, inbox)) = crossbeam_channel::unbounded(alloc) else {
             return Err(ServerFault::NoMemory);
         };
         let worker = Worker {
             alloc,
             poll,
+            events,
             inbox,
             sessions: Sessions::new(alloc, service),
             is_open: true,
@@ -80,6 +106,7 @@ where
     /// Takes the mail that waits.
     fn read_mail<X: Wait, N: Fn(&Ended)>(&mut self, rt: &X, note: &N)
         requires { N.IsAlwaysCallable note.now }
+        ensures moves { Moves S.gives self.old.sessions.service self.new.sessions.service }
     {
         for _ in rt.forever() {
             match self.inbox.try_recv(rt) {
@@ -94,6 +121,7 @@ where
     /// Takes a connection in. One that finds no room is closed, and the others go on.
     fn welcome<N: Fn(&Ended)>(&mut self, arrival: Arrival, note: &N)
         requires { N.IsAlwaysCallable note.now }
+        ensures service { self.new.sessions.service ≡ self.old.sessions.service }
     {
         let peer = arrival.peer;
         let registry = self.poll.registry();
@@ -109,7 +137,8 @@ where
     fn serve_next<N: Fn(&Ended)>(&mut self, piece: &mut [u8], note: &N)
         requires room { 0 < length piece.old }
         requires note { N.IsAlwaysCallable note.now }
-        ensures { length piece.new ≡ length piece.old }
+        ensures piece { length piece.new ≡ length piece.old }
+        ensures moves { Moves S.gives self.old.sessions.service self.new.sessions.service }
     {
         let Some(key) = self.sessions.next() else {
             return;
@@ -120,60 +149,64 @@ where
         }
     }
 
-    /// Asks what is ready, and waits for nothing.
-    fn look(&mut self, events: &mut Events) -> Result<(), ServerFault> {
+    /// Waits so long until something is ready.
+    fn wait_for(&mut self, most: Option<Duration>) -> Result<(), ServerFault>
+        ensures sessions { self.new.sessions ≡ self.old.sessions }
+        ensures fault { IfErr result (λ fault. fault ≡ ServerFault.PollFailed) }
+    {
         self.poll
-            .poll(events, Some(Duration::ZERO))
-            .map_err(fault_of)
+            .poll(&mut self.events, most)
+            .map_err(|_| ServerFault::PollFailed)
     }
 
     /// Waits until something is ready: not at all while some are on the list.
-    fn wait(&mut self, events: &mut Events) -> Result<(), ServerFault> {
+    fn wait(&mut self) -> Result<(), ServerFault>
+        ensures sessions { self.new.sessions ≡ self.old.sessions }
+        ensures fault { IfErr result (λ fault. fault ≡ ServerFault.PollFailed) }
+    {
         if self.sessions.turns() != 0 {
-            return self.look(events);
+            return self.wait_for(Some(Duration::ZERO));
         }
         if self.patience.may_look() {
             for _ in 0..LOOKS {
-                self.look(events)?;
-                if !events.is_empty() {
+                self.wait_for(Some(Duration::ZERO))?;
+                if !self.events.is_empty() {
                     return Ok(());
                 }
                 thread::yield_now();
             }
             self.patience.rest();
         }
-        self.poll.poll(events, None).map_err(fault_of)
+        self.wait_for(None)
     }
 
     /// Lists the connections that are ready, and takes the mail.
-    fn take_events<X: Wait, N: Fn(&Ended)>(&mut self, rt: &X, events: &Events, note: &N)
+    fn take_events<X: Wait, N: Fn(&Ended)>(&mut self, rt: &X, note: &N)
         requires { N.IsAlwaysCallable note.now }
+        ensures moves { Moves S.gives self.old.sessions.service self.new.sessions.service }
     {
-        for event in events {
-            match event.token() {
-                INBOX => self.read_mail(rt, note),
-                Token(key) => self.sessions.list(key),
-            }
+        if list_ready(&mut self.sessions, &self.events) {
+            self.read_mail(rt, note);
         }
     }
 
-    /// Serves until no more connections will come and none is left.
+    /// Serves until no more connections will come and none is left. It fails only where the system
+    /// refuses to watch, never for want of memory.
     pub fn work<X: Wait, N: Fn(&Ended)>(&mut self, rt: &X, note: &N) -> Result<(), ServerFault>
         requires { N.IsAlwaysCallable note.now }
         ensures closed { OnOk result (self.new.is_open ≡ false) }
         ensures served { OnOk result (slab_len self.new.sessions.connections ≡ 0) }
+        ensures moves { Moves S.gives self.old.sessions.service self.new.sessions.service }
+        ensures fault { IfErr result (λ fault. fault ≡ ServerFault.PollFailed) }
     {
         let mut piece = [0u8; PIECE];
-        let Ok(mut events) = Events::with_capacity(self.alloc, MAX_EVENTS) else {
-            return Err(ServerFault::NoMemory);
-        };
         for _ in rt.forever() {
             if !self.is_open && self.sessions.is_empty() {
                 return Ok(());
             }
-            self.wait(&mut events)?;
-            self.take_events(rt, &events, note);
-            for _ in 0..self.sessions.turns() {
+            self.wait()?;
+            self.take_events(rt, note);
+            'turns: for _ in 0..self.sessions.turns() {
                 self.serve_next(&mut piece, note);
             }
         }

@@ -1,4 +1,4 @@
-use Rattle.std.proofs.Common.{arith, sym, ap, ◌∙◌, ◌≡◌, true≢false, is_some}
+use Rattle.std.proofs.Common.{arith, sym, ap, ◌∙◌, ◌≡◌, [], refl, true≢false, is_some}
 use mathlib.Core.Logic.{∥∥₁_map}
 use Rattle.snap_server.specs.declared.connection.Connection.{Connection}
 use Rattle.snap_server.proofs.Sharing.{written_turned, removed_are, turn_at, last_at}
@@ -89,3 +89,6 @@ returns-then-take_outcome-clause-last g c = λ b old.
     last_at g.S.Service.gives _ _ _ c.args.self.now.connections c.args.key b c.in-Some.connection.now
     c.take_outcome.new.self (sym c.in-Some.ensures.value) c.list.ensures.service
     c.take_outcome.ensures.goes old
+
+pub returns-in_default-clause-moves : goal.returns-in_default-clause-moves
+returns-in_default-clause-moves g c = ([], [], refl)

@@ -1,4 +1,4 @@
-use Rattle.std.proofs.Common.{arith, sym, ap, subst, ◌∙◌, ◌≡◌, None, OnSome, inl, refl}
+use Rattle.std.proofs.Common.{arith, sym, ap, subst, ◌∙◌, ◌≡◌, [], None, OnSome, inl, refl}
 use mathlib.Core.Logic.{∥∥₁_map}
 use Rattle.slab.specs.Slab.{with_value}
 use Rattle.snap_session.specs.Talk.{Talk, Stays}
@@ -174,3 +174,6 @@ returns-in-Over-clause-under g c = λ b d old new.
     b d was c.end.new.self at stands
     (λ free. subst (λ (t : Talk). OnSome t.asked (g.S.Service.hands_over_under c.args.key)) over
     (c.go_on.ensures.under free)) old new
+
+pub returns-in_err-connection-clause-moves : goal.returns-in_err-connection-clause-moves
+returns-in_err-connection-clause-moves g c = ([], [], refl)

@@ -1,0 +1,11 @@
+use Rattle.std.proofs.Common.{◌≡◌, ◌++◌, length, map}
+use Rattle.std.specs.Vec.Iter.{into_iter_items, into_iter_len}
+use Rattle.snap_server.proofs.server.open_workers.Given as goal
+
+abbrev pub invariant-services : goal.invariant-services
+invariant-services g l = record {
+  made : map (λ one. one.sessions.service) l.workers.items ++ into_iter_items l.service-iterator
+      ≡ l.fn.services.items;
+  doors : length l.doors.items ≡ length l.workers.items;
+  long : into_iter_len l.service-iterator ≡ length (into_iter_items l.service-iterator);
+}

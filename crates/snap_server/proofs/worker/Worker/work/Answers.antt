@@ -1,0 +1,18 @@
+use Rattle.std.proofs.Common.{[], refl, sym, subst}
+use Rattle.snap_session.specs.Talk.{Moves}
+use Rattle.snap_session.proofs.Runs.{moves_joins}
+use Rattle.snap_server.proofs.worker.Worker.work.Goals as goal
+
+pub loop-init : goal.loop-init
+loop-init g c = ([], [], refl)
+
+pub turns-init : goal.turns-init
+turns-init g c = moves_joins g.S.Service.gives c.args.self.now.sessions.service
+    c.loop.self.sessions.service c.take_events.new.self.sessions.service c.loop.invariant
+    (subst (λ s. Moves g.S.Service.gives s.service c.take_events.new.self.sessions.service)
+    c.wait.ensures.sessions c.take_events.ensures.moves)
+
+pub turns-preserved : goal.turns-preserved
+turns-preserved g c = moves_joins g.S.Service.gives c.args.self.now.sessions.service
+    c.turns.self.sessions.service c.serve_next.new.self.sessions.service c.turns.invariant
+    c.serve_next.ensures.moves
