@@ -22,7 +22,13 @@ use Rattle.std.proofs.Common.{
   true,
   refl,
   codes,
+  Bool,
+  false,
+  IsTrue,
+  ◌↔◌,
+  arith,
 }
+use Rattle.std.proofs.lemmas.Grind.{common_steps}
 use Rattle.clap.specs.Words.{all_of, first_of, fault_of, kind_of, is_simple_and_free, HasKind, IsAmong}
 use Rattle.clap.specs.declared.error.Error.{Error}
 use Rattle.clap.specs.declared.error.kind.ErrorKind.{ErrorKind}
@@ -52,7 +58,7 @@ use Rattle.snap_words.specs.Numbers.{
 }
 use Rattle.snap_words.specs.Orders.{IsCommand, IsPair}
 use Rattle.snap_words.specs.Requests.{IsNoRequest, IsRequestFault}
-use Rattle.snap_words.specs.Words.{all_values, word_of, words_of}
+use Rattle.snap_words.specs.Words.{HasCommand, all_values, word_of, words_of}
 use Rattle.snap_words.specs.declared.fault.WordFault.{WordFault}
 use Rattle.snap_words.specs.declared.fault.WordFault.TheVariants.{
   Help,
@@ -84,6 +90,7 @@ use Rattle.clap.specs.Words.{
   subcommand_rows_of,
 }
 use Rattle.clap.specs.declared.ArgMatches.{ArgMatches}
+use Rattle.clap.specs.declared.parser.matches.Found.{Found}
 use Rattle.clap.proofs.OnLiterals.{clap_on_literals}
 use Rattle.clap.proofs.WalkLemmas.{first_value-rows, raw_values-rows}
 use Rattle.snap_words.specs.Grammar.{grammar_of}
@@ -103,73 +110,75 @@ both f g (Some x) name rows named rowed =
     let same_rows : g x ≡ rows = cc in
     ap₂ (λ (n : Text) (r : List Row). Some (n, r)) same_name same_rows
 
--- the command that a parse met, and its words among the matches
-pub record Met (words : List Text) (sub : ArgMatches) (name : Text) : Type 0 where
-  pub command : subcommand_of grammar_of words ≡ Some (name, rows_of (found_of sub))
-  pub word : (what : Text) → first_value (found_of sub) what ≡ word_of words what
-  pub all : (what : Text) → all_values (found_of sub) what ≡ words_of words what
-
-pub met : (words : List Text) (app : App) → app ≡ grammar_of → (m sub : ArgMatches)
+-- the command that a parse found
+pub command_met : (words : List Text) (app : App) → app ≡ grammar_of → (m sub : ArgMatches)
     → HasMatchesOf app words m → (name : Text) → Some name ≡ subcommand_name_of m
     → Some (rows_of (found_of sub)) ≡ option_map (λ p. p.1) (subcommand_rows_of m)
-    → Met words sub name
-met words app is m sub has name named rowed =
+    → HasCommand words name (found_of sub)
+command_met words app is m sub has name named rowed =
     let rows = rows_of (found_of sub) in
     let found = (has (ap is_simple is ∙ simple)).1 in
     let here : subcommand_rows_of m ≡ Some (name, rows) =
-    both _ _ _ name rows (sym named) (sym rowed) in
-    let command : subcommand_of grammar_of words ≡ Some (name, rows) =
-    ap (λ (a : App). subcommand_of a words) (sym is) ∙ sym found ∙ here in
-    record {
-      command = command;
-      word = λ what. first_value-rows (found_of sub) what
-          ∙ sym (ap (option_and_then (λ (found : Text × List Row). first_of what found.1)) command);
-      all = λ what. ap (λ (o : Option (List Text)). unwrap_or o [])
-          (raw_values-rows (found_of sub) what
-          ∙ sym (ap (option_and_then (λ (found : Text × List Row). all_of what found.1)) command));
+    both _ _ _ name rows (sym named) (sym rowed) in record {
+      is = ap (λ (a : App). subcommand_of a words) (sym is) ∙ sym found ∙ here;
     }
 
+-- a word that was found is the command's
+pub word_is : {words : List Text} {name : Text} {found : Found} → HasCommand words name found
+    → (what : Text) → first_value found what ≡ word_of words what
+word_is {words} {name} {found} has what = first_value-rows found what
+    ∙ sym (ap (option_and_then (λ (p : Text × List Row). first_of what p.1)) has.is)
+
+-- all of them
+pub words_are : {words : List Text} {name : Text} {found : Found} → HasCommand words name found
+    → (what : Text) → all_values found what ≡ words_of words what
+words_are {words} {name} {found} has what = ap (λ (o : Option (List Text)). unwrap_or o [])
+    (raw_values-rows found what
+    ∙ sym (ap (option_and_then (λ (p : Text × List Row). all_of what p.1)) has.is))
+
+-- what a test that failed says
+pub failed : (test : Bool) (P : Type 0) → (IsTrue test ↔ P) → test ≡ false → P → ⊥
+failed test P tells off p = let on : test ≡ true = tells.1 p in cc
+
 -- the command has this name
-pub named : {words : List Text} {sub : ArgMatches} {name : Text} → Met words sub name
-    → (want : Text) → name ≡ want
-    → subcommand_of grammar_of words ≡ Some (want, rows_of (found_of sub))
-named {words} {sub} its want is =
-    subst (λ (n : Text). subcommand_of grammar_of words ≡ Some (n, rows_of (found_of sub))) is
-    its.command
+pub named : {words : List Text} {name : Text} {found : Found} → HasCommand words name found
+    → (want : Text) → name ≡ want → subcommand_of grammar_of words ≡ Some (want, rows_of found)
+named {words} {name} {found} its want is =
+    subst (λ (n : Text). subcommand_of grammar_of words ≡ Some (n, rows_of found)) is its.is
 
 -- the words are those of this command with this file
-pub asked : {words : List Text} {sub : ArgMatches} {name : Text} → Met words sub name
-    → (want file : Text) → name ≡ want → Some file ≡ first_value (found_of sub) (codes "file")
+pub asked : {words : List Text} {name : Text} {found : Found} → HasCommand words name found
+    → (want file : Text) → name ≡ want → Some file ≡ first_value found (codes "file")
     → IsCommand (subcommand_of grammar_of words) want file
-asked {words} {sub} its want file is got = (
-  rows_of (found_of sub),
+asked {words} {name} {found} its want file is got = (
+  rows_of found,
   named its want is,
-  sym (first_value-rows (found_of sub) (codes "file")) ∙ sym got,
+  sym (first_value-rows found (codes "file")) ∙ sym got,
 )
 
 -- the words are those of this command with these files
-pub asked_pair : {words : List Text} {sub : ArgMatches} {name : Text} → Met words sub name
-    → (want old new : Text) → name ≡ want → Some old ≡ first_value (found_of sub) (codes "old")
-    → Some new ≡ first_value (found_of sub) (codes "new")
+pub asked_pair : {words : List Text} {name : Text} {found : Found} → HasCommand words name found
+    → (want old new : Text) → name ≡ want → Some old ≡ first_value found (codes "old")
+    → Some new ≡ first_value found (codes "new")
     → IsPair (subcommand_of grammar_of words) want old new
-asked_pair {words} {sub} its want old new is got_old got_new = (
-  rows_of (found_of sub),
+asked_pair {words} {name} {found} its want old new is got_old got_new = (
+  rows_of found,
   named its want is,
-  sym (first_value-rows (found_of sub) (codes "old")) ∙ sym got_old,
-  sym (first_value-rows (found_of sub) (codes "new")) ∙ sym got_new,
+  sym (first_value-rows found (codes "old")) ∙ sym got_old,
+  sym (first_value-rows found (codes "new")) ∙ sym got_new,
 )
 
--- a number of the matches is that of the command's word
-pub number_is : {words : List Text} {sub : ArgMatches} {name : Text} → Met words sub name
-    → (what : Text) (n : ℕ) → IsNumberOf (first_value (found_of sub) what) n
+-- a number that was found is that of the command's word
+pub number_is : {words : List Text} {name : Text} {found : Found} → HasCommand words name found
+    → (what : Text) (n : ℕ) → IsNumberOf (first_value found what) n
     → IsNumberOf (word_of words what) n
-number_is its what n is = subst (λ (o : Option Text). IsNumberOf o n) (its.word what) is
+number_is its what n is = subst (λ (o : Option Text). IsNumberOf o n) (word_is its what) is
 
 -- a word that the command takes, and that isn't there
-pub missing : {words : List Text} {sub : ArgMatches} {name : Text} → Met words sub name
+pub missing : {words : List Text} {name : Text} {found : Found} → HasCommand words name found
     → (what : Text) → HasWord name what → word_of words what ≡ None → IsMissing words what
-missing {words} {sub} {name} its what takes none =
-    (name, rows_of (found_of sub), its.command, takes, none)
+missing {words} {name} {found} its what takes none =
+    (name, rows_of found, its.is, takes, none)
 
 request_not_wanting : (kind : ErrorKind) → IsRequest kind → kind ≡ OutOfMemory → ⊥
 request_not_wanting kind (inl help) wanting = cc
@@ -439,40 +448,43 @@ calling_fault words of all same same_all gone why (inr (inr is)) =
     request_fault words (all (codes "request")) (same_all (codes "request")) why is
 
 -- the same of the command that was met, by its name
-pub serve_fault : {words : List Text} {sub : ArgMatches} {name : Text} → Met words sub name
+pub serve_fault : {words : List Text} {name : Text} {found : Found} → HasCommand words name found
     → name ≡ codes "serve" → (why : WordFault)
-    → IsServingFault (first_value (found_of sub)) (all_values (found_of sub)) why
+    → IsServingFault (first_value found) (all_values found) why
     → IsFaultOf words why
-serve_fault {words} {sub} its is why fault =
-    serving_fault words (first_value (found_of sub)) (all_values (found_of sub)) its.word its.all
+serve_fault {words} {name} {found} its is why fault =
+    serving_fault words (first_value found) (all_values found) (word_is its) (words_are its)
     (λ what takes none. missing its what (inl (is, takes)) none) why fault
 
-pub call_fault : {words : List Text} {sub : ArgMatches} {name : Text} → Met words sub name
+pub call_fault : {words : List Text} {name : Text} {found : Found} → HasCommand words name found
     → name ≡ codes "call" → (why : WordFault)
-    → IsCallingFault (first_value (found_of sub)) (all_values (found_of sub)) why
+    → IsCallingFault (first_value found) (all_values found) why
     → IsFaultOf words why
-call_fault {words} {sub} its is why fault =
-    calling_fault words (first_value (found_of sub)) (all_values (found_of sub)) its.word its.all
+call_fault {words} {name} {found} its is why fault =
+    calling_fault words (first_value found) (all_values found) (word_is its) (words_are its)
     (λ what takes none. missing its what (inr (inl (is, takes))) none) why fault
 
 -- of a command about one segment, which none of these is
-pub placed_fault : {words : List Text} {sub : ArgMatches} {name : Text} → Met words sub name
+pub placed_fault : {words : List Text} {name : Text} {found : Found} → HasCommand words name found
     → name ≢ codes "script" → name ≢ codes "serve" → name ≢ codes "call" → name ≢ codes "check"
     → (why : WordFault)
-    → IsPlaceFault (first_value (found_of sub) (codes "index"))
-    (first_value (found_of sub) (codes "count")) why
+    → IsPlaceFault (first_value found (codes "index"))
+    (first_value found (codes "count")) why
     → IsFaultOf words why
-placed_fault {words} {sub} its script serve call check why fault =
-    place_fault words (first_value (found_of sub)) its.word
+placed_fault {words} {name} {found} its script serve call check why fault =
+    place_fault words (first_value found) (word_is its)
     (λ what takes none. missing its what (inr (inr (script, serve, call, inr (check, takes)))) none)
     why fault
 
-pub migrate_fault : {words : List Text} {sub : ArgMatches} {name : Text} → Met words sub name
+migrate_is_not_check : (name : Text) → name ≡ codes "migrate" → name ≢ codes "check"
+migrate_is_not_check name is check = grind (arith, common_steps)
+
+pub migrate_fault : {words : List Text} {name : Text} {found : Found} → HasCommand words name found
     → name ≡ codes "migrate" → name ≢ codes "script" → name ≢ codes "serve" → name ≢ codes "call"
-    → name ≢ codes "check" → (why : WordFault)
-    → IsMigrationFault (first_value (found_of sub)) why → IsFaultOf words why
-migrate_fault {words} {sub} its is script serve call check why fault =
-    migration_fault words (first_value (found_of sub)) its.word
+    → (why : WordFault) → IsMigrationFault (first_value found) why → IsFaultOf words why
+migrate_fault {words} {name} {found} its is script serve call why fault =
+    let check = migrate_is_not_check name is in
+    migration_fault words (first_value found) (word_is its)
     (λ what takes none. missing its what (inr (inr (script, serve, call, inr (check, takes)))) none)
     (λ what takes none.
     missing its what (inr (inr (script, serve, call, inl (inl (is, takes))))) none)
