@@ -3,15 +3,8 @@ use Rattle.std.proofs.lemmas.Grind.{common_steps}
 use Rattle.clap.specs.Words.{found_of, rows_of}
 use Rattle.snap_words.specs.Faults.{IsFaultOf}
 use Rattle.snap_words.specs.Words.{OfCommand}
-use Rattle.snap_words.proofs.Asked.{
-  asked,
-  failed,
-  missing,
-  no_command,
-  number_is,
-  placed_fault,
-  word_is,
-}
+use Rattle.snap_words.proofs.Asked.{asked, failed, missing, no_command, number_is, word_is}
+use Rattle.snap_words.proofs.Faulted.{placed_fault}
 use Rattle.snap_words.proofs.words.file_order.Goals as goal
 use Rattle.snap_words.proofs.words.file_order.Goals.{in-format, in-put, in-get}
 

@@ -4,17 +4,8 @@ use Rattle.snap_words.specs.Faults.{IsFaultOf}
 use Rattle.snap_words.specs.Numbers.{IsLargeNumberOf}
 use Rattle.snap_words.specs.Requests.{IsRequestOf}
 use Rattle.snap_words.specs.Words.{OfCommand}
-use Rattle.snap_words.proofs.Asked.{
-  asked_pair,
-  call_fault,
-  failed,
-  migrate_fault,
-  named,
-  number_is,
-  serve_fault,
-  word_is,
-  words_are,
-}
+use Rattle.snap_words.proofs.Asked.{asked_pair, failed, named, number_is, word_is, words_are}
+use Rattle.snap_words.proofs.Faulted.{call_fault, migrate_fault, serve_fault}
 use Rattle.snap_words.proofs.words.order_of.Goals as goal
 
 pub returns-then-is-clause-asked : goal.returns-then-is-clause-asked
