@@ -1,12 +1,59 @@
 -- What is wrong with the parts that were found is wrong with the words.
-use Rattle.std.proofs.Common.{◌≡◌, ◌≢◌, ◌⊎◌, ◌∙◌, sym, ap, subst, inl, inr, List, Option, None, codes, arith}
+use Rattle.std.proofs.Common.{
+  ◌≡◌,
+  ◌≢◌,
+  ◌⊎◌,
+  ◌∙◌,
+  sym,
+  ap,
+  subst,
+  inl,
+  inr,
+  List,
+  Option,
+  None,
+  codes,
+  arith,
+}
 use Rattle.std.proofs.lemmas.Grind.{common_steps}
-use Rattle.snap_words.specs.Faults.{IsCallingFault, IsFaultOf, IsFilesFault, IsMigrationFault, IsMissing, IsPathFault, IsServingFault}
-use Rattle.snap_words.specs.Numbers.{IsConnectionsFault, IsNoLargeNumber, IsNoNumber, IsNumberFault, IsNumberOf, IsPlaceFault, IsScannersFault, IsTriesFault}
+use Rattle.snap_words.specs.Faults.{
+  IsCallingFault,
+  IsFaultOf,
+  IsFilesFault,
+  IsMigrationFault,
+  IsMissing,
+  IsPathFault,
+  IsServingFault,
+}
+use Rattle.snap_words.specs.Numbers.{
+  IsConnectionsFault,
+  IsNoLargeNumber,
+  IsNoNumber,
+  IsNumberFault,
+  IsNumberOf,
+  IsPlaceFault,
+  IsScannersFault,
+  IsTriesFault,
+}
 use Rattle.snap_words.specs.Requests.{IsNoRequest, IsRequestFault}
 use Rattle.snap_words.specs.Words.{HasCommand, all_values, word_of, words_of}
 use Rattle.snap_words.specs.declared.fault.WordFault.{WordFault}
-use Rattle.snap_words.specs.declared.fault.WordFault.TheVariants.{Help, Words, Count, Index, Files, Scanners, Connections, Tries, Request, Number, Missing, NoCommand, NotText, Memory}
+use Rattle.snap_words.specs.declared.fault.WordFault.TheVariants.{
+  Help,
+  Words,
+  Count,
+  Index,
+  Files,
+  Scanners,
+  Connections,
+  Tries,
+  Request,
+  Number,
+  Missing,
+  NoCommand,
+  NotText,
+  Memory,
+}
 use Rattle.clap.specs.Words.{Text, first_value}
 use Rattle.clap.specs.declared.parser.matches.Found.{Found}
 use Rattle.snap_words.proofs.Asked.{missing, word_is, words_are}
