@@ -2,7 +2,6 @@
 use Rattle.std.proofs.Common.{
   ◌≡◌,
   ◌≢◌,
-  ◌⊎◌,
   ◌∙◌,
   ℕ,
   sym,
@@ -22,37 +21,35 @@ use Rattle.std.proofs.Common.{
   true,
   refl,
   codes,
+  Bool,
+  false,
+  IsTrue,
+  ◌↔◌,
 }
-use Rattle.clap.specs.Words.{all_of, first_of, fault_of, kind_of, is_simple_and_free, HasKind, IsAmong}
+use Rattle.clap.specs.Words.{
+  all_of,
+  first_of,
+  fault_of,
+  kind_of,
+  is_simple_and_free,
+  HasKind,
+  IsAmong,
+}
 use Rattle.clap.specs.declared.error.Error.{Error}
 use Rattle.clap.specs.declared.error.kind.ErrorKind.{ErrorKind}
 use Rattle.clap.specs.declared.error.kind.ErrorKind.TheVariants.{OutOfMemory}
 use Rattle.snap_words.specs.Faults.{
   HasWord,
-  IsCallingFault,
   IsCommandName,
   IsFaultOf,
-  IsFilesFault,
   IsLaterFault,
-  IsMigrationFault,
   IsMissing,
   IsParseFault,
-  IsPathFault,
   IsRequest,
-  IsServingFault,
 }
-use Rattle.snap_words.specs.Numbers.{
-  IsConnectionsFault,
-  IsNoLargeNumber,
-  IsNoNumber,
-  IsNumberOf,
-  IsPlaceFault,
-  IsScannersFault,
-  IsTriesFault,
-}
+use Rattle.snap_words.specs.Numbers.{IsNumberOf}
 use Rattle.snap_words.specs.Orders.{IsCommand, IsPair}
-use Rattle.snap_words.specs.Requests.{IsNoRequest, IsRequestFault}
-use Rattle.snap_words.specs.Words.{all_values, word_of, words_of}
+use Rattle.snap_words.specs.Words.{HasCommand, all_values, word_of, words_of}
 use Rattle.snap_words.specs.declared.fault.WordFault.{WordFault}
 use Rattle.snap_words.specs.declared.fault.WordFault.TheVariants.{
   Help,
@@ -84,6 +81,7 @@ use Rattle.clap.specs.Words.{
   subcommand_rows_of,
 }
 use Rattle.clap.specs.declared.ArgMatches.{ArgMatches}
+use Rattle.clap.specs.declared.parser.matches.Found.{Found}
 use Rattle.clap.proofs.OnLiterals.{clap_on_literals}
 use Rattle.clap.proofs.WalkLemmas.{first_value-rows, raw_values-rows}
 use Rattle.snap_words.specs.Grammar.{grammar_of}
@@ -103,73 +101,75 @@ both f g (Some x) name rows named rowed =
     let same_rows : g x ≡ rows = cc in
     ap₂ (λ (n : Text) (r : List Row). Some (n, r)) same_name same_rows
 
--- the command that a parse met, and its words among the matches
-pub record Met (words : List Text) (sub : ArgMatches) (name : Text) : Type 0 where
-  pub command : subcommand_of grammar_of words ≡ Some (name, rows_of (found_of sub))
-  pub word : (what : Text) → first_value (found_of sub) what ≡ word_of words what
-  pub all : (what : Text) → all_values (found_of sub) what ≡ words_of words what
-
-pub met : (words : List Text) (app : App) → app ≡ grammar_of → (m sub : ArgMatches)
+-- the command that a parse found
+pub command_met : (words : List Text) (app : App) → app ≡ grammar_of → (m sub : ArgMatches)
     → HasMatchesOf app words m → (name : Text) → Some name ≡ subcommand_name_of m
     → Some (rows_of (found_of sub)) ≡ option_map (λ p. p.1) (subcommand_rows_of m)
-    → Met words sub name
-met words app is m sub has name named rowed =
+    → HasCommand words name (found_of sub)
+command_met words app is m sub has name named rowed =
     let rows = rows_of (found_of sub) in
     let found = (has (ap is_simple is ∙ simple)).1 in
     let here : subcommand_rows_of m ≡ Some (name, rows) =
-    both _ _ _ name rows (sym named) (sym rowed) in
-    let command : subcommand_of grammar_of words ≡ Some (name, rows) =
-    ap (λ (a : App). subcommand_of a words) (sym is) ∙ sym found ∙ here in
-    record {
-      command = command;
-      word = λ what. first_value-rows (found_of sub) what
-          ∙ sym (ap (option_and_then (λ (found : Text × List Row). first_of what found.1)) command);
-      all = λ what. ap (λ (o : Option (List Text)). unwrap_or o [])
-          (raw_values-rows (found_of sub) what
-          ∙ sym (ap (option_and_then (λ (found : Text × List Row). all_of what found.1)) command));
+    both _ _ _ name rows (sym named) (sym rowed) in record {
+      is = ap (λ (a : App). subcommand_of a words) (sym is) ∙ sym found ∙ here;
     }
 
+-- a word that was found is the command's
+pub word_is : {words : List Text} {name : Text} {found : Found} → HasCommand words name found
+    → (what : Text) → first_value found what ≡ word_of words what
+word_is {words} {name} {found} has what = first_value-rows found what
+    ∙ sym (ap (option_and_then (λ (p : Text × List Row). first_of what p.1)) has.is)
+
+-- all of them
+pub words_are : {words : List Text} {name : Text} {found : Found} → HasCommand words name found
+    → (what : Text) → all_values found what ≡ words_of words what
+words_are {words} {name} {found} has what = ap (λ (o : Option (List Text)). unwrap_or o [])
+    (raw_values-rows found what
+    ∙ sym (ap (option_and_then (λ (p : Text × List Row). all_of what p.1)) has.is))
+
+-- what a test that failed says
+pub failed : (test : Bool) (P : Type 0) → (IsTrue test ↔ P) → test ≡ false → P → ⊥
+failed test P tells off p = let on : test ≡ true = tells.1 p in cc
+
 -- the command has this name
-pub named : {words : List Text} {sub : ArgMatches} {name : Text} → Met words sub name
-    → (want : Text) → name ≡ want
-    → subcommand_of grammar_of words ≡ Some (want, rows_of (found_of sub))
-named {words} {sub} its want is =
-    subst (λ (n : Text). subcommand_of grammar_of words ≡ Some (n, rows_of (found_of sub))) is
-    its.command
+pub named : {words : List Text} {name : Text} {found : Found} → HasCommand words name found
+    → (want : Text) → name ≡ want → subcommand_of grammar_of words ≡ Some (want, rows_of found)
+named {words} {name} {found} its want is =
+    subst (λ (n : Text). subcommand_of grammar_of words ≡ Some (n, rows_of found)) is its.is
 
 -- the words are those of this command with this file
-pub asked : {words : List Text} {sub : ArgMatches} {name : Text} → Met words sub name
-    → (want file : Text) → name ≡ want → Some file ≡ first_value (found_of sub) (codes "file")
+pub asked : {words : List Text} {name : Text} {found : Found} → HasCommand words name found
+    → (want file : Text) → name ≡ want → Some file ≡ first_value found (codes "file")
     → IsCommand (subcommand_of grammar_of words) want file
-asked {words} {sub} its want file is got = (
-  rows_of (found_of sub),
+asked {words} {name} {found} its want file is got = (
+  rows_of found,
   named its want is,
-  sym (first_value-rows (found_of sub) (codes "file")) ∙ sym got,
+  sym (first_value-rows found (codes "file")) ∙ sym got,
 )
 
 -- the words are those of this command with these files
-pub asked_pair : {words : List Text} {sub : ArgMatches} {name : Text} → Met words sub name
-    → (want old new : Text) → name ≡ want → Some old ≡ first_value (found_of sub) (codes "old")
-    → Some new ≡ first_value (found_of sub) (codes "new")
+pub asked_pair : {words : List Text} {name : Text} {found : Found} → HasCommand words name found
+    → (want old new : Text) → name ≡ want → Some old ≡ first_value found (codes "old")
+    → Some new ≡ first_value found (codes "new")
     → IsPair (subcommand_of grammar_of words) want old new
-asked_pair {words} {sub} its want old new is got_old got_new = (
-  rows_of (found_of sub),
+asked_pair {words} {name} {found} its want old new is got_old got_new = (
+  rows_of found,
   named its want is,
-  sym (first_value-rows (found_of sub) (codes "old")) ∙ sym got_old,
-  sym (first_value-rows (found_of sub) (codes "new")) ∙ sym got_new,
+  sym (first_value-rows found (codes "old")) ∙ sym got_old,
+  sym (first_value-rows found (codes "new")) ∙ sym got_new,
 )
 
--- a number of the matches is that of the command's word
-pub number_is : {words : List Text} {sub : ArgMatches} {name : Text} → Met words sub name
-    → (what : Text) (n : ℕ) → IsNumberOf (first_value (found_of sub) what) n
+-- a number that was found is that of the command's word
+pub number_is : {words : List Text} {name : Text} {found : Found} → HasCommand words name found
+    → (what : Text) (n : ℕ) → IsNumberOf (first_value found what) n
     → IsNumberOf (word_of words what) n
-number_is its what n is = subst (λ (o : Option Text). IsNumberOf o n) (its.word what) is
+number_is its what n is = subst (λ (o : Option Text). IsNumberOf o n) (word_is its what) is
 
 -- a word that the command takes, and that isn't there
-pub missing : {words : List Text} {sub : ArgMatches} {name : Text} → Met words sub name
+pub missing : {words : List Text} {name : Text} {found : Found} → HasCommand words name found
     → (what : Text) → HasWord name what → word_of words what ≡ None → IsMissing words what
-missing {words} {sub} {name} its what takes none =
-    (name, rows_of (found_of sub), its.command, takes, none)
+missing {words} {name} {found} its what takes none =
+    (name, rows_of found, its.is, takes, none)
 
 request_not_wanting : (kind : ErrorKind) → IsRequest kind → kind ≡ OutOfMemory → ⊥
 request_not_wanting kind (inl help) wanting = cc
@@ -223,260 +223,6 @@ parse_later error (Missing what) is wanting = tt
 parse_later error NoCommand is wanting = tt
 parse_later error NotText is wanting = absurd is
 parse_later error Memory is wanting = tt
-
--- a fault of the place, by the words of the command
-place_fault : (words : List Text) (of : Text → Option Text)
-    → ((what : Text) → of what ≡ word_of words what)
-    → ((what : Text) → (what ≡ codes "index") ⊎ (what ≡ codes "count")
-    → word_of words what ≡ None → IsMissing words what) → (why : WordFault)
-    → IsPlaceFault (of (codes "index")) (of (codes "count")) why → IsFaultOf words why
-place_fault words of same gone (Help e) (inl is) = absurd is
-place_fault words of same gone (Help e) (inr is) = absurd is
-place_fault words of same gone (Words e) (inl is) = absurd is
-place_fault words of same gone (Words e) (inr is) = absurd is
-place_fault words of same gone (Count n) is =
-    (subst (λ (o : Option Text). IsNumberOf o n) (same (codes "count")) is.0, is.1)
-place_fault words of same gone (Index i n) is = (
-  subst (λ (o : Option Text). IsNumberOf o i) (same (codes "index")) is.0,
-  subst (λ (o : Option Text). IsNumberOf o n) (same (codes "count")) is.1,
-  is.2,
-  is.3,
-)
-place_fault words of same gone (Files n) (inl is) = absurd is
-place_fault words of same gone (Files n) (inr is) = absurd is
-place_fault words of same gone (Scanners n) (inl is) = absurd is
-place_fault words of same gone (Scanners n) (inr is) = absurd is
-place_fault words of same gone Connections (inl is) = absurd is
-place_fault words of same gone Connections (inr is) = absurd is
-place_fault words of same gone (Tries n) (inl is) = absurd is
-place_fault words of same gone (Tries n) (inr is) = absurd is
-place_fault words of same gone (Request r) (inl is) = absurd is
-place_fault words of same gone (Request r) (inr is) = absurd is
-place_fault words of same gone (Number what) (inl is) =
-    subst IsNoNumber (same (codes "index") ∙ ap (word_of words) (sym is.0)) is.1
-place_fault words of same gone (Number what) (inr is) =
-    subst IsNoNumber (same (codes "count") ∙ ap (word_of words) (sym is.0)) is.1
-place_fault words of same gone (Missing what) (inl is) =
-    gone what.now (inl is.0) (sym (same (codes "index") ∙ ap (word_of words) (sym is.0)) ∙ is.1)
-place_fault words of same gone (Missing what) (inr is) =
-    gone what.now (inr is.0) (sym (same (codes "count") ∙ ap (word_of words) (sym is.0)) ∙ is.1)
-place_fault words of same gone NoCommand (inl is) = absurd is
-place_fault words of same gone NoCommand (inr is) = absurd is
-place_fault words of same gone NotText (inl is) = absurd is
-place_fault words of same gone NotText (inr is) = absurd is
-place_fault words of same gone Memory is = tt
-
--- a path that isn't there, by the words of the command
-path_fault : (words : List Text) (of : Text → Option Text) (path : Text)
-    → of path ≡ word_of words path
-    → ((what : Text) → what ≡ path → word_of words what ≡ None → IsMissing words what)
-    → (why : WordFault) → IsPathFault (of path) path why → IsFaultOf words why
-path_fault words of path same gone (Help e) is = absurd is
-path_fault words of path same gone (Words e) is = absurd is
-path_fault words of path same gone (Count n) is = absurd is
-path_fault words of path same gone (Index i n) is = absurd is
-path_fault words of path same gone (Files n) is = absurd is
-path_fault words of path same gone (Scanners n) is = absurd is
-path_fault words of path same gone Connections is = absurd is
-path_fault words of path same gone (Tries n) is = absurd is
-path_fault words of path same gone (Request r) is = absurd is
-path_fault words of path same gone (Number what) is = absurd is
-path_fault words of path same gone (Missing what) is =
-    gone what.now is.0 (ap (word_of words) is.0 ∙ sym same ∙ is.1)
-path_fault words of path same gone NoCommand is = absurd is
-path_fault words of path same gone NotText is = absurd is
-path_fault words of path same gone Memory is = absurd is
-
--- a fault of a migration, by the words of the command
-migration_fault : (words : List Text) (of : Text → Option Text)
-    → ((what : Text) → of what ≡ word_of words what)
-    → ((what : Text) → (what ≡ codes "index") ⊎ (what ≡ codes "count")
-    → word_of words what ≡ None → IsMissing words what)
-    → ((what : Text) → (what ≡ codes "old") ⊎ (what ≡ codes "new")
-    → word_of words what ≡ None → IsMissing words what) → (why : WordFault)
-    → IsMigrationFault of why → IsFaultOf words why
-migration_fault words of same gone gone_file why (inl is) = place_fault words of same gone why is
-migration_fault words of same gone gone_file why (inr (inl is)) =
-    path_fault words of (codes "old") (same (codes "old")) (λ what its. gone_file what (inl its)) why
-    is
-migration_fault words of same gone gone_file why (inr (inr is)) =
-    path_fault words of (codes "new") (same (codes "new")) (λ what its. gone_file what (inr its)) why
-    is
-
--- a fault of this number, by the words of the command
-scanners_fault : (words : List Text) (of : Text → Option Text)
-    → ((what : Text) → of what ≡ word_of words what)
-    → ((what : Text) → what ≡ codes "scanners" → word_of words what ≡ None → IsMissing words what)
-    → (why : WordFault) → IsScannersFault (of (codes "scanners")) why → IsFaultOf words why
-scanners_fault words of same gone (Help e) is = absurd is
-scanners_fault words of same gone (Words e) is = absurd is
-scanners_fault words of same gone (Count n) is = absurd is
-scanners_fault words of same gone (Index i n) is = absurd is
-scanners_fault words of same gone (Files n) is = absurd is
-scanners_fault words of same gone (Scanners n) is =
-    (subst (λ (o : Option Text). IsNumberOf o n) (same (codes "scanners")) is.0, is.1)
-scanners_fault words of same gone Connections is = absurd is
-scanners_fault words of same gone (Tries n) is = absurd is
-scanners_fault words of same gone (Request r) is = absurd is
-scanners_fault words of same gone (Number what) is =
-    subst IsNoNumber (same (codes "scanners") ∙ ap (word_of words) (sym is.0)) is.1
-scanners_fault words of same gone (Missing what) is =
-    gone what.now is.0 (sym (same (codes "scanners") ∙ ap (word_of words) (sym is.0)) ∙ is.1)
-scanners_fault words of same gone NoCommand is = absurd is
-scanners_fault words of same gone NotText is = absurd is
-scanners_fault words of same gone Memory is = absurd is
-
--- a fault of this number, by the words of the command
-tries_fault : (words : List Text) (of : Text → Option Text)
-    → ((what : Text) → of what ≡ word_of words what)
-    → ((what : Text) → what ≡ codes "tries" → word_of words what ≡ None → IsMissing words what)
-    → (why : WordFault) → IsTriesFault (of (codes "tries")) why → IsFaultOf words why
-tries_fault words of same gone (Help e) is = absurd is
-tries_fault words of same gone (Words e) is = absurd is
-tries_fault words of same gone (Count n) is = absurd is
-tries_fault words of same gone (Index i n) is = absurd is
-tries_fault words of same gone (Files n) is = absurd is
-tries_fault words of same gone (Scanners n) is = absurd is
-tries_fault words of same gone Connections is = absurd is
-tries_fault words of same gone (Tries n) is =
-    (subst (λ (o : Option Text). IsNumberOf o n) (same (codes "tries")) is.0, is.1)
-tries_fault words of same gone (Request r) is = absurd is
-tries_fault words of same gone (Number what) is =
-    subst IsNoNumber (same (codes "tries") ∙ ap (word_of words) (sym is.0)) is.1
-tries_fault words of same gone (Missing what) is =
-    gone what.now is.0 (sym (same (codes "tries") ∙ ap (word_of words) (sym is.0)) ∙ is.1)
-tries_fault words of same gone NoCommand is = absurd is
-tries_fault words of same gone NotText is = absurd is
-tries_fault words of same gone Memory is = absurd is
-
--- a fault of the number of connections
-connections_fault : (words : List Text) (word : Option Text)
-    → word ≡ word_of words (codes "connections") → (why : WordFault) → IsConnectionsFault word why
-    → IsFaultOf words why
-connections_fault words word same (Help e) is = absurd is
-connections_fault words word same (Words e) is = absurd is
-connections_fault words word same (Count n) is = absurd is
-connections_fault words word same (Index i n) is = absurd is
-connections_fault words word same (Files n) is = absurd is
-connections_fault words word same (Scanners n) is = absurd is
-connections_fault words word same Connections is = subst IsNoLargeNumber same is
-connections_fault words word same (Tries n) is = absurd is
-connections_fault words word same (Request r) is = absurd is
-connections_fault words word same (Number what) is = absurd is
-connections_fault words word same (Missing what) is = absurd is
-connections_fault words word same NoCommand is = absurd is
-connections_fault words word same NotText is = absurd is
-connections_fault words word same Memory is = absurd is
-
--- a fault of the files
-files_fault : (words files : List Text) → files ≡ words_of words (codes "files")
-    → (why : WordFault) → IsFilesFault files why → IsFaultOf words why
-files_fault words files same (Help e) is = absurd is
-files_fault words files same (Words e) is = absurd is
-files_fault words files same (Count n) is = absurd is
-files_fault words files same (Index i n) is = absurd is
-files_fault words files same (Files n) is =
-    subst (λ (fs : List Text). IsFilesFault fs (Files n)) same is
-files_fault words files same (Scanners n) is = absurd is
-files_fault words files same Connections is = absurd is
-files_fault words files same (Tries n) is = absurd is
-files_fault words files same (Request r) is = absurd is
-files_fault words files same (Number what) is = absurd is
-files_fault words files same (Missing what) is = absurd is
-files_fault words files same NoCommand is = absurd is
-files_fault words files same NotText is = absurd is
-files_fault words files same Memory is = tt
-
--- a fault of the request
-request_fault : (words asked : List Text) → asked ≡ words_of words (codes "request")
-    → (why : WordFault) → IsRequestFault asked why → IsFaultOf words why
-request_fault words asked same (Help e) is = absurd is
-request_fault words asked same (Words e) is = absurd is
-request_fault words asked same (Count n) is = absurd is
-request_fault words asked same (Index i n) is = absurd is
-request_fault words asked same (Files n) is = absurd is
-request_fault words asked same (Scanners n) is = absurd is
-request_fault words asked same Connections is = absurd is
-request_fault words asked same (Tries n) is = absurd is
-request_fault words asked same (Request r) is =
-    subst (λ (ws : List Text). IsNoRequest ws r) same is
-request_fault words asked same (Number what) is = absurd is
-request_fault words asked same (Missing what) is = absurd is
-request_fault words asked same NoCommand is = absurd is
-request_fault words asked same NotText is = absurd is
-request_fault words asked same Memory is = tt
-
--- a fault of a server's words, by the words of the command
-serving_fault : (words : List Text) (of : Text → Option Text) (all : Text → List Text)
-    → ((what : Text) → of what ≡ word_of words what)
-    → ((what : Text) → all what ≡ words_of words what)
-    → ((what : Text) → (what ≡ codes "address") ⊎ (what ≡ codes "scanners")
-    → word_of words what ≡ None → IsMissing words what) → (why : WordFault)
-    → IsServingFault of all why → IsFaultOf words why
-serving_fault words of all same same_all gone why (inl is) =
-    path_fault words of (codes "address") (same (codes "address")) (λ what its. gone what (inl its))
-    why is
-serving_fault words of all same same_all gone why (inr (inl is)) =
-    files_fault words (all (codes "files")) (same_all (codes "files")) why is
-serving_fault words of all same same_all gone why (inr (inr (inl is))) =
-    scanners_fault words of same (λ what its. gone what (inr its)) why is
-serving_fault words of all same same_all gone why (inr (inr (inr is))) =
-    connections_fault words (of (codes "connections")) (same (codes "connections")) why is
-
--- a fault of a call's words, by the words of the command
-calling_fault : (words : List Text) (of : Text → Option Text) (all : Text → List Text)
-    → ((what : Text) → of what ≡ word_of words what)
-    → ((what : Text) → all what ≡ words_of words what)
-    → ((what : Text) → (what ≡ codes "address") ⊎ (what ≡ codes "tries")
-    → word_of words what ≡ None → IsMissing words what) → (why : WordFault)
-    → IsCallingFault of all why → IsFaultOf words why
-calling_fault words of all same same_all gone why (inl is) =
-    path_fault words of (codes "address") (same (codes "address")) (λ what its. gone what (inl its))
-    why is
-calling_fault words of all same same_all gone why (inr (inl is)) =
-    tries_fault words of same (λ what its. gone what (inr its)) why is
-calling_fault words of all same same_all gone why (inr (inr is)) =
-    request_fault words (all (codes "request")) (same_all (codes "request")) why is
-
--- the same of the command that was met, by its name
-pub serve_fault : {words : List Text} {sub : ArgMatches} {name : Text} → Met words sub name
-    → name ≡ codes "serve" → (why : WordFault)
-    → IsServingFault (first_value (found_of sub)) (all_values (found_of sub)) why
-    → IsFaultOf words why
-serve_fault {words} {sub} its is why fault =
-    serving_fault words (first_value (found_of sub)) (all_values (found_of sub)) its.word its.all
-    (λ what takes none. missing its what (inl (is, takes)) none) why fault
-
-pub call_fault : {words : List Text} {sub : ArgMatches} {name : Text} → Met words sub name
-    → name ≡ codes "call" → (why : WordFault)
-    → IsCallingFault (first_value (found_of sub)) (all_values (found_of sub)) why
-    → IsFaultOf words why
-call_fault {words} {sub} its is why fault =
-    calling_fault words (first_value (found_of sub)) (all_values (found_of sub)) its.word its.all
-    (λ what takes none. missing its what (inr (inl (is, takes))) none) why fault
-
--- of a command about one segment, which none of these is
-pub placed_fault : {words : List Text} {sub : ArgMatches} {name : Text} → Met words sub name
-    → name ≢ codes "script" → name ≢ codes "serve" → name ≢ codes "call" → name ≢ codes "check"
-    → (why : WordFault)
-    → IsPlaceFault (first_value (found_of sub) (codes "index"))
-    (first_value (found_of sub) (codes "count")) why
-    → IsFaultOf words why
-placed_fault {words} {sub} its script serve call check why fault =
-    place_fault words (first_value (found_of sub)) its.word
-    (λ what takes none. missing its what (inr (inr (script, serve, call, inr (check, takes)))) none)
-    why fault
-
-pub migrate_fault : {words : List Text} {sub : ArgMatches} {name : Text} → Met words sub name
-    → name ≡ codes "migrate" → name ≢ codes "script" → name ≢ codes "serve" → name ≢ codes "call"
-    → name ≢ codes "check" → (why : WordFault)
-    → IsMigrationFault (first_value (found_of sub)) why → IsFaultOf words why
-migrate_fault {words} {sub} its is script serve call check why fault =
-    migration_fault words (first_value (found_of sub)) its.word
-    (λ what takes none. missing its what (inr (inr (script, serve, call, inr (check, takes)))) none)
-    (λ what takes none.
-    missing its what (inr (inr (script, serve, call, inl (inl (is, takes))))) none)
-    why fault
 
 same_first : (o : Option (Text × List Row)) (a a' : Text) (b b' : List Row) → o ≡ Some (a, b)
     → o ≡ Some (a', b') → a ≡ a'

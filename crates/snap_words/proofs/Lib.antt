@@ -1,2 +1,3 @@
 pub mod Asked
+pub mod Faulted
 pub mod Requests

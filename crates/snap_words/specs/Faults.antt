@@ -29,7 +29,6 @@ use Rattle.snap_words.specs.Numbers.{
   IsConnectionsFault,
   IsLargeNumberOf,
   IsNoNumber,
-  IsNumberFault,
   IsNumberOf,
   IsPlaceFault,
   IsScannersFault,

@@ -1,5 +1,5 @@
 -- Which order goes with which words.
-use Rattle.std.specs.Prelude.{◌≡◌, List, map, Option, Some, codes}
+use Rattle.std.specs.Prelude.{◌≡◌, ◌≢◌, List, map, Option, Some, codes}
 use Rattle.clap.specs.Words.{Row, Text, first_of, subcommand_of}
 use Rattle.snap_order.specs.declared.order.Order.{Order}
 use Rattle.snap_order.specs.declared.order.Order.TheVariants as order
@@ -24,6 +24,11 @@ IsPair found name old new = (rows : List Row) × (found ≡ Some (name, rows))
 -- the command has this name
 abbrev pub IsNamed : List Text → Text → Type 0
 IsNamed words name = (rows : List Row) × (subcommand_of grammar_of words ≡ Some (name, rows))
+
+-- a command of this name is none of those that have more than one file, or none
+abbrev pub IsOtherCommand : Text → Type 0
+IsOtherCommand name = (name ≢ codes "script") × (name ≢ codes "serve") × (name ≢ codes "call")
+    × (name ≢ codes "migrate")
 
 -- the words are those of this order: its command, and its file
 abbrev pub IsFileAskedBy : List Text → FileOrder → Type 0

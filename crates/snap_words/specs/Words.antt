@@ -4,11 +4,21 @@ use Rattle.std.specs.Prelude.{
   List,
   [],
   Option,
+  Some,
   option_and_then,
   option_map,
   unwrap_or,
 }
-use Rattle.clap.specs.Words.{Row, Text, all_of, first_of, matched_of, raw_values, subcommand_of}
+use Rattle.clap.specs.Words.{
+  Row,
+  Text,
+  all_of,
+  first_of,
+  matched_of,
+  raw_values,
+  rows_of,
+  subcommand_of,
+}
 use Rattle.clap.specs.declared.parser.matches.Found.{Found}
 use Rattle.snap_words.specs.Grammar.{grammar_of}
 
@@ -25,3 +35,11 @@ words_of words what = unwrap_or (option_and_then (λ (found : Text × List Row).
 -- the same of what a parse found
 abbrev pub all_values : Found → Text → List Text
 all_values found what = unwrap_or (option_map raw_values (matched_of found what)) []
+
+-- the words have this command, with the parts that a parse found
+pub record HasCommand (words : List Text) (command : Text) (found : Found) : Type 0 where
+  pub is : subcommand_of grammar_of words ≡ Some (command, rows_of found)
+
+-- this holds of all words that have this command with these parts
+abbrev pub OfCommand : Text → Found → (List Text → Type 0) → Type 0
+OfCommand command found P = (words : List Text) → HasCommand words command found → P words

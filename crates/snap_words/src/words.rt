@@ -1,12 +1,13 @@
 //! Reads the words of the program.
 ghost use Rattle.std.specs.Prelude.{◌≡◌, ◌↔◌, IfErr, IfOk, IsTrue, Some, codes, map, true};
 ghost use Rattle.clap.specs.Words.{first_value, found_of, takes};
-ghost use Rattle.snap_order.specs.Order.{IsPlace, IsWithinLimits};
-ghost use Rattle.snap_words.specs.Faults.{AreNumbersOf, IsFaultOf, IsLaterFault};
-ghost use Rattle.snap_words.specs.Faults.{IsMigrationFault, IsParseFault};
+ghost use Rattle.snap_order.specs.Order.{IsFileWithinLimits, IsPlace, IsWithinLimits};
+ghost use Rattle.snap_words.specs.Faults.{AreFileNumbersOf, AreNumbersOf, IsFaultOf};
+ghost use Rattle.snap_words.specs.Faults.{IsLaterFault, IsMigrationFault, IsParseFault};
 ghost use Rattle.snap_words.specs.Numbers.{IsNumberOf};
 ghost use Rattle.snap_words.specs.Grammar.{grammar_of};
-ghost use Rattle.snap_words.specs.Orders.{IsAskedBy};
+ghost use Rattle.snap_words.specs.Orders.{IsAskedBy, IsFileAskedBy, IsOtherCommand};
+ghost use Rattle.snap_words.specs.Words.{OfCommand};
 
 use crate::WordFault;
 use crate::calling::calling;
@@ -42,7 +43,25 @@ pub fn order<'a, S: AsStr>(alloc: Global, words: &'a [S]) -> Result<Order<'a>, W
     let Some((command, matches)) = matches.subcommand() else {
         return Err(WordFault::NoCommand);
     };
-    if command == "script" {
+    order_of(alloc, command, matches)
+}
+
+/// What this command with its words asks for, whatever else the program's words are.
+fn order_of<'a>(
+    alloc: Global,
+    command: &str,
+    matches: &ArgMatches<'a>,
+) -> Result<Order<'a>, WordFault>
+    ensures limits { IfOk result IsWithinLimits }
+    ensures asked { IfOk result (λ order.
+        OfCommand command.now (found_of matches.now) (λ words. IsAskedBy words order)) }
+    ensures numbers { IfOk result (λ order.
+        OfCommand command.now (found_of matches.now) (λ words. AreNumbersOf words order)) }
+    ensures faults { IfErr result (λ why.
+        OfCommand command.now (found_of matches.now) (λ words. IsFaultOf words why)) }
+    ensures later { IfErr result IsLaterFault }
+{
+    if is(command, "script") {
         return Ok(Order::Script);
     }
     if is(command, "serve") {
@@ -54,11 +73,26 @@ pub fn order<'a, S: AsStr>(alloc: Global, words: &'a [S]) -> Result<Order<'a>, W
     if is(command, "migrate") {
         return Ok(Order::Migrate(migration(matches)?));
     }
+    Ok(Order::File(file_order(command, matches)?))
+}
+
+/// What a command about one segment's file asks for.
+fn file_order<'a>(command: &str, matches: &ArgMatches<'a>) -> Result<FileOrder<'a>, WordFault>
+    requires other { IsOtherCommand command.now }
+    ensures limits { IfOk result IsFileWithinLimits }
+    ensures asked { IfOk result (λ order.
+        OfCommand command.now (found_of matches.now) (λ words. IsFileAskedBy words order)) }
+    ensures numbers { IfOk result (λ order.
+        OfCommand command.now (found_of matches.now) (λ words. AreFileNumbersOf words order)) }
+    ensures faults { IfErr result (λ why.
+        OfCommand command.now (found_of matches.now) (λ words. IsFaultOf words why)) }
+    ensures later { IfErr result IsLaterFault }
+{
     let Some(file) = matches.get_str("file") else {
         return Err(WordFault::Missing { what: "file" });
     };
     if is(command, "check") {
-        return Ok(Order::File(FileOrder::Check { file }));
+        return Ok(FileOrder::Check { file });
     }
     let (index, count) = place(matches)?;
     let order = match command {
@@ -67,7 +101,7 @@ pub fn order<'a, S: AsStr>(alloc: Global, words: &'a [S]) -> Result<Order<'a>, W
         "get" => FileOrder::Get { file, index, count },
         _ => return Err(WordFault::NoCommand),
     };
-    Ok(Order::File(order))
+    Ok(order)
 }
 
 /// The command has this name.

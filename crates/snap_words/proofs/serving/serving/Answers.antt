@@ -1,6 +1,21 @@
-use Rattle.std.proofs.Common.{rules}
+use Rattle.std.proofs.Common.{arith, inl, refl, rules, sym}
+use Rattle.std.proofs.lemmas.Grind.{common_steps}
 use Rattle.snap_words.proofs.serving.serving.Goals as goal
 
--- It needs no term. An answer of its own spares a search where an edit turns it.
+-- These need no term. An answer of their own spares searches where an edit turns them.
+pub returns-in_default-clause-fault : goal.returns-in_default-clause-fault
+returns-in_default-clause-fault c = inl (refl, sym c.in_default.ensures)
+
+pub returns-clause-limits : goal.returns-clause-limits
+returns-clause-limits c = record {
+  files = grind (arith, common_steps);
+  few_files = grind (arith, common_steps);
+  scanners = c.in_ok-scanners.ensures.some;
+  few_scanners = c.in_ok-scanners.ensures.few;
+}
+
+pub returns-clause-address : goal.returns-clause-address
+returns-clause-address c = c.in-Some.ensures
+
 pub returns-clause-files : goal.returns-clause-files
 returns-clause-files c = search rules
