@@ -5,7 +5,7 @@ ghost use Rattle.snap_service.specs.Memory.{AreWriters, IsOf};
 
 use crate::tests::course::{Course, Worker};
 use crossbeam_channel::{Sender, bounded};
-use snap_desk::{Desk, StoreThread, Told};
+use snap_desk::{Desk, StoreThread, Told, Window};
 use snap_disk::Held;
 use snap_memory::{Scanner, Snapshot};
 use snap_restart::Store;
@@ -132,28 +132,69 @@ fn run_desk<R: Threads + Wait + Sync + Send + Copy, M: Memory + Send>(
     Ok(written)
 }
 
+/// The thread of the last of these writers' stores, and the window on it.
+fn last_store<R: Wait + Copy, M: Memory>(
+    rt: &R,
+    alloc: Global,
+    writers: &mut Vec<WriterOf<M, Held>>,
+) -> Result<(StoreThread<R, M, Held>, Window), AllocError> {
+    match writers.pop() {
+        Some(writer) => StoreThread::new(*rt, alloc, writer),
+        None => Err(AllocError),
+    }
+}
+
+/// The threads of two writers' stores, and the windows on them in order.
+fn stores_of<R: Wait + Copy, M: Memory>(
+    rt: &R,
+    alloc: Global,
+    mut writers: Vec<WriterOf<M, Held>>,
+) -> Result<
+    (
+        StoreThread<R, M, Held>,
+        StoreThread<R, M, Held>,
+        Vec<Window>,
+    ),
+    AllocError,
+> {
+    let (second, two) = last_store(rt, alloc, &mut writers)?;
+    let (first, one) = last_store(rt, alloc, &mut writers)?;
+    let mut windows = Vec::new(alloc);
+    windows.push(one)?;
+    windows.push(two)?;
+    Ok((first, second, windows))
+}
+
+/// The desk of these windows and this scanner.
+fn desk_of<R: Wait + Copy, M: Memory>(
+    rt: &R,
+    alloc: Global,
+    windows: Vec<Window>,
+    scanner: Scanner,
+) -> Result<Desk<R, M, Held>, AllocError>
+    requires { IsOf M.table M.plan scanner }
+{
+    let segments = scanner.segments();
+    if windows.len() != segments {
+        return Err(AllocError);
+    }
+    let snapshot = Snapshot::new(alloc, segments)?;
+    Ok(Desk::new(*rt, alloc, 0, windows, scanner, snapshot))
+}
+
 /// A run with these writers and this scanner.
 fn run_writers<R: Threads + Wait + Sync + Send + Copy, M: Memory + Send>(
     rt: &R,
     alloc: Global,
-    writers: (WriterOf<M, Held>, WriterOf<M, Held>),
+    writers: Vec<WriterOf<M, Held>>,
     scanner: Scanner,
     work: (Course, &[u8], &AtomicU64),
 ) -> Result<Seen, AllocError>
     requires { IsOf M.table M.plan scanner }
 {
-    let (first, second) = writers;
-    let segments = scanner.segments();
-    let (mut first, one) = StoreThread::new(*rt, alloc, first)?;
-    let (mut second, two) = StoreThread::new(*rt, alloc, second)?;
-    let windows = vec![in alloc; one, two]?;
-    if windows.len() != segments {
-        return Err(AllocError);
-    }
-    let snapshot = Snapshot::new(alloc, segments)?;
-    let desk = Desk::new(*rt, alloc, 0, windows, scanner, snapshot);
-    let stores = (&mut first, &mut second);
-    let written = run_desk(rt, alloc, stores, desk, work)?;
+    let (mut first, mut second, windows) = stores_of(rt, alloc, writers)?;
+    let desk = desk_of(rt, alloc, windows, scanner)?;
+    let written = run_desk(rt, alloc, (&mut first, &mut second), desk, work)?;
     seen_by(alloc, written, first, second)
 }
 
@@ -168,12 +209,9 @@ fn run_memory<R: Threads + Wait + Sync + Send + Copy, M: Memory + Send>(
     requires writers { AreWriters M.table M.plan writers.items }
     requires scanner { IsOf M.table M.plan scanner }
 {
-    let Ok(mut named) = name_writers::<M, Held>(alloc, writers) else {
-        return Err(AllocError);
-    };
-    match (named.pop(), named.pop()) {
-        (Some(second), Some(first)) => run_writers(rt, alloc, (first, second), scanner, work),
-        _ => Err(AllocError),
+    match name_writers::<M, Held>(alloc, writers) {
+        Ok(named) => run_writers(rt, alloc, named, scanner, work),
+        Err(_) => Err(AllocError),
     }
 }
 
