@@ -1,11 +1,13 @@
 //! What a desk answers while its stores work, fail or are held, and which writers come back.
+ghost use Rattle.snap_restart.specs.Closed.{AreBack};
+
 mod course;
 mod seats;
 
 use course::{Course, SCAN};
 use seats::{Seen, run_store};
 use snap_disk::{Disk, FaultPlan, Fill, Held, MemDisk};
-use snap_restart::open_all;
+use snap_restart::{Store, open_all};
 use snap_segment::format;
 use snap_slot::FILE_LEN;
 use std::alloc::Global;
@@ -35,16 +37,21 @@ const SNAPSHOT_HI: &[u8] = &[
     0, 0, 0, 0,
 ];
 
-/// The new file of one of two segments, whose stores may begin once the flag is set. The first one
-/// may fail.
+/// The new file of one of two segments.
+fn new_file(alloc: Global, index: u8) -> Result<MemDisk, Fail> {
+    let mut disk = MemDisk::zeroed(alloc, FILE_LEN as usize)?;
+    format(&mut disk, index.min(1), 2)?;
+    Ok(disk)
+}
+
+/// The same as a device whose stores may begin once the flag is set. The first one may fail.
 fn held(
     rt: &(impl Abort + AllocGlobal),
     index: u8,
     fails: bool,
     flag: &Arc<AtomicU64, Global>,
 ) -> Result<Held, Fail> {
-    let mut disk = MemDisk::zeroed(rt.alloc(), FILE_LEN as usize)?;
-    format(&mut disk, index.min(1), 2)?;
+    let mut disk = new_file(rt.alloc(), index)?;
     if fails {
         let mut plan = FaultPlan::new(rt.alloc());
         // An opening makes two calls, and the last sync is a store's fourth.
@@ -52,6 +59,17 @@ fn held(
         disk.set_plan(plan);
     }
     Ok(Held::new(disk, Arc::try_clone(flag)?, TURNS))
+}
+
+/// The store over these two devices.
+fn open<D: Disk + Drop>(rt: &(impl Abort + AllocGlobal), devices: Vec<D>) -> Store<D>
+    ensures { AreBack result.writers.items result.scanners.items }
+{
+    assert!(rt; devices.len() == 2 && devices.iter().all(|disk| disk.failures() < 9));
+    match open_all(rt.alloc(), devices, 1) {
+        Ok((store, _)) => store,
+        Err(_) => panic!(rt; "not opened"),
+    }
 }
 
 /// A desk over two new files does the work. The first one's store may fail.
@@ -66,10 +84,7 @@ fn run(
     let mut devices = Vec::new(rt.alloc());
     devices.push(held(rt, 0, fails, &flag)?)?;
     devices.push(held(rt, 1, false, &flag)?)?;
-    assert!(rt; devices.len() == 2 && devices.iter().all(|disk| disk.failures() < 9));
-    let Ok((store, _)) = open_all(rt.alloc(), devices, 1) else {
-        panic!(rt; "not opened")
-    };
+    let store = open(rt, devices);
     Ok(run_store(rt, rt.alloc(), store, (course, bytes, &flag))?)
 }
 

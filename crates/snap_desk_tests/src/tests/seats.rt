@@ -5,8 +5,8 @@ ghost use Rattle.snap_service.specs.Memory.{AreWriters, IsOf};
 
 use crate::tests::course::{Course, Worker};
 use crossbeam_channel::{Sender, bounded};
-use snap_desk::{Desk, StoreThread, Told};
-use snap_disk::Held;
+use snap_desk::{Desk, StoreThread, Told, Window};
+use snap_disk::{Held, Waited};
 use snap_memory::{Scanner, Snapshot};
 use snap_restart::Store;
 use snap_service::{Memory, WriterOf, name_writers};
@@ -16,7 +16,7 @@ use std::marker::Brand;
 use std::mem;
 use std::sync::Wait;
 use std::sync::atomic::AtomicU64;
-use std::thread::{Threads, join};
+use std::thread::{Threads, for_each_mut, join};
 
 /// What came of a run.
 #[derive(Drop)]
@@ -27,6 +27,26 @@ pub(crate) struct Seen {
     pub numbers: Vec<u64>,
     /// What let the first store go on; 0 where nothing had to.
     pub flag: u64,
+}
+
+/// How many stores there are.
+const STORES: usize = 2;
+
+/// Stores, each of which gets a thread of its own, and the windows through which desks see them.
+#[derive(Drop)]
+struct Stores<R: Wait + Copy, M: Memory> {
+    threads: Vec<StoreThread<R, M, Held>>,
+    windows: Vec<Window>,
+}
+
+impl<R: Wait + Copy, M: Memory> Stores<R, M> {
+    /// Adds the store of this writer.
+    fn add(&mut self, rt: &R, alloc: Global, writer: WriterOf<M, Held>) -> Result<(), AllocError> {
+        let (thread, window) = StoreThread::new(*rt, alloc, writer)?;
+        self.threads.push(thread)?;
+        self.windows.push(window)?;
+        Ok(())
+    }
 }
 
 /// Stores what is handed over, until no desk is left.
@@ -46,6 +66,12 @@ fn work_store<R: Wait + Copy, M: Memory>(
     }
 }
 
+/// How the writer's device waited, where it was written to.
+fn waited_of(writer: Writer<Held>) -> Option<Waited> {
+    let (segment, _) = writer.into_parts();
+    segment.into_device().waited()
+}
+
 /// Adds what the store's writer shows at the end.
 fn tell<R: Wait + Copy, M: Memory>(
     store: StoreThread<R, M, Held>,
@@ -53,8 +79,7 @@ fn tell<R: Wait + Copy, M: Memory>(
 ) -> Result<(), AllocError> {
     if let Some(writer) = store.into_writer() {
         seen.numbers.push(writer.number())?;
-        let (segment, _) = writer.into_writer().into_parts();
-        if let Some(waited) = segment.into_device().waited() {
+        if let Some(waited) = waited_of(writer.into_writer()) {
             seen.flag = waited.flag;
         }
     }
@@ -72,22 +97,22 @@ fn work_desk<R: Wait + Copy, M: Memory>(
     worker.run(rt, &mut desk, course, bytes, released)
 }
 
-/// All three at once.
+/// All at once, each store in a thread of its own.
 fn run_threads<R: Threads + Wait + Sync + Send + Copy, M: Memory + Send>(
     rt: &R,
-    stores: (&mut StoreThread<R, M, Held>, &mut StoreThread<R, M, Held>),
+    stores: &mut [StoreThread<R, M, Held>],
     worker: &mut Worker<R, M>,
     desk: Desk<R, M, Held>,
     desks: &[Sender<Told<R, M, Held>>],
     work: (Course, &[u8], &AtomicU64),
 ) -> Result<(), AllocError> {
-    let (first, second) = stores;
-    let (_, done) = join(
+    let ((), done) = join(
         rt,
-        || join(
+        || for_each_mut(
             rt,
-            || work_store(rt, first, desks),
-            || work_store(rt, second, desks),
+            stores,
+            STORES,
+            &|_, store| { work_store(rt, store, desks) },
         ),
         || work_desk(rt, worker, desk, work),
     );
@@ -98,16 +123,16 @@ fn run_threads<R: Threads + Wait + Sync + Send + Copy, M: Memory + Send>(
 fn seen_by<R: Wait + Copy, M: Memory>(
     alloc: Global,
     written: Vec<u8>,
-    first: StoreThread<R, M, Held>,
-    second: StoreThread<R, M, Held>,
+    stores: Vec<StoreThread<R, M, Held>>,
 ) -> Result<Seen, AllocError> {
     let mut seen = Seen {
         written,
         numbers: Vec::new(alloc),
         flag: 0,
     };
-    tell(first, &mut seen)?;
-    tell(second, &mut seen)?;
+    for store in stores {
+        tell(store, &mut seen)?;
+    }
     Ok(seen)
 }
 
@@ -115,7 +140,7 @@ fn seen_by<R: Wait + Copy, M: Memory>(
 fn run_desk<R: Threads + Wait + Sync + Send + Copy, M: Memory + Send>(
     rt: &R,
     alloc: Global,
-    stores: (&mut StoreThread<R, M, Held>, &mut StoreThread<R, M, Held>),
+    stores: &mut [StoreThread<R, M, Held>],
     desk: Desk<R, M, Held>,
     work: (Course, &[u8], &AtomicU64),
 ) -> Result<Vec<u8>, AllocError> {
@@ -132,29 +157,56 @@ fn run_desk<R: Threads + Wait + Sync + Send + Copy, M: Memory + Send>(
     Ok(written)
 }
 
+/// The stores of these writers, and the windows on them, in order.
+fn stores_of<R: Wait + Copy, M: Memory>(
+    rt: &R,
+    alloc: Global,
+    writers: Vec<WriterOf<M, Held>>,
+) -> Result<Stores<R, M>, AllocError> {
+    let mut stores = Stores {
+        threads: Vec::new(alloc),
+        windows: Vec::new(alloc),
+    };
+    for writer in writers {
+        stores.add(rt, alloc, writer)?;
+    }
+    Ok(stores)
+}
+
+/// The desk of these windows and this scanner.
+fn desk_of<R: Wait + Copy, M: Memory>(
+    rt: &R,
+    alloc: Global,
+    windows: Vec<Window>,
+    scanner: Scanner,
+) -> Result<Desk<R, M, Held>, AllocError>
+    requires { IsOf M.table M.plan scanner }
+{
+    let segments = scanner.segments();
+    if windows.len() != segments {
+        return Err(AllocError);
+    }
+    let snapshot = Snapshot::new(alloc, segments)?;
+    Ok(Desk::new(*rt, alloc, 0, windows, scanner, snapshot))
+}
+
 /// A run with these writers and this scanner.
 fn run_writers<R: Threads + Wait + Sync + Send + Copy, M: Memory + Send>(
     rt: &R,
     alloc: Global,
-    writers: (WriterOf<M, Held>, WriterOf<M, Held>),
+    writers: Vec<WriterOf<M, Held>>,
     scanner: Scanner,
     work: (Course, &[u8], &AtomicU64),
 ) -> Result<Seen, AllocError>
     requires { IsOf M.table M.plan scanner }
 {
-    let (first, second) = writers;
-    let segments = scanner.segments();
-    let (mut first, one) = StoreThread::new(*rt, alloc, first)?;
-    let (mut second, two) = StoreThread::new(*rt, alloc, second)?;
-    let windows = vec![in alloc; one, two]?;
-    if windows.len() != segments {
-        return Err(AllocError);
-    }
-    let snapshot = Snapshot::new(alloc, segments)?;
-    let desk = Desk::new(*rt, alloc, 0, windows, scanner, snapshot);
-    let stores = (&mut first, &mut second);
-    let written = run_desk(rt, alloc, stores, desk, work)?;
-    seen_by(alloc, written, first, second)
+    let Stores {
+        mut threads,
+        windows,
+    } = stores_of(rt, alloc, writers)?;
+    let desk = desk_of(rt, alloc, windows, scanner)?;
+    let written = run_desk(rt, alloc, threads.as_mut_slice(), desk, work)?;
+    seen_by(alloc, written, threads)
 }
 
 /// A run of the memory that these are of.
@@ -168,12 +220,9 @@ fn run_memory<R: Threads + Wait + Sync + Send + Copy, M: Memory + Send>(
     requires writers { AreWriters M.table M.plan writers.items }
     requires scanner { IsOf M.table M.plan scanner }
 {
-    let Ok(mut named) = name_writers::<M, Held>(alloc, writers) else {
-        return Err(AllocError);
-    };
-    match (named.pop(), named.pop()) {
-        (Some(second), Some(first)) => run_writers(rt, alloc, (first, second), scanner, work),
-        _ => Err(AllocError),
+    match name_writers::<M, Held>(alloc, writers) {
+        Ok(named) => run_writers(rt, alloc, named, scanner, work),
+        Err(_) => Err(AllocError),
     }
 }
 
