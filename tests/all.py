@@ -20,7 +20,7 @@ COUNT = re.compile(r"(\d+) passed, (\d+) failed")
 BUILT = TOP / "crates" / "snapd" / "out" / "snapd"
 PROGRAM = TOP / "bin" / "snapd"
 # How many lines of a failed command are shown again.
-TOLD_AGAIN = 12
+TOLD_AGAIN = 6
 
 
 def run(*words):
