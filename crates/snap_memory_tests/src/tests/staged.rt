@@ -48,7 +48,19 @@ fn wait_for(turn: &AtomicU64, wanted: u64) -> bool {
     false
 }
 
-impl Staged<'_> {
+impl<'a> Staged<'a> {
+    /// This seat, before whose looks these updates are shown by these writers.
+    fn new(seat: ReadSeat, writers: Vec<WriteSeat>, updates: &'a [Late]) -> Staged<'a> {
+        Staged {
+            seat,
+            writers,
+            updates,
+            turn: None,
+            told: [0; 8],
+            looks: 0,
+        }
+    }
+
     fn show_all(&mut self)
         ensures { self.new.seat ≡ self.old.seat }
     {
@@ -157,6 +169,35 @@ fn tells(staged: &mut Staged, out: &mut SnapshotBuf, wanted: &[u64]) -> bool {
     staged.looks == wanted.len() && staged.told.as_slice().starts_with(wanted)
 }
 
+/// The last of these seats.
+fn last_seat(rt: &impl Abort, scanners: &mut Vec<ReadSeat>) -> ReadSeat {
+    match scanners.pop() {
+        Some(seat) => seat,
+        None => panic!(rt; "a seat is missing"),
+    }
+}
+
+/// The last of these writers.
+fn last_writer(rt: &impl Abort, writers: &mut Vec<WriteSeat>) -> WriteSeat {
+    match writers.pop() {
+        Some(writer) => writer,
+        None => panic!(rt; "a writer is missing"),
+    }
+}
+
+/// A scanner's seat of two segments, before whose looks these updates are shown.
+fn stage<'a>(
+    rt: &impl Abort,
+    alloc: Global,
+    updates: &'a [Late],
+) -> Result<Staged<'a>, AllocError> {
+    let Parts {
+        writers,
+        mut scanners,
+    } = open(alloc, 2, 1, 1000)?;
+    Ok(Staged::new(last_seat(rt, &mut scanners), writers, updates))
+}
+
 /// Scans two segments while these updates come: the answer, where each look told this number.
 fn scan_while(
     rt: &impl Abort,
@@ -164,22 +205,8 @@ fn scan_while(
     updates: &[Late],
     wanted: &[u64],
 ) -> Result<SnapshotBuf, AllocError> {
-    let Parts {
-        writers,
-        mut scanners,
-    } = open(alloc, 2, 1, 1000)?;
-    let Some(seat) = scanners.pop() else {
-        panic!(rt; "a seat is missing")
-    };
-    let mut staged = Staged {
-        seat,
-        writers,
-        updates,
-        turn: None,
-        told: [0; 8],
-        looks: 0,
-    };
     let mut out = SnapshotBuf::new(alloc, 2)?;
+    let mut staged = stage(rt, alloc, updates)?;
     assert!(rt; tells(&mut staged, &mut out, wanted));
     Ok(out)
 }
@@ -230,27 +257,12 @@ fn show_late(writer: &mut WriteSeat, turn: &AtomicU64) -> bool {
 
 #[test]
 fn late_show_inside_a_scan(rt: HostRuntime) -> Result<(), Fail> {
-    let Parts {
-        mut writers,
-        mut scanners,
-    } = open(rt.alloc(), 2, 1, 1000)?;
-    let (Some(mut other), Some(mut late), Some(seat)) = (
-        writers.pop(),
-        writers.pop(),
-        scanners.pop(),
-    ) else {
-        panic!(rt; "a seat is missing")
-    };
     let turn = AtomicU64::new(0);
     let mut out = SnapshotBuf::new(rt.alloc(), 2)?;
-    let mut staged = Staged {
-        seat,
-        writers,
-        updates: &[],
-        turn: Some(&turn),
-        told: [0; 8],
-        looks: 0,
-    };
+    let mut staged = stage(&rt, rt.alloc(), &[])?;
+    staged.turn = Some(&turn);
+    let mut other = last_writer(&rt, &mut staged.writers);
+    let mut late = last_writer(&rt, &mut staged.writers);
     let (shown, told) = join(
         &rt,
         || show_late(&mut late, &turn),
@@ -290,32 +302,34 @@ fn scans_one(patient: &mut Patient, out: &mut SnapshotBuf) -> bool {
     true
 }
 
+/// A patient seat of one segment, and another one before whose looks these updates are shown.
+fn patient_seat<'a>(
+    rt: &impl Abort,
+    alloc: Global,
+    updates: &'a [Late],
+) -> Result<Patient<'a>, AllocError> {
+    let found = SnapshotBuf::new(alloc, 1)?;
+    let Parts {
+        writers,
+        mut scanners,
+    } = open(alloc, 1, 2, 1000)?;
+    let seat = last_seat(rt, &mut scanners);
+    let other = last_seat(rt, &mut scanners);
+    Ok(Patient {
+        seat,
+        other: Staged::new(other, writers, updates),
+        found,
+        is_told: false,
+    })
+}
+
 /// Both scans read their values at the end: the first one behind an update and the whole other scan,
 /// and the other one behind a hundred updates.
 #[test]
 fn two_pins_and_a_hundred_updates(rt: HostRuntime) -> Result<(), Fail> {
-    let Parts {
-        writers,
-        mut scanners,
-    } = open(rt.alloc(), 1, 2, 1000)?;
-    let (Some(seat), Some(other)) = (scanners.pop(), scanners.pop()) else {
-        panic!(rt; "a seat is missing")
-    };
     let updates = hundred_and_one(rt.alloc())?;
-    let mut patient = Patient {
-        seat,
-        other: Staged {
-            seat: other,
-            writers,
-            updates: updates.as_slice(),
-            turn: None,
-            told: [0; 8],
-            looks: 0,
-        },
-        found: SnapshotBuf::new(rt.alloc(), 1)?,
-        is_told: false,
-    };
     let mut out = SnapshotBuf::new(rt.alloc(), 1)?;
+    let mut patient = patient_seat(&rt, rt.alloc(), updates.as_slice())?;
     assert!(rt; scans_one(&mut patient, &mut out));
     assert!(rt; patient.is_told && has(&patient.found, 0, 1, &[1]));
     let writers = patient.other.writers.as_slice();

@@ -241,6 +241,45 @@ fn workers_at(alloc: Global, parts: Parts, size: Size) -> Result<Vec<Worker>, Al
     Ok(workers)
 }
 
+/// So many workers, none of whom has arrived, and no update of so many segments.
+fn course_of(alloc: Global, workers: usize, segments: usize) -> Result<Course, AllocError> {
+    Ok(Course {
+        workers: workers as u64,
+        arrived: AtomicU64::new(0),
+        begun: zeros(alloc, segments)?,
+        ended: zeros(alloc, segments)?,
+    })
+}
+
+/// All that the workers did and saw is right.
+fn judge(rt: &impl Abort, workers: &Vec<Worker>, scans: usize) {
+    for worker in workers {
+        assert!(rt; is_sound(worker, workers, scans));
+    }
+}
+
+/// One scan more by each scanner shows the last updates.
+fn judge_last(rt: &impl Abort, workers: &mut Vec<Worker>, course: &Course, size: Size)
+    requires { size.segments ≤ 16 }
+{
+    for worker in workers {
+        if let Worker::Scanner {
+            scanner,
+            snapshot,
+            ..
+        } = worker
+        {
+            let last = scan_once(scanner, snapshot, course);
+            assert!(rt;
+                last.right
+                    && last.numbers[..size.segments]
+                        .iter()
+                        .all(|n| *n == size.updates)
+            );
+        }
+    }
+}
+
 /// All work at once. Afterwards their whole record is judged, and one scan more by each scanner.
 fn judged_run<R: Abort + Threads + Sync>(
     rt: &R,
@@ -250,40 +289,18 @@ fn judged_run<R: Abort + Threads + Sync>(
     requires segments { (0 < size.segments) × (size.segments ≤ 16) }
     requires scanners { size.scanners ≤ 16 }
 {
+    let threads = size.segments + size.scanners;
+    let course = course_of(alloc, threads, size.segments)?;
     let parts = open(alloc, size.segments, size.scanners, 1_000_000)?;
     let mut workers = workers_at(alloc, parts, size)?;
-    let threads = size.segments + size.scanners;
-    let course = Course {
-        workers: threads as u64,
-        arrived: AtomicU64::new(0),
-        begun: zeros(alloc, size.segments)?,
-        ended: zeros(alloc, size.segments)?,
-    };
     for_each_mut(
         rt,
         workers.as_mut_slice(),
         threads,
         &|_, worker| { work(worker, &course, size) },
     );
-    for worker in &workers {
-        assert!(rt; is_sound(worker, &workers, size.scans));
-    }
-    for worker in &mut workers {
-        if let Worker::Scanner {
-            scanner,
-            snapshot,
-            ..
-        } = worker
-        {
-            let last = scan_once(scanner, snapshot, &course);
-            assert!(rt;
-                last.right
-                    && last.numbers[..size.segments]
-                        .iter()
-                        .all(|n| *n == size.updates)
-            );
-        }
-    }
+    judge(rt, &workers, size.scans);
+    judge_last(rt, &mut workers, &course, size);
     Ok(())
 }
 
