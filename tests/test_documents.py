@@ -29,7 +29,8 @@ def test_links_point_at_what_is_there(snapd, random):
 def test_clauses_stand_at_the_functions_that_are_named(snapd, random):
     cited = 0
     for document in DOCUMENTS:
-        for name, target, clauses in CITED.findall(document.read_text()):
+        # A list of clauses may go on in the next line.
+        for name, target, clauses in CITED.findall(" ".join(document.read_text().split())):
             source = (document.parent / target).read_text()
             name = name.rpartition("::")[2]
             if name[0].isupper():
