@@ -1,148 +1,13 @@
 //! Sessions whose input is cut, whose reader fails and whose writer is short, beside a plain model.
 
-use snap_disk::Refusal;
-use snap_frame::{Reply, Request};
-use snap_session::{End, Service, Session, Turn, proceed, serve, take_turns};
+mod peers;
+
+use peers::{Counter, CutReader, Later, Peer, ShortWriter, Waiting};
+use snap_session::{End, Session, Turn, serve, take_turns};
 use std::alloc::{AllocError, Global};
-use std::io;
-use std::io::{Read, Write};
+use std::process::Abort;
 use std::sync::Wait;
 use std::test::Fail;
-
-/// Answers an update by its segment, and every other request by how many were answered.
-#[derive(Drop)]
-struct Counter {
-    answered: u64,
-}
-
-impl Service for Counter {
-    type Outcome = u64;
-
-    ghost gives = { λ old request reply new. Unit {0} };
-
-    ghost hands_over = { ⊥ };
-
-    fn answer(&mut self, request: &Request, _key: usize) -> Option<Reply> {
-        self.answered = self.answered.wrapping_add(1);
-        Some(match request {
-            Request::Update { segment, .. } => Reply::Stored(u64::from(*segment)),
-            _ => Reply::Refused {
-                why: Refusal::NoSegment,
-                detail: self.answered,
-            },
-        })
-    }
-
-    fn finish(&mut self, _request: &Request, outcome: u64) -> Reply {
-        Reply::Refused {
-            why: Refusal::Fenced,
-            detail: outcome,
-        }
-    }
-}
-
-/// Hands every update over.
-#[derive(Drop)]
-struct Later;
-
-impl Service for Later {
-    type Outcome = u64;
-
-    ghost gives = { λ old request reply new. Unit {0} };
-
-    ghost hands_over = { Unit {0} };
-
-    fn answer(&mut self, request: &Request, key: usize) -> Option<Reply> {
-        match request {
-            Request::Update { .. } => None,
-            _ => Some(Reply::Refused {
-                why: Refusal::NoSegment,
-                detail: key as u64,
-            }),
-        }
-    }
-
-    fn finish(&mut self, _request: &Request, outcome: u64) -> Reply {
-        Reply::Refused {
-            why: Refusal::Fenced,
-            detail: outcome,
-        }
-    }
-}
-
-/// Gives its bytes in pieces, and fails at the read with the given number.
-#[derive(Drop)]
-struct CutReader {
-    bytes: Vec<u8>,
-    at: usize,
-    piece: usize,
-    reads: usize,
-    fails_at: Option<usize>,
-}
-
-impl CutReader {
-    fn new(alloc: Global, bytes: &[u8], piece: usize) -> Result<CutReader, AllocError> {
-        let mut all = Vec::new(alloc);
-        all.extend_from_slice(bytes)?;
-        Ok(CutReader {
-            bytes: all,
-            at: 0,
-            piece,
-            reads: 0,
-            fails_at: None,
-        })
-    }
-}
-
-impl Read for CutReader {
-    fn read(&mut self, buf: &mut [u8]) -> io::Result<usize> {
-        self.reads = self.reads.wrapping_add(1);
-        if self.fails_at == Some(self.reads) {
-            return Err(io::Error::other("the test's fault"));
-        }
-        let all = self.bytes.as_slice();
-        let left = &all[self.at.min(all.len())..];
-        let n = left.len().min(self.piece).min(buf.len());
-        buf[..n].copy_from_slice(&left[..n]);
-        self.at = self.at.wrapping_add(n);
-        Ok(n)
-    }
-}
-
-/// Takes at most three bytes at once, and no more than it has room for.
-#[derive(Drop)]
-struct ShortWriter {
-    bytes: Vec<u8>,
-    room: usize,
-}
-
-impl ShortWriter {
-    fn new(alloc: Global, room: usize) -> ShortWriter {
-        ShortWriter {
-            bytes: Vec::new(alloc),
-            room,
-        }
-    }
-}
-
-impl Write for ShortWriter {
-    fn write(&mut self, buf: &[u8]) -> io::Result<usize> {
-        let n = self
-            .room
-            .saturating_sub(self.bytes.len())
-            .min(buf.len())
-            .min(3);
-        if n == 0 {
-            return Err(io::Error::other("the test's fault"));
-        }
-        self.bytes.extend_from_slice(&buf[..n])?;
-        Ok(n)
-    }
-
-    fn flush(&mut self) -> io::Result<()> {
-        Ok(())
-    }
-}
 
 /// Frames of requests, and what `Counter` answers to them in this order.
 const TALK: [(&[u8], &[u8]); 5] = [
@@ -202,115 +67,164 @@ fn run(rt: &impl Wait, alloc: Global, reader: &mut CutReader, room: usize) -> (E
     (end, writer.bytes)
 }
 
+/// A session over this reader and a writer with this room ends so, and has written this.
+fn ends(
+    rt: &(impl Wait + Abort),
+    alloc: Global,
+    reader: &mut CutReader,
+    room: usize,
+    end: End,
+    replies: &[u8],
+) {
+    let (ended, written) = run(rt, alloc, reader, room);
+    let fails_at = reader.fails_at;
+    assert_eq!(rt; ended, end, "room {room}, failed read {fails_at:?}");
+    assert_eq!(rt;
+        written.as_slice(),
+        replies,
+        "room {room}, failed read {fails_at:?}"
+    );
+}
+
+/// The input that was cut here, in pieces of three sizes.
+fn cut_here(rt: &(impl Wait + Abort), alloc: Global, input: &[u8]) -> Result<(), AllocError> {
+    let (replies, is_between) = model(alloc, input.len())?;
+    let end = if is_between {
+        End::Closed
+    } else {
+        End::Truncated
+    };
+    for piece in [1, 7, 4096] {
+        let mut reader = CutReader::new(alloc, input, piece)?;
+        ends(rt, alloc, &mut reader, usize::MAX, end, &replies);
+    }
+    Ok(())
+}
+
 #[test]
-fn cut_input_and_failed_output(rt: HostRuntime) -> Result<(), Fail> {
-    let alloc = rt.alloc();
-    let input = input(alloc)?;
+fn cut_input(rt: HostRuntime) -> Result<(), Fail> {
+    let input = input(rt.alloc())?;
     for cut in 0..=input.len() {
-        let (replies, is_between) = model(alloc, cut)?;
-        let end = if is_between {
-            End::Closed
-        } else {
-            End::Truncated
-        };
-        for piece in [1, 7, 4096] {
-            let mut reader = CutReader::new(alloc, &input[..cut], piece)?;
-            let (ended, written) = run(&rt, alloc, &mut reader, usize::MAX);
-            assert_eq!(rt; ended, end, "cut at {cut}");
-            assert_eq!(rt; written, replies, "cut at {cut}");
-        }
+        cut_here(&rt, rt.alloc(), &input[..cut])?;
     }
-    let (replies, _) = model(alloc, input.len())?;
+    Ok(())
+}
+
+#[test]
+fn failed_output(rt: HostRuntime) -> Result<(), Fail> {
+    let input = input(rt.alloc())?;
+    let (replies, _) = model(rt.alloc(), input.len())?;
     for room in 0..replies.len() {
-        let mut reader = CutReader::new(alloc, &input, 4096)?;
-        let (ended, written) = run(&rt, alloc, &mut reader, room);
-        assert_eq!(rt; ended, End::WriteFailed);
-        assert_eq!(rt; written.as_slice(), &replies[..room]);
+        let mut reader = CutReader::new(rt.alloc(), &input, 4096)?;
+        ends(
+            &rt,
+            rt.alloc(),
+            &mut reader,
+            room,
+            End::WriteFailed,
+            &replies[..room],
+        );
     }
+    Ok(())
+}
+
+/// The first so many bytes of the input, one a read, and then a read that fails.
+fn fails_behind(
+    rt: &(impl Wait + Abort),
+    alloc: Global,
+    input: &[u8],
+    len: usize,
+) -> Result<(), AllocError> {
+    let (replies, _) = model(alloc, len)?;
+    let mut reader = CutReader::new(alloc, input, 1)?;
+    reader.fails_at = Some(len.saturating_add(1));
+    ends(
+        rt,
+        alloc,
+        &mut reader,
+        usize::MAX,
+        End::ReadFailed,
+        &replies,
+    );
     Ok(())
 }
 
 #[test]
 fn reader_fails_at_each_read(rt: HostRuntime) -> Result<(), Fail> {
-    let alloc = rt.alloc();
-    let input = input(alloc)?;
+    let input = input(rt.alloc())?;
     for read in 0..input.len() {
-        let mut reader = CutReader::new(alloc, &input, 1)?;
-        reader.fails_at = Some(read + 1);
-        let (replies, _) = model(alloc, read)?;
-        let (ended, written) = run(&rt, alloc, &mut reader, usize::MAX);
-        assert_eq!(rt; ended, End::ReadFailed);
-        assert_eq!(rt; written, replies);
+        fails_behind(&rt, rt.alloc(), &input, read)?;
     }
     Ok(())
 }
 
+/// So many frames, the length that is too large, and all frames; and what is answered.
+fn too_large_behind(alloc: Global, place: usize) -> Result<(Vec<u8>, Vec<u8>), AllocError> {
+    let mut bytes = Vec::new(alloc);
+    let mut replies = Vec::new(alloc);
+    for (frame, reply) in TALK.iter().take(place) {
+        bytes.extend_from_slice(*frame)?;
+        replies.extend_from_slice(*reply)?;
+    }
+    bytes.extend_from_slice(&TOO_LARGE)?;
+    bytes.extend_from_slice(&input(alloc)?)?;
+    replies.extend_from_slice(&REFUSED_TOO_LARGE)?;
+    Ok((bytes, replies))
+}
+
 #[test]
 fn too_large_at_each_place(rt: HostRuntime) -> Result<(), Fail> {
-    let alloc = rt.alloc();
     for place in 0..=TALK.len() {
-        let mut bytes = Vec::new(alloc);
-        let mut replies = Vec::new(alloc);
-        for (frame, reply) in TALK.iter().take(place) {
-            bytes.extend_from_slice(*frame)?;
-            replies.extend_from_slice(*reply)?;
-        }
-        bytes.extend_from_slice(&TOO_LARGE)?;
-        bytes.extend_from_slice(&input(alloc)?)?;
-        replies.extend_from_slice(&REFUSED_TOO_LARGE)?;
-        let mut reader = CutReader::new(alloc, &bytes, 4096)?;
-        let (ended, written) = run(&rt, alloc, &mut reader, usize::MAX);
-        assert_eq!(rt; ended, End::TooLarge);
-        assert_eq!(rt; written, replies);
+        let (bytes, replies) = too_large_behind(rt.alloc(), place)?;
+        let mut reader = CutReader::new(rt.alloc(), &bytes, 4096)?;
+        ends(
+            &rt,
+            rt.alloc(),
+            &mut reader,
+            usize::MAX,
+            End::TooLarge,
+            &replies,
+        );
     }
     Ok(())
+}
+
+/// The replies to the input, whose update was handed over under key 5, and whose outcome was 9.
+const LATER: [&[u8]; 5] = [
+    &[0, 0, 0, 10, 0xE0, 6, 0, 0, 0, 0, 0, 0, 0, 9],
+    &[0, 0, 0, 10, 0xE0, 2, 0, 0, 0, 0, 0, 0, 0, 5],
+    &[0, 0, 0, 10, 0xE0, 1, 0, 0, 0, 0, 0, 0, 0, 0],
+    &[0, 0, 0, 10, 0xE0, 1, 0, 0, 0, 0, 0, 0, 0, 0],
+    &[0, 0, 0, 10, 0xE0, 2, 0, 0, 0, 0, 0, 0, 0, 5],
+];
+
+/// The replies, one behind the other.
+fn later_replies(alloc: Global) -> Result<Vec<u8>, AllocError> {
+    let mut replies = Vec::new(alloc);
+    for reply in &LATER {
+        replies.extend_from_slice(*reply)?;
+    }
+    Ok(replies)
 }
 
 /// Nothing behind a request that was handed over is answered before it.
 #[test]
 fn handed_over_and_finished_later(rt: HostRuntime) -> Result<(), Fail> {
-    let alloc = rt.alloc();
-    let mut session = Session::new(alloc);
-    let mut service = Later;
-    let mut reader = CutReader::new(alloc, &input(alloc)?, 4096)?;
-    let mut writer = ShortWriter::new(alloc, usize::MAX);
-    let mut piece = [0; 4096];
-    let key = 5;
-    let turn = proceed(
-        &mut session,
-        &mut reader,
-        &mut writer,
-        &mut service,
-        key,
-        &mut piece,
-    );
+    let replies = later_replies(rt.alloc())?;
+    let mut peer = Peer {
+        reader: CutReader::new(rt.alloc(), &input(rt.alloc())?, 4096)?,
+        writer: ShortWriter::new(rt.alloc(), usize::MAX),
+    };
+    let mut session = Session::new(rt.alloc());
+    let turn = peer.turn(&mut session, &mut Later, 5);
     assert_eq!(rt; turn, Turn::NeedsOutcome);
-    assert!(rt; !session.is_free());
-    assert!(rt; writer.bytes.is_empty());
+    assert!(rt; !session.is_free() && peer.writer.bytes.is_empty());
     if session.over().is_none() {
-        session.finish(&mut service, 9);
+        session.finish(&mut Later, 9);
     }
-    let turn = proceed(
-        &mut session,
-        &mut reader,
-        &mut writer,
-        &mut service,
-        key,
-        &mut piece,
-    );
+    let turn = peer.turn(&mut session, &mut Later, 5);
     assert_eq!(rt; turn, Turn::Over(End::Closed));
-    let replies: [&[u8]; 5] = [
-        &[0, 0, 0, 10, 0xE0, 6, 0, 0, 0, 0, 0, 0, 0, 9],
-        &[0, 0, 0, 10, 0xE0, 2, 0, 0, 0, 0, 0, 0, 0, 5],
-        &[0, 0, 0, 10, 0xE0, 1, 0, 0, 0, 0, 0, 0, 0, 0],
-        &[0, 0, 0, 10, 0xE0, 1, 0, 0, 0, 0, 0, 0, 0, 0],
-        &[0, 0, 0, 10, 0xE0, 2, 0, 0, 0, 0, 0, 0, 0, 5],
-    ];
-    let mut written = Vec::new(alloc);
-    for reply in &replies {
-        written.extend_from_slice(*reply)?;
-    }
-    assert_eq!(rt; writer.bytes, written);
+    assert_eq!(rt; peer.writer.bytes, replies);
     Ok(())
 }
 
@@ -385,71 +299,27 @@ fn session_without_memory(rt: HostRuntime) -> Result<(), Fail> {
     Ok(())
 }
 
-/// Says at every other read or write that it would wait.
-#[derive(Drop)]
-struct Waiting<T> {
-    inner: T,
-    waits: bool,
-}
-
-impl<T> Waiting<T> {
-    /// Whether it is to wait this time.
-    fn has_to_wait(&mut self) -> bool {
-        self.waits = !self.waits;
-        self.waits
-    }
-}
-
-impl Read for Waiting<CutReader> {
-    fn read(&mut self, buf: &mut [u8]) -> io::Result<usize> {
-        if self.has_to_wait() {
-            return Err(io::Error::from(io::ErrorKind::WouldBlock));
-        }
-        self.inner.read(buf)
-    }
-}
-
-impl Write for Waiting<ShortWriter> {
-    fn write(&mut self, buf: &[u8]) -> io::Result<usize> {
-        if self.has_to_wait() {
-            return Err(io::Error::from(io::ErrorKind::WouldBlock));
-        }
-        self.inner.write(buf)
-    }
-
-    fn flush(&mut self) -> io::Result<()> {
-        Ok(())
-    }
-}
-
 /// A session whose peer makes it wait at every other step goes on where it stopped.
 #[test]
 fn reader_and_writer_that_wait(rt: HostRuntime) -> Result<(), Fail> {
-    let alloc = rt.alloc();
-    let input = input(alloc)?;
-    let (replies, _) = model(alloc, input.len())?;
-    let mut reader = Waiting {
-        inner: CutReader::new(alloc, &input, 7)?,
-        waits: false,
+    let input = input(rt.alloc())?;
+    let (replies, _) = model(rt.alloc(), input.len())?;
+    let mut peer = Peer {
+        reader: Waiting {
+            inner: CutReader::new(rt.alloc(), &input, 7)?,
+            waits: false,
+        },
+        writer: Waiting {
+            inner: ShortWriter::new(rt.alloc(), usize::MAX),
+            waits: false,
+        },
     };
-    let mut writer = Waiting {
-        inner: ShortWriter::new(alloc, usize::MAX),
-        waits: false,
-    };
-    let mut session = Session::new(alloc);
+    let mut session = Session::new(rt.alloc());
     let mut service = Counter { answered: 0 };
-    let mut piece = [0; 64];
     let mut has_needed_input = false;
     let mut has_needed_room = false;
     for _ in 0..1000 {
-        match proceed(
-            &mut session,
-            &mut reader,
-            &mut writer,
-            &mut service,
-            0,
-            &mut piece,
-        ) {
+        match peer.turn(&mut session, &mut service, 0) {
             Turn::NeedsInput => has_needed_input = true,
             Turn::NeedsRoom => has_needed_room = true,
             turn => {
@@ -459,6 +329,6 @@ fn reader_and_writer_that_wait(rt: HostRuntime) -> Result<(), Fail> {
         }
     }
     assert!(rt; has_needed_input && has_needed_room);
-    assert_eq!(rt; writer.inner.bytes, replies);
+    assert_eq!(rt; peer.writer.inner.bytes, replies);
     Ok(())
 }
