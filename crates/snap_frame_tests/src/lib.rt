@@ -6,3 +6,5 @@
 mod random;
 #[cfg(test)]
 mod tests;
+#[cfg(test)]
+mod written;

@@ -4,8 +4,7 @@ ghost use Rattle.snap_frame.specs.Messages.{IsInLimits};
 use bytes::{Bytes, BytesMut};
 use snap_disk::Refusal;
 use snap_frame::{
-    Failure, Feed, MAX_PAYLOAD, MAX_UPDATE_VALUE, Reply, ReplyFault, ReplyFeed, Request,
-    SegmentStatus, SegmentValue, write_reply, write_request,
+    Failure, Feed, Reply, ReplyFault, ReplyFeed, Request, SegmentStatus, SegmentValue, write_reply,
 };
 use std::alloc::{AllocError, Global};
 use std::process::Abort;
@@ -13,7 +12,7 @@ use std::test::Fail;
 
 /// The frames of requests on one connection, but the one with the long value and the length that
 /// is too large.
-const REQUEST_FRAMES: [&[u8]; 9] = [
+pub(crate) const REQUEST_FRAMES: [&[u8]; 9] = [
     &[0, 0, 0, 0x0C, 1, 0, 0, 0, 0, 0, 0, 0, 0, 1, 0x68, 0x69],
     &[0, 0, 0, 0x0C, 1, 0, 0, 0, 0, 0, 0, 0, 0, 1, 0x68, 0x69],
     &[0, 0, 0, 0x0B, 1, 0, 0, 0, 0, 0, 0, 0, 0, 1, 0x68],
@@ -26,7 +25,7 @@ const REQUEST_FRAMES: [&[u8]; 9] = [
 ];
 
 /// The frames of all replies, the refusal that ends a session last.
-const REPLY_FRAMES: [&[u8]; 11] = [
+pub(crate) const REPLY_FRAMES: [&[u8]; 11] = [
     &[0, 0, 0, 9, 0x81, 0, 0, 0, 0, 0, 0, 0, 1],
     &[0, 0, 0, 9, 0x81, 0, 0, 0, 0, 0, 0, 0, 1],
     &[0, 0, 0, 0x0A, 0xE0, 4, 0, 0, 0, 0, 0, 0, 0, 1],
@@ -48,7 +47,7 @@ const REPLY_FRAMES: [&[u8]; 11] = [
 /// The head of an update of segment 1, number 1, with 4,081 bytes of value behind it.
 const LONG_UPDATE_HEAD: [u8; 14] = [0, 0, 0x0F, 0xFB, 1, 1, 0, 0, 0, 0, 0, 0, 0, 1];
 
-fn update(
+pub(crate) fn update(
     alloc: Global,
     segment: u8,
     number: u64,
@@ -63,7 +62,9 @@ fn update(
 }
 
 /// What a feed answers to the frames of requests, in order.
-fn request_answers(alloc: Global) -> Result<Vec<Result<Option<Request>, Refusal>>, AllocError> {
+pub(crate) fn request_answers(
+    alloc: Global,
+) -> Result<Vec<Result<Option<Request>, Refusal>>, AllocError> {
     let mut answers = Vec::new(alloc);
     answers.push(update(alloc, 0, 1, b"hi")?)?;
     answers.push(update(alloc, 0, 1, b"hi")?)?;
@@ -137,11 +138,11 @@ fn expect_reply(rt: &impl Abort, feed: &mut ReplyFeed, answer: &Result<Option<Re
 }
 
 /// Both are the same bytes.
-fn expect_bytes(rt: &impl Abort, given: &[u8], wanted: &[u8]) {
+pub(crate) fn expect_bytes(rt: &impl Abort, given: &[u8], wanted: &[u8]) {
     assert_eq!(rt; given, wanted);
 }
 
-fn expect(rt: &impl Abort, holds: bool) {
+pub(crate) fn expect(rt: &impl Abort, holds: bool) {
     assert!(rt; holds);
 }
 
@@ -291,110 +292,6 @@ fn too_large_and_bad_replies(rt: HostRuntime) -> Result<(), Fail> {
         expect(&rt, feed.push(&[0]) == Err(Failure::TooLarge));
         expect(&rt, !feed.is_between());
     }
-    Ok(())
-}
-
-/// Writes a request that fits a frame.
-fn write(request: &Request, out: &mut BytesMut) -> Result<(), Refusal> {
-    match request {
-        Request::Update { value, .. } => {
-            if value.len() > MAX_UPDATE_VALUE {
-                return Err(Refusal::TooLong);
-            }
-            write_request(request, out)
-        }
-        Request::Scan => write_request(request, out),
-        Request::Status => write_request(request, out),
-    }
-}
-
-/// The reply of a frame, written again.
-fn rewritten(alloc: Global, frame: &[u8]) -> Result<BytesMut, Refusal> {
-    let mut feed = ReplyFeed::new(alloc);
-    if feed.push(frame).is_err() {
-        return Err(Refusal::NoMemory);
-    }
-    let mut out = BytesMut::new(alloc);
-    if let Ok(Some(reply)) = feed.next() {
-        write_reply(&reply, &mut out)?;
-    }
-    Ok(out)
-}
-
-/// The request is written as its frame, behind what the buffer holds.
-fn expect_written(
-    rt: &impl Abort,
-    alloc: Global,
-    request: &Request,
-    frame: &[u8],
-) -> Result<(), Refusal> {
-    let mut out = BytesMut::new(alloc);
-    write(&Request::Scan, &mut out)?;
-    write(request, &mut out)?;
-    expect(rt, out.as_slice().starts_with(&[0, 0, 0, 1, 2]));
-    expect(rt, out.as_slice().ends_with(frame));
-    expect(rt, out.len() == 5 + frame.len());
-    Ok(())
-}
-
-/// Each message is written as its frame, behind what the buffer holds.
-#[test]
-fn messages_are_written_as_their_frames(rt: HostRuntime) -> Result<(), Fail> {
-    let alloc = rt.alloc();
-    for (frame, answer) in REQUEST_FRAMES.iter().zip(request_answers(alloc)?) {
-        if let Ok(Some(request)) = answer {
-            expect_written(&rt, alloc, &request, *frame)?;
-        }
-    }
-    for frame in &REPLY_FRAMES {
-        expect_bytes(&rt, rewritten(alloc, *frame)?.as_slice(), *frame);
-    }
-    Ok(())
-}
-
-/// The frame of an update with the longest value that a frame takes.
-fn longest_update(alloc: Global) -> Result<Vec<u8>, AllocError> {
-    let mut frame = Vec::new(alloc);
-    frame.extend_from_slice(&[0, 1, 1, 0xD0, 1, 15, 0xFF, 0xFF, 0xFF, 0xFF])?;
-    frame.extend_from_slice(&[0xFF, 0xFF, 0xFF, 0xFF])?;
-    frame.resize(4 + MAX_PAYLOAD, b'v')?;
-    Ok(frame)
-}
-
-/// The longest update is read and written whole.
-#[test]
-fn longest_update_both_ways(rt: HostRuntime) -> Result<(), Fail> {
-    let alloc = rt.alloc();
-    let frame = longest_update(alloc)?;
-    let mut feed = Feed::new(alloc);
-    feed.push(&frame)?;
-    let answer = update(alloc, 15, u64::MAX, &[b'v'; MAX_UPDATE_VALUE])?;
-    expect_next(&rt, &mut feed, &answer);
-    if let Ok(Some(request)) = answer {
-        expect_written(&rt, alloc, &request, &frame)?;
-    }
-    Ok(())
-}
-
-/// The frame of a snapshot of 16 values of the greatest length.
-fn longest_snapshot(alloc: Global) -> Result<Vec<u8>, AllocError> {
-    let mut frame = Vec::new(alloc);
-    frame.extend_from_slice(&[0, 0, 0xFF, 0xC2, 0x82, 16])?;
-    for _ in 0..16 {
-        frame.extend_from_slice(&[0x7F, 0xFF, 0xFF, 0xFF, 0xFF, 0xFF, 0xFF, 0xFF])?;
-        frame.extend_from_slice(&[0, 0, 0x0F, 0xF0])?;
-        frame.extend_from_slice(&[b'v'; 4080])?;
-    }
-    Ok(frame)
-}
-
-/// The longest snapshot is read and written whole.
-#[test]
-fn longest_snapshot_both_ways(rt: HostRuntime) -> Result<(), Fail> {
-    let alloc = rt.alloc();
-    let frame = longest_snapshot(alloc)?;
-    expect(&rt, frame.len() == 4 + 65_474);
-    expect_bytes(&rt, rewritten(alloc, &frame)?.as_slice(), &frame);
     Ok(())
 }
 

@@ -83,17 +83,25 @@ fn serve_store<R: Wait>(
     }
 }
 
+/// The store over these devices.
+fn open<D: Disk + Drop>(rt: &(impl Abort + AllocGlobal), devices: Vec<D>) -> Store<D>
+    ensures { AreBack result.writers.items result.scanners.items }
+{
+    assert!(rt; !devices.is_empty() && devices.len() <= 16);
+    assert!(rt; devices.iter().all(|disk| disk.failures() < 9));
+    match open_all(rt.alloc(), devices, 1) {
+        Ok((store, _)) => store,
+        Err(_) => panic!(rt; "not opened"),
+    }
+}
+
 /// The same with a node over these files.
 fn serve_files(
     rt: &(impl Abort + AllocGlobal + Wait),
     devices: Vec<MemDisk>,
     input: &[u8],
 ) -> Result<(End, Vec<u8>), Fail> {
-    assert!(rt; !devices.is_empty() && devices.len() <= 16);
-    assert!(rt; devices.iter().all(|disk| disk.failures() < 9));
-    let Ok((store, _)) = open_all(rt.alloc(), devices, 1) else {
-        panic!(rt; "not opened")
-    };
+    let store = open(rt, devices);
     Ok(serve_store(rt, rt.alloc(), store, input)?)
 }
 
