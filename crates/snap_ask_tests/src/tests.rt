@@ -135,6 +135,25 @@ fn is_end(
     Ok(())
 }
 
+/// Asked for this over this one connection, with so much room on standard output, it ends so.
+fn is_one_end(
+    rt: &(impl Abort + AllocGlobal),
+    request: Request,
+    link: Link<'_>,
+    room: usize,
+    end: &End<'_>,
+) -> Result<(), Fail>
+    requires { length (payload request) ≤ max_payload }
+{
+    let links = [link];
+    let case = Case {
+        links: &links,
+        tries: 1,
+        room,
+    };
+    is_end(rt, request, &case, end)
+}
+
 /// The update of segment 0 as number 1 by `hi`.
 fn update() -> Request
     ensures { length (payload result) ≤ max_payload }
@@ -155,19 +174,13 @@ fn is_printed(
 ) -> Result<(), Fail>
     requires { length (payload request) ≤ max_payload }
 {
-    let links = [Some((reply, WHOLE))];
-    let case = Case {
-        links: &links,
-        tries: 1,
-        room: WHOLE,
-    };
     let end = End {
         status: Status::Done,
         printed,
         said: "",
         left: 0,
     };
-    is_end(rt, request, &case, &end)
+    is_one_end(rt, request, Some((reply, WHOLE)), WHOLE, &end)
 }
 
 #[test]
@@ -232,19 +245,13 @@ fn third_try_succeeds(rt: HostRuntime) -> Result<(), Fail> {
 
 /// This connection gives no answer: standard error says why and what to do, and nothing is printed.
 fn is_unanswered(rt: &(impl Abort + AllocGlobal), link: Link<'_>, said: &str) -> Result<(), Fail> {
-    let links = [link];
-    let case = Case {
-        links: &links,
-        tries: 1,
-        room: WHOLE,
-    };
     let end = End {
         status: Status::Failed,
         printed: "",
         said,
         left: 0,
     };
-    is_end(rt, update(), &case, &end)
+    is_one_end(rt, update(), link, WHOLE, &end)
 }
 
 #[test]
@@ -272,19 +279,13 @@ fn is_cut(
 ) -> Result<(), Fail>
     requires { length (payload request) ≤ max_payload }
 {
-    let links = [Some((reply, WHOLE))];
-    let case = Case {
-        links: &links,
-        tries: 1,
-        room,
-    };
     let end = End {
         status: Status::Failed,
         printed,
         said,
         left: 0,
     };
-    is_end(rt, request, &case, &end)
+    is_one_end(rt, request, Some((reply, WHOLE)), room, &end)
 }
 
 /// A reply that can't be printed whole has failed, also that of an update that was stored.
