@@ -4,8 +4,8 @@ use Rattle.snap_frame.specs.declared.request.Request.{Request}
 use Rattle.snap_frame.specs.declared.reply.Reply.{Reply}
 use Rattle.snap_session.specs.Talk.{Talk, Goes, Stays, Moves}
 use Rattle.snap_session.specs.Turns.{Turns}
-use Rattle.snap_session.proofs.Runs.{run_then, moves_joins}
-use Rattle.snap_session.proofs.Going.{by_run, loosen}
+use Rattle.snap_session.proofs.Runs.{moves_joins}
+use Rattle.snap_session.proofs.Going.{loosen}
 use Rattle.snap_session.proofs.Turning.{turns_on, begins}
 
 -- the same reads and writes by another way of the talk
@@ -43,16 +43,3 @@ pub has_turn : {S : Type 0} (gives : S → Request → Reply → S
 has_turn gives s t u t0 t1 t2 r0 r1 r2 w0 w1 w2 one two =
     turns_on (Moves gives) (moves_joins gives) gives s t u t0 t1 t2 r0 r1 r2 w0 w1 w2 one
     (turns_loosen gives t u t1 r1 r2 w1 w2 t2 two)
-
--- another one has a turn
-pub lets_turn : {S : Type 0} (gives : S → Request → Reply → S
-    → Type 0) (s t u : S) (t0 t1 v0 v1 : Talk) (r0 r1 w0 w1 q0 q1 x0 x1 : Option (List ℕ))
-    → Turns (Moves gives) gives s t t0 r0 r1 w0 w1 t1 → Turns Stays gives t u v0 q0 q1 x0 x1 v1
-    → Turns (Moves gives) gives s u t0 r0 r1 w0 w1 t1
-lets_turn gives s t u t0 t1 v0 v1 r0 r1 w0 w1 q0 q1 x0 x1 one two =
-    let o = one.goes in
-    let w = two.goes in
-    by_talk (Moves gives) (Moves gives) gives s t u t0 r0 r1 w0 w1 t1 one
-    (by_run (Moves gives) (Moves gives) gives s t u t0 one.taken one.given t1 o
-    (run_then (Moves gives) (moves_joins gives) gives s t u o.payloads (o.replies ++ o.unsaid) o.run
-    (w.payloads, w.replies ++ w.unsaid, w.run)))

@@ -3,17 +3,15 @@
 //!
 //! One relation, `Goes` of `specs/Talk.antt`, says what a session does: the bytes that came are
 //! cut into frames, a [`Service`] answers them in order, and the replies' frames are owed. It
-//! holds for any pieces and any number of turns; with the steps of others between the answers it
-//! holds for any number of sessions on one service ([`take_turns`]), and for requests that are
-//! handed over and answered later.
+//! holds for any pieces and any number of turns, and for requests that are handed over and answered
+//! later. With the steps of others between the answers (`Moves` in place of `Stays`) it is what
+//! holds of each of several sessions on one service.
 #![tactic(auto)]
 
-mod pair;
 mod service;
 mod session;
 mod turns;
 
-pub use pair::take_turns;
 pub use service::Service;
 pub use session::{MAX_OWED, Session, Wants};
 pub use turns::{End, Turn, proceed, serve};

@@ -3,7 +3,7 @@
 mod peers;
 
 use peers::{Counter, CutReader, Later, Peer, ShortWriter, Waiting};
-use snap_session::{End, Session, Turn, serve, take_turns};
+use snap_session::{End, Session, Turn, serve};
 use std::alloc::{AllocError, Global};
 use std::process::Abort;
 use std::sync::Wait;
@@ -228,34 +228,33 @@ fn handed_over_and_finished_later(rt: HostRuntime) -> Result<(), Fail> {
     Ok(())
 }
 
-/// Two sessions on one service, a turn each: each peer gets the replies to its own requests.
+/// Two sessions on one service, by turns of 16 bytes: each peer gets the replies to its own requests.
+/// The request that came whole first is answered first.
 #[test]
 fn two_sessions_by_turns(rt: HostRuntime) -> Result<(), Fail> {
     let alloc = rt.alloc();
     let mut service = Counter { answered: 0 };
-    let mut first = Session::new(alloc);
-    let mut second = Session::new(alloc);
     let (update, stored) = TALK[0];
     let (scan, _) = TALK[1];
-    let mut first_reader = CutReader::new(alloc, update, 4096)?;
-    let mut second_reader = CutReader::new(alloc, scan, 4096)?;
-    let mut first_writer = ShortWriter::new(alloc, usize::MAX);
-    let mut second_writer = ShortWriter::new(alloc, usize::MAX);
-    let mut piece = [0; 4096];
-    take_turns(
-        &[true, false],
-        &mut first,
-        &mut first_reader,
-        &mut first_writer,
-        &mut second,
-        &mut second_reader,
-        &mut second_writer,
-        &mut service,
-        &mut piece,
-    );
-    assert_eq!(rt; first_writer.bytes.as_slice(), stored);
-    let refused = [0, 0, 0, 10, 0xE0, 2, 0, 0, 0, 0, 0, 0, 0, 2];
-    assert_eq!(rt; second_writer.bytes.as_slice(), refused.as_slice());
+    let mut first = Peer {
+        reader: CutReader::new(alloc, update, 1)?,
+        writer: ShortWriter::new(alloc, usize::MAX),
+    };
+    let mut second = Peer {
+        reader: CutReader::new(alloc, scan, 1)?,
+        writer: ShortWriter::new(alloc, usize::MAX),
+    };
+    let mut first_session = Session::new(alloc);
+    let mut second_session = Session::new(alloc);
+    for end in [Turn::Again, Turn::Over(End::Closed)] {
+        let turn = first.turn(&mut first_session, &mut service, 0);
+        assert_eq!(rt; turn, end);
+        let turn = second.turn(&mut second_session, &mut service, 1);
+        assert_eq!(rt; turn, Turn::Over(End::Closed));
+    }
+    assert_eq!(rt; first.writer.bytes.as_slice(), stored);
+    let refused = [0, 0, 0, 10, 0xE0, 2, 0, 0, 0, 0, 0, 0, 0, 1];
+    assert_eq!(rt; second.writer.bytes.as_slice(), refused.as_slice());
     Ok(())
 }
 
