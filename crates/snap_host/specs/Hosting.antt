@@ -13,6 +13,7 @@ use Rattle.std.specs.Prelude.{
   slice_get,
   Option,
   Some,
+  None,
   Result,
   Ok,
   Err,
@@ -28,7 +29,7 @@ use Rattle.snap_disk.specs.declared.refusal.Refusal.{Refusal}
 use Rattle.snap_disk.specs.declared.refusal.Refusal.TheVariants as refusal
 use Rattle.snap_history.specs.Pairs.{Pairs}
 use Rattle.snap_segment.specs.Segment.{SegmentState}
-use Rattle.snap_stream.specs.Streams.{AppendsBeginning, SaysLines, refused_line}
+use Rattle.snap_stream.specs.Streams.{AppendsBeginning, Complains, SaysLines, refused_line}
 use Rattle.snap_order.specs.declared.status.Status.{Status}
 use Rattle.snap_order.specs.declared.status.Status.TheVariants as status
 use Rattle.snap_restart.specs.Opened.{IsOpened, IsStopped, recovered}
@@ -164,7 +165,7 @@ IsRemedy path files segment why more = (file : _) → slice_get files segment �
     → why ≢ refusal.NoMemory → (text : List ℕ) × (more ≡ file_line (path file) text)
 
 -- what standard error got of the failure: of a refusal its line, and the remedy where it took all.
--- The other lines have a text of the system in them.
+-- Of the others it got a line that begins `snapd: `, with a text of the system in it.
 abbrev pub SaysFailure : {F : Type 0} (path : F → List ℕ) (files : List F) → HostFailure
     → (is_told : Bool) (old new : Option (List ℕ)) → Type 0
 SaysFailure path files (Refused segment why) is_told old new =
@@ -172,7 +173,7 @@ SaysFailure path files (Refused segment why) is_told old new =
     × (is_told ≡ true → IsRemedy path files segment why more)
 SaysFailure path files NoMemory is_told old new =
     SaysLines (refused_line refusal.NoMemory) is_told old new
-SaysFailure path files failure is_told old new = Unit {0}
+SaysFailure path files failure is_told old new = Complains None is_told old new
 
 -- what it got at the end: nothing where it didn't end early
 abbrev pub SaysEnd : {F : Type 0} (path : F → List ℕ) (files : List F) → End → (is_told : Bool)

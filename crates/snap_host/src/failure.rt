@@ -64,7 +64,8 @@ impl HostFailure {
 
 /// The end of a server whose stream or socket failed.
 fn failed(is_told: bool) -> Ended
-    ensures { result.status ≡ Status.Failed }
+    ensures status { result.status ≡ Status.Failed }
+    ensures told { result.is_told ≡ is_told }
 {
     Ended {
         status: Status::Failed,

@@ -1,12 +1,33 @@
 -- What a program does to the known bytes of its streams.
-use Rattle.std.specs.Prelude.{◌≡◌, ℕ, Bool, true, List, ◌++◌, Option, IfSome, codes, take}
+use Rattle.std.specs.Prelude.{
+  ◌≡◌,
+  ◌<◌,
+  ◌⊎◌,
+  ℕ,
+  Bool,
+  true,
+  false,
+  List,
+  ◌++◌,
+  length,
+  Option,
+  IfSome,
+  codes,
+  take,
+}
+use Rattle.std.specs.Fmt.Cut.{EndsInDots}
 use Rattle.std.specs.Io.KnownBytes.{Appends}
 use Rattle.snap_disk.specs.Refusal.{refusal_text}
 use Rattle.snap_disk.specs.declared.refusal.Refusal.{Refusal}
+use Rattle.snap_stream.specs.declared.complaint.TheConstants.{IN_PLACE}
 
 -- a beginning of these bytes was written
 abbrev pub AppendsBeginning : Option (List ℕ) → Option (List ℕ) → List ℕ → Type 0
 AppendsBeginning old new bytes = (p : ℕ) × Appends old new (take p bytes)
+
+-- a beginning of these bytes was written, and not all of them
+abbrev pub AppendsLess : Option (List ℕ) → Option (List ℕ) → List ℕ → Type 0
+AppendsLess old new bytes = (p : ℕ) × (p < length bytes) × Appends old new (take p bytes)
 
 -- standard error got a beginning of these lines, and where it took them whole, all of them
 abbrev pub SaysLines : List ℕ → (is_told : Bool) (old new : Option (List ℕ)) → Type 0
@@ -20,3 +41,21 @@ Had known v = IfSome known (λ xs. xs ≡ v)
 -- the line of a refusal
 abbrev pub refused_line : Refusal → List ℕ
 refused_line why = codes "snapd: refused " ++ (refusal_text why ++ codes "\n")
+
+-- the line of a text
+abbrev pub complaint_line : List ℕ → List ℕ
+complaint_line text = codes "snapd: " ++ (text ++ codes "\n")
+
+-- the text is the one that is known, where one is
+abbrev pub IsText : (known : Option (List ℕ)) (text : List ℕ) → Type 0
+IsText known text = IfSome known (λ bytes. text ≡ bytes)
+
+-- Standard error got the whole line of a text. Where it wasn't told, it got less than the line, or,
+-- for want of memory, a beginning of the line of a text that was cut to fit in place.
+abbrev pub Complains : (known : Option (List ℕ)) (is_told : Bool) (old new : Option (List ℕ))
+    → Type 0
+Complains known true old new =
+    (text : List ℕ) × IsText known text × Appends old new (complaint_line text)
+Complains known false old new =
+    (text : List ℕ) × ((IsText known text × AppendsLess old new (complaint_line text))
+    ⊎ (EndsInDots IN_PLACE text × AppendsBeginning old new (complaint_line text)))

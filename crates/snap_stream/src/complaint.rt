@@ -1,22 +1,68 @@
 //! What a program says before it stops.
-ghost use Rattle.std.specs.Prelude.{◌≡◌, ◌++◌, List, ℕ, IfSome, IsNone, false, true};
+ghost use Rattle.std.specs.Prelude.{◌≡◌, ◌++◌, List, ℕ, IfSome, IsNone, OnErr, OnOk, false, true};
 ghost use Rattle.std.specs.Prelude.{string_bytes};
 ghost use Rattle.std.specs.Io.KnownBytes.{Appends};
-ghost use Rattle.snap_stream.specs.Streams.{AppendsBeginning, SaysLines, refused_line};
+ghost use Rattle.snap_stream.specs.Streams.{AppendsBeginning, AppendsLess, SaysLines, refused_line};
+ghost use Rattle.snap_stream.specs.Streams.{Complains, complaint_line};
 
 use crate::write_whole;
 use snap_disk::Refusal;
 use std::alloc::Global;
-use std::fmt::Display;
-use std::io::Write;
+use std::fmt::{Display, InlineText};
+use std::io::{self, Write};
+
+/// The most bytes of a text that is put together where there is no memory for it.
+const IN_PLACE: usize = 4096;
 
 /// Writes on standard error: `snapd: `, the text and one line feed, by one call where memory allows
 /// and the writer takes it whole. Says whether it took the whole line.
-pub fn complain<E: Write, T: Display>(alloc: Global, errors: &mut E, text: &T) -> bool {
-    match format!(in alloc; "snapd: {text}\n") {
-        Ok(line) => write_whole(errors, line.as_bytes()).is_ok(),
-        Err(_) => writeln!(errors, "snapd: {text}").is_ok(),
+///
+/// With no memory for it, a text of more than 4,096 bytes is cut and ends in dots, which is not told.
+pub fn complain<E: Write, T: Display>(alloc: Global, errors: &mut E, text: &T) -> bool
+    ensures { Complains (T.output text.now) result (E.contents errors.old)
+        (E.contents errors.new) }
+{
+    // The text comes first: what a `Display` leaves of a writer isn't known where its text isn't.
+    match format!(in alloc; "{text}") {
+        Ok(text) => write_line(alloc, errors, text.as_str()).is_ok(),
+        Err(_) => complain_in_place(errors, text),
     }
+}
+
+/// The same with no memory.
+fn complain_in_place<E: Write, T: Display>(errors: &mut E, text: &T) -> bool
+    ensures { Complains (T.output text.now) result (E.contents errors.old)
+        (E.contents errors.new) }
+{
+    let text = InlineText::<IN_PLACE>::of(text);
+    let text = text.as_str();
+    let is_cut = text.as_bytes().ends_with(b"...");
+    write_parts(errors, text).is_ok() && !is_cut
+}
+
+/// Writes the line of a text, by one call where memory allows and the writer takes it whole.
+fn write_line<E: Write>(alloc: Global, errors: &mut E, text: &str) -> io::Result<()>
+    ensures whole { OnOk result
+        (Appends (E.contents errors.old) (E.contents errors.new) (complaint_line text.now)) }
+    ensures cut { OnErr result
+        (AppendsLess (E.contents errors.old) (E.contents errors.new) (complaint_line text.now)) }
+{
+    match format!(in alloc; "snapd: {text}\n") {
+        Ok(line) => write_whole(errors, line.as_bytes()),
+        Err(_) => write_parts(errors, text),
+    }
+}
+
+/// The same with no memory.
+fn write_parts<E: Write>(errors: &mut E, text: &str) -> io::Result<()>
+    ensures whole { OnOk result
+        (Appends (E.contents errors.old) (E.contents errors.new) (complaint_line text.now)) }
+    ensures cut { OnErr result
+        (AppendsLess (E.contents errors.old) (E.contents errors.new) (complaint_line text.now)) }
+{
+    write_whole(errors, b"snapd: ")?;
+    write_whole(errors, text.as_bytes())?;
+    write_whole(errors, b"\n")
 }
 
 /// Writes on standard error the line of a refusal, as `snapd: refused 10 Damaged`, and says whether
@@ -26,6 +72,8 @@ pub fn complain_of_refusal<E: Write>(errors: &mut E, why: Refusal) -> bool
         → Appends (E.contents errors.old) (E.contents errors.new) (refused_line why) }
     ensures beginning { AppendsBeginning (E.contents errors.old) (E.contents errors.new)
         (refused_line why) }
+    ensures cut { result ≡ false
+        → AppendsLess (E.contents errors.old) (E.contents errors.new) (refused_line why) }
 {
     match write_whole(errors, line_of(why).as_bytes()) {
         Ok(()) => true,

@@ -1,18 +1,20 @@
 //! Reads and writes that go on until all is done.
-ghost use Rattle.std.specs.Prelude.{◌≡◌, ◌<◌, ◌≤◌, OnOk, IfOk, length, take};
+ghost use Rattle.std.specs.Prelude.{◌≡◌, ◌<◌, ◌≤◌, OnOk, OnErr, IfOk, length, take};
 ghost use Rattle.std.specs.Io.KnownBytes.{Appends, Consumes, IsAtEnd};
-ghost use Rattle.snap_stream.specs.Streams.{AppendsBeginning};
+ghost use Rattle.snap_stream.specs.Streams.{AppendsBeginning, AppendsLess};
 
 use std::io::{self, ErrorKind, Read, Write};
 
 /// Writes all the bytes, in as few calls as the writer takes. The first call that fails ends it,
-/// and so does one that takes no byte; the writer then holds a beginning of the bytes.
+/// and so does one that takes no byte; the writer then holds a beginning of the bytes, and not all.
 ///
 /// A call that a signal interrupts has failed: these programs set no handler, so none is.
 pub fn write_whole<W: Write>(writer: &mut W, bytes: &[u8]) -> io::Result<()>
     ensures whole { OnOk result
         (Appends (W.contents writer.old) (W.contents writer.new) bytes.now) }
     ensures beginning { AppendsBeginning (W.contents writer.old) (W.contents writer.new) bytes.now }
+    ensures cut { OnErr result
+        (AppendsLess (W.contents writer.old) (W.contents writer.new) bytes.now) }
 {
     let mut at = 0;
     while at < bytes.len() {
