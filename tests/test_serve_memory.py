@@ -1,6 +1,7 @@
 """`snapd serve` while memory is wanting: each allocation of a start and of a conversation is refused in turn, and all of them
 for a while. No request waits for ever, nothing that was acknowledged is lost, and what comes behind is served."""
 
+import contextlib
 import itertools
 import time
 
@@ -37,14 +38,24 @@ class Memory:
         self.wanting.unlink(missing_ok=True)
 
 
-def asked(server, request):
+def of_both(disk, memory):
+    """The environment in which calls of the disk and allocations are refused."""
+    return {**disk.env, **memory.env, "LD_PRELOAD": f"{disk.env['LD_PRELOAD']}:{memory.env['LD_PRELOAD']}"}
+
+
+def told(stream, request=b""):
     """The reply's frame, or nothing where the connection is closed."""
+    try:
+        stream.sendall(request)
+        return frame(reply(stream))
+    except ConnectionError:
+        return EMPTY
+
+
+def asked(server, request):
+    """The same of a request on a connection of its own."""
     with server.connect() as stream:
-        try:
-            stream.sendall(request)
-            return frame(reply(stream))
-        except ConnectionError:
-            return EMPTY
+        return told(stream, request)
 
 
 def talked(server):
@@ -53,8 +64,7 @@ def talked(server):
     for request, wanted in TALK:
         got = asked(server, request)
         if got != wanted:
-            # An update that can't be handed over is refused as if its segment were fenced, and stores nothing.
-            assert got in (EMPTY, refused(8), refused(6, 0)), (request[:20], got[:40])
+            assert got in (EMPTY, refused(8)), (request[:20], got[:40])
             refusals += 1
             assert asked(server, request) == wanted, request[:20]
     return refusals
@@ -101,11 +111,36 @@ def test_each_allocation_of_a_conversation_is_refused(snapd, _):
     assert refusals > 2, (number, refusals)
 
 
+def test_each_allocation_of_updates_that_queue_is_refused(snapd, _):
+    """The first update's store is held while the same update comes over more connections, so the queue to the store grows. An
+    update that finds no memory there waits for it: none is refused as if the segment were fenced."""
+    wanted = stored(1)
+    for number in itertools.count(1):
+        disk, memory = Disk(snapd), Memory(snapd, number)
+        with started(snapd, 1, env=of_both(disk, memory)) as server, contextlib.ExitStack() as peers:
+            streams = [peers.enter_context(server.connect()) for _ in range(7)]
+            disk.says("S0 sync hold 0")
+            streams[0].sendall(update(0, 1, VALUE))
+            disk.wait_for_hold()
+            memory.runs_out()
+            for stream in streams[1:]:
+                stream.sendall(update(0, 1, VALUE))
+            # It comes behind them, so they are handed over once it is answered.
+            assert asked(server, SCAN) in (snapshot((0, b"")), refused(8), EMPTY), number
+            is_last = memory.wanting.exists()
+            memory.is_there_again()
+            disk.says()
+            answers = [told(stream) for stream in streams]
+            assert answers[0] == wanted and all(answer in (wanted, EMPTY) for answer in answers), (number, answers)
+        if is_last:
+            break
+    assert number > 12, number
+
+
 def test_an_outcome_waits_for_memory(snapd, _):
     """While an update is stored, memory runs out for a while: then it is answered, or its connection is closed."""
     disk, memory = Disk(snapd), Memory(snapd, "all")
-    env = {**disk.env, **memory.env, "LD_PRELOAD": f"{disk.env['LD_PRELOAD']}:{memory.env['LD_PRELOAD']}"}
-    with started(snapd, 1, env=env) as server, server.connect() as stream:
+    with started(snapd, 1, env=of_both(disk, memory)) as server, server.connect() as stream:
         disk.says("S0 sync hold 0")
         stream.sendall(update(0, 1, VALUE))
         disk.wait_for_hold()
@@ -130,9 +165,5 @@ def test_connections_wait_for_memory(snapd, _):
         memory.is_there_again()
         for stream in streams:
             with stream:
-                try:
-                    got = frame(reply(stream))
-                except ConnectionError:
-                    got = EMPTY
-                assert got in (snapshot((0, b"")), refused(8), EMPTY)
+                assert told(stream) in (snapshot((0, b"")), refused(8), EMPTY)
         server.ask(update(0, 1, VALUE) + SCAN, stored(1) + snapshot((1, VALUE)))

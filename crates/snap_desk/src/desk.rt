@@ -16,7 +16,8 @@ ghost use Rattle.snap_service.specs.Answers.{
 
 use crate::job::{Job, Payload};
 use crate::lent::Outcome;
-use crossbeam_channel::Sender;
+use crate::standing::status_in;
+use crossbeam_channel::{SendError, Sender};
 use snap_disk::{Disk, Refusal};
 use snap_frame::{Reply, Request, SegmentStatus};
 use snap_memory::{Scanner, Snapshot};
@@ -24,8 +25,25 @@ use snap_service::{Memory, answer_by_look, answer_scan, refuse_place};
 use snap_session::Service;
 use std::alloc::{AllocError, Global};
 use std::marker::{Model, PhantomData};
+use std::rt::Clock;
 use std::sync::atomic::{AtomicU64, Ordering};
 use std::sync::{Arc, Wait};
+use std::thread;
+use std::time::Duration;
+
+/// How long to rest where no memory is left to hand an update over, in milliseconds.
+const REST: u64 = 5;
+
+/// What came of trying to hand an update over.
+#[derive(Drop)]
+enum Sent {
+    /// Its store has it.
+    Over,
+    /// No memory was left for it.
+    NoMemory,
+    /// The store is another segment's, or gone.
+    Gone,
+}
 
 /// What a desk sees of a segment's store: where its updates go, and where it stands. Its value is the
 /// segment. The store works until all its windows are gone.
@@ -33,7 +51,7 @@ use std::sync::{Arc, Wait};
 pub struct Window {
     segment: usize,
     jobs: Sender<Job>,
-    /// Twice the number, and one more where it is fenced.
+    /// In one word, as [`status_in`] reads it.
     standing: Arc<AtomicU64, Global>,
 }
 
@@ -56,23 +74,25 @@ impl Window {
         }
     }
 
-    /// Hands an update of this segment over to its store. `false`, and nothing handed over, where the
-    /// store is another segment's or gone, or no memory is left.
-    fn send<R: Wait>(&self, rt: &R, segment: usize, job: Job) -> bool
-        ensures { result ≡ true → self.now ≡ segment }
+    /// Tries to hand an update of this segment over to its store.
+    fn send<R: Wait>(&self, rt: &R, segment: usize, job: Job) -> Sent
+        ensures { result ≡ Sent.Over → self.now ≡ segment }
     {
-        self.segment == segment && self.jobs.send(rt, job).is_ok()
+        if self.segment != segment {
+            return Sent::Gone;
+        }
+        match self.jobs.send(rt, job) {
+            Ok(()) => Sent::Over,
+            Err(SendError::OutOfMemory(_)) => Sent::NoMemory,
+            Err(SendError::Disconnected(_)) => Sent::Gone,
+        }
     }
 
     /// Where its store stood when it last told.
     fn status(&self) -> SegmentStatus
         ensures { IsStatus result }
     {
-        let word = self.standing.load(Ordering::SeqCst);
-        SegmentStatus {
-            number: word / 2,
-            is_fenced: word % 2 == 1,
-        }
+        status_in(self.standing.load(Ordering::SeqCst))
     }
 }
 
@@ -87,7 +107,8 @@ impl Clone for Window {
 }
 
 /// A scanner, and a window for each segment: a [`Service`] that hands updates over. Its state is
-/// what its scanner knows. It takes no lock and waits for no store.
+/// what its scanner knows. It takes no lock and waits for no store; only where no memory is left to
+/// hand an update over, it waits for memory.
 #[derive(Drop)]
 pub struct Desk<R: Wait + Copy, M: Memory, D: Disk + Drop> {
     rt: R,
@@ -126,8 +147,8 @@ pub fn answer_outcome<R: Wait + Copy, M: Memory, D: Disk + Drop>(
     requires size { IsShort value.now }
     ensures answer { AnswersUpdate scanner.old segment number value.now result scanner.new }
     ensures limits { IsInLimits result }
-    ensures told { own_of outcome.writer.seat ≡ segment → outcome.number ≡ number
-        → outcome.value ≡ value.now
+    ensures told { own_of outcome.writer.seat ≡ segment → outcome.job.number ≡ number
+        → outcome.job.value ≡ value.now
         → result ≡ reply_of (number_of outcome.writer) outcome.told }
 {
     if !outcome.is_of(segment, number, value) {
@@ -148,7 +169,7 @@ fn list_statuses(alloc: Global, windows: &[Window]) -> Result<Vec<SegmentStatus>
     Ok(statuses)
 }
 
-impl<R: Wait + Copy, M: Memory, D: Disk + Drop> Desk<R, M, D> {
+impl<R: Wait + Copy + Clock, M: Memory, D: Disk + Drop> Desk<R, M, D> {
     /// The desk of this worker, with a window for each segment and room for a snapshot.
     pub fn new(
         rt: R,
@@ -173,21 +194,31 @@ impl<R: Wait + Copy, M: Memory, D: Disk + Drop> Desk<R, M, D> {
         }
     }
 
-    /// Hands an update over to its store's thread; `false` where that is gone, or no memory is left.
+    /// Hands an update over to its store's thread; `false` where that is gone. Where no memory is left
+    /// it rests and tries again, so that a sound segment's update is never refused as fenced.
     fn hand_over(&self, segment: usize, number: u64, value: &[u8], key: usize) -> bool
         requires segment { segment < segments self.now.plan }
         requires size { IsShort value.now }
     {
-        let job = Job {
-            worker: self.worker,
-            key,
-            number,
-            value: Payload::of(value),
-        };
-        self.windows[segment].send(&self.rt, segment, job)
+        for _ in self.rt.forever() {
+            // Each try makes a job of its own: to take it back out of the error would cost copies on
+            // the way of every update.
+            let job = Job {
+                worker: self.worker,
+                key,
+                number,
+                value: Payload::of(value),
+            };
+            match self.windows[segment].send(&self.rt, segment, job) {
+                Sent::Over => return true,
+                Sent::NoMemory => thread::sleep(&self.rt, Duration::from_millis(REST)),
+                Sent::Gone => return false,
+            }
+        }
+        unreachable!()
     }
 
-    /// An update goes to its store.
+    /// An update goes to its store. A look answers it where that is gone.
     fn update(&mut self, segment: usize, number: u64, value: &[u8], key: usize) -> Option<Reply>
         ensures answer { IfSome result (λ r.
             AnswersUpdate self.old segment number value.now r self.new) }
@@ -244,7 +275,7 @@ impl<R: Wait + Copy, M: Memory, D: Disk + Drop> Desk<R, M, D> {
     }
 }
 
-impl<R: Wait + Copy, M: Memory, D: Disk + Drop> Service for Desk<R, M, D> {
+impl<R: Wait + Copy + Clock, M: Memory, D: Disk + Drop> Service for Desk<R, M, D> {
     ghost use Rattle.snap_service.specs.Answers.{Answers};
 
     type Outcome = Outcome<R, M, D>;

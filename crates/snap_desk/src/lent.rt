@@ -8,6 +8,7 @@ ghost use Rattle.snap_service.specs.Settled.{IsSettledAt, IsTellable, reply_of};
 ghost use Rattle.snap_desk.specs.Came.{Came};
 
 use crate::job::Job;
+use crate::standing::standing_of;
 use crossbeam_channel::Sender;
 use snap_disk::{Disk, Refusal};
 use snap_frame::Reply;
@@ -15,15 +16,6 @@ use snap_memory::Scanner;
 use snap_service::{Memory, WriterOf};
 use std::marker::Model;
 use std::sync::Wait;
-
-/// Where a writer stands, in one word: twice its number, and one more where it is fenced.
-pub(crate) fn standing_of<M: Memory, D: Disk>(writer: &WriterOf<M, D>) -> u64
-    ensures fenced { IsSome writer.now.segment.begun → result ≡ number_of writer.now * 2 + 1 }
-    ensures open { writer.now.segment.begun ≡ None → result ≡ number_of writer.now * 2 }
-{
-    let twice = writer.number() * 2;
-    if writer.is_fenced() { twice + 1 } else { twice }
-}
 
 /// A writer away from its store's thread, which waits for it. Wherever it is let go, it goes home.
 pub struct Lent<R: Wait + Copy, M: Memory, D: Disk + Drop> {
@@ -53,12 +45,7 @@ impl<R: Wait + Copy, M: Memory, D: Disk + Drop> Model for Outcome<R, M, D> {
 
     ghost Value = { Came D };
 
-    ghost view = { λ o. record {
-      number = o.job.number;
-      value = o.job.value;
-      writer = o.lent.writer;
-      told = o.told;
-    } };
+    ghost view = { λ o. record { job = o.job; writer = o.lent.writer; told = o.told } };
 
     ghost invariant = { λ o. IsTellable o.lent.writer o.job.number o.job.value o.told };
 }
@@ -67,17 +54,12 @@ impl<R: Wait + Copy, M: Memory, D: Disk + Drop> Outcome<R, M, D> {
     /// What the writer told of the job, which can be replied where the writer is.
     pub fn new(job: Job, told: Result<u64, Refusal>, lent: Lent<R, M, D>) -> Outcome<R, M, D>
         requires { IsTellable lent.writer job.number job.value told }
-        ensures { result ≡ record {
-          number = job.number;
-          value = job.value;
-          writer = lent.writer;
-          told = told;
-        } }
+        ensures { result ≡ record { job = job; writer = lent.writer; told = told } }
     {
         Outcome { job, told, lent }
     }
 
-    /// Where the writer stands, as [`standing_of`] says it.
+    /// Where the writer stands, in one word: twice its number, and one more where it is fenced.
     pub fn standing(&self) -> u64
         ensures fenced { IsSome self.now.writer.segment.begun
             → result ≡ number_of self.now.writer * 2 + 1 }
@@ -90,9 +72,9 @@ impl<R: Wait + Copy, M: Memory, D: Disk + Drop> Outcome<R, M, D> {
     /// Whether it is the outcome of this update of this segment.
     pub fn is_of(&self, segment: usize, number: u64, value: &[u8]) -> bool
         ensures yes { result ≡ true → (own_of self.now.writer.seat ≡ segment)
-            × (self.now.number ≡ number) × (self.now.value ≡ value.now) }
+            × (self.now.job.number ≡ number) × (self.now.job.value ≡ value.now) }
         ensures no { result ≡ false → own_of self.now.writer.seat ≡ segment
-            → self.now.number ≡ number → self.now.value ≡ value.now → ⊥ }
+            → self.now.job.number ≡ number → self.now.job.value ≡ value.now → ⊥ }
     {
         if self.lent.writer.segment() != segment || self.job.number != number {
             return false;
@@ -105,8 +87,8 @@ impl<R: Wait + Copy, M: Memory, D: Disk + Drop> Outcome<R, M, D> {
     pub fn tell(mut self, scanner: &mut Scanner) -> Reply
         requires memory { IsOf M.table M.plan scanner.old }
         ensures told { result ≡ reply_of (number_of self.writer) self.told }
-        ensures settled { (i k : ℕ) (v : List ℕ) → own_of self.writer.seat ≡ i → self.number ≡ k
-            → self.value ≡ v → IsSettledAt scanner.new i k v result }
+        ensures settled { (i k : ℕ) (v : List ℕ) → own_of self.writer.seat ≡ i → self.job.number ≡ k
+            → self.job.value ≡ v → IsSettledAt scanner.new i k v result }
         ensures limits { IsInLimits result }
         ensures scanner { Meets scanner.old scanner.new }
     {

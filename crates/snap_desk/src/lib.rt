@@ -10,6 +10,7 @@
 mod desk;
 mod job;
 mod lent;
+mod standing;
 mod store;
 
 pub use desk::{Desk, Window, answer_outcome};

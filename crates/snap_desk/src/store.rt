@@ -1,11 +1,12 @@
 //! The store of a segment, as the thread that owns it drives it.
-ghost use Rattle.std.specs.Prelude.{◌≡◌, IfOk};
+ghost use Rattle.std.specs.Prelude.{◌≡◌, IfOk, IfSome};
 ghost use Rattle.snap_register.specs.Seat.{own_of};
 ghost use Rattle.snap_service.specs.Updated.{IsUpdated};
 
 use crate::desk::Window;
 use crate::job::Job;
-use crate::lent::{Lent, Outcome, standing_of};
+use crate::lent::{Lent, Outcome};
+use crate::standing::standing_of;
 use crossbeam_channel::{Receiver, Sender, TryRecvError, bounded, unbounded};
 use snap_disk::Disk;
 use snap_patience::Patience;
@@ -35,8 +36,7 @@ pub fn store_one<R: Wait + Copy, M: Memory, D: Disk + Drop>(
     mut writer: WriterOf<M, D>,
     job: Job,
 ) -> Outcome<R, M, D>
-    ensures number { result.number ≡ job.number }
-    ensures value { result.value ≡ job.value }
+    ensures job { result.job ≡ job }
     ensures updated { IsUpdated D.device D.failure_count D.is_honest D.clock D.might_have_left
         writer result.writer job.number job.value result.told }
 {
@@ -109,7 +109,10 @@ impl<R: Wait + Copy, M: Memory, D: Disk + Drop> StoreThread<R, M, D> {
     /// Waits until an update is handed over and its writer is back, does it, and lends the writer
     /// with the outcome. None where all windows are gone and no update is left, so that none will
     /// come, or where the writer will not come back.
-    pub fn next(&mut self) -> Option<Told<R, M, D>> {
+    pub fn next(&mut self) -> Option<Told<R, M, D>>
+        ensures worker { IfSome result (λ t. t.worker ≡ t.outcome.job.worker) }
+        ensures key { IfSome result (λ t. t.key ≡ t.outcome.job.key) }
+    {
         let job = self.take_job()?;
         let writer = self.take_writer()?;
         let home: Result<Sender<WriterOf<M, D>>, AllocError> = self.home.clone();

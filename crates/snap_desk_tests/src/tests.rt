@@ -12,6 +12,7 @@ use snap_segment::format;
 use snap_slot::FILE_LEN;
 use std::alloc::Global;
 use std::process::Abort;
+use std::rt::Clock;
 use std::sync::atomic::AtomicU64;
 use std::sync::{Arc, Wait};
 use std::test::Fail;
@@ -74,7 +75,7 @@ fn open<D: Disk + Drop>(rt: &(impl Abort + AllocGlobal), devices: Vec<D>) -> Sto
 
 /// A desk over two new files does the work. The first one's store may fail.
 fn run(
-    rt: &(impl Abort + AllocGlobal + Threads + Wait + Sync + Send + Copy),
+    rt: &(impl Abort + AllocGlobal + Threads + Wait + Clock + Sync + Send + Copy),
     course: Course,
     bytes: &[u8],
     fails: bool,

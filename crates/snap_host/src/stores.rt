@@ -64,7 +64,7 @@ fn open_stores<R: Wait + Copy, M: Memory, D: Disk + Drop>(
 }
 
 /// A desk for each scanner.
-fn open_desks<R: Wait + Copy, M: Memory, D: Disk + Drop>(
+fn open_desks<R: Wait + Copy + Clock, M: Memory, D: Disk + Drop>(
     rt: R,
     alloc: Global,
     windows: Vec<Window>,

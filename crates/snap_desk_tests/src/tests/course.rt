@@ -5,6 +5,7 @@ use snap_disk::Held;
 use snap_service::Memory;
 use snap_session::{Session, Wants};
 use std::alloc::{AllocError, Global};
+use std::rt::Clock;
 use std::sync::Wait;
 use std::sync::atomic::{AtomicU64, Ordering};
 use std::thread::yield_now;
@@ -34,7 +35,7 @@ pub(crate) struct Worker<R: Wait + Copy, M: Memory> {
 }
 
 /// Answers what the session holds, until it waits.
-fn answer<R: Wait + Copy, M: Memory>(
+fn answer<R: Wait + Copy + Clock, M: Memory>(
     desk: &mut Desk<R, M, Held>,
     session: &mut Session,
     key: usize,
@@ -47,7 +48,7 @@ fn answer<R: Wait + Copy, M: Memory>(
 }
 
 /// These bytes come to the session.
-fn ask<R: Wait + Copy, M: Memory>(
+fn ask<R: Wait + Copy + Clock, M: Memory>(
     desk: &mut Desk<R, M, Held>,
     session: &mut Session,
     bytes: &[u8],
@@ -59,7 +60,7 @@ fn ask<R: Wait + Copy, M: Memory>(
     }
 }
 
-impl<R: Wait + Copy, M: Memory> Worker<R, M> {
+impl<R: Wait + Copy + Clock, M: Memory> Worker<R, M> {
     /// What comes next.
     fn next(&self, rt: &R) -> Option<Told<R, M, Held>> {
         match &self.inbox {

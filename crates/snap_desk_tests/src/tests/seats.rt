@@ -14,6 +14,7 @@ use snap_writer::Writer;
 use std::alloc::{AllocError, Global};
 use std::marker::Brand;
 use std::mem;
+use std::rt::Clock;
 use std::sync::Wait;
 use std::sync::atomic::AtomicU64;
 use std::thread::{Threads, for_each_mut, join};
@@ -87,7 +88,7 @@ fn tell<R: Wait + Copy, M: Memory>(
 }
 
 /// The worker's course, and then the desk is gone.
-fn work_desk<R: Wait + Copy, M: Memory>(
+fn work_desk<R: Wait + Copy + Clock, M: Memory>(
     rt: &R,
     worker: &mut Worker<R, M>,
     mut desk: Desk<R, M, Held>,
@@ -98,7 +99,7 @@ fn work_desk<R: Wait + Copy, M: Memory>(
 }
 
 /// All at once, each store in a thread of its own.
-fn run_threads<R: Threads + Wait + Sync + Send + Copy, M: Memory + Send>(
+fn run_threads<R: Threads + Wait + Clock + Sync + Send + Copy, M: Memory + Send>(
     rt: &R,
     stores: &mut [StoreThread<R, M, Held>],
     worker: &mut Worker<R, M>,
@@ -137,7 +138,7 @@ fn seen_by<R: Wait + Copy, M: Memory>(
 }
 
 /// A run of this desk beside these stores. What its peers were sent.
-fn run_desk<R: Threads + Wait + Sync + Send + Copy, M: Memory + Send>(
+fn run_desk<R: Threads + Wait + Clock + Sync + Send + Copy, M: Memory + Send>(
     rt: &R,
     alloc: Global,
     stores: &mut [StoreThread<R, M, Held>],
@@ -174,7 +175,7 @@ fn stores_of<R: Wait + Copy, M: Memory>(
 }
 
 /// The desk of these windows and this scanner.
-fn desk_of<R: Wait + Copy, M: Memory>(
+fn desk_of<R: Wait + Copy + Clock, M: Memory>(
     rt: &R,
     alloc: Global,
     windows: Vec<Window>,
@@ -191,7 +192,7 @@ fn desk_of<R: Wait + Copy, M: Memory>(
 }
 
 /// A run with these writers and this scanner.
-fn run_writers<R: Threads + Wait + Sync + Send + Copy, M: Memory + Send>(
+fn run_writers<R: Threads + Wait + Clock + Sync + Send + Copy, M: Memory + Send>(
     rt: &R,
     alloc: Global,
     writers: Vec<WriterOf<M, Held>>,
@@ -210,7 +211,7 @@ fn run_writers<R: Threads + Wait + Sync + Send + Copy, M: Memory + Send>(
 }
 
 /// A run of the memory that these are of.
-fn run_memory<R: Threads + Wait + Sync + Send + Copy, M: Memory + Send>(
+fn run_memory<R: Threads + Wait + Clock + Sync + Send + Copy, M: Memory + Send>(
     rt: &R,
     alloc: Global,
     writers: Vec<Writer<Held>>,
@@ -227,7 +228,7 @@ fn run_memory<R: Threads + Wait + Sync + Send + Copy, M: Memory + Send>(
 }
 
 /// A run with this store, of two segments.
-pub(crate) fn run_store<R: Threads + Wait + Sync + Send + Copy>(
+pub(crate) fn run_store<R: Threads + Wait + Clock + Sync + Send + Copy>(
     rt: &R,
     alloc: Global,
     mut store: Store<Held>,

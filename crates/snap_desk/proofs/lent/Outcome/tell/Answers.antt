@@ -15,11 +15,11 @@ returns-clause-told g c =
 pub returns-clause-settled : goal.returns-clause-settled
 returns-clause-settled g c i k v own number value =
     let P : Came _ → Type 0 = λ o. IsSettledAt c.reply_told.new.scanner (own_of o.writer.seat)
-    o.number o.value c.reply_told.result in
+    o.job.number o.job.value c.reply_told.result in
     let here = subst P c.self.view_is (c.reply_told.ensures.settled _ _ c.self.invariant) in
-    let Q : ℕ → Type 0 = λ x. IsSettledAt c.reply_told.new.scanner x c.args.self.number
-    c.args.self.value c.reply_told.result in
-    let R : ℕ → Type 0 = λ x. IsSettledAt c.reply_told.new.scanner i x c.args.self.value
+    let Q : ℕ → Type 0 = λ x. IsSettledAt c.reply_told.new.scanner x c.args.self.job.number
+    c.args.self.job.value c.reply_told.result in
+    let R : ℕ → Type 0 = λ x. IsSettledAt c.reply_told.new.scanner i x c.args.self.job.value
     c.reply_told.result in
     let S : List ℕ → Type 0 = λ x. IsSettledAt c.reply_told.new.scanner i k x c.reply_told.result in
     subst S value (subst R number (subst Q own here))

@@ -1,0 +1,30 @@
+//! Where a store stands, in one word, so that who reads it while its thread works sees one moment:
+//! twice the number, and one more where it is fenced.
+ghost use Rattle.std.specs.Prelude.{◌≡◌, ◌+◌, ◌*◌, true, false, None, IsSome};
+ghost use Rattle.snap_frame.specs.Messages.{IsStatus};
+ghost use Rattle.snap_writer.specs.Writer.{number_of};
+
+use snap_disk::Disk;
+use snap_frame::SegmentStatus;
+use snap_service::{Memory, WriterOf};
+
+/// The word that says where a writer stands.
+pub(crate) fn standing_of<M: Memory, D: Disk>(writer: &WriterOf<M, D>) -> u64
+    ensures fenced { IsSome writer.now.segment.begun → result ≡ number_of writer.now * 2 + 1 }
+    ensures open { writer.now.segment.begun ≡ None → result ≡ number_of writer.now * 2 }
+{
+    let twice = writer.number() * 2;
+    if writer.is_fenced() { twice + 1 } else { twice }
+}
+
+/// What such a word says.
+pub(crate) fn status_in(word: u64) -> SegmentStatus
+    ensures fenced { result.is_fenced ≡ true → word ≡ result.number * 2 + 1 }
+    ensures open { result.is_fenced ≡ false → word ≡ result.number * 2 }
+    ensures limits { IsStatus result }
+{
+    SegmentStatus {
+        number: word / 2,
+        is_fenced: word % 2 == 1,
+    }
+}
