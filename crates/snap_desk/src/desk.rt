@@ -97,6 +97,10 @@ impl Window {
 }
 
 impl Clone for Window {
+    ghost use Rattle.std.specs.Prelude.{◌≡◌};
+
+    ghost is_clone = { λ window copy. copy ≡ window };
+
     fn clone(&self) -> Result<Window, AllocError> {
         Ok(Window {
             segment: self.segment,
@@ -194,26 +198,36 @@ impl<R: Wait + Copy + Clock, M: Memory, D: Disk + Drop> Desk<R, M, D> {
         }
     }
 
+    /// Tries to hand an update over to its store's thread.
+    fn offer(&self, segment: usize, number: u64, value: &[u8], key: usize) -> Sent
+        requires segment { segment < segments self.now.plan }
+        requires size { IsShort value.now }
+    {
+        let job = Job {
+            worker: self.worker,
+            key,
+            number,
+            value: Payload::of(value),
+        };
+        self.windows[segment].send(&self.rt, segment, job)
+    }
+
     /// Hands an update over to its store's thread; `false` where that is gone. Where no memory is left
     /// it rests and tries again, so that a sound segment's update is never refused as fenced.
     fn hand_over(&self, segment: usize, number: u64, value: &[u8], key: usize) -> bool
         requires segment { segment < segments self.now.plan }
         requires size { IsShort value.now }
     {
+        // Each try makes a job of its own, and the first one stands outside the loop: to keep a job
+        // for a further try would cost a copy on the way of every update.
+        let mut sent = self.offer(segment, number, value, key);
         for _ in self.rt.forever() {
-            // Each try makes a job of its own: to take it back out of the error would cost copies on
-            // the way of every update.
-            let job = Job {
-                worker: self.worker,
-                key,
-                number,
-                value: Payload::of(value),
-            };
-            match self.windows[segment].send(&self.rt, segment, job) {
+            match sent {
                 Sent::Over => return true,
                 Sent::NoMemory => thread::sleep(&self.rt, Duration::from_millis(REST)),
                 Sent::Gone => return false,
             }
+            sent = self.offer(segment, number, value, key);
         }
         unreachable!()
     }
