@@ -16,7 +16,7 @@ use std::sync::atomic::{AtomicU64, Ordering};
 use std::sync::{Arc, Wait};
 use std::thread;
 
-/// How often a store's thread looks for an update before it sleeps: for about a tenth of a millisecond.
+/// How often a store's thread looks for an update before it sleeps: for about half a millisecond.
 const LOOKS: u32 = 2_000;
 
 /// What comes to a desk: the outcome of the request with this key, and which desk it is.

@@ -1,7 +1,7 @@
 //! Whether a thread looks for a while before it sleeps.
 //!
 //! To wake a sleeping thread takes tens of microseconds, about as long as a fast disk takes to sync.
-//! So a thread that waits for another one, or for a peer, first looks again for about a tenth of a
+//! So a thread that waits for another one, or for a peer, first looks again for less than a
 //! millisecond. That pays only where what it waits for mostly comes so soon: after a look in vain it
 //! sleeps at once for some waits, and a slow disk or an idle peer costs next to nothing.
 #![tactic(auto)]

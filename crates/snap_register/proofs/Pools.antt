@@ -1,4 +1,5 @@
--- The writer's steps keep the rule: a check of a buffer, a store into the free one, a publication.
+-- The writer's steps keep the rule: a check of a buffer, a load and a store in the free one, a
+-- publication.
 use Rattle.std.proofs.Common.{
   ◌≡◌,
   ◌≢◌,
@@ -29,7 +30,14 @@ use Rattle.std.proofs.Common.{
   false,
   cond,
 }
-use Rattle.std.proofs.lemmas.List.{get_or_append_left, get_or_push, set-get_or, length-set}
+use Rattle.std.proofs.lemmas.List.{
+  get_or_append_left,
+  get_or_push,
+  get_or-take,
+  length-take-le,
+  set-get_or,
+  length-set,
+}
 use mathlib.Core.List.{IsPrefix}
 use mathlib.Core.Logic.{dite}
 use mathlib.Core.Option as maybe
@@ -67,7 +75,9 @@ use Rattle.snap_register.specs.Rule.{
   Knows,
   Kept,
   checked,
-  drafted,
+  reused,
+  redrafted,
+  without_last,
   published,
 }
 use Rattle.snap_register.proofs.Lines.{
@@ -372,14 +382,16 @@ module _ (S : Type 0) where
       )
 
   draft_at : (s : St) (id : ℕ) (m : M) (k : Kept m.0.plan s) (i c y : ℕ)
-      → get_elem? s.views id ≡ some m.0 → IsWriter m.0 i → i < segments m.0.plan
-      → m.0.pool.free_buffer < buffers m.0.plan → length m.0.pool.draft < width m.0.plan
-      → c ≡ cell m.0.plan i m.0.pool.free_buffer (length m.0.pool.draft)
+      (l : List ℕ) → get_elem? s.views id ≡ some m.0 → IsWriter m.0 i → i < segments m.0.plan
+      → m.0.pool.free_buffer < buffers m.0.plan → length l ≤ length m.0.pool.draft
+      → length l < width m.0.plan
+      → ((q : ℕ) → q < length l → get_or m.0.pool.draft q 0 ≡ get_or l q 0)
+      → c ≡ cell m.0.plan i m.0.pool.free_buffer (length l)
       → Kept m.0.plan (stepped s c y id m.1 (record m.0 {
         pool =
-            record m.0.pool { draft = m.0.pool.draft ++ y ∷ [] };
+            record m.0.pool { draft = l ++ y ∷ [] };
       }) keeps)
-  draft_at s id m k i c y at role inside free short place =
+  draft_at s id m k i c y l at role inside free kept short same place =
       let v : SeatView = m.0 in
       let p : Plan = v.plan in
       let h : List Entry = k.history in
@@ -388,28 +400,28 @@ module _ (S : Type 0) where
       let d : Pool = v.pool in
       let x : ℕ = k.pinned i in
       let r = own.register in
-      let d' : Pool = record d { draft = d.draft ++ y ∷ [] } in
+      let d' : Pool = record d { draft = l ++ y ∷ [] } in
       let w : SeatView = record v { pool = d' } in
       let ws : List ℕ = set s.words c y in
       let there : c < length s.words =
       subst (λ (z : ℕ × ℕ). z.0 < z.1) (λ t. (sym place t, sym k.wide t))
-      (cell_inside p i d.free_buffer (length d.draft) inside free short) in
+      (cell_inside p i d.free_buffer (length l) inside free short) in
       let word : (a : ℕ) → a < segments p → get_or ws a 0 ≡ get_or s.words a 0 =
       λ a la. get_or-set_other s.words c a y 0 (λ e.
-      cell_behind p i d.free_buffer (length d.draft) a la (e ∙ place)) in
+      cell_behind p i d.free_buffer (length l) a la (e ∙ place)) in
       let givens : (a b : ℕ) → a < segments p → b < buffers p
       → get_or ws (given p a b) 0 ≡ get_or s.words (given p a b) 0 =
       λ a b la lb. get_or-set_other s.words c (given p a b) y 0 (λ e.
-      given_cell p a b i d.free_buffer (length d.draft) la lb (e ∙ place)) in
+      given_cell p a b i d.free_buffer (length l) la lb (e ∙ place)) in
       let cells : (a b q : ℕ) → b < buffers p → q < width p
-      → ((a ≡ i) → (b ≡ d.free_buffer) → (q ≡ length d.draft) → ⊥)
+      → ((a ≡ i) → (b ≡ d.free_buffer) → (q ≡ length l) → ⊥)
       → get_or ws (cell p a b q) 0 ≡ get_or s.words (cell p a b q) 0 = λ a b q lb lq ne.
       get_or-set_other s.words c (cell p a b q) y 0 (λ e. let t =
-      cell_same p a b q i d.free_buffer (length d.draft) lb free lq short (e ∙ place) in
+      cell_same p a b q i d.free_buffer (length l) lb free lq short (e ∙ place) in
       ne t.0 t.1 t.2) in
       let apart = (r.free_buffer free).0 in
       let all = own.all in
-      let long = length-append d.draft (y ∷ []) in
+      let long = length-append l (y ∷ []) in
       pool_step p s k id i v w ws h d' x at role inside (length-set s.words c y)
       (prefix_self h) k.legal (λ a ne. refl) (λ a la ne. word a la) (λ a b la lb.
       givens a b la lb) (λ a b q la lb lq ne.
@@ -431,31 +443,52 @@ module _ (S : Type 0) where
             refl in omega arith;
         counts = r.counts;
         short = omega arith;
-        draft = λ q lt lq. dite (ℕ_discrete q (length d.draft))
+        draft = λ q lt lq. dite (ℕ_discrete q (length l))
             (λ last. ap (λ (z : ℕ). get_or ws z 0) (ap (cell p i d.free_buffer) last ∙ sym place)
             ∙ (get_or-set_same s.words c y 0 there
-            ∙ (sym (get_or_push d.draft y 0 (length d.draft) refl)
-            ∙ ap (λ (z : ℕ). get_or (d.draft ++ y ∷ []) z 0) (sym last))))
-            (λ not_last. let lq' : q < length d.draft = omega arith in
+            ∙ (sym (get_or_push l y 0 (length l) refl)
+            ∙ ap (λ (z : ℕ). get_or (l ++ y ∷ []) z 0) (sym last))))
+            (λ not_last. let lq' : q < length l = omega arith in
+            let lq'' : q < length d.draft = omega arith in
             cells i d.free_buffer q free (omega arith) (λ _ _ e. not_last e)
-            ∙ (r.draft q free lq' ∙ sym (get_or_append_left d.draft (y ∷ []) 0 q lq')));
+            ∙ (r.draft q free lq'' ∙ (same q lq' ∙ sym (get_or_append_left l (y ∷ []) 0 q lq'))));
         latest = λ q lq lw. cells i d.current q r.current lq (λ _ e _. apart (sym e))
             ∙ r.latest q lq lw;
       }
 
-  pub drafts : (p : Plan) (slots id : ℕ) (m : M) (i c y : ℕ) → m.0.spent ≡ false → IsWriter m.0 i
+  -- after a load the next word is as it was found
+  pub reuses : (p : Plan) (slots id : ℕ) (m : M) (i c : ℕ) → m.0.spent ≡ false → IsWriter m.0 i
       → i < segments m.0.plan → m.0.pool.free_buffer < buffers m.0.plan
       → length m.0.pool.draft < width m.0.plan
       → c ≡ cell m.0.plan i m.0.pool.free_buffer (length m.0.pool.draft)
-      → Allows (Kept p) slots id m c (λ _. y) (λ _. drafted (step slots c y 0 maybe.none) m y)
-  drafts p slots id m i c y here role inside free short place s k _ at _ =
+      → Allows (Kept p) slots id m c (λ n. n) (reused (step slots c 0 0 maybe.none) m)
+  reuses p slots id m i c here role inside free short place s k _ at _ =
+      let y : ℕ = get_or s.words c 0 in
       let e = own_plan S p s k id m.0 here at in
-      let r = draft_at s id m (subst (λ (z : Plan). Kept z s) (sym e) k) i c y at role inside free
-      short place in
+      let r = draft_at s id m (subst (λ (z : Plan). Kept z s) (sym e) k) i c y m.0.pool.draft at
+      role inside free (omega arith) short (λ q lq. refl) place in
       let w : SeatView = record m.0 {
         pool =
             record m.0.pool { draft = m.0.pool.draft ++ y ∷ [] };
       } in
+      (w, keeps, tt, subst (λ (z : Plan). Kept z (stepped s c y id m.1 w keeps)) e r, refl)
+
+  -- after a store it is what was stored
+  pub redrafts : (p : Plan) (slots id : ℕ) (m : M) (i c y : ℕ) → m.0.spent ≡ false
+      → IsWriter m.0 i → i < segments m.0.plan → m.0.pool.free_buffer < buffers m.0.plan
+      → 0 < length m.0.pool.draft → length m.0.pool.draft ≤ width m.0.plan
+      → c ≡ cell m.0.plan i m.0.pool.free_buffer (length m.0.pool.draft - 1)
+      → Allows (Kept p) slots id m c (λ _. y) (λ _. redrafted (step slots c y 0 maybe.none) m y)
+  redrafts p slots id m i c y here role inside free some_word short place s k _ at _ =
+      let d : List ℕ = m.0.pool.draft in
+      let l : List ℕ = without_last d in
+      let long : length l ≡ length d - 1 = length-take-le (length d - 1) d (omega arith) in
+      let e = own_plan S p s k id m.0 here at in
+      let r = draft_at s id m (subst (λ (z : Plan). Kept z s) (sym e) k) i c y l at role inside free
+      (omega arith) (omega arith)
+      (λ q lq. sym (get_or-take (length d - 1) d q 0 (omega arith)))
+      (place ∙ ap (cell m.0.plan i m.0.pool.free_buffer) (sym long)) in
+      let w : SeatView = record m.0 { pool = record m.0.pool { draft = l ++ y ∷ [] } } in
       (w, keeps, tt, subst (λ (z : Plan). Kept z (stepped s c y id m.1 w keeps)) e r, refl)
 
   publish_at : (s : St) (id : ℕ) (m : M) (k : Kept m.0.plan s) (i y : ℕ)

@@ -1,11 +1,11 @@
 -- Words at their places in the table.
-use Rattle.std.proofs.Common.{◌≡◌, ℕ, ◌+◌, ◌-◌, ◌*◌, ◌<◌, ◌++◌, List, length, get_or, ap, subst, ◌∙◌, arith, length-append}
+use Rattle.std.proofs.Common.{◌≡◌, ℕ, ◌+◌, ◌-◌, ◌*◌, ◌<◌, ◌≤◌, ◌++◌, List, length, get_or, ap, subst, ◌∙◌, arith, length-append}
 use Rattle.atomic_table.specs.Table.{Me}
 use Rattle.snap_register.specs.declared.plan.SeatView.{SeatView}
 use Rattle.snap_register.specs.Rule.{segments, buffers, width, size, cell}
 use Rattle.snap_register.specs.Held.{held}
 use Rattle.snap_register.specs.Setup.{IsSeated}
-use Rattle.snap_register.specs.Steps.{Owns, IsFree, IsNext, LiesAt}
+use Rattle.snap_register.specs.Steps.{Owns, IsFree, IsNext, IsLast, LiesAt}
 use Rattle.snap_register.proofs.Places.{cell_inside}
 
 -- the words of a buffer lie one behind the other
@@ -70,6 +70,21 @@ module _ (S : Type 0) where
       let lt = cell_inside p next.own m.0.pool.free_buffer n next.owns.1 next.free next.inside in
       let x : ℕ = cell p next.own m.0.pool.free_buffer n in
       let is : place ≡ x = next.is in
+      let z : ℕ = size p in
+      let lt' : x < z = lt in
+      let all : words ≡ z = seated.words_are in
+      omega arith
+
+  pub last_inside : (words : ℕ) (pins : List ℕ) (left : ℕ) (m : Me S SeatView)
+      → IsSeated words pins left m → (place : ℕ) → IsLast m.0 place → place < words
+  last_inside words pins left m seated place last =
+      let p = m.0.plan in
+      let n : ℕ = length m.0.pool.draft - 1 in
+      let some : 0 < length m.0.pool.draft = last.some in
+      let short : length m.0.pool.draft ≤ width p = last.inside in
+      let lt = cell_inside p last.own m.0.pool.free_buffer n last.owns.1 last.free (omega arith) in
+      let x : ℕ = cell p last.own m.0.pool.free_buffer n in
+      let is : place ≡ x = last.is in
       let z : ℕ = size p in
       let lt' : x < z = lt in
       let all : words ≡ z = seated.words_are in

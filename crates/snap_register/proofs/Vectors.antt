@@ -1,6 +1,6 @@
 -- Words and sizes as another program packs them: Python's struct.unpack("<Q", bytes), of bytes that
 -- are filled up with zeros to eight.
-use Rattle.std.proofs.Common.{◌≡◌, ℕ, ◌+◌, ◌∷◌, [], List, refl}
+use Rattle.std.proofs.Common.{◌≡◌, ℕ, ◌+◌, ◌∷◌, [], refl}
 use Rattle.std.specs.Int.{w64, to_le_bytes}
 use Rattle.snap_register.specs.Packing.{words_for}
 

@@ -21,6 +21,7 @@ use Rattle.std.specs.Prelude.{
   length,
   slice_index,
   slice_set,
+  take,
   true,
   false,
 }
@@ -282,6 +283,10 @@ with_segments_of v u = record v { received = u.seen; high = u.high }
 abbrev pub with_seen_of : SeatView → SeatView → SeatView
 with_seen_of v u = record v { seen = u.seen }
 
+-- all words but the last
+abbrev pub without_last : List ℕ → List ℕ
+without_last ws = take (length ws - 1) ws
+
 -- the buffer whose given-back count is loaded next
 abbrev pub next_other : Pool → ℕ
 next_other d = other d.current d.found_pinned
@@ -338,10 +343,17 @@ module _ {S : Type 0} where
         m.1,
       )) × (m.0.pool.found_pinned + 1 ≤ seats m.0.plan))
 
-  -- a store of the next word of the free buffer
-  abbrev pub drafted : Step S → Me S SeatView → ℕ → Me S SeatView → Type 0
-  drafted st m found m' = m'
-      ≡ (record m.0 { pool = record m.0.pool { draft = m.0.pool.draft ++ st.first ∷ [] } }, m.1)
+  -- a load of the next word of the free buffer, which is drafted as it stands
+  abbrev pub reused : Step S → Me S SeatView → ℕ → Me S SeatView → Type 0
+  reused st m found m' = m'
+      ≡ (record m.0 { pool = record m.0.pool { draft = m.0.pool.draft ++ found ∷ [] } }, m.1)
+
+  -- a store of the word that was drafted last
+  abbrev pub redrafted : Step S → Me S SeatView → ℕ → Me S SeatView → Type 0
+  redrafted st m found m' = m' ≡ (
+    record m.0 { pool = record m.0.pool { draft = without_last m.0.pool.draft ++ st.first ∷ [] } },
+    m.1,
+  )
 
   -- a swap of the own current word
   abbrev pub published : Step S → Me S SeatView → ℕ → Me S SeatView → Type 0

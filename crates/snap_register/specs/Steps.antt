@@ -1,5 +1,5 @@
 -- What a call changes of a seat at its table.
-use Rattle.std.specs.Prelude.{◌≡◌, ℕ, ◌-◌, ◌<◌, List, [], length, slice_index}
+use Rattle.std.specs.Prelude.{◌≡◌, ℕ, ◌-◌, ◌<◌, ◌≤◌, List, [], length, slice_index}
 use Rattle.atomic_table.specs.Table.{Me}
 use Rattle.atomic_table.specs.declared.shared.Seat.{Seat}
 use Rattle.snap_register.specs.declared.access.Access.{Access}
@@ -27,13 +27,22 @@ pub record LiesAt (v : SeatView) (j q place : ℕ) : Type 0 where
   pub inside : q < length (held v j)
   pub is : place ≡ cell v.plan j (slice_index v.pins j - 1) q
 
--- the next word of the own register's free buffer, to which it is stored, lies at this place
+-- the next word of the own register's free buffer lies at this place
 pub record IsNext (v : SeatView) (place : ℕ) : Type 0 where
   pub own : ℕ
   pub owns : Owns v own
   pub free : v.pool.free_buffer < buffers v.plan
   pub inside : length v.pool.draft < width v.plan
   pub is : place ≡ cell v.plan own v.pool.free_buffer (length v.pool.draft)
+
+-- the word of the own register's free buffer that was drafted last lies at this place
+pub record IsLast (v : SeatView) (place : ℕ) : Type 0 where
+  pub own : ℕ
+  pub owns : Owns v own
+  pub free : v.pool.free_buffer < buffers v.plan
+  pub some : 0 < length v.pool.draft
+  pub inside : length v.pool.draft ≤ width v.plan
+  pub is : place ≡ cell v.plan own v.pool.free_buffer (length v.pool.draft - 1)
 
 -- the seat has seen all that stands in the history, and what it was told
 abbrev pub HasHeard : {S : Type 0} → Me S SeatView → Me S SeatView → Type 0
@@ -57,7 +66,7 @@ IsSame a b = (b.seat.table_id ≡ a.seat.table_id) × (b.seat.id ≡ a.seat.id) 
 abbrev pub HasPool : Access → Access → Pool → Type 0
 HasPool a b d = b.seat.me ≡ (record a.seat.me.0 { pool = d }, a.seat.me.1)
 
--- the words that it stored in the free buffer are these, and nothing else changed
+-- the words that it drafted in the free buffer are these, and nothing else changed
 abbrev pub HasDrafted : Access → Access → List ℕ → Type 0
 HasDrafted a b ws = (b.left ≡ a.left) × (b.seat.table_id ≡ a.seat.table_id)
     × (b.seat.id ≡ a.seat.id) × HasPool a b (record a.seat.me.0.pool { draft = ws })

@@ -1,17 +1,17 @@
-//! The record of an update, as its writer stores it word by word in a free buffer.
+//! The record of an update, as its writer drafts it word by word in a free buffer.
 ghost use Rattle.std.specs.Prelude.{◌≡◌, ◌+◌, ◌*◌, ◌<◌, ◌≤◌, ◌++◌, ◌∷◌, length, take, []};
 ghost use mathlib.Core.List.{IsPrefix};
 ghost use Rattle.snap_slot.specs.Layout.{IsShort};
 ghost use Rattle.snap_register.specs.declared.packing.TheConstants.{BLOCK_WORDS};
-ghost use Rattle.snap_register.specs.Rule.{segments, width};
+ghost use Rattle.snap_register.specs.Rule.{segments, width, without_last};
 ghost use Rattle.snap_register.specs.Packing.{IsWhole, IsBlock, AreBlocks, bytes_at, piece};
 ghost use Rattle.snap_register.specs.Packing.{size_at, words_for};
 ghost use Rattle.snap_register.specs.Held.{held, taken, CanTake};
-ghost use Rattle.snap_register.specs.Steps.{Owns, IsFree, IsNext, HasPin, HasDrafted};
+ghost use Rattle.snap_register.specs.Steps.{Owns, IsFree, IsNext, IsLast, HasPin, HasDrafted};
 
 use crate::access::Access;
 use crate::packing::{block_size, tail_word, word_of};
-use crate::setup::Draft;
+use crate::setup::{Redraft, Reuse};
 use crate::view::View;
 
 impl Access {
@@ -138,11 +138,32 @@ impl Access {
         count
     }
 
-    // Stores the next word of the free buffer of the own register, which lies at this place.
+    // Has x as the next word of the free buffer of the own register, which lies at this place. Most
+    // words of an update stand there already, from the one that the buffer held before, and a load
+    // takes a fraction of the time of a store that all threads see in one order.
     fn draft(&mut self, place: usize, x: u64)
         requires place { IsNext self.old.seat.me.0 place }
         ensures { HasDrafted self.old self.new (self.old.seat.me.0.pool.draft ++ x ∷ []) }
     {
-        self.table.shared.store::<Draft>(&mut self.seat, place, x);
+        if self.reuse(place) != x {
+            self.redraft(place, x);
+        }
+    }
+
+    // Takes the next word of the free buffer of the own register as it stands.
+    fn reuse(&mut self, place: usize) -> u64
+        requires place { IsNext self.old.seat.me.0 place }
+        ensures { HasDrafted self.old self.new (self.old.seat.me.0.pool.draft ++ result ∷ []) }
+    {
+        self.table.shared.load::<Reuse>(&mut self.seat, place)
+    }
+
+    // Stores x in place of the word that was drafted last, which lies at this place.
+    fn redraft(&mut self, place: usize, x: u64)
+        requires place { IsLast self.old.seat.me.0 place }
+        ensures { HasDrafted self.old self.new
+            (without_last self.old.seat.me.0.pool.draft ++ x ∷ []) }
+    {
+        self.table.shared.store::<Redraft>(&mut self.seat, place, x);
     }
 }

@@ -1,6 +1,8 @@
 //! The table of the registers' words, its rule (specs/Rule.antt), and what each step on it tells.
-ghost use Rattle.snap_register.specs.Rule.{Kept, pinning, giving, glanced, read, checked, drafted};
+ghost use Rattle.snap_register.specs.Rule.{Kept, pinning, giving, glanced, read, checked};
 ghost use Rattle.snap_register.specs.Rule.{
+  reused,
+  redrafted,
   published,
   messenger,
   reader,
@@ -72,11 +74,18 @@ impl Play<(), SeatView> for Check {
     ghost then = { checked };
 }
 
-// A store into the free buffer.
-pub(crate) struct Draft;
+// A load of the next word of the free buffer.
+pub(crate) struct Reuse;
 
-impl Play<(), SeatView> for Draft {
-    ghost then = { drafted };
+impl Play<(), SeatView> for Reuse {
+    ghost then = { reused };
+}
+
+// A store of the word of the free buffer that was drafted last.
+pub(crate) struct Redraft;
+
+impl Play<(), SeatView> for Redraft {
+    ghost then = { redrafted };
 }
 
 // A swap of the own current word.

@@ -27,8 +27,9 @@ const MAX_EVENTS: usize = 256;
 /// How many bytes one read takes at most.
 const PIECE: usize = 4096;
 
-/// How often a worker looks for events before it sleeps: for about a tenth of a millisecond.
-const LOOKS: u32 = 100;
+/// How often a worker looks for events before it sleeps: for about a third of a millisecond, which is
+/// longer than a fast disk takes for the store whose outcome it waits for.
+const LOOKS: u32 = 1_000;
 
 /// What one worker owns.
 #[derive(Drop)]

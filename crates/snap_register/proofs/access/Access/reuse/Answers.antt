@@ -1,17 +1,17 @@
 use Rattle.std.proofs.Common.{rules, ◌≡◌, ◌<◌, subst}
 use Rattle.atomic_table.specs.Seated.{TableId}
-use Rattle.snap_register.proofs.Pools.{drafts}
+use Rattle.snap_register.proofs.Pools.{reuses}
 use Rattle.snap_register.proofs.Spots.{next_inside}
-use Rattle.snap_register.proofs.access.Access.draft.Goals as goal
+use Rattle.snap_register.proofs.access.Access.reuse.Goals as goal
 
-pub store-requires : goal.store-requires
-store-requires c =
+pub load-requires : goal.load-requires
+load-requires c =
     let me = c.args.self.now in
     let own : me.seat.table_id ≡ c.deref.result.now.shared.table_id = search rules in
     let next = c.requires.place in (
       own,
       subst (λ (t : TableId). c.args.place < t.words) own
           (next_inside (Unit {0}) _ _ _ me.seat.me me.seated c.args.place next),
-      drafts (Unit {0}) _ _ _ me.seat.me next.own _ _ me.seated.here next.owns.0 next.owns.1
+      reuses (Unit {0}) _ _ _ me.seat.me next.own _ me.seated.here next.owns.0 next.owns.1
           next.free next.inside next.is,
     )
