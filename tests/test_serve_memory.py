@@ -113,7 +113,7 @@ def test_each_allocation_of_a_conversation_is_refused(snapd, _):
 
 def test_each_allocation_of_updates_that_queue_is_refused(snapd, _):
     """The first update's store is held while the same update comes over more connections, so the queue to the store grows. An
-    update that finds no memory there waits for it: none is refused as if the segment were fenced."""
+    update that finds no memory there waits for it a little: none is refused as if the segment were fenced."""
     wanted = stored(1)
     for number in itertools.count(1):
         disk, memory = Disk(snapd), Memory(snapd, number)

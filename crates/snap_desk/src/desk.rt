@@ -34,6 +34,10 @@ use std::time::Duration;
 /// How long to rest where no memory is left to hand an update over, in milliseconds.
 const REST: u64 = 5;
 
+/// How often it is tried: for a tenth of a second. A worker that rested for longer couldn't let go of
+/// its connections, whose memory may be what is wanting.
+const TRIES: u32 = 20;
+
 /// What came of trying to hand an update over.
 #[derive(Drop)]
 enum Sent {
@@ -112,7 +116,7 @@ impl Clone for Window {
 
 /// A scanner, and a window for each segment: a [`Service`] that hands updates over. Its state is
 /// what its scanner knows. It takes no lock and waits for no store; only where no memory is left to
-/// hand an update over, it waits for memory.
+/// hand an update over, it waits a little for memory.
 #[derive(Drop)]
 pub struct Desk<R: Wait + Copy, M: Memory, D: Disk + Drop> {
     rt: R,
@@ -203,36 +207,35 @@ impl<R: Wait + Copy + Clock, M: Memory, D: Disk + Drop> Desk<R, M, D> {
         requires segment { segment < segments self.now.plan }
         requires size { IsShort value.now }
     {
+        let Ok(value) = Payload::of(self.alloc, value) else {
+            return Sent::NoMemory;
+        };
         let job = Job {
             worker: self.worker,
             key,
             number,
-            value: Payload::of(value),
+            value,
         };
         self.windows[segment].send(&self.rt, segment, job)
     }
 
-    /// Hands an update over to its store's thread; `false` where that is gone. Where no memory is left
-    /// it rests and tries again, so that a sound segment's update is never refused as fenced.
+    /// Hands an update over to its store's thread; `false` where that is gone, or no memory is left for
+    /// a tenth of a second.
     fn hand_over(&self, segment: usize, number: u64, value: &[u8], key: usize) -> bool
         requires segment { segment < segments self.now.plan }
         requires size { IsShort value.now }
     {
-        // Each try makes a job of its own, and the first one stands outside the loop: to keep a job
-        // for a further try would cost a copy on the way of every update.
-        let mut sent = self.offer(segment, number, value, key);
-        for _ in self.rt.forever() {
-            match sent {
+        for _ in 0..TRIES {
+            match self.offer(segment, number, value, key) {
                 Sent::Over => return true,
                 Sent::NoMemory => thread::sleep(&self.rt, Duration::from_millis(REST)),
                 Sent::Gone => return false,
             }
-            sent = self.offer(segment, number, value, key);
         }
-        unreachable!()
+        false
     }
 
-    /// An update goes to its store. A look answers it where that is gone.
+    /// An update goes to its store. A look answers it where that can't be.
     fn update(&mut self, segment: usize, number: u64, value: &[u8], key: usize) -> Option<Reply>
         ensures answer { IfSome result (λ r.
             AnswersUpdate self.old segment number value.now r self.new) }

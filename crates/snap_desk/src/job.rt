@@ -1,40 +1,36 @@
 //! Updates that are handed over.
-ghost use Rattle.std.specs.Prelude.{◌≡◌, length, take};
+ghost use Rattle.std.specs.Prelude.{◌≡◌, IfOk};
 ghost use Rattle.snap_slot.specs.Layout.{IsShort};
 
-use snap_slot::MAX_VALUE_LEN;
+use std::alloc::{AllocError, Global};
 use std::marker::Model;
 
-/// A value in a place of its own, so that handing it over takes no memory.
+/// A value of its own, which is on its way to its store. Its bytes lie on the heap, so that handing it
+/// on copies none of them.
 #[derive(Drop)]
 pub struct Payload {
-    bytes: [u8; MAX_VALUE_LEN],
-    len: usize,
+    bytes: Vec<u8>,
 }
 
 impl Model for Payload {
-    ghost use Rattle.std.specs.Prelude.{◌≤◌, List, ℕ, take};
-    ghost use Rattle.snap_slot.specs.declared.layout.TheConstants.{MAX_VALUE_LEN};
+    ghost use Rattle.std.specs.Prelude.{List, ℕ};
+    ghost use Rattle.snap_slot.specs.Layout.{IsShort};
 
     ghost Value = { List ℕ };
 
-    ghost view = { λ v. take v.len v.bytes };
+    ghost view = { λ v. v.bytes.items };
 
-    ghost invariant = { λ v. v.len ≤ MAX_VALUE_LEN };
+    ghost invariant = { λ v. IsShort v.bytes.items };
 }
 
 impl Payload {
     /// A copy of the value.
-    pub fn of(value: &[u8]) -> Payload
+    pub fn of(alloc: Global, value: &[u8]) -> Result<Payload, AllocError>
         requires { IsShort value.now }
-        ensures { result ≡ value.now }
+        ensures { IfOk result (λ copy. copy ≡ value.now) }
     {
-        let mut bytes = [0; MAX_VALUE_LEN];
-        bytes[..value.len()].copy_from_slice(value);
-        Payload {
-            bytes,
-            len: value.len(),
-        }
+        let bytes = value.to_vec(alloc)?;
+        Ok(Payload { bytes })
     }
 
     /// The value.
@@ -42,7 +38,7 @@ impl Payload {
         ensures bytes { result.now ≡ self.now }
         ensures short { IsShort result.now }
     {
-        &self.bytes[..self.len]
+        self.bytes.as_slice()
     }
 }
 

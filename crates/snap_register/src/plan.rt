@@ -49,7 +49,7 @@ pub struct Pool {
     pub free_buffer: u64,
     /// The pins that it counted for each buffer.
     pub counted: [u64; 0],
-    /// The words that it stored in the free buffer, from the first one on.
+    /// The words that it drafted in the free buffer, from the first one on.
     pub draft: [u64; 0],
 }
 
