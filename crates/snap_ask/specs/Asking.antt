@@ -1,5 +1,5 @@
 -- How a call ends.
-use Rattle.std.specs.Prelude.{◌≡◌, ◌⊎◌, ℕ, List, Option, Result, Ok, Err, true}
+use Rattle.std.specs.Prelude.{◌≡◌, ◌⊎◌, ℕ, List, Option, None, Result, Ok, Err, true}
 use Rattle.std.specs.Io.KnownBytes.{Appends, Keeps}
 use Rattle.snap_client.specs.declared.fault.ClientFault.{ClientFault}
 use Rattle.snap_client.specs.declared.fault.ClientFault.TheVariants.{NoMemory}
@@ -9,7 +9,7 @@ use Rattle.snap_frame.specs.declared.reply.Reply.{Reply}
 use Rattle.snap_frame.specs.declared.reply.Reply.TheVariants.{Refused}
 use Rattle.snap_order.specs.declared.status.Ended.{Ended}
 use Rattle.snap_order.specs.declared.status.Status.TheVariants as status
-use Rattle.snap_stream.specs.Streams.{AppendsBeginning, refused_line}
+use Rattle.snap_stream.specs.Streams.{AppendsBeginning, Complains, refused_line}
 use Rattle.snap_ask.specs.Text.{detailed_line, reply_text}
 
 -- it ends as refused, and standard error got a beginning of this line, and all of it where that is
@@ -37,15 +37,22 @@ pub record IsPrinted (text : List ℕ) (ended : Ended) (out out' errs errs' : Op
   pub whole : Appends out out' text
   pub silent : Keeps errs errs'
 
--- standard output failed behind a beginning of the text
-pub record IsCutShort (text : List ℕ) (ended : Ended) (out out' : Option (List ℕ)) : Type 0 where
+-- standard output failed behind a beginning of the text, which one line on standard error says
+pub record IsCutShort (text : List ℕ) (ended : Ended) (out out' errs errs' : Option (List ℕ))
+    : Type 0 where
   pub status : ended.status ≡ status.Failed
   pub beginning : AppendsBeginning out out' text
+  pub said : Complains None ended.is_told errs errs'
 
 -- the text was printed, or cut short, or memory was wanting before the first byte
 abbrev pub Prints : List ℕ → Ended → (out out' errs errs' : Option (List ℕ)) → Type 0
 Prints text ended out out' errs errs' = IsPrinted text ended out out' errs errs'
-    ⊎ (IsCutShort text ended out out' ⊎ (WantsMemory ended errs errs' × Keeps out out'))
+    ⊎ (IsCutShort text ended out out' errs errs' ⊎ (WantsMemory ended errs errs' × Keeps out out'))
+
+-- there is no answer, which one line says
+pub record GivesUp (ended : Ended) (errs errs' : Option (List ℕ)) : Type 0 where
+  pub status : ended.status ≡ status.Failed
+  pub said : Complains None ended.is_told errs errs'
 
 -- How a call ends that is answered so: `out` and `out'` are what standard output held before and
 -- after, `errs` and `errs'` what standard error did.
@@ -56,4 +63,4 @@ EndsAsked (Ok (Refused why detail)) ended out out' errs errs' =
 EndsAsked (Ok reply) ended out out' errs errs' =
     Prints (reply_text reply) ended out out' errs errs'
 EndsAsked (Err NoMemory) ended out out' errs errs' = WantsMemory ended errs errs' × Keeps out out'
-EndsAsked (Err fault) ended out out' errs errs' = (ended.status ≡ status.Failed) × Keeps out out'
+EndsAsked (Err fault) ended out out' errs errs' = GivesUp ended errs errs' × Keeps out out'

@@ -1,10 +1,11 @@
 //! The order `call`, done.
-ghost use Rattle.std.specs.Prelude.{◌≡◌, Result};
+ghost use Rattle.std.specs.Prelude.{Result};
 ghost use Rattle.snap_client.specs.Again.{TriesUpTo};
 ghost use Rattle.snap_client.specs.declared.fault.ClientFault.{ClientFault};
 ghost use Rattle.snap_frame.specs.declared.reply.Reply.{Reply};
 ghost use Rattle.snap_order.specs.Order.{IsCallable};
-ghost use Rattle.snap_ask.specs.Asking.{EndsAsked, IsRefused, Prints, SaysRefused, WantsMemory};
+ghost use Rattle.snap_ask.specs.Asking.{EndsAsked, GivesUp, IsRefused, Prints, SaysRefused};
+ghost use Rattle.snap_ask.specs.Asking.{WantsMemory};
 ghost use Rattle.snap_ask.specs.Text.{reply_text};
 
 use crate::print::text_of;
@@ -114,7 +115,7 @@ fn stop<E: Write>(errors: &mut E) -> Ended
 
 /// Says that there is no answer, and what to do.
 fn give_up<E: Write>(alloc: Global, address: &str, fault: ClientFault, errors: &mut E) -> Ended
-    ensures { result.status ≡ Status.Failed }
+    ensures { GivesUp result (E.contents errors.old) (E.contents errors.new) }
 {
     let remedy = remedy_of(fault);
     let is_told = complain(alloc, errors, &format_args!("{address}: {fault}: {remedy}"));

@@ -1,8 +1,8 @@
 -- How a command ends after a failure, and what it says.
-use Rattle.std.specs.Prelude.{◌≡◌, ◌≢◌, ◌++◌, Bool, List, ℕ, Option, codes}
+use Rattle.std.specs.Prelude.{◌≡◌, ◌≢◌, ◌++◌, Bool, List, ℕ, Option, None, codes}
 use Rattle.snap_order.specs.declared.status.Status.{Status}
 use Rattle.snap_order.specs.declared.status.Status.TheVariants as status
-use Rattle.snap_stream.specs.Streams.{SaysLines, refused_line}
+use Rattle.snap_stream.specs.Streams.{Complains, SaysLines, refused_line}
 use Rattle.snap_disk.specs.declared.refusal.Refusal.TheVariants as refusal
 use Rattle.snap_old_slot.specs.declared.layout.TheConstants.{OLD_FILE_LEN}
 use Rattle.snap_command.specs.declared.failure.Failure.{Failure}
@@ -14,12 +14,11 @@ status_of (Input error) = status.Failed
 status_of (Output error) = status.Failed
 status_of (Unsaid number error) = status.Failed
 
--- What standard error got: of a refusal its line. The other lines have a text of the system in them.
+-- What standard error got: of a refusal its line. Of the others it got a line that begins `snapd: `,
+-- with a text of the system in it.
 abbrev pub Says : Failure → (is_told : Bool) (old new : Option (List ℕ)) → Type 0
 Says (Refused why) is_told old new = SaysLines (refused_line why) is_told old new
-Says (Input error) is_told old new = Unit {0}
-Says (Output error) is_told old new = Unit {0}
-Says (Unsaid number error) is_told old new = Unit {0}
+Says failure is_told old new = Complains None is_told old new
 
 -- the line that says what to do with a file of the old format
 abbrev pub advice_line : (file : List ℕ) → List ℕ

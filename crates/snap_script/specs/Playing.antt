@@ -1,10 +1,10 @@
 -- How the program ends where a script does, and what it says of it.
-use Rattle.std.specs.Prelude.{◌≡◌, ℕ, Bool, true, List, Option}
-use Rattle.std.specs.Io.KnownBytes.{Appends, Keeps}
+use Rattle.std.specs.Prelude.{◌≡◌, ℕ, Bool, true, List, Option, None}
+use Rattle.std.specs.Io.KnownBytes.{Keeps}
 use Rattle.snap_disk.specs.declared.refusal.Refusal.TheVariants as refusal
 use Rattle.snap_order.specs.declared.status.Status.{Status}
 use Rattle.snap_order.specs.declared.status.Status.TheVariants as status
-use Rattle.snap_stream.specs.Streams.{AppendsBeginning, refused_line}
+use Rattle.snap_stream.specs.Streams.{Complains, SaysLines, refused_line}
 use Rattle.snap_script.specs.declared.run.ScriptEnd.{ScriptEnd}
 use Rattle.snap_script.specs.declared.run.ScriptEnd.TheVariants.{
   Done,
@@ -23,15 +23,10 @@ status_of NoMemory = status.Refused
 status_of (ReadFailed error) = status.Failed
 status_of (WriteFailed error) = status.Failed
 
--- What standard error got, by whether it took the line whole: nothing where the script was done; of
--- want of memory a beginning of its line, and where it took it that line. The other lines have a
--- text of the system or of the script's fault in them.
+-- What standard error got, by whether it took the line whole: nothing where the script was done, and
+-- of want of memory its line. Of the other ends it got a line that begins `snapd: `, with a text of
+-- the system or of the script's fault in it.
 abbrev pub EndSays : ScriptEnd → (is_told : Bool) (old new : Option (List ℕ)) → Type 0
 EndSays Done is_told old new = (is_told ≡ true) × Keeps old new
-EndSays NoMemory is_told old new =
-    AppendsBeginning old new (refused_line refusal.NoMemory)
-    × (is_told ≡ true → Appends old new (refused_line refusal.NoMemory))
-EndSays (BadLine number fault) is_told old new = Unit {0}
-EndSays (TooLong number) is_told old new = Unit {0}
-EndSays (ReadFailed error) is_told old new = Unit {0}
-EndSays (WriteFailed error) is_told old new = Unit {0}
+EndSays NoMemory is_told old new = SaysLines (refused_line refusal.NoMemory) is_told old new
+EndSays end is_told old new = Complains None is_told old new
