@@ -107,32 +107,33 @@ IsStarved bound report out out' = Keeps out out'
     ⊎ Appends out out' (opening_text report a)))
 
 -- The server opened its files and then ended so. `bound` says which addresses its own may be bound
--- to, `refused` why it may not be, and `out` and `out'` what the writer held before and after.
-abbrev pub EndsServing : (bound : SocketAddr → Type 0) (refused : Error → Type 0)
+-- to, `refused` why it may not be, `deaf` that connections there may be refused, and `out` and
+-- `out'` what the writer held before and after.
+abbrev pub EndsServing : (bound : SocketAddr → Type 0) (refused : Error → Type 0) (deaf : Type 0)
     (connections : Option ℕ) → Report → (out out' : Option (List ℕ)) → End → Type 0
-EndsServing bound refused connections report out out' (Ok k) =
+EndsServing bound refused deaf connections report out out' (Ok k) =
     (a : SocketAddr) × bound a × (connections ≡ Some k) × Appends out out' (whole_text report a k)
-EndsServing bound refused connections report out out' (Err (Refused segment why)) = ⊥
-EndsServing bound refused connections report out out' (Err NoMemory) =
+EndsServing bound refused deaf connections report out out' (Err (Refused segment why)) = ⊥
+EndsServing bound refused deaf connections report out out' (Err NoMemory) =
     IsStarved bound report out out'
-EndsServing bound refused connections report out out' (Err (Address error)) =
+EndsServing bound refused deaf connections report out out' (Err (Address error)) =
     refused error × Appends out out' (report_text report)
-EndsServing bound refused connections report out out' (Err (Output error)) =
+EndsServing bound refused deaf connections report out out' (Err (Output error)) =
     IsCutShort bound connections report out out'
-EndsServing bound refused connections report out out' (Err (Server fault)) =
-    (fault ≢ faults.NoMemory)
+EndsServing bound refused deaf connections report out out' (Err (Server fault)) =
+    (fault ≢ faults.NoMemory) × (fault ≡ faults.AcceptFailed → deaf)
     × ((a : SocketAddr) × bound a × Appends out out' (opening_text report a))
 
 -- The same from the opening on. `IsReport` says which reports are of its devices, and `IsStop`
 -- where and why their opening may be refused.
 abbrev pub EndsHost : (IsReport : Report → Type 0) (IsStop : ℕ → Refusal → Type 0)
-    (bound : SocketAddr → Type 0) (refused : Error → Type 0) (connections : Option ℕ)
-    (out out' : Option (List ℕ)) → End → Type 0
-EndsHost IsReport IsStop bound refused connections out out' (Err (Refused segment why)) =
+    (bound : SocketAddr → Type 0) (refused : Error → Type 0) (deaf : Type 0)
+    (connections : Option ℕ) (out out' : Option (List ℕ)) → End → Type 0
+EndsHost IsReport IsStop bound refused deaf connections out out' (Err (Refused segment why)) =
     IsStop segment why × Keeps out out'
-EndsHost IsReport IsStop bound refused connections out out' end =
+EndsHost IsReport IsStop bound refused deaf connections out out' end =
     (report : Report) × IsReport report
-    × EndsServing bound refused connections report out out' end
+    × EndsServing bound refused deaf connections report out out' end
 
 -- ---- the steps
 

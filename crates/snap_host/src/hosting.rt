@@ -88,7 +88,8 @@ where
         × EndsHost (IsReportOf D.device D.failure_count D.is_honest D.clock D.might_have_left
         devices.items) (IsStopOf D.device D.failure_count D.is_honest D.clock D.might_have_left
         devices.items) (B.binds edge.entry.bind.now order.now.address.now)
-        (B.refuses edge.entry.bind.now order.now.address.now) order.now.connections
+        (B.refuses edge.entry.bind.now order.now.address.now)
+        ((l : B.Listener) × B.Listener.refuses l) order.now.connections
         (W.contents writer.old) (W.contents writer.new) end }
 {
     match open_and_serve(rt, alloc, order, devices, edge, writer) {
@@ -124,7 +125,8 @@ where
     ensures { EndsHost (IsReportOf D.device D.failure_count D.is_honest D.clock D.might_have_left
         devices.items) (IsStopOf D.device D.failure_count D.is_honest D.clock D.might_have_left
         devices.items) (B.binds edge.entry.bind.now order.now.address.now)
-        (B.refuses edge.entry.bind.now order.now.address.now) order.now.connections
+        (B.refuses edge.entry.bind.now order.now.address.now)
+        ((l : B.Listener) × B.Listener.refuses l) order.now.connections
         (W.contents writer.old) (W.contents writer.new) result }
 {
     match open_all(alloc, devices, usize::from(order.scanners)) {
@@ -158,7 +160,8 @@ where
     requires back { AreBack store.writers.items store.scanners.items }
     requires note { N.IsAlwaysCallable edge.note.now }
     ensures { EndsServing (B.binds edge.entry.bind.now order.now.address.now)
-        (B.refuses edge.entry.bind.now order.now.address.now) order.now.connections
+        (B.refuses edge.entry.bind.now order.now.address.now)
+        ((l : B.Listener) × B.Listener.refuses l) order.now.connections
         report.now (W.contents writer.old) (W.contents writer.new) result }
 {
     match print_report(alloc, report, writer) {

@@ -1,5 +1,5 @@
 //! The threads that store, and the workers' desks.
-ghost use Rattle.std.specs.Prelude.{◌≡◌, ℕ, length, slice_get, Some, IfOk};
+ghost use Rattle.std.specs.Prelude.{◌≡◌, ℕ, length, slice_get, Some, IfOk, IfErr};
 ghost use Rattle.snap_register.specs.Rule.{segments};
 ghost use Rattle.snap_register.specs.Seat.{Known};
 ghost use Rattle.snap_service.specs.Memory.{AreWriters, IsOf};
@@ -104,7 +104,9 @@ where
     requires writers { AreWriters M.table M.plan writers.items }
     requires scanners { AreScanners M.table M.plan scanners.items }
     requires note { N.IsAlwaysCallable note.now }
-    ensures { IfOk result (λ k. connections ≡ Some k) }
+    ensures asked { IfOk result (λ k. connections ≡ Some k) }
+    ensures deaf { IfErr result (λ fault.
+        fault ≡ ServerFault.AcceptFailed → L.refuses listener.now) }
 {
     let Ok(writers) = name_writers::<M, D>(alloc, writers) else {
         return Err(ServerFault::NoMemory);
@@ -137,7 +139,9 @@ where
     N: Fn(&Ended) + Sync,
     requires back { AreBack store.writers.items store.scanners.items }
     requires note { N.IsAlwaysCallable note.now }
-    ensures { IfOk result (λ k. connections ≡ Some k) }
+    ensures asked { IfOk result (λ k. connections ≡ Some k) }
+    ensures deaf { IfErr result (λ fault.
+        fault ≡ ServerFault.AcceptFailed → L.refuses listener.now) }
 {
     let mut store = store;
     let writers = mem::replace(&mut store.writers, Vec::new(alloc));

@@ -1,5 +1,5 @@
 //! The thread that accepts for all workers.
-ghost use Rattle.std.specs.Prelude.{◌≡◌, ◌⊎◌, ◌+◌, IfOk, IfErr, OnOk, OnErr, IsOk, Some, true, false, min, length};
+ghost use Rattle.std.specs.Prelude.{◌≡◌, ◌⊎◌, ◌+◌, IfOk, IfErr, IfNone, OnOk, OnErr, IsOk, Some, true, false, min, length};
 ghost use Rattle.snap_server.specs.Dealing.{turn_of};
 
 use crate::door::{Door, Mail};
@@ -18,7 +18,9 @@ const MAX_FAULTS: u32 = 16;
 const REST: u64 = 20;
 
 /// The next connection, or `None` after 16 faults in a row.
-fn next_arrival<X: Clock, L: Listen>(rt: &X, listener: &L) -> Option<Arrival> {
+fn next_arrival<X: Clock, L: Listen>(rt: &X, listener: &L) -> Option<Arrival>
+    ensures deaf { IfNone result (L.refuses listener.now) }
+{
     for _ in 0..MAX_FAULTS {
         if let Ok(arrival) = listener.accept() {
             return Some(arrival);
@@ -83,6 +85,8 @@ impl<'a, O: Drop> Dealer<'a, O> {
         ensures refused { OnErr result (self.new.dealt ≡ self.old.dealt) }
         ensures faults { IfErr result (λ fault.
             (fault ≡ ServerFault.AcceptFailed) ⊎ (fault ≡ ServerFault.PollFailed)) }
+        ensures deaf { IfErr result (λ fault.
+            fault ≡ ServerFault.AcceptFailed → L.refuses listener.now) }
     {
         let Some(arrival) = next_arrival(rt, listener) else {
             return Err(ServerFault::AcceptFailed);
@@ -106,6 +110,8 @@ impl<'a, O: Drop> Dealer<'a, O> {
         ensures none { most ≡ 0 → IsOk result }
         ensures faults { IfErr result (λ fault.
             (fault ≡ ServerFault.AcceptFailed) ⊎ (fault ≡ ServerFault.PollFailed)) }
+        ensures deaf { IfErr result (λ fault.
+            fault ≡ ServerFault.AcceptFailed → L.refuses listener.now) }
     {
         for _ in 0..most {
             self.accept_one(rt, listener)?;
@@ -127,6 +133,8 @@ impl<'a, O: Drop> Dealer<'a, O> {
         ensures none { connections ≡ Some 0 → IsOk result }
         ensures faults { IfErr result (λ fault.
             (fault ≡ ServerFault.AcceptFailed) ⊎ (fault ≡ ServerFault.PollFailed)) }
+        ensures deaf { IfErr result (λ fault.
+            fault ≡ ServerFault.AcceptFailed → L.refuses listener.now) }
     {
         if let Some(most) = connections {
             self.accept_so_many(rt, listener, most)?;

@@ -1,4 +1,5 @@
 //! Where connections come from.
+ghost use Rattle.std.specs.Prelude.{IfErr};
 
 use mio::net::TcpStream;
 use std::io;
@@ -15,8 +16,12 @@ pub struct Arrival {
 
 /// Gives connections, one after another.
 pub trait Listen {
+    /// Whether it may refuse a connection.
+    ghost refuses: { Self → Type 0 };
+
     /// Waits for the next connection. After an error it may be called again.
-    fn accept(&self) -> io::Result<Arrival>;
+    fn accept(&self) -> io::Result<Arrival>
+        ensures refuses { IfErr result (λ _. Self.refuses self.now) };
 }
 
 /// Connections over TCP, with no delay of small writes.
@@ -42,6 +47,9 @@ impl Tcp {
 }
 
 impl Listen for Tcp {
+    /// The system may refuse at any time.
+    ghost refuses = { λ _. Unit {0} };
+
     fn accept(&self) -> io::Result<Arrival> {
         let (stream, peer) = self.listener.accept()?;
         stream.set_nodelay(true)?;

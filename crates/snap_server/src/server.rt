@@ -1,5 +1,5 @@
 //! All threads of a server.
-ghost use Rattle.std.specs.Prelude.{◌≡◌, IfOk, Some, map, vec_len};
+ghost use Rattle.std.specs.Prelude.{◌≡◌, ◌≢◌, IfOk, IfErr, Some, map, vec_len};
 ghost use Rattle.std.specs.Thread.{IsSync, IsSend};
 
 use crate::accepting::Dealer;
@@ -46,7 +46,8 @@ fn gate_all<'a, S: Service + Drop, G: Gate>(
     services: Vec<S>,
     gate: &'a G,
 ) -> Result<Vec<Gated<'a, S, G>>, ServerFault>
-    ensures { IfOk result (λ gated. map (λ one. one.service) gated.items ≡ services.items) }
+    ensures gated { IfOk result (λ gated. map (λ one. one.service) gated.items ≡ services.items) }
+    ensures faults { IfErr result (λ fault. fault ≡ ServerFault.NoMemory) }
 {
     let mut gated = Vec::new(alloc);
     'services: for service in services {
@@ -68,6 +69,7 @@ where
     ensures workers { IfOk result (λ made.
         map (λ worker. worker.sessions.service) made.0.items ≡ services.items) }
     ensures doors { IfOk result (λ made. vec_len made.1 ≡ vec_len services) }
+    ensures faults { IfErr result (λ fault. fault ≢ ServerFault.AcceptFailed) }
 {
     let mut workers = Vec::new(alloc);
     let mut doors = Vec::new(alloc);
@@ -99,14 +101,18 @@ where
     B: Background<Outcome = S::Outcome> + Send + Drop,
     N: Fn(&Ended) + Sync,
     requires { N.IsAlwaysCallable note.now }
-    ensures { IfOk result (λ k. connections ≡ Some k) }
+    ensures asked { IfOk result (λ k. connections ≡ Some k) }
+    ensures deaf { IfErr result (λ fault.
+        fault ≡ ServerFault.AcceptFailed → L.refuses listener.now) }
 {
     thread::scope(
         thread::scope_env(),
         rt,
         |scope| -> Result<u64, ServerFault>
             requires { IsSync X.row × IsSync N.row × IsSend S.row × N.IsAlwaysCallable note.now }
-            ensures { IfOk result (λ k. connections ≡ Some k) }
+            ensures asked { IfOk result (λ k. connections ≡ Some k) }
+            ensures deaf { IfErr result (λ fault.
+                fault ≡ ServerFault.AcceptFailed → L.refuses listener.entry.now) }
         {
             let mut is_whole = true;
             for background in backgrounds {
@@ -151,7 +157,9 @@ where
 /// After a fault no more connections are accepted, and those that are there were served to their
 /// end. [`NoMemory`](ServerFault::NoMemory): a growth of `run` itself was refused, or a thread; a
 /// connection that finds no room is closed, and is no fault. 16 faults of the listener in a row are
-/// [`AcceptFailed`](ServerFault::AcceptFailed).
+/// [`AcceptFailed`](ServerFault::AcceptFailed). [`PollFailed`](ServerFault::PollFailed): the system
+/// didn't let a worker wait: its connections are closed, with no note, and accepting ends with the
+/// next one that is dealt to it.
 pub fn run<X, L, S, B, G, N>(
     rt: &X,
     alloc: Global,
@@ -171,7 +179,9 @@ where
     G: Gate + Sync,
     N: Fn(&Ended) + Sync,
     requires { N.IsAlwaysCallable note.now }
-    ensures { IfOk result (λ k. connections ≡ Some k) }
+    ensures asked { IfOk result (λ k. connections ≡ Some k) }
+    ensures deaf { IfErr result (λ fault.
+        fault ≡ ServerFault.AcceptFailed → L.refuses listener.now) }
 {
     let services = gate_all(alloc, services, gate)?;
     let (workers, doors) = open_workers(rt, alloc, services)?;

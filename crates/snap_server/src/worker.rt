@@ -1,5 +1,5 @@
 //! One thread that serves many connections.
-ghost use Rattle.std.specs.Prelude.{◌≡◌, ◌<◌, length, OnOk, IfOk, IfErr, true, false};
+ghost use Rattle.std.specs.Prelude.{◌≡◌, ◌≢◌, ◌<◌, length, OnOk, IfOk, IfErr, true, false};
 ghost use Rattle.slab.specs.Slab.{slab_len};
 ghost use Rattle.snap_session.specs.Talk.{Moves};
 
@@ -51,7 +51,9 @@ where
 }
 
 /// What is told of a call that failed.
-fn fault_of(error: io::Error) -> ServerFault {
+fn fault_of(error: io::Error) -> ServerFault
+    ensures { result ≢ ServerFault.AcceptFailed }
+{
     match error.kind() {
         io::ErrorKind::OutOfMemory => ServerFault::NoMemory,
         _ => ServerFault::PollFailed,
@@ -85,6 +87,7 @@ where
         ensures service { IfOk result (λ made. made.0.sessions.service ≡ service) }
         ensures none { IfOk result (λ made. slab_len made.0.sessions.connections ≡ 0) }
         ensures open { IfOk result (λ made. made.0.is_open ≡ true) }
+        ensures faults { IfErr result (λ fault. fault ≢ ServerFault.AcceptFailed) }
     {
         let poll = Poll::new(net).map_err(fault_of)?;
         let waker = Waker::new(poll.registry(), INBOX).map_err(fault_of)?;

@@ -34,6 +34,8 @@ impl<'a> Ready<'a> {
 }
 
 impl Listen for Shared<'_> {
+    ghost refuses = { λ _. Unit {0} };
+
     fn accept(&self) -> io::Result<Arrival> {
         self.tcp.accept()
     }

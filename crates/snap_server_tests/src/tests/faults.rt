@@ -18,6 +18,8 @@ struct Deaf {
 }
 
 impl Listen for Deaf {
+    ghost refuses = { λ _. Unit {0} };
+
     fn accept(&self) -> io::Result<Arrival> {
         self.calls.fetch_add(1, Ordering::SeqCst);
         Err(io::Error::other("deaf"))
@@ -32,6 +34,8 @@ struct Slow {
 }
 
 impl Listen for Slow {
+    ghost refuses = { λ _. Unit {0} };
+
     fn accept(&self) -> io::Result<Arrival> {
         if self.calls.fetch_add(1, Ordering::SeqCst) % 16 == 15 {
             return self.tcp.accept();

@@ -1,4 +1,4 @@
-use Rattle.std.proofs.Common.{[], refl, sym, subst}
+use Rattle.std.proofs.Common.{[], refl, subst}
 use Rattle.snap_session.specs.Talk.{Moves}
 use Rattle.snap_session.proofs.Runs.{moves_joins}
 use Rattle.snap_server.proofs.worker.Worker.work.Goals as goal

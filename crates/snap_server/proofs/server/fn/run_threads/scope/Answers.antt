@@ -1,7 +1,10 @@
-use Rattle.std.proofs.Common.{rules}
+use Rattle.std.proofs.Common.{◌≡◌, ℕ, Result, IfOk, IfErr, Some, rules, subst, sym}
 use mir.Syntax.{of_param}
 use denote.Exit.{unseen}
 use denote.Param.Send.{Quiet-if}
+use Rattle.snap_server.proofs.server.fn.run_threads.scope.Goals.{then-is_whole, else-is_whole}
+use Rattle.snap_server.specs.declared.fault.ServerFault.{ServerFault}
+use Rattle.snap_server.specs.declared.fault.ServerFault.TheVariants.{AcceptFailed, NoMemory}
 use Rattle.snap_server.proofs.server.fn.run_threads.scope.Goals as goal
 
 pub spawn-requires-in-loop-worker-after_bounds : goal.spawn-requires-in-loop-worker-after_bounds
@@ -14,3 +17,20 @@ spawn-requires-in-loop-worker-after_bounds g c κs l = (
   },
   search rules,
 )
+
+pub returns : goal.returns
+returns g c =
+    let Asked : Result ℕ ServerFault → Type 0 =
+    λ r. IfOk r (λ k. c.captures.connections ≡ Some k) in
+    let Deaf : Result ℕ ServerFault → Type 0 = λ r. IfErr r (λ fault. fault ≡ AcceptFailed
+    → g.L.Listen.refuses c.captures.listener.now) in
+    elim c.if-is_whole.branch [
+      | then-is_whole w ↦ record {
+        asked = subst Asked (sym w.accepted-is) w.accept_all-accepted.ensures.asked;
+        deaf = subst Deaf (sym w.accepted-is) w.accept_all-accepted.ensures.deaf;
+      }
+      | else-is_whole w ↦ record {
+        asked = subst Asked (sym w.accepted-is) tt;
+        deaf = subst Deaf (sym w.accepted-is) (λ (wrong : NoMemory ≡ AcceptFailed). absurd cc);
+      }
+    ]
