@@ -194,6 +194,28 @@ def test_a_stop_by_any_signal_keeps_all(snapd, _):
         assert server.scan() == [(1, b"hi"), (3, b"3")]
 
 
+def state_of(process):
+    """The letter by which the system names what a process does: `T` where it is stopped."""
+    with open(f"/proc/{process.pid}/stat", encoding="ascii") as it:
+        return it.read().rpartition(") ")[2][0]
+
+
+def test_it_serves_on_behind_a_pause(snapd, _):
+    """As by a shell's Ctrl-Z and `fg`: what waits meanwhile is answered, on connections that are there and on new ones."""
+    with Server(snapd, *two(snapd)) as server, server.connect() as beside:
+        for number in (1, 2, 3):
+            server.process.send_signal(signal.SIGSTOP)
+            comes_to("T", lambda: state_of(server.process))
+            beside.sendall(update(1, number, b"%d" % number))
+            server.process.send_signal(signal.SIGCONT)
+            assert received(beside, len(stored(number))) == stored(number)
+            server.ask(SCAN, snapshot((1, b"hi"), (number, b"%d" % number)))
+        server.process.send_signal(signal.SIGSTOP)
+        comes_to("T", lambda: state_of(server.process))
+        server.process.send_signal(signal.SIGCONT)
+        assert server.scan()[1] == (3, b"3") and server.process.poll() is None
+
+
 # ---- words ----
 
 def test_words_of_serve(snapd, _):

@@ -7,21 +7,9 @@ import time
 
 import segment_file as layout
 from preload import library
-from serving import FRESH, LOOPBACK, SCAN, STATUS, Server, comes_to, frame, received, refused, reply, segments, snapshot
-from serving import standings, stored, update
+from serving import FRESH, LOOPBACK, SCAN, Server, comes_to, received, refused, segments, snapshot, stored, update
+from talk import CLOSED, HELD, VALUE, asked, talked, told
 from test_serve_disks import Disk
-
-VALUE = b"v" * layout.MAX_VALUE
-# What is read of a connection that was closed.
-EMPTY = frame(b"")
-# A conversation, and what each request is answered with ample memory.
-TALK = [
-    (update(0, 1, VALUE), stored(1)),
-    (SCAN, snapshot((1, VALUE), (0, b""))),
-    (STATUS, standings((1, False), (0, False))),
-    (update(1, 1, b"hi"), stored(1)),
-    (SCAN, snapshot((1, VALUE), (1, b"hi"))),
-]
 
 
 class Memory:
@@ -41,33 +29,6 @@ class Memory:
 def of_both(disk, memory):
     """The environment in which calls of the disk and allocations are refused."""
     return {**disk.env, **memory.env, "LD_PRELOAD": f"{disk.env['LD_PRELOAD']}:{memory.env['LD_PRELOAD']}"}
-
-
-def told(stream, request=b""):
-    """The reply's frame, or nothing where the connection is closed."""
-    try:
-        stream.sendall(request)
-        return frame(reply(stream))
-    except ConnectionError:
-        return EMPTY
-
-
-def asked(server, request):
-    """The same of a request on a connection of its own."""
-    with server.connect() as stream:
-        return told(stream, request)
-
-
-def talked(server):
-    """The talk, each request on a connection of its own, and once more where it was refused. How many were refused or closed."""
-    refusals = 0
-    for request, wanted in TALK:
-        got = asked(server, request)
-        if got != wanted:
-            assert got in (EMPTY, refused(8)), (request[:20], got[:40])
-            refusals += 1
-            assert asked(server, request) == wanted, request[:20]
-    return refusals
 
 
 def started(snapd, count, scanners=1, **more):
@@ -102,10 +63,10 @@ def test_each_allocation_of_a_conversation_is_refused(snapd, _):
         memory = Memory(snapd, number)
         with started(snapd, 2, env=memory.env) as server:
             memory.runs_out()
-            refusals += talked(server)
+            refusals += talked(server, CLOSED, refused(8))
             is_last = memory.wanting.exists()
             memory.is_there_again()
-            server.ask(SCAN, TALK[-1][1])
+            server.ask(SCAN, HELD)
         if is_last:
             break
     assert refusals > 2, (number, refusals)
@@ -126,12 +87,12 @@ def test_each_allocation_of_updates_that_queue_is_refused(snapd, _):
             for stream in streams[1:]:
                 stream.sendall(update(0, 1, VALUE))
             # It comes behind them, so they are handed over once it is answered.
-            assert asked(server, SCAN) in (snapshot((0, b"")), refused(8), EMPTY), number
+            assert asked(server, SCAN) in (snapshot((0, b"")), refused(8), CLOSED), number
             is_last = memory.wanting.exists()
             memory.is_there_again()
             disk.says()
             answers = [told(stream) for stream in streams]
-            assert answers[0] == wanted and all(answer in (wanted, EMPTY) for answer in answers), (number, answers)
+            assert answers[0] == wanted and all(answer in (wanted, CLOSED) for answer in answers), (number, answers)
         if is_last:
             break
     assert number > 12, number
@@ -165,5 +126,5 @@ def test_connections_wait_for_memory(snapd, _):
         memory.is_there_again()
         for stream in streams:
             with stream:
-                assert told(stream) in (snapshot((0, b"")), refused(8), EMPTY)
+                assert told(stream) in (snapshot((0, b"")), refused(8), CLOSED)
         server.ask(update(0, 1, VALUE) + SCAN, stored(1) + snapshot((1, VALUE)))
