@@ -1,12 +1,16 @@
 /* As little of a server as does the same work: the yardstick for `snapd serve`.
  *
  *     echo serve FOLDER SEGMENTS LENGTH        answers the frames of snapd over loopback, a thread for each connection
+ *     echo live FOLDER SEGMENTS LENGTH         the same, and a scan is answered by what was stored
  *     echo calls FOLDER WRITERS MILLISECONDS   makes the calls of stores alone, each writer on a file of its own
  *     echo start FILE..                        opens, locks, syncs and reads each file, and ends
+ *     echo touch KILOBYTES                     writes so much new memory, and copies it to as much again
  *
  * `serve` makes the device calls of a store for each update, on the file `S` and its segment in FOLDER, and judges nothing. It
- * answers each scan by SEGMENTS values of LENGTH bytes that never change, and prints `listening 127.0.0.1:PORT`. `calls` prints how
- * many stores there were a second, and the median of their times in nanoseconds.
+ * answers each scan by SEGMENTS values of LENGTH bytes that never change, and prints `listening 127.0.0.1:PORT`. `live` copies each
+ * value once more behind its store, and all of them for each scan, a segment at a time under its lock: its scans are of no one moment.
+ * `calls` prints how many stores there were a second, and the median of their times in nanoseconds, and `touch` how many nanoseconds
+ * it took.
  */
 #define _GNU_SOURCE
 #include <arpa/inet.h>
@@ -24,7 +28,8 @@
 
 enum { BLOCK = 4096, LENGTH = 7 * BLOCK, MOST = 16, MOST_TIMES = 1 << 20, LONGEST = 1 << 17 };
 
-static int files[MOST], segments;
+static int files[MOST], segments, is_live;
+static pthread_mutex_t locks[MOST];
 static unsigned char snapshot[LONGEST];
 static size_t snapshot_length;
 static long long begin, end;
@@ -77,6 +82,31 @@ static int answered(int stream, const void *bytes, size_t wanted) {
     return write(stream, bytes, wanted) == (ssize_t)wanted;
 }
 
+/* The place in a snapshot of a segment's number, which its length and its value follow. */
+static size_t entry_at(int segment) {
+    return 6 + segment * ((snapshot_length - 6) / segments);
+}
+
+/* Notes what was stored. Each value has the length that the snapshot has room for. */
+static void show(int segment, const unsigned char *number, const unsigned char *value) {
+    size_t at = entry_at(segment);
+    pthread_mutex_lock(&locks[segment]);
+    memcpy(snapshot + at, number, 8);
+    memcpy(snapshot + at + 12, value, entry_at(1) - entry_at(0) - 12);
+    pthread_mutex_unlock(&locks[segment]);
+}
+
+static int answered_scan(int stream, unsigned char *copy) {
+    if (!is_live) return answered(stream, snapshot, snapshot_length);
+    memcpy(copy, snapshot, 6);
+    for (int i = 0; i < segments; i++) {
+        pthread_mutex_lock(&locks[i]);
+        memcpy(copy + entry_at(i), snapshot + entry_at(i), entry_at(1) - entry_at(0));
+        pthread_mutex_unlock(&locks[i]);
+    }
+    return answered(stream, copy, snapshot_length);
+}
+
 static void *serve(void *of) {
     int stream = (int)(long)of, on = 1;
     unsigned char *request = calloc(1, LONGEST), stored[13] = {0, 0, 0, 9, 0x81};
@@ -85,7 +115,7 @@ static void *serve(void *of) {
         size_t wanted = (size_t)request[0] << 24 | request[1] << 16 | request[2] << 8 | request[3];
         if (wanted > 66000 || !receive(stream, request, wanted)) break;
         if (request[0] == 2) {
-            if (!answered(stream, snapshot, snapshot_length)) break;
+            if (!answered_scan(stream, request)) break;
             continue;
         }
         unsigned long long number = 0;
@@ -95,6 +125,7 @@ static void *serve(void *of) {
         put_number(body + 8, wanted - 10, 4);
         memcpy(body + 16, request + 10, wanted - 10);
         store(files[request[1] % segments], number, body);
+        if (is_live) show(request[1] % segments, request + 2, request + 10);
         if (!answered(stream, stored, 13)) break;
     }
     close(stream);
@@ -111,7 +142,8 @@ static void serve_all(int length) {
     snapshot_length = 6 + (size_t)segments * (12 + length);
     put_number(snapshot, snapshot_length - 4, 4);
     snapshot[4] = 0x82, snapshot[5] = segments;
-    for (int i = 0; i < segments; i++) put_number(snapshot + 6 + i * (12 + length) + 8, length, 4);
+    for (int i = 0; i < segments; i++) put_number(snapshot + entry_at(i) + 8, length, 4);
+    for (int i = 0; i < segments; i++) pthread_mutex_init(&locks[i], NULL);
     printf("listening 127.0.0.1:%d\n", ntohs(place.sin_port));
     fflush(stdout);
     for (;;) {
@@ -163,11 +195,23 @@ static void start(int wanted, char **paths) {
     printf("listening nowhere\n");
 }
 
+static void touch(size_t bytes) {
+    long long since = now();
+    unsigned char *first = malloc(bytes), *second = malloc(bytes);
+    must(first && second, "malloc");
+    memset(first, 1, bytes);
+    memcpy(second, first, bytes);
+    long long took = now() - since;
+    printf("%lld %d\n", took, second[bytes / 2]);
+}
+
 int main(int words, char **word) {
-    must(words >= 3, "echo serve|calls|start ..");
+    must(words >= 3, "echo serve|live|calls|start|touch ..");
     signal(SIGPIPE, SIG_IGN);
     if (strcmp(word[1], "start") == 0) {
         start(words - 2, word + 2);
+    } else if (strcmp(word[1], "touch") == 0) {
+        touch(1024 * strtoul(word[2], NULL, 10));
     } else if (strcmp(word[1], "calls") == 0) {
         must(words == 5 && atoi(word[3]) <= MOST, "writers");
         open_files(word[2], atoi(word[3]));
@@ -175,6 +219,7 @@ int main(int words, char **word) {
     } else {
         must(words == 5 && atoi(word[3]) <= MOST, "segments");
         segments = atoi(word[3]);
+        is_live = strcmp(word[1], "live") == 0;
         open_files(word[2], segments);
         serve_all(atoi(word[4]));
     }

@@ -8,14 +8,16 @@ memory.
 
 An update is compared with its device calls alone (aim 1.1), and with the yardstick, which makes the same calls behind a socket
 (aim 1.3); updates a second of 1 and 16 writers with bare calls (aim 0.8); a scan with the yardstick's reply of the same size
-(aim 1.5), alone and beside 16 writers; the time to the line `listening` with 16 files, with their bare opening (aim 20 ms more).
+(aim 1.5), alone and beside 16 writers, and with a yardstick that copies what was stored last; the time to the line `listening` with
+16 files, with their bare opening (aim 20 ms more), beside the time to write as much memory and to copy it.
 
 Then come the memory resident, with 2,000 idle connections too, and a scan on one worker beside stores that are held 2 ms at each
-sync, which is to take as long as without them. Where `redis-server` is installed, it is measured with its log synced at every
-write.
+sync, which is to take as long as without them; the yardstick's scans have a thread of their own and ask nobody. Where
+`redis-server` is installed, it is measured with its log synced at every write.
 """
 
 import argparse
+import os
 import pathlib
 import shutil
 import socket
@@ -42,11 +44,11 @@ def show(label, mine, other, unit, more):
 
 
 class Yardstick:
-    """`echo serve`, as `Server` is for snapd."""
+    """`echo serve` or `echo live`, as `Server` is for snapd."""
 
-    def __init__(self, echo, folder, count, length):
-        words = [echo, "serve", folder, str(count), str(length)]
-        self.process = subprocess.Popen(words, stdout=subprocess.PIPE, text=True)
+    def __init__(self, echo, kind, folder, count, length, env=None):
+        words = [echo, kind, folder, str(count), str(length)]
+        self.process = subprocess.Popen(words, stdout=subprocess.PIPE, text=True, env={**os.environ, **(env or {})})
         self.place = ("127.0.0.1", int(self.process.stdout.readline().rpartition(":")[2]))
 
     def __enter__(self):
@@ -88,8 +90,8 @@ class Bench:
         rate, median = run.stdout.split()
         return float(rate), int(median) / 1e3
 
-    def yardstick(self, length):
-        return Yardstick(self.echo, self.folder / "yardstick", SEGMENTS, length)
+    def yardstick(self, length, kind="serve", env=None):
+        return Yardstick(self.echo, kind, self.folder / "yardstick", SEGMENTS, length, env)
 
     def updates(self):
         """An update beside its calls, and updates a second."""
@@ -117,31 +119,36 @@ class Bench:
         for length in (8, 1_000, layout.MAX_VALUE):
             for place in ("yardstick", "files"):
                 files = self.files(place, length)
-            with Server(self.snapd, *files, scanners=4) as server, self.yardstick(length) as echo:
+            with Server(self.snapd, *files, scanners=4) as server, self.yardstick(length) as echo, self.yardstick(length, "live") as live:
                 for writers in (0, SEGMENTS):
-                    pairs = []
+                    found = []
                     for _ in range(self.rounds):
-                        pairs.append([self.load(it, length, writers, 1)[1][1] for it in (server, echo)])
-                    mine, bare = (statistics.median(each) for each in zip(*pairs))
-                    ratio = statistics.median(a / b for a, b in pairs)
+                        found.append([self.load(it, length, writers, 1)[1][1] for it in (server, echo, live)])
+                    mine, bare, _ = (statistics.median(each) for each in zip(*found))
+                    beside_echo, beside_live = (statistics.median(it[0] / it[at] for it in found) for at in (1, 2))
                     name = f"scan of 16 x {length:,} bytes" + (", beside 16 writers" if writers else "")
-                    show(name, mine, bare, "us", f"{ratio:.3f}   (aim 1.5)")
+                    more = f"aim 1.5; with live values {beside_live:.3f}"
+                    show(name, mine, bare, "us", f"{beside_echo:.3f}   ({more})")
 
     def starts(self):
         """From the start of the process to its line `listening`."""
         files = self.files("files", 1_000)
         bare_words = [self.echo, "start", *[self.folder / file for file in files]]
-        pairs = []
+        found = []
         for _ in range(4 * self.rounds):
             began = time.perf_counter()
-            with Server(self.snapd, *files, scanners=16):
+            with Server(self.snapd, *files, scanners=16) as server:
                 mine = time.perf_counter() - began
+                kilobytes = server.memory()
             began = time.perf_counter()
             subprocess.run(bare_words, check=True, stdout=subprocess.PIPE)
-            pairs.append((mine * 1e3, (time.perf_counter() - began) * 1e3))
-        mine, bare = (statistics.median(each) for each in zip(*pairs))
-        more = statistics.median(a - b for a, b in pairs)
-        show("start of 16 files to its line, and bare opening", mine, bare, "ms", f"{more:.2f} ms more   (aim 20)")
+            bare = time.perf_counter() - began
+            touched = subprocess.run([self.echo, "touch", str(kilobytes)], check=True, stdout=subprocess.PIPE, text=True)
+            found.append((mine * 1e3, bare * 1e3, int(touched.stdout.split()[0]) / 1e6))
+        mine, bare, touch = (statistics.median(each) for each in zip(*found))
+        more = statistics.median(it[0] - it[1] for it in found)
+        more = f"{more:.2f} ms more   (aim 20; as much memory is written and copied in {touch:.1f})"
+        show("start of 16 files to its line, and bare opening", mine, bare, "ms", more)
 
     def memory(self):
         """kB resident, with the longest values, and with idle connections."""
@@ -168,19 +175,25 @@ class Bench:
         control = self.folder / "control"
         env = {"LD_PRELOAD": library("disk_control"), "DISK_CONTROL": str(control)}
         files = self.files("files", 1_000)
+        self.files("yardstick", 1_000)
+        held = "".join(f"S{segment} sync rest 2000\n" for segment in range(SEGMENTS))
+        found = []
         control.write_text("")
-        pairs = []
-        with Server(self.snapd, *files, scanners=1, env=env) as server:
+        with Server(self.snapd, *files, scanners=1, env=env) as server, self.yardstick(1_000, env=env) as echo:
             for _ in range(self.rounds):
-                alone = self.load(server, 1_000, 0, 1)[1]
-                control.write_text("".join(f"S{segment} sync rest 2000\n" for segment in range(SEGMENTS)))
-                updates, beside = self.load(server, 1_000, SEGMENTS, 1)
-                control.write_text("")
-                pairs.append((*alone[1:], *beside[1:], updates[1]))
-        alone, alone99, beside, beside99, update = (statistics.median(each) for each in zip(*pairs))
-        more = f"an update takes {update:,.0f} us"
-        show("scan beside stores held 2 ms at each sync, alone", beside, alone, "us", f"{beside / alone:.3f}   (aim 1; {more})")
-        show("  the 99th percentiles", beside99, alone99, "us", f"{beside99 / alone99:.3f}   (aim 1)")
+                times = []
+                for it in (server, echo):
+                    alone = self.load(it, 1_000, 0, 1)[1]
+                    control.write_text(held)
+                    updates, beside = self.load(it, 1_000, SEGMENTS, 1)
+                    control.write_text("")
+                    times += [*alone[1:], *beside[1:], updates[1]]
+                found.append(times)
+        alone, alone99, beside, beside99, update, *echo = (statistics.median(each) for each in zip(*found))
+        more = f"aim 1; the yardstick's {echo[2] / echo[0]:.3f}"
+        show("scan beside stores held 2 ms at each sync, alone", beside, alone, "us", f"{beside / alone:.3f}   ({more})")
+        more = f"aim 1; the yardstick's {echo[3] / echo[1]:.3f}; an update takes {update:,.0f} us"
+        show("  the 99th percentiles", beside99, alone99, "us", f"{beside99 / alone99:.3f}   ({more})")
 
     def redis(self):
         """The same beside a redis whose log is synced at every write."""

@@ -68,12 +68,14 @@ abbrev pub called : App → App
 called app = with_rule (with_rule (addressed app) (words_rule (codes "request")))
     (number_rule (codes "tries") (codes "1"))
 
-abbrev pub top_shape : Shape
-top_shape = record ((new_app (codes "snapd")).top) {
-  has_version = true;
-  propagate_version = true;
-  subcommand_required = true;
+-- this command tells a version, and so does each command below it
+abbrev pub versioned : App → App
+versioned app = record app {
+  top = record (app.top) { has_version = true; propagate_version = true };
 }
+
+abbrev pub top_shape : Shape
+top_shape = record ((versioned (new_app (codes "snapd"))).top) { subcommand_required = true }
 
 abbrev pub program_of : App
 program_of = record { top = top_shape; subs = [] }

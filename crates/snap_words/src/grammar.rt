@@ -4,7 +4,7 @@ ghost use Rattle.clap.specs.Words.{app_of, new_app, rule_of, with_rule};
 ghost use Rattle.clap.specs.declared.builder.Command.TheViews.{out-Command};
 ghost use Rattle.snap_words.specs.Grammar.{IsCommandOf, addressed, called, filed, grammar_of};
 ghost use Rattle.snap_words.specs.Grammar.{large_number_rule, number_rule, paired, placed};
-ghost use Rattle.snap_words.specs.Grammar.{program_of, served, word_rule, words_rule};
+ghost use Rattle.snap_words.specs.Grammar.{program_of, served, versioned, word_rule, words_rule};
 
 use crate::help::{
     CALL_HELP, CHECK_HELP, FORMAT_HELP, GET_HELP, MIGRATE_HELP, PROGRAM_HELP, PUT_HELP,
@@ -105,17 +105,22 @@ fn described<'a>(command: Command<'a>, about: &'a str, more: &'a str) -> Command
     command.about(about).after_help(more)
 }
 
+/// The command with the program's version, which each of its own commands has too.
+fn versioned_command<'a>(command: Command<'a>) -> Command<'a>
+    ensures app { app_of result ≡ versioned (app_of command.entry) }
+    ensures local { (out-Command result).has_globals ≡ (out-Command command.entry).has_globals }
+{
+    command.version(VERSION).propagate_version(true)
+}
+
 /// The program with no command yet.
 fn program<'a>(alloc: Global) -> Command<'a>
     ensures app { app_of result ≡ program_of }
     ensures local { (out-Command result).has_globals ≡ false }
 {
-    Command::new(alloc, "snapd")
-        .about("Keep one value of up to 4,080 bytes in a file, safe from crashes")
-        .version(VERSION)
-        .propagate_version(true)
-        .subcommand_required(true)
-        .after_help(PROGRAM_HELP)
+    let about = "Keep one value of up to 4,080 bytes in a file, safe from crashes";
+    let command = versioned_command(Command::new(alloc, "snapd"));
+    described(command.subcommand_required(true), about, PROGRAM_HELP)
 }
 
 /// A command with its file and the place of the file's segment, and its texts for help.
