@@ -41,9 +41,11 @@ pub struct Dealer<'a, O: Drop> {
 }
 
 impl<'a, O: Drop> Dealer<'a, O> {
-    /// Deals to the workers behind these doors; none was dealt yet.
+    /// Deals to the workers behind these doors, from the first one on; none was dealt yet.
     pub fn new(doors: &'a [Door<O>]) -> Dealer<'a, O>
-        ensures { result.dealt ≡ 0 }
+        ensures doors { result.doors ≡ doors.entry }
+        ensures first { result.next ≡ 0 }
+        ensures none { result.dealt ≡ 0 }
     {
         Dealer {
             doors,

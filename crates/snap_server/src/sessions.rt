@@ -1,6 +1,6 @@
 //! The connections of a worker, whose sessions share its service.
 ghost use Rattle.std.specs.Prelude.{◌≡◌, ◌≢◌, ◌⊎◌, ◌↔◌, ◌≤◌, ◌<◌, ◌+◌, ◌++◌, ℕ, length, IfSome, IfNone, IsSome, OnSome};
-ghost use Rattle.std.specs.Prelude.{Some, None, true, false, option_to_list};
+ghost use Rattle.std.specs.Prelude.{Some, None, true, false, option_to_list, []};
 ghost use Rattle.std.specs.VecDeque.{deque_len, deque_capacity};
 ghost use Rattle.std.specs.List.{Contains};
 ghost use Rattle.slab.specs.Slab.{get, slab_len, SameValues};
@@ -103,7 +103,7 @@ impl<S: Service + Drop> Sessions<S> {
         }
     }
 
-    /// Takes the first key off the list.
+    /// Takes the first key off the list, where there is one.
     pub fn next(&mut self) -> Option<usize>
         ensures service { self.new.service ≡ self.old.service }
         ensures first { self.old.listed.items ≡ option_to_list result ++ self.new.listed.items }
@@ -114,6 +114,7 @@ impl<S: Service + Drop> Sessions<S> {
             → get self.new.connections key ≡ Some (record c { stage = Stage.Idle })) }
         ensures others { IfSome result (λ key.
             KeepsOthers key self.old.connections self.new.connections) }
+        ensures nobody { IfNone result (self.old.listed.items ≡ []) }
         ensures none { IfNone result (self.new.connections ≡ self.old.connections) }
     {
         let key = self.listed.pop_front()?;
