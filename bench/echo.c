@@ -10,7 +10,7 @@
  * answers each scan by SEGMENTS values of LENGTH bytes that never change, and prints `listening 127.0.0.1:PORT`. `live` copies each
  * value once more behind its store, and all of them for each scan, a segment at a time under its lock: its scans are of no one moment.
  * `calls` prints how many stores there were a second, and the median of their times in nanoseconds, and `touch` how many nanoseconds
- * it took.
+ * it took, with a byte of the copy, so that none is left out.
  */
 #define _GNU_SOURCE
 #include <arpa/inet.h>
