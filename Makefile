@@ -1,40 +1,42 @@
 # Two commands for a stranger: `make demo` builds the program and runs its first job, `make test` runs every test.
 # They want the kit (`rt` on the PATH), python3 and gcc.
 
-.PHONY: build programs demo test tests bench clean
+.PHONY: build programs demo test test-all edits new-edits tests bench clean
 
-# The program is proved before it is built, so the first build takes a quarter of an hour or more and the next ones seconds. `rt run`
-# ends with the status of the program, and leaves it in crates/snapd/out.
+# The program is proved before it is built, with all that it stands on, on as many processors as there are. What this machine has
+# proved before is taken from the kit's store.
 build:
-	cd crates/snapd && rt run -- --version
-	mkdir -p bin
-	cp crates/snapd/out/snapd bin/snapd
+	python3 verification/build.py
 
 demo: build
 	sh tests/demo.sh bin/snapd
 
-# The merge gate, and then the end-to-end tests on the built program. The last line counts both.
+# Everything. The last line counts proofs, edits and end-to-end tests. With FRESH=1 nothing comes from this machine's store.
 test:
-	python3 tests/all.py
+	python3 verification/test.py $(if $(FRESH),--fresh)
 
-# The programs that some of the end-to-end tests run beside snapd. The merge gate leaves them too.
+# The same with every must-fail edit tried by the kit itself.
+test-all:
+	python3 verification/test.py --every-edit $(if $(FRESH),--fresh)
+
+# Tries all edits from nothing, or those alone that must-fail.lock doesn't have as they are now, and writes the lock.
+edits:
+	python3 verification/edits.py --every
+
+new-edits:
+	python3 verification/edits.py
+
+# The program that tests and benchmarks run beside snapd.
 programs:
-	cd crates/restart_allocations && rt run -- scanned
-	cd crates/bench_service && rt run -- scan 3 2 8
-	cd crates/server_trial && rt run -- 2 0 0
+	python3 verification/build.py try_crates
 
 # The end-to-end tests alone.
-tests: build programs
+tests: programs
 	python3 tests/run.py
 
-bench: build
-	cd crates/bench_store && rt run -- "$$(mktemp -d)/F" 1
-	cd crates/bench_world && rt run -- 2 3 8
-	cd crates/bench_memory && rt run -- scan 3 2 50 8
-	cd crates/bench_restart && rt run -- memory . 0
-	cd crates/bench_service && rt run -- scan 3 2 8
+bench: programs
 	python3 bench/run.py
 	python3 bench/server.py
 
 clean:
-	rm -rf bin crates/*/out
+	rm -rf bin out crates/*/out

@@ -16,6 +16,14 @@ from waiting import PATIENCE, comes_to  # noqa: F401
 LOOPBACK = "127.0.0.1:0"
 
 
+def free_port():
+    """A port that nobody has, and that the system gives to no connection meanwhile: those are above."""
+    for port in range(15_000 + os.getpid() * 37 % 10_000, 32_000):
+        with contextlib.suppress(OSError), socket.create_server(("127.0.0.1", port)):
+            return port
+    raise OSError("no port is free")
+
+
 # ---- messages ----
 
 def frame(payload):

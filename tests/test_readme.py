@@ -6,9 +6,9 @@ import os
 import pathlib
 import re
 import signal
-import socket
 import subprocess
 
+from serving import free_port
 from waiting import PATIENCE, gets_on, moment, wait_until
 
 TOP = pathlib.Path(__file__).resolve().parent.parent
@@ -55,8 +55,7 @@ def test_server_of_the_readme_survives_its_kill(snapd, random):
         else:
             printed += line + "\n"
     assert len(commands) == 6 and sum(it.startswith("snapd serve") for it in commands) == 2
-    with socket.create_server(("127.0.0.1", 0)) as listener:
-        port = listener.getsockname()[1]
+    port = free_port()
     # Where the README sleeps for a second, the story goes on once the server answers, however long that takes.
     waits = "sleep() { until snapd call 127.0.0.1:7070 status > status.txt 2>&1; do command sleep 0.02; done; }"
     assert all(it.endswith("& sleep 1") for it in commands if it.startswith("snapd serve"))

@@ -8,7 +8,7 @@ import subprocess
 import threading
 
 import segment_file as layout
-from serving import FRESH, OVER_THE_LIMIT, SCAN, STATUS, TOO_LARGE, Server, frame, fresh, received, refused
+from serving import FRESH, OVER_THE_LIMIT, SCAN, STATUS, TOO_LARGE, Server, frame, free_port, fresh, received, refused
 from serving import reset, segments, snapshot, standings, stored, to_its_end, update
 from waiting import PATIENCE, comes_to, is_read
 
@@ -19,11 +19,6 @@ HELD = [(0, b""), (1, b"hi")]
 def two(snapd):
     """Two files: `hi` as number 1, and a fresh one."""
     return segments(snapd, HELD, FRESH)
-
-
-def free_port():
-    with socket.create_server(("127.0.0.1", 0)) as listener:
-        return listener.getsockname()[1]
 
 
 # ---- the report, the address, the end ----

@@ -1,0 +1,233 @@
+"""The parts of `make test` and `make edits`: what a digest rests on, what is tried again, and what is read from the prover's output."""
+
+import pathlib
+import sys
+
+TOP = pathlib.Path(__file__).resolve().parent.parent
+sys.path.insert(0, str(TOP / "verification"))
+
+from batches import batches_of, own_error, strangers  # noqa: E402
+from digests import Digests, read_lock, write_lock  # noqa: E402
+from edits import OF_ONE_CRATE, SAMPLE, Edits, drawn  # noqa: E402
+from lanes import Plan  # noqa: E402
+from source import function_of, functions_in, named, together  # noqa: E402
+from tree import copied, edits_of  # noqa: E402
+
+BODY = """\
+//! A crate.
+#![tactic(auto)]
+
+impl Low for Thing {
+    /// One more.
+    #[inline]
+    fn more(&self, x: u8) -> u8
+        requires { x < 9 }
+    {
+        x + 1
+    }
+}
+
+pub(crate) fn less(x: u8) -> u8 {
+    x - 1
+}
+"""
+FILES = {
+    "src/lib.rt": BODY,
+    "specs/Words.antt": "definition\n",
+    "proofs/more/Answers.antt": "proof\n",
+}
+FIRST = "file: src/lib.rt\nold:         x + 1\nnew:         x + 2\n"
+SECOND = "file: src/lib.rt\nold:     x - 1\nnew:     x\n"
+
+
+def tree(folder):
+    """A checkout of three crates, one above the other, each with two edits."""
+    top = folder / "tree"
+    for name in ("low", "middle", "high"):
+        for path, text in {**FILES, "must-fail/first.edit": FIRST, "must-fail/second.edit": SECOND}.items():
+            file = top / "crates" / name / path
+            file.parent.mkdir(parents=True, exist_ok=True)
+            file.write_text(text)
+    (top / "crates.txt").write_text("# The crates: three.\nlow: byteorder\nmiddle: low\nhigh: middle\n")
+    (top / "HANDLES").write_text("Handles allowed: none.\n")
+    return top
+
+
+def digests(top, kit="kit"):
+    made = Digests(top, kit)
+    return {f"{name}/{it.stem}": made.edit(name, it) for name in ("low", "middle", "high") for it in edits_of(top, name)}
+
+
+def changed(top, before, kit="kit"):
+    """The edits whose digest isn't the one of before."""
+    now = digests(top, kit)
+    return sorted(it for it in {*before, *now} if before.get(it) != now.get(it))
+
+
+BOTH = ("first", "second")
+OF_ALL = sorted(f"{name}/{it}" for name in ("low", "middle", "high") for it in BOTH)
+OF_UPPER = sorted(f"{name}/{it}" for name in ("middle", "high") for it in BOTH)
+
+
+def test_a_digest_changes_with_each_text_of_the_crate_and_of_those_below(snapd, _):
+    for path in FILES:
+        top = tree(snapd.folder / path.replace("/", "-"))
+        before = digests(top)
+        (top / "crates" / "middle" / path).write_text(FILES[path] + "more\n")
+        assert changed(top, before) == OF_UPPER, path
+        (top / "crates" / "low" / path).write_text(FILES[path] + "more\n")
+        assert changed(top, before) == OF_ALL, path
+
+
+def test_a_digest_changes_with_the_kit_the_line_and_the_files_names(snapd, _):
+    top = tree(snapd.folder)
+    before = digests(top)
+    assert len(set(before.values())) == 6 and changed(top, before) == []
+    assert changed(top, before, "another kit") == OF_ALL
+    crates = top / "crates.txt"
+    crates.write_text(crates.read_text().replace("middle: low", "middle: low bytes"))
+    assert changed(top, before) == OF_UPPER
+    top = tree(snapd.folder / "again")
+    (top / "crates" / "high" / "specs" / "Words.antt").rename(top / "crates" / "high" / "specs" / "Other.antt")
+    assert changed(top, before) == ["high/first", "high/second"]
+
+
+def test_a_digest_changes_with_its_own_edit_alone(snapd, _):
+    top = tree(snapd.folder)
+    before = digests(top)
+    edit = top / "crates" / "low" / "must-fail" / "first.edit"
+    edit.write_text(FIRST.replace("x + 2", "x + 3"))
+    assert changed(top, before) == ["low/first"]
+    edit.write_text(FIRST)
+    assert changed(top, before) == []
+    for it in ("stdout", "data/file", "out/kept", "must-fail/notes.md"):
+        file = top / "crates" / "low" / it
+        file.parent.mkdir(exist_ok=True)
+        file.write_text("text\n")
+    assert changed(top, before) == []
+    edit.rename(edit.with_name("third.edit"))
+    assert changed(top, before) == ["low/first", "low/third"]
+
+
+def test_texts_that_move_between_files_have_another_digest(snapd, _):
+    top = tree(snapd.folder)
+    before = digests(top)
+    specs = top / "crates" / "high" / "specs"
+    (specs / "A.antt").write_text("one")
+    (specs / "B.antt").write_text("two")
+    apart = digests(top)
+    (specs / "A.antt").write_text("onetwo")
+    (specs / "B.antt").write_text("")
+    assert len({it["high/first"] for it in (before, apart, digests(top))}) == 3
+
+
+def test_the_lock_is_read_as_it_is_written(snapd, _):
+    assert read_lock(snapd.folder) == {}
+    lines = {"b/x.edit": "0" * 64, "a/y.edit": "f" * 64}
+    write_lock(snapd.folder, lines)
+    assert read_lock(snapd.folder) == lines
+    text = (snapd.folder / "must-fail.lock").read_text()
+    assert text.startswith("#") and text.index("a/y.edit") < text.index("b/x.edit")
+
+
+def test_what_the_lock_does_not_have_is_tried_and_a_sample_of_the_rest(snapd, _):
+    top = tree(snapd.folder)
+    edits = Edits.of(top)
+    assert len(edits.unknown()) == 6 and not edits.known()
+    write_lock(top, {edits.name(it): digest for it, digest in edits.digests.items()})
+    edits = Edits.of(top)
+    assert len(edits.known()) == 6 and not edits.unknown()
+    edits.choose(seed=7)
+    assert sorted(edits.chosen) == sorted(edits.digests)
+    edits.choose()
+    assert edits.chosen == []
+    lock = top / "must-fail.lock"
+    name = edits.name(edits.known()[0])
+    lock.write_text(lock.read_text().replace(f"{name} ", f"{name} 0"))
+    edits = Edits.of(top)
+    edits.choose()
+    assert [edits.name(it) for it in edits.chosen] == [name]
+
+
+def test_a_sample_is_new_with_each_seed_and_reaches_every_edit(snapd, _):
+    edits = [(f"crate{n}", pathlib.Path(f"{k}.edit")) for n in range(20) for k in range(n + 1)]
+    samples = [drawn(edits, seed) for seed in range(400)]
+    for it in samples:
+        assert len(it) == len(set(it)) == SAMPLE and set(it) <= set(edits)
+        assert max(sum(name == f"crate{n}" for name, _ in it) for n in range(20)) <= OF_ONE_CRATE
+    assert samples[0] == drawn(edits, 0) and samples[0] != samples[1]
+    assert {edit for it in samples for edit in it} == set(edits)
+    assert sorted(drawn(edits[:3], 1)) == sorted(edits[:3]) and drawn([], 1) == []
+
+
+def test_an_edit_is_placed_in_its_function(snapd, _):
+    folder = tree(snapd.folder) / "crates" / "low"
+    more, less = functions_in(BODY, "src/lib.rt")
+    assert (more.name, more.first, more.last, more.of) == ("more", 5, 11, " Low for Thing {")
+    assert (less.name, less.first, less.last, less.of) == ("less", 14, 16, "")
+    edits = edits_of(folder.parent.parent, "low")
+    assert [function_of(folder, it) for it in edits] == [more, less]
+    spec = folder / "must-fail" / "spec.edit"
+    spec.write_text("file: specs/Words.antt\nold: definition\nnew: another\n")
+    assert function_of(folder, spec) is None
+    assert together(folder, edits)["src/lib.rt"] == BODY.replace("x + 1", "x + 2").replace("    x - 1", "    x")
+    assert together(folder, [edits[0], edits[0]]) is None
+    names = ["low::ThingLow::more", "low::OtherLow::more", "low::less", "low::inner::less"]
+    assert named(more, "low", names) == "low::ThingLow::more"
+    assert named(less, "low", names) == "low::less"
+    assert named(less, "low", ["low::other"]) is None
+
+
+def test_no_two_edits_of_a_batch_lie_in_one_function(snapd, _):
+    names = {"a": "f", "b": "g", "c": "f", "d": "h", "e": "f"}
+    assert batches_of([*names], names) == [["a", "b", "d"], ["c"], ["e"]]
+
+
+SAID = """\
+proofs/ThingLow/more/Answers.antt:3:1: error: `above` : this goal is not proved
+src/lib.rt:14:1: error: `less`: it is not proved that no subtraction wraps
+fn low::ThingLow::more: not proved
+fn low::less: not proved
+fn low::twice: no proof: it calls `less`, which is not proved
+fn low::thrice: not proved; it calls `less`
+fn low::well: proved
+logic=not-proved functions=5
+"""
+
+
+def test_each_function_is_refused_by_an_error_of_its_own(snapd, _):
+    more, less = functions_in(BODY, "src/lib.rt")
+    assert own_error(SAID, more, "low::ThingLow::more").startswith("proofs/ThingLow/more/Answers.antt:3: error")
+    assert own_error(SAID, less, "low::less").startswith("src/lib.rt:14")
+    assert own_error(SAID, less, "low::twice") is None and own_error(SAID, less, "low::well") is None
+    without = "\n".join(it for it in SAID.splitlines() if "Answers" not in it)
+    assert own_error(without, more, "low::ThingLow::more") is None
+    named_away = SAID.replace("this goal is not proved", "error: it has no field `x`")
+    assert own_error(named_away, more, "low::ThingLow::more") is None
+    assert strangers(SAID, ["low::ThingLow::more", "low::less"]) == set()
+    assert strangers(SAID, ["low::less"]) == {"low::ThingLow::more"}
+
+
+def test_the_longest_chain_gets_the_processors_that_it_needs(snapd, _):
+    def task(*waits):
+        return [(it, "proof") for it in waits], 800, 1, None
+
+    tasks = {("a", "proof"): task(), ("b", "proof"): task("a"), ("c", "proof"): task("b"), ("d", "proof"): task(), ("e", "proof"): task()}
+    plan = Plan(tasks)
+    assert plan.ready({}) == [("a", "proof"), ("d", "proof"), ("e", "proof")]
+    assert plan.jobs(("a", "proof"), 4, 4, 2, []) == 3 and plan.jobs(("d", "proof"), 4, 2, 1, []) == 1
+    # On two processors all that is left takes longer than the chain, so none is given twice.
+    assert plan.jobs(("a", "proof"), 2, 2, 2, []) == 1
+
+
+def test_a_copy_has_what_the_prover_reads_and_no_edit(snapd, _):
+    top = tree(snapd.folder)
+    (top / "crates" / "low" / "out").mkdir()
+    with copied(top, ["low", "middle"]) as copy:
+        found = sorted(str(it.relative_to(copy)) for it in copy.rglob("*") if it.is_file())
+        crates = [f"crates/{name}/{it}" for name in ("low", "middle") for it in sorted(FILES)]
+        assert found == sorted(["HANDLES", "crates.txt", *crates])
+        assert (copy / "crates.txt").read_text() == "low: byteorder\nmiddle: low\n"
+    assert not copy.exists()
+    with copied(top, ["low"], with_edits=True) as copy:
+        assert len(edits_of(copy, "low")) == 2

@@ -1,0 +1,139 @@
+"""Tries the must-fail edits: each turns the meaning of a function, and the prover has to refuse it.
+
+    python3 verification/edits.py [--every] [--seed N]
+
+tries what must-fail.lock doesn't have under its digest, with --every all edits from nothing, and writes the lock.
+"""
+
+import argparse
+import random
+import sys
+import time
+from dataclasses import dataclass, field
+
+import kit
+from batches import tried
+from digests import Digests, read_lock, write_lock
+from proofs import prove
+from tree import TOP, below, copied, crates_of, edits_of
+
+LOG = TOP / "out" / "edits.log"
+# How many recorded edits each run of the tests tries again, and how many of one crate: each crate is proved first.
+SAMPLE = 20
+OF_ONE_CRATE = 4
+
+
+def drawn(edits, seed):
+    """A sample of these edits, given as pairs of crate and path: as a rule SAMPLE of them, each with the same chance.
+
+    Before an edit is tried its crate is proved, which takes longer than the edit, so some of a crate come together.
+    """
+    draw, left, found = random.Random(seed), sorted(edits), []
+    while left and len(found) < SAMPLE:
+        name = draw.choice(left)[0]
+        of_crate = [it for it in left if it[0] == name]
+        found += draw.sample(of_crate, min(OF_ONE_CRATE, len(of_crate), SAMPLE - len(found)))
+        left = [it for it in left if it[0] != name]
+    return found
+
+
+@dataclass
+class Edits:
+    """The edits of a checkout: which stand in the lock, which are tried, and what came of these."""
+
+    digests: dict
+    recorded: dict
+    chosen: list = field(default_factory=list)
+    answers: list = field(default_factory=list)
+
+    @classmethod
+    def of(cls, top):
+        digests, names = Digests(top, kit.identity()), crates_of(top)
+        return cls({(it, path): digests.edit(it, path) for it in names for path in edits_of(top, it)}, read_lock(top))
+
+    def name(self, edit):
+        return f"{edit[0]}/{edit[1].name}"
+
+    def known(self):
+        return [it for it, digest in self.digests.items() if self.recorded.get(self.name(it)) == digest]
+
+    def unknown(self):
+        known = set(self.known())
+        return [it for it in self.digests if it not in known]
+
+    def choose(self, every=False, seed=None):
+        self.chosen = list(self.digests) if every else self.unknown() + (drawn(self.known(), seed) if seed is not None else [])
+
+    def refused(self):
+        return [it.name for it in self.answers if it.is_refused]
+
+    def failed(self):
+        return [it for it in self.answers if not it.is_refused]
+
+    def counts(self):
+        """How many are refused, now or by the lock, and how many aren't."""
+        now = {self.name(it) for it in self.chosen}
+        earlier = [it for it in self.known() if self.name(it) not in now]
+        return len(earlier) + len(self.refused()), len(self.failed())
+
+    def record(self, top):
+        """Writes what stands in the lock and what was refused now, and nothing of an edit that is gone or wasn't refused."""
+        by_name = {self.name(it): digest for it, digest in self.digests.items()}
+        kept = {self.name(it): self.digests[it] for it in self.known()}
+        for it in self.answers:
+            kept.pop(it.name, None)
+        write_lock(top, kept | {it: by_name[it] for it in self.refused()})
+
+
+def try_over(copy, edits, log):
+    """Tries the chosen edits over a copy of the tree whose libraries are built."""
+    if not edits.chosen:
+        return
+    rt = kit.load()
+    rt.rtlib.guarded()
+    crates = {it.name: it for it in rt.rtlib.crates_below(str(copy))}
+    chosen = {}
+    for name, path in edits.chosen:
+        chosen.setdefault(name, []).append(path)
+    log.parent.mkdir(parents=True, exist_ok=True)
+    with log.open("w") as kept:
+
+        def tell(found):
+            for it in found:
+                print(f"{it.name}: {it.text}", file=kept, flush=True)
+                if not it.is_refused:
+                    print(f"edit {it.name}: {it.text}", flush=True)
+
+        edits.answers = tried(rt, [(crates[it], paths) for it, paths in chosen.items()], tell)
+
+
+def told(edits, seconds):
+    refused, failed = edits.counts()
+    lines = [f"edits: {refused} refused, of these {len(edits.refused())} tried now in {seconds:.0f} s"]
+    return lines + [f"edit {it.name}: NOT REFUSED: {it.text}" for it in edits.failed()] + ([f"edits not refused: {failed}"] if failed else [])
+
+
+def main():
+    words = argparse.ArgumentParser(description="Tries must-fail edits, and records which were refused.")
+    words.add_argument("--every", action="store_true", help="all edits, also those that must-fail.lock has")
+    words = words.parse_args()
+    if not kit.is_known():
+        sys.exit(f"this reads what {kit.KNOWN} says, and here is {kit.identity()}: look through verification/batches.py first")
+    edits = Edits.of(TOP)
+    edits.choose(every=words.every)
+    crates = crates_of(TOP)
+    wanted = {it for name, _ in edits.chosen for it in [*below(crates, name), name]}
+    with copied(TOP, wanted) as copy:
+        libraries = prove(copy, LOG.with_name("proofs.log")) if wanted else None
+        if libraries and libraries.failed:
+            print(*libraries.failures, sep="\n")
+            return 1
+        began = time.monotonic()
+        try_over(copy, edits, LOG)
+    edits.record(TOP)
+    print(*told(edits, time.monotonic() - began), sep="\n")
+    return 1 if edits.failed() else 0
+
+
+if __name__ == "__main__":
+    sys.exit(main())

@@ -1,0 +1,93 @@
+"""Proves crates by the kit's `rt ci`, and shows a line for each."""
+
+import os
+import re
+import subprocess
+import sys
+import time
+from dataclasses import dataclass, field
+
+from tree import TOP, crates_of, has_tests
+from watch import Watch
+
+# The kit's `rt ci`, with its work handed out in another order, and as it is.
+LANES, PLAIN = [sys.executable, str(TOP / "verification" / "lanes.py"), "ci"], ["rt", "ci"]
+COUNT = re.compile(r"(\d+) passed, (\d+) failed")
+# What `rt` says of one crate.
+SAID = re.compile(r"rt: (\w+)(: its tests are)? (proved|NOT PROVED|is kept)")
+# How many lines of a failed run are shown again.
+LAST = 12
+
+
+@dataclass
+class Proofs:
+    """What a run of the prover came to."""
+
+    passed: int = 0
+    failed: int = 0
+    seconds: float = 0
+    processor: float = 0
+    # The crates that an earlier run on this machine proved as they are.
+    kept: int = 0
+    # The edits of the copy that were refused.
+    edits: int = 0
+    times: list = field(default_factory=list)
+    failures: list = field(default_factory=list)
+
+    def told(self):
+        lines = [f"proofs: {self.passed - self.edits} crates passed in {self.seconds:.0f} s, {self.processor:.0f} s of processors"]
+        return lines + ([f"from this machine's store: {self.kept} crates"] if self.kept else [])
+
+
+class Progress:
+    """One line for each proof, as it ends."""
+
+    def __init__(self, top):
+        crates = crates_of(top)
+        with_tests = [it for it in crates if has_tests(top / "crates" / it)]
+        self.all, self.done = len(crates) + len(with_tests), 0
+        self.kept, self.failed = [], []
+
+    def take(self, line, watch):
+        said = SAID.match(line)
+        if not said:
+            return
+        self.done += 1
+        name, of_tests, came = said.groups()
+        if came == "is kept":
+            self.kept.append(name)
+            return
+        seconds, _ = watch.took(name, "tests" if of_tests else "proof")
+        what = f"the tests of {name}" if of_tests else name
+        bad = "" if came == "proved" else " NOT PROVED"
+        self.failed += [what] if bad else []
+        print(f"[{self.done} of {self.all}] {what} {seconds:.0f} s{bad}", flush=True)
+
+
+def prove(copy, log, anew=False, by=LANES):
+    """Proves, builds and runs all crates of this copy of the tree, and tries the edits that it has. The kit's own lines go
+    into the log."""
+    words = [*by, *(["--anew"] if anew else [])]
+    began, progress, lines = time.monotonic(), Progress(copy), []
+    log.parent.mkdir(parents=True, exist_ok=True)
+    how = {"cwd": copy, "stdin": subprocess.DEVNULL, "stdout": subprocess.PIPE, "stderr": subprocess.STDOUT}
+    with log.open("w") as kept, subprocess.Popen(words, text=True, errors="replace", **how) as run:
+        watch = Watch(run.pid)
+        for line in run.stdout:
+            kept.write(line)
+            kept.flush()
+            lines.append(line.rstrip())
+            progress.take(line, watch)
+    watch.end()
+    came = Proofs(seconds=time.monotonic() - began, processor=watch.processor(), kept=len(progress.kept))
+    count = COUNT.fullmatch(lines[-1]) if lines else None
+    came.passed, came.failed = (int(count[1]), int(count[2])) if count else (0, 1)
+    if run.returncode and not came.failed:
+        came.failed = 1
+    refused = re.search(r"must-fail edits: (\d+) refused", lines[-2]) if len(lines) > 1 else None
+    came.edits = int(refused[1]) if refused else 0
+    came.times = [f"  {it.crate} {it.what}: {it.seconds:.0f} s, {it.processor:.0f} of processors" for it in watch.works.values()]
+    if came.failed:
+        shown = [it for it in lines if re.search(r"NOT PROVED|FAILED|: error", it)][-LAST:] or lines[-LAST:]
+        came.failures = [*shown, f"the whole log: {os.path.relpath(log)}"]
+    return came

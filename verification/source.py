@@ -1,0 +1,91 @@
+"""Where an edit lies in the source of its crate, and how the prover names the function there."""
+
+import re
+from dataclasses import dataclass
+
+HEAD = re.compile(r"^(\s*)(?:pub(?:\([a-z]+\))? )?(?:const )?(?:unsafe )?fn (\w+)")
+IMPL = re.compile(r"^(?:pub )?(?:impl|trait)\b(.*)")
+
+
+@dataclass(frozen=True)
+class Function:
+    """A function of a source file, by its first and last line, and the head of the impl that it stands in."""
+
+    path: str
+    name: str
+    first: int
+    last: int
+    of: str
+
+
+def functions_in(text, path):
+    """A file's functions. In the layout of `rt fmt` each ends at the first brace that stands where its head begins."""
+    lines, found, of = text.split("\n"), [], ""
+    for first, line in enumerate(lines):
+        if IMPL.match(line):
+            of = IMPL.match(line)[1]
+        elif line == "}":
+            of = ""
+        head = HEAD.match(line)
+        if head:
+            is_short = line.endswith("}") and line.count("{") == line.count("}")
+            ends = [at for at in range(first, len(lines)) if lines[at] == head[1] + "}"]
+            last = first if is_short or not ends else ends[0]
+            # The prover places an error of the whole function at its first attribute.
+            while re.match(r"\s*(#\[|///)", lines[first - 1]):
+                first -= 1
+            found.append(Function(path, head[2], first + 1, last + 1, of))
+    return found
+
+
+def replacements(edit):
+    """What an edit replaces: the file, the old text and the new one, in order."""
+    path, old, found = "", "", []
+    for line in edit.read_text().split("\n"):
+        if line.startswith("file: "):
+            path = line.removeprefix("file: ").strip()
+        elif line.startswith("old: "):
+            old = line.removeprefix("old: ")
+        elif line.startswith("new:"):
+            found.append((path, old, line.removeprefix("new:").removeprefix(" ")))
+    return found
+
+
+def function_of(folder, edit):
+    """The one function that an edit lies in, or None. Lines keep their numbers, since each text is one line."""
+    found = set()
+    for path, old, _ in replacements(edit):
+        text = (folder / path).read_text()
+        if not path.endswith(".rt") or text.count(old) != 1:
+            return None
+        line = text[: text.index(old)].count("\n") + 1
+        inside = [it for it in functions_in(text, path) if it.first < line <= it.last]
+        found.add(max(inside, key=lambda it: it.first, default=None))
+    return found.pop() if len(found) == 1 else None
+
+
+def named(function, crate, names):
+    """The one of these names by which the prover calls the function, or None where several fit or none."""
+    parts = function.path.removeprefix("src/").removesuffix(".rt").split("/")
+    module = "::".join([crate, *(it for it in parts if it not in ("lib", "main", "mod"))])
+    fits = [it for it in names if re.fullmatch(rf"{re.escape(module)}::(\w+::)?{function.name}", it)]
+    if not function.of and f"{module}::{function.name}" in fits:
+        return f"{module}::{function.name}"
+    if len(fits) > 1:
+        words = re.findall(r"\w+", function.of)
+        # A method of a trait is called by the type and the trait, in one word.
+        whole = "".join(reversed(words[:1] + words[-1:]))
+        fits = [it for it in fits if it.split("::")[-2] in (*words, whole)]
+    return fits[0] if len(fits) == 1 else None
+
+
+def together(folder, edits):
+    """The texts with all these edits, by their path in the crate, or None where one doesn't apply beside the others."""
+    texts = {}
+    for edit in edits:
+        for path, old, new in replacements(edit):
+            text = texts.get(path) or (folder / path).read_text()
+            if text.count(old) != 1:
+                return None
+            texts[path] = text.replace(old, new)
+    return texts
