@@ -27,8 +27,8 @@ class Proofs:
     failed: int = 0
     seconds: float = 0
     processor: float = 0
-    # The crates that an earlier run on this machine proved as they are.
-    kept: int = 0
+    # How many proofs, of crates and of their tests, an earlier run on this machine made of the same texts, and of how many.
+    kept: tuple = (0, 0)
     # The edits of the copy that were refused.
     edits: int = 0
     times: list = field(default_factory=list)
@@ -36,7 +36,7 @@ class Proofs:
 
     def told(self):
         lines = [f"proofs: {self.passed - self.edits} crates passed in {self.seconds:.0f} s, {self.processor:.0f} s of processors"]
-        return lines + ([f"from this machine's store: {self.kept} crates"] if self.kept else [])
+        return lines + (["from this machine's store: {} of {} proofs".format(*self.kept)] if self.kept[0] else [])
 
 
 class Progress:
@@ -46,7 +46,7 @@ class Progress:
         crates = crates_of(top)
         with_tests = [it for it in crates if has_tests(top / "crates" / it)]
         self.all, self.done = len(crates) + len(with_tests), 0
-        self.kept, self.failed = [], []
+        self.failed = []
 
     def take(self, line, watch):
         said = SAID.match(line)
@@ -55,7 +55,6 @@ class Progress:
         self.done += 1
         name, of_tests, came = said.groups()
         if came == "is kept":
-            self.kept.append(name)
             return
         seconds, _ = watch.took(name, "tests" if of_tests else "proof")
         what = f"the tests of {name}" if of_tests else name
@@ -79,14 +78,17 @@ def prove(copy, log, anew=False, by=LANES):
             lines.append(line.rstrip())
             progress.take(line, watch)
     watch.end()
-    came = Proofs(seconds=time.monotonic() - began, processor=watch.processor(), kept=len(progress.kept))
+    came = Proofs(seconds=time.monotonic() - began, processor=watch.processor())
     count = COUNT.fullmatch(lines[-1]) if lines else None
     came.passed, came.failed = (int(count[1]), int(count[2])) if count else (0, 1)
     if run.returncode and not came.failed:
         came.failed = 1
-    refused = re.search(r"must-fail edits: (\d+) refused", lines[-2]) if len(lines) > 1 else None
-    came.edits = int(refused[1]) if refused else 0
-    came.times = [f"  {it.crate} {it.what}: {it.seconds:.0f} s, {it.processor:.0f} of processors" for it in watch.works.values()]
+    total = lines[-2] if len(lines) > 1 else ""
+    if refused := re.search(r"must-fail edits: (\d+) refused", total):
+        came.edits = int(refused[1])
+    if done := re.search(r"done in this run: (\d+) of the (\d+) proofs", total):
+        came.kept = int(done[2]) - int(done[1]), int(done[2])
+    came.times = sorted(f"{it.crate} {it.what} {it.processor:.0f}" for it in watch.works.values())
     if came.failed:
         shown = [it for it in lines if re.search(r"NOT PROVED|FAILED|: error", it)][-LAST:] or lines[-LAST:]
         came.failures = [*shown, f"the whole log: {os.path.relpath(log)}"]
