@@ -37,6 +37,7 @@ sys.path.insert(0, str(TOP / "tests"))
 
 import segment_file as layout  # noqa: E402
 from preload import library  # noqa: E402
+from try_crates import trial  # noqa: E402
 
 STORES = 200
 
@@ -59,7 +60,7 @@ def allocations(program, folder, stores):
     """How many allocations a run of so many stores makes."""
     count = folder / "count"
     env = {"LD_PRELOAD": library("allocations"), "ALLOCATIONS_COUNT": str(count)}
-    subprocess.run([program, folder / f"stores{stores}", str(stores)], env=env, check=True, stdout=subprocess.DEVNULL)
+    subprocess.run([*program, folder / f"stores{stores}", str(stores)], env=env, check=True, stdout=subprocess.DEVNULL)
     return int(count.read_text())
 
 
@@ -76,13 +77,13 @@ def seconds(*line, stdin=b"", tries=5):
 
 def worlds():
     """Events a second of the world, devices included, and how much of the time copies of the longest values take."""
-    program = str(TOP / "crates" / "bench_world" / "out" / "bench_world")
+    program = trial("bench-world")
     print(f"\n{'events of a world, values of 8 bytes':<44} {'a second':>12} {'10 x more':>12}   of 4,080 bytes: a second, in copying")
     for segments, rounds in ((1, 20_000), (4, 4_000), (16, 500)):
-        idle, _ = seconds(program, str(segments), "0", "8")
+        idle, _ = seconds(*program, str(segments), "0", "8")
         rates, times = [], []
         for more, length in ((1, 8), (10, 8), (10, 4_080)):
-            took, printed = seconds(program, str(segments), str(more * rounds), str(length))
+            took, printed = seconds(*program, str(segments), str(more * rounds), str(length))
             times.append(took - idle)
             rates.append(int(printed) / (took - idle))
         share = 1 - times[1] / times[2]
@@ -158,12 +159,9 @@ def looks():
         print(f"  {segments:>2} segments{'':<7}" + "".join(f"{looks_beside(segments, it):>30}" for it in schedules))
 
 
-RESTART = str(TOP / "crates" / "bench_restart" / "out" / "bench_restart")
-
-
 def pairs(work, folder, rounds):
     """The nanoseconds of both things that a round times."""
-    run = subprocess.run([RESTART, work, folder, str(rounds)], check=True, stdout=subprocess.PIPE, text=True)
+    run = subprocess.run([*trial("bench-restart", work), folder, str(rounds)], check=True, stdout=subprocess.PIPE, text=True)
     return [tuple(map(int, line.split())) for line in run.stdout.splitlines()]
 
 
@@ -185,9 +183,6 @@ def durable(folder):
     print(f"{'16 files: sync and read, and open_all':<44} {bare:>9,.2f} ms {whole:>9,.2f} ms   {more:.2f} ms more   (aim 10)")
 
 
-MEMORY = str(TOP / "crates" / "bench_memory" / "out" / "bench_memory")
-
-
 def worked(*line):
     """How many seconds the processor worked for one run, whatever else the machine did."""
     before = resource.getrusage(resource.RUSAGE_CHILDREN)
@@ -199,12 +194,13 @@ def worked(*line):
 def memory_ratio(label, limit, baseline, work, segments, rounds, length, tries=7):
     """Times a round of both programs: the least time of some rounds, without that of none. The runs alternate."""
     least = {}
+    memory = tuple(trial("bench-memory"))
     for _ in range(tries):
-        for program in (MEMORY, baseline):
+        for program in (memory, (baseline,)):
             for count in (0, rounds):
-                took = worked(program, work, str(segments), "0", str(count), str(length))
+                took = worked(*program, work, str(segments), "0", str(count), str(length))
                 least[program, count] = min(took, least.get((program, count), took))
-    mine, bare = ((least[it, rounds] - least[it, 0]) / rounds * 1e9 for it in (MEMORY, baseline))
+    mine, bare = ((least[it, rounds] - least[it, 0]) / rounds * 1e9 for it in (memory, (baseline,)))
     label = f"{label}, {segments} x {length:,} bytes"
     print(f"{label:<44} {mine:>9,.1f} ns {bare:>9,.1f} ns   {mine / bare:.3f}   (aim {limit})")
 
@@ -227,15 +223,15 @@ def memories(folder):
             memory_ratio(label, 1.5, baseline, work, segments, rounds, length)
     rates = []
     for writers in ("0", "1", "15"):
-        idle, _ = seconds(MEMORY, "scan", "16", writers, "0", "8")
-        took, _ = seconds(MEMORY, "scan", "16", writers, "30000", "8")
+        idle, _ = seconds(*trial("bench-memory", "scan"), "16", writers, "0", "8")
+        took, _ = seconds(*trial("bench-memory", "scan"), "16", writers, "30000", "8")
         rates.append(f"{30_000 / (took - idle):>12,.0f}")
     print(f"{'scans a second beside 0, 1 and 15 writers':<44} {' '.join(rates)}")
 
 
 def largest_memory():
     """The kB resident of a memory for 16 segments and 16 scanners. Whether they are within the aim once its buffers were used."""
-    run = subprocess.Popen([MEMORY, "fill", "16", "0", "0", "4080"], stdin=subprocess.PIPE, stdout=subprocess.PIPE)
+    run = subprocess.Popen(trial("bench-memory", "fill", 16, 0, 0, 4080), stdin=subprocess.PIPE, stdout=subprocess.PIPE)
     run.stdout.readline()
     before, most = resident(run), resident(run, "VmHWM:")
     run.stdin.write(b"\n")
@@ -247,15 +243,12 @@ def largest_memory():
     return run.returncode == 0 and used <= 45_000
 
 
-SERVICE = str(TOP / "crates" / "bench_service" / "out" / "bench_service")
-
-
 def service_round(work, segments, rounds, length, tries=5):
     """How many seconds the processor works for a round: the least time of some rounds, without that of none."""
     least = {}
     for _ in range(tries):
         for count in (0, rounds):
-            took = worked(SERVICE, work, str(segments), str(count), str(length))
+            took = worked(*trial("bench-service", work, segments, count, length))
             least[count] = min(took, least.get(count, took))
     return (least[rounds] - least[0]) / rounds
 
@@ -283,7 +276,7 @@ def main():
     with tempfile.TemporaryDirectory(prefix="bench-", dir=words.folder or TOP) as folder:
         folder = pathlib.Path(folder)
         timer, baseline = compiled(folder, "timer"), compiled(folder, "baseline")
-        snapd, many = TOP / "bin" / "snapd", TOP / "crates" / "bench_store" / "out" / "bench_store"
+        snapd, many = TOP / "bin" / "snapd", trial("bench-store")
         file, value, fresh, used, empty = (folder / name for name in ("F", "value", "fresh", "used", "empty"))
         value.write_bytes(b"v" * 1_000)
         empty.write_bytes(b"")
@@ -302,14 +295,14 @@ def main():
             timer,
             max(5, words.runs // 5),
             empty,
-            [many, file, str(STORES)],
+            [*many, file, str(STORES)],
             [baseline, "store", file, str(STORES)],
             file,
             value,
         )
         old = [baseline, "old", file, str(STORES)]
         for label, limit, program in [
-            (f"{STORES} stores, beside the old format in C", 0.7, [many, file, str(STORES)]),
+            (f"{STORES} stores, beside the old format in C", 0.7, [*many, file, str(STORES)]),
             (f"{STORES} stores in C, beside the old format", 0.667, [baseline, "store", file, str(STORES)]),
         ]:
             ratio(label, limit, timer, max(5, words.runs // 5), empty, program, old, file, value)

@@ -1,25 +1,21 @@
 """Each allocation of an opening of all files is refused in turn: `NoMemory`, no file is changed, and the same files open
-afterwards. Updates, closing, meetings and scans ask for none. The program `restart_allocations` does them and prints what came
-of it; the end-to-end tests want it built (`make programs`)."""
+afterwards. Updates, closing, meetings and scans ask for none. `try_crates restart-allocations` does them and prints what
+came of it; the end-to-end tests want it built (`make programs`)."""
 
 import os
-import pathlib
 import subprocess
 
 from preload import library
-from program import Skipped
+from try_crates import trial
 from waiting import PATIENCE
 
-PROGRAM = pathlib.Path(__file__).resolve().parent.parent / "crates" / "restart_allocations" / "out" / "restart_allocations"
 STEPS = ("made", "opened", "updated", "closed", "reopened", "scanned")
 FILES = 3
 
 
 def run(step, **env):
-    if not PROGRAM.is_file():
-        raise Skipped(f"{PROGRAM.name} isn't built")
     more = {"LD_PRELOAD": library("allocations"), **env}
-    done = subprocess.run([PROGRAM, step], env={**os.environ, **more}, capture_output=True, timeout=PATIENCE)
+    done = subprocess.run(trial("restart-allocations", step), env={**os.environ, **more}, capture_output=True, timeout=PATIENCE)
     return done.returncode, done.stdout.decode()
 
 

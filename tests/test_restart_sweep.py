@@ -1,12 +1,14 @@
-"""The table of faults and stops of an opening, and of random bytes, that the program `restart_sweep` prints is the one that an independent model prints."""
+"""The table of faults and stops of an opening, and of random bytes, that `try_crates restart-sweep` prints is the one that an independent model prints."""
 
 import pathlib
 import subprocess
 import sys
+
+from try_crates import stored
 
 TOP = pathlib.Path(__file__).resolve().parent.parent
 
 
 def test_the_oracle_prints_the_stored_table(_, __):
     oracle = subprocess.run([sys.executable, TOP / "tests" / "oracle" / "restart_sweep.py"], capture_output=True, check=True)
-    assert oracle.stdout == (TOP / "crates" / "restart_sweep" / "stdout").read_bytes()
+    assert oracle.stdout.decode() == stored("restart-sweep")

@@ -1,4 +1,4 @@
-"""The server's loop over real sockets, with nothing behind it: `server_trial` answers an update by its number once a store
+"""The server's loop over real sockets, with nothing behind it: `try_crates server` answers an update by its number once a store
 has rested over it, and everything else at once by 0. The end-to-end tests want it built (`make programs`)."""
 
 import os
@@ -10,11 +10,9 @@ import subprocess
 import time
 
 from preload import Accepts
-from program import Skipped
 from serving import frame, limited, open_files, received, refused, reset, stored, to_its_end
+from try_crates import trial
 from waiting import PATIENCE, comes_to
-
-PROGRAM = pathlib.Path(__file__).resolve().parent.parent / "crates" / "server_trial" / "out" / "server_trial"
 
 
 def update(segment=0, number=1):
@@ -31,9 +29,7 @@ class Trial:
     """A server that runs until so many connections have ended, or without end."""
 
     def __init__(self, workers, micros=0, connections=None, descriptors=None, env=None):
-        if not PROGRAM.is_file():
-            raise Skipped(f"{PROGRAM.name} isn't built")
-        words = [str(PROGRAM), str(workers), str(micros)] + ([] if connections is None else [str(connections)])
+        words = trial("server", workers, micros, *([] if connections is None else [connections]))
         words = words if descriptors is None else limited(descriptors, words)
         self.process = subprocess.Popen(
             words, stdout=subprocess.PIPE, stderr=subprocess.PIPE, env={**os.environ, **(env or {})}

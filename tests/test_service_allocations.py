@@ -1,26 +1,22 @@
 """Each allocation of a node's answers is refused in turn: a scan and a status are refused `NoMemory`, and updates ask for none.
-The program `bench_service` makes the requests and prints the last reply; the end-to-end tests want it built (`make programs`)."""
+`try_crates bench-service` makes the requests and prints the last reply; the end-to-end tests want it built (`make programs`)."""
 
 import os
-import pathlib
 import subprocess
 
 from preload import library
-from program import Skipped
+from try_crates import trial
 from waiting import PATIENCE
 
-PROGRAM = pathlib.Path(__file__).resolve().parent.parent / "crates" / "bench_service" / "out" / "bench_service"
 SEGMENTS = 3
 
 
 def run(work, rounds, **env):
     """What a run over three segments with values of 40 bytes prints."""
-    if not PROGRAM.is_file():
-        raise Skipped(f"{PROGRAM.name} isn't built")
-    line = [PROGRAM, work, str(SEGMENTS), str(rounds), "40"]
+    words = trial("bench-service", work, SEGMENTS, rounds, 40)
     more = {"LD_PRELOAD": library("allocations"), **env}
     env = {**os.environ, **more}
-    return subprocess.run(line, env=env, check=True, stdout=subprocess.PIPE, text=True, timeout=PATIENCE).stdout
+    return subprocess.run(words, env=env, check=True, stdout=subprocess.PIPE, text=True, timeout=PATIENCE).stdout
 
 
 def count(folder, work, rounds):

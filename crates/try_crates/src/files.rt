@@ -1,0 +1,78 @@
+//! New files, and openings of them all.
+ghost use Rattle.std.specs.Prelude.{◌≡◌, ◌<◌, ◌≤◌, length, IfOk};
+ghost use Rattle.snap_restart.specs.Closed.{AreBack};
+
+use snap_disk::{Disk, FILE_LEN, MemDisk, Refusal};
+use snap_restart::{Report, Stopped, Store, open_all};
+use snap_segment::format;
+use std::alloc::Global;
+use std::io;
+use std::io::ErrorKind;
+
+/// The device as the new file of this segment of so many.
+pub(crate) fn formatted<D: Disk + Drop>(disk: D, index: u8, count: u8) -> io::Result<D> {
+    let mut disk = disk;
+    if index >= count || count > 16 || disk.failures() != 0 {
+        return Err(io::Error::other("no such segment"));
+    }
+    match format(&mut disk, index, count) {
+        Ok(()) => Ok(disk),
+        Err(_) => Err(io::Error::other("a formatting was refused")),
+    }
+}
+
+/// The same in memory.
+pub(crate) fn new_memory(alloc: Global, index: u8, count: u8) -> io::Result<MemDisk> {
+    formatted(MemDisk::zeroed(alloc, FILE_LEN as usize)?, index, count)
+}
+
+/// The new files of so many segments, in memory.
+pub(crate) fn new_memories(alloc: Global, count: u8) -> io::Result<Vec<MemDisk>> {
+    let mut devices = Vec::new(alloc);
+    for index in 0..count {
+        devices.push(new_memory(alloc, index, count)?)?;
+    }
+    Ok(devices)
+}
+
+/// Opens all files for so many scanners.
+pub(crate) fn try_open_all<D: Disk + Drop>(
+    alloc: Global,
+    devices: Vec<D>,
+    scanners: usize,
+) -> io::Result<Result<(Store<D>, Report), Stopped<D>>>
+    requires scanners { (0 < scanners) × (scanners ≤ 16) }
+    ensures back { IfOk result (λ r. IfOk r (λ s.
+        AreBack s.0.writers.items s.0.scanners.items)) }
+{
+    if devices.is_empty()
+        || devices.len() > 16
+        || !devices.iter().all(|d| d.failures() < u64::MAX)
+    {
+        return Err(io::Error::other("the devices aren't those of all files"));
+    }
+    Ok(open_all(alloc, devices, scanners))
+}
+
+/// The same, where nothing is to refuse it.
+pub(crate) fn opened_all<D: Disk + Drop>(
+    alloc: Global,
+    devices: Vec<D>,
+    scanners: usize,
+) -> io::Result<Store<D>>
+    requires scanners { (0 < scanners) × (scanners ≤ 16) }
+    ensures back { IfOk result (λ s. AreBack s.writers.items s.scanners.items) }
+{
+    match try_open_all(alloc, devices, scanners)? {
+        Ok((store, _)) => Ok(store),
+        Err(_) => Err(io::Error::other("an opening was refused")),
+    }
+}
+
+/// The refusal as an error of the program.
+pub(crate) fn as_io(why: Refusal) -> io::Error {
+    match why {
+        Refusal::NoMemory => ErrorKind::OutOfMemory.into(),
+        _ => ErrorKind::InvalidData.into(),
+    }
+}

@@ -1,0 +1,105 @@
+//! What tests and benchmarks run beside `snapd`, in one program: its first word says which.
+//!
+//!     try_crates segment-sweep
+//!     try_crates restart-sweep
+//!     try_crates restart-threads
+//!     try_crates restart-allocations STEP
+//!     try_crates server WORKERS MICROS [CONNECTIONS]
+//!     try_crates bench-store FILE COUNT
+//!     try_crates bench-world SEGMENTS ROUNDS LENGTH
+//!     try_crates bench-memory WORK SEGMENTS WRITERS ROUNDS LENGTH
+//!     try_crates bench-restart WORK FOLDER ROUNDS
+//!     try_crates bench-service WORK SEGMENTS ROUNDS LENGTH
+//!
+//! What each of them does stands at the head of its module.
+//!
+//!     try_crates all
+//!
+//! runs each of them in turn, the long ones for a few rounds, behind a line `== WORDS`.
+#![tactic(auto)]
+
+mod allocations;
+mod bench;
+mod files;
+mod server;
+mod sweeps;
+mod threads;
+
+use std::net::Net;
+use std::rt::Clock;
+use std::sync::Wait;
+use std::thread::Threads;
+use std::{env, io};
+
+/// The words of each run of `all`.
+const RUNS: [&str; 10] = [
+    "segment-sweep",
+    "restart-sweep",
+    "restart-threads",
+    "restart-allocations scanned",
+    "server 2 0 0",
+    "bench-store F 100",
+    "bench-world 2 3 8",
+    "bench-memory scan 3 2 50 8",
+    "bench-restart memory . 0",
+    "bench-service scan 3 2 8",
+];
+
+/// Does what the first word asks for, by the words behind it. `host` is the same runtime with the leave
+/// to start threads and to wait.
+fn run<X: Threads + Wait + Clock + Net + Sync>(
+    host: &X,
+    rt: &HostRuntime,
+    words: &[&str],
+) -> io::Result<()> {
+    let [name, words @ ..] = words else {
+        return Err(unknown());
+    };
+    match *name {
+        "segment-sweep" => sweeps::sweep_segment(rt),
+        "restart-sweep" => sweeps::sweep_restart(rt),
+        "restart-threads" => threads::crash_often(host, rt),
+        "restart-allocations" => allocations::allocate(rt, words),
+        "server" => server::serve(host, rt, words),
+        name => bench::measure(host, rt, name, words),
+    }
+}
+
+/// There is nothing of that name.
+pub(crate) fn unknown() -> io::Error {
+    io::Error::other(
+        "wanted: segment-sweep, restart-sweep, restart-threads, restart-allocations, server, \
+        bench-store, bench-world, bench-memory, bench-restart, bench-service or all",
+    )
+}
+
+/// One run of `all`, behind its heading.
+fn run_line<X: Threads + Wait + Clock + Net + Sync>(
+    host: &X,
+    rt: &HostRuntime,
+    line: &str,
+) -> io::Result<()> {
+    println!(rt; "== {line}")?;
+    let words: Vec<&str> = line.split(' ').collect(rt.alloc())?;
+    run(host, rt, words.as_slice())
+}
+
+fn run_all<X: Threads + Wait + Clock + Net + Sync>(host: &X, rt: &HostRuntime) -> io::Result<()> {
+    for line in RUNS {
+        run_line(host, rt, line)?;
+    }
+    Ok(())
+}
+
+fn main(rt: HostRuntime) -> io::Result<()> {
+    let words: Vec<String> = env::args(&rt)?.collect(rt.alloc())?;
+    let words: Vec<&str> = words
+        .iter()
+        .skip(1)
+        .map(|word| word.as_str())
+        .collect(rt.alloc())?;
+    match words.as_slice() {
+        ["all"] => run_all(&rt, &rt),
+        words => run(&rt, &rt, words),
+    }
+}
