@@ -1,6 +1,0 @@
-//! The tests of `snap_session`, in a crate of their own: tests are proved together with their crate, which
-//! would prove all of it a second time.
-#![tactic(auto)]
-
-#[cfg(test)]
-mod tests;
