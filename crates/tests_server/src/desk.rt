@@ -1,15 +1,15 @@
 //! What a desk answers while its stores work, fail or are held, and which writers come back.
-ghost use Rattle.snap_restart.specs.Closed.{AreBack};
-
 mod course;
 mod seats;
 
-use course::{Course, SCAN};
+use crate::frames::{
+    CONFLICT, EMPTY, FAILED, FENCED, HI, NO_SEGMENT, OUT_OF_STEP, Pair, REPEAT, SCAN, SNAPSHOT_HI,
+    STATUS, STATUS_HI, STORED_0, STORED_1, halves, joined,
+};
+use crate::stores::{failing, new_files, open};
+use course::Course;
 use seats::{Seen, run_store};
-use snap_disk::{Disk, FaultPlan, Fill, Held, MemDisk};
-use snap_restart::{Store, open_all};
-use snap_segment::format;
-use snap_slot::FILE_LEN;
+use snap_disk::Held;
 use std::alloc::Global;
 use std::process::Abort;
 use std::rt::Clock;
@@ -21,56 +21,22 @@ use std::thread::Threads;
 /// How long a held store waits: so many turns of yielding.
 const TURNS: u64 = 1_000_000;
 
-const HI: &[u8] = &[0, 0, 0, 12, 1, 0, 0, 0, 0, 0, 0, 0, 0, 1, 0x68, 0x69];
-
-const STATUS: &[u8] = &[0, 0, 0, 1, 3];
-
-const STORED_0: &[u8] = &[0, 0, 0, 9, 0x81, 0, 0, 0, 0, 0, 0, 0, 0];
-
-const STORED_1: &[u8] = &[0, 0, 0, 9, 0x81, 0, 0, 0, 0, 0, 0, 0, 1];
-
-const EMPTY: &[u8] = &[
-    0, 0, 0, 26, 0x82, 2, 0, 0, 0, 0, 0, 0, 0, 0, 0, 0, 0, 0, 0, 0, 0, 0, 0, 0, 0, 0, 0, 0, 0, 0,
-];
-
-const SNAPSHOT_HI: &[u8] = &[
-    0, 0, 0, 28, 0x82, 2, 0, 0, 0, 0, 0, 0, 0, 1, 0, 0, 0, 2, 0x68, 0x69, 0, 0, 0, 0, 0, 0, 0, 0,
-    0, 0, 0, 0,
-];
-
-/// The new file of one of two segments.
-fn new_file(alloc: Global, index: u8) -> Result<MemDisk, Fail> {
-    let mut disk = MemDisk::zeroed(alloc, FILE_LEN as usize)?;
-    format(&mut disk, index.min(1), 2)?;
-    Ok(disk)
-}
-
-/// The same as a device whose stores may begin once the flag is set. The first one may fail.
-fn held(
-    rt: &(impl Abort + AllocGlobal),
-    index: u8,
+/// Two new files as devices whose stores may begin once the flag is set. The first one's may fail.
+fn held_files(
+    alloc: Global,
     fails: bool,
     flag: &Arc<AtomicU64, Global>,
-) -> Result<Held, Fail> {
-    let mut disk = new_file(rt.alloc(), index)?;
-    if fails {
-        let mut plan = FaultPlan::new(rt.alloc());
-        // An opening makes two calls, and the last sync is a store's fourth.
-        plan.fail_call(disk.calls().saturating_add(6), Fill::Keep)?;
-        disk.set_plan(plan);
+) -> Result<Vec<Held>, Fail> {
+    let mut devices = Vec::new(alloc);
+    for (index, disk) in new_files(alloc, 2)?.into_iter().enumerate() {
+        let disk = if fails && index == 0 {
+            failing(alloc, disk)?
+        } else {
+            disk
+        };
+        devices.push(Held::new(disk, Arc::try_clone(flag)?, TURNS))?;
     }
-    Ok(Held::new(disk, Arc::try_clone(flag)?, TURNS))
-}
-
-/// The store over these two devices.
-fn open<D: Disk + Drop>(rt: &(impl Abort + AllocGlobal), devices: Vec<D>) -> Store<D>
-    ensures { AreBack result.writers.items result.scanners.items }
-{
-    assert!(rt; devices.len() == 2 && devices.iter().all(|disk| disk.failures() < 9));
-    match open_all(rt.alloc(), devices, 1) {
-        Ok((store, _)) => store,
-        Err(_) => panic!(rt; "not opened"),
-    }
+    Ok(devices)
 }
 
 /// A desk over two new files does the work. The first one's store may fail.
@@ -82,91 +48,94 @@ fn run(
     is_set: u64,
 ) -> Result<Seen, Fail> {
     let flag = Arc::new(rt.alloc(), AtomicU64::new(is_set))?;
-    let mut devices = Vec::new(rt.alloc());
-    devices.push(held(rt, 0, fails, &flag)?)?;
-    devices.push(held(rt, 1, false, &flag)?)?;
+    let devices = held_files(rt.alloc(), fails, &flag)?;
     let store = open(rt, devices);
     Ok(run_store(rt, rt.alloc(), store, (course, bytes, &flag))?)
 }
 
-/// The frames, one behind the other.
-fn frames(rt: &impl AllocGlobal, frames: &[&[u8]]) -> Result<Vec<u8>, Fail> {
-    let mut all = Vec::new(rt.alloc());
-    for frame in frames {
-        all.extend_from_slice(*frame)?;
-    }
-    Ok(all)
+/// Whether the peers were sent these bytes, and both writers came back, with these numbers.
+fn is_seen(seen: &Seen, written: &[u8], numbers: [u64; 2]) -> bool {
+    seen.written.as_slice() == written && seen.numbers.as_slice() == numbers.as_slice()
 }
 
-/// Whether the peers were sent these frames, and both writers came back, with these numbers.
-fn is_seen(
-    rt: &impl AllocGlobal,
-    seen: &Seen,
-    replies: &[&[u8]],
-    numbers: &[u64],
+/// Whether a desk answers one peer's requests by the replies, and both writers come back, with these
+/// numbers. The first one's store may fail.
+fn is_talk(
+    rt: &(impl Abort + AllocGlobal + Threads + Wait + Clock + Sync + Send + Copy),
+    talk: &[Pair<'_>],
+    fails: bool,
+    numbers: [u64; 2],
 ) -> Result<bool, Fail> {
-    let wanted = frames(rt, replies)?;
-    Ok(seen.written == wanted && seen.numbers.as_slice() == numbers)
+    let (asked, replies) = halves(rt.alloc(), talk)?;
+    let seen = run(rt, Course::Talk, asked.as_slice(), fails, 1)?;
+    Ok(is_seen(&seen, replies.as_slice(), numbers))
 }
+
+const IN_ORDER: [Pair<'static>; 7] = [
+    (HI, STORED_1),
+    (HI, STORED_1),
+    CONFLICT,
+    OUT_OF_STEP,
+    NO_SEGMENT,
+    (SCAN, SNAPSHOT_HI),
+    STATUS_HI,
+];
 
 #[test]
 fn vectors_in_order(rt: HostRuntime) -> Result<(), Fail> {
-    let conflict: &[u8] = &[0, 0, 0, 11, 1, 0, 0, 0, 0, 0, 0, 0, 0, 1, 0x68];
-    let step: &[u8] = &[0, 0, 0, 10, 1, 0, 0, 0, 0, 0, 0, 0, 0, 3];
-    let third: &[u8] = &[0, 0, 0, 10, 1, 2, 0, 0, 0, 0, 0, 0, 0, 1];
-    let asked = frames(&rt, &[HI, HI, conflict, step, third, SCAN, STATUS])?;
-    let seen = run(&rt, Course::Talk, asked.as_slice(), false, 1)?;
-    let replies: [&[u8]; 7] = [
-        STORED_1,
-        STORED_1,
-        &[0, 0, 0, 10, 0xE0, 4, 0, 0, 0, 0, 0, 0, 0, 1],
-        &[0, 0, 0, 10, 0xE0, 5, 0, 0, 0, 0, 0, 0, 0, 1],
-        &[0, 0, 0, 10, 0xE0, 2, 0, 0, 0, 0, 0, 0, 0, 2],
-        SNAPSHOT_HI,
-        &[
-            0, 0, 0, 20, 0x83, 2, 0, 0, 0, 0, 0, 0, 0, 1, 0, 0, 0, 0, 0, 0, 0, 0, 0, 0,
-        ],
-    ];
-    assert!(rt; is_seen(&rt, &seen, &replies, &[1, 0])?);
+    assert!(rt; is_talk(&rt, &IN_ORDER, false, [1, 0])?);
     Ok(())
 }
 
-#[test]
-fn fault_fences_the_segment(rt: HostRuntime) -> Result<(), Fail> {
-    let repeat: &[u8] = &[0, 0, 0, 10, 1, 0, 0, 0, 0, 0, 0, 0, 0, 0];
-    let asked = frames(&rt, &[HI, SCAN, HI, repeat, STATUS])?;
-    let seen = run(&rt, Course::Talk, asked.as_slice(), true, 1)?;
-    let replies: [&[u8]; 5] = [
-        &[0, 0, 0, 10, 0xE0, 13, 0, 0, 0, 0, 0, 0, 0, 0],
-        EMPTY,
-        &[0, 0, 0, 10, 0xE0, 6, 0, 0, 0, 0, 0, 0, 0, 0],
-        STORED_0,
+/// What is said while the first segment's first store fails, and behind it.
+const FAULT: [Pair<'static>; 5] = [
+    (HI, FAILED),
+    (SCAN, EMPTY),
+    (HI, FENCED),
+    (REPEAT, STORED_0),
+    (
+        STATUS,
         &[
             0, 0, 0, 20, 0x83, 2, 0, 0, 0, 0, 0, 0, 0, 0, 1, 0, 0, 0, 0, 0, 0, 0, 0, 0,
         ],
-    ];
-    assert!(rt; is_seen(&rt, &seen, &replies, &[0, 0])?);
+    ),
+];
+
+#[test]
+fn fault_fences_the_segment(rt: HostRuntime) -> Result<(), Fail> {
+    assert!(rt; is_talk(&rt, &FAULT, true, [0, 0])?);
     Ok(())
+}
+
+/// Whether a course with the update sends the peers these frames, and the writers come back. The
+/// first store may begin if the flag is set. What the flag is at the end.
+fn course_of_update(
+    rt: &(impl Abort + AllocGlobal + Threads + Wait + Clock + Sync + Send + Copy),
+    course: Course,
+    is_set: u64,
+    replies: &[&[u8]],
+) -> Result<(bool, u64), Fail> {
+    let seen = run(rt, course, HI, false, is_set)?;
+    let wanted = joined(rt.alloc(), replies)?;
+    Ok((is_seen(&seen, wanted.as_slice(), [1, 0]), seen.flag))
 }
 
 #[test]
 fn scan_passes_a_held_store(rt: HostRuntime) -> Result<(), Fail> {
-    let seen = run(&rt, Course::Held, HI, false, 0)?;
-    assert!(rt; is_seen(&rt, &seen, &[EMPTY, STORED_1, SNAPSHOT_HI], &[1, 0])?);
-    assert!(rt; seen.flag == 1);
+    let replies = [EMPTY, STORED_1, SNAPSHOT_HI];
+    assert!(rt; course_of_update(&rt, Course::Held, 0, &replies)? == (true, 1));
     Ok(())
 }
 
 #[test]
 fn writer_goes_home_from_a_peer_that_is_gone(rt: HostRuntime) -> Result<(), Fail> {
-    let seen = run(&rt, Course::Gone, HI, false, 1)?;
-    assert!(rt; is_seen(&rt, &seen, &[STORED_1, SNAPSHOT_HI], &[1, 0])?);
+    let replies = [STORED_1, SNAPSHOT_HI];
+    assert!(rt; course_of_update(&rt, Course::Gone, 1, &replies)?.0);
     Ok(())
 }
 
 #[test]
 fn writer_goes_home_from_a_worker_that_left(rt: HostRuntime) -> Result<(), Fail> {
-    let seen = run(&rt, Course::Left, HI, false, 1)?;
-    assert!(rt; is_seen(&rt, &seen, &[], &[1, 0])?);
+    assert!(rt; course_of_update(&rt, Course::Left, 1, &[])?.0);
     Ok(())
 }

@@ -6,8 +6,12 @@
 #[cfg(test)]
 mod desk;
 #[cfg(test)]
+mod frames;
+#[cfg(test)]
 mod patience;
 #[cfg(test)]
 mod server;
 #[cfg(test)]
 mod service;
+#[cfg(test)]
+mod stores;

@@ -4,16 +4,19 @@ ghost use Rattle.snap_frame.specs.Messages.{payload, max_payload};
 ghost use Rattle.snap_restart.specs.Closed.{AreBack};
 ghost use Rattle.snap_service.specs.Memory.{AreWriters, IsOf};
 
+use crate::frames::{
+    CONFLICT, FAILED, FENCED, HI, NO_SEGMENT, OUT_OF_STEP, Pair, REPEAT, SCAN, SNAPSHOT_HI, STATUS,
+    STATUS_HI, STORED_0, STORED_1, halves,
+};
+use crate::stores::{failing, new_files, open};
 use bytes::Bytes;
 use snap_client::{Client, ClientFault};
-use snap_disk::{Disk, FaultPlan, Fill, MemDisk};
+use snap_disk::MemDisk;
 use snap_frame::{Reply, Request};
 use snap_memory::{Scanner, Snapshot};
-use snap_restart::{Store, open_all};
-use snap_segment::format;
+use snap_restart::Store;
 use snap_service::{Memory, Node, Shared};
 use snap_session::{End, serve};
-use snap_slot::FILE_LEN;
 use snap_stream::TestStream;
 use snap_writer::Writer;
 use std::alloc::{AllocError, Global};
@@ -22,17 +25,6 @@ use std::mem;
 use std::process::Abort;
 use std::sync::Wait;
 use std::test::Fail;
-
-/// The new files of so many segments.
-fn fresh(rt: &(impl Abort + AllocGlobal), count: u8) -> Result<Vec<MemDisk>, Fail> {
-    let mut devices = Vec::new(rt.alloc());
-    for index in 0..count.min(16) {
-        let mut disk = MemDisk::zeroed(rt.alloc(), FILE_LEN as usize)?;
-        format(&mut disk, index, count.min(16))?;
-        devices.push(disk)?;
-    }
-    Ok(devices)
-}
 
 /// A stream that never fails.
 fn stream(bytes: Vec<u8>) -> TestStream {
@@ -83,18 +75,6 @@ fn serve_store<R: Wait>(
     }
 }
 
-/// The store over these devices.
-fn open<D: Disk + Drop>(rt: &(impl Abort + AllocGlobal), devices: Vec<D>) -> Store<D>
-    ensures { AreBack result.writers.items result.scanners.items }
-{
-    assert!(rt; !devices.is_empty() && devices.len() <= 16);
-    assert!(rt; devices.iter().all(|disk| disk.failures() < 9));
-    match open_all(rt.alloc(), devices, 1) {
-        Ok((store, _)) => store,
-        Err(_) => panic!(rt; "not opened"),
-    }
-}
-
 /// The same with a node over these files.
 fn serve_files(
     rt: &(impl Abort + AllocGlobal + Wait),
@@ -105,24 +85,14 @@ fn serve_files(
     Ok(serve_store(rt, rt.alloc(), store, input)?)
 }
 
-/// The requests' frames, or those of their replies.
-fn frames(alloc: Global, talk: &[(&[u8], &[u8])], replies: bool) -> Result<Vec<u8>, AllocError> {
-    let mut all = Vec::new(alloc);
-    for (request, reply) in talk {
-        all.extend_from_slice(if replies { *reply } else { *request })?;
-    }
-    Ok(all)
-}
-
 /// Whether a node over these files answers the requests by the replies, and ends so.
 fn is_talk(
     rt: &(impl Abort + AllocGlobal + Wait),
     devices: Vec<MemDisk>,
-    talk: &[(&[u8], &[u8])],
+    talk: &[Pair<'_>],
     end: End,
 ) -> Result<bool, Fail> {
-    let input = frames(rt.alloc(), talk, false)?;
-    let wanted = frames(rt.alloc(), talk, true)?;
+    let (input, wanted) = halves(rt.alloc(), talk)?;
     let (ended, written) = serve_files(rt, devices, &input)?;
     Ok(ended == end && written == wanted)
 }
@@ -137,49 +107,23 @@ fn long_update(alloc: Global, len: u16) -> Result<Vec<u8>, AllocError> {
     Ok(frame)
 }
 
-const HI: &[u8] = &[0, 0, 0, 12, 1, 0, 0, 0, 0, 0, 0, 0, 0, 1, 0x68, 0x69];
-
-const STORED_1: &[u8] = &[0, 0, 0, 9, 0x81, 0, 0, 0, 0, 0, 0, 0, 1];
-
-const SCAN: &[u8] = &[0, 0, 0, 1, 2];
-
-const STATUS: &[u8] = &[0, 0, 0, 1, 3];
-
 const MALFORMED: &[u8] = &[0, 0, 0, 10, 0xE0, 1, 0, 0, 0, 0, 0, 0, 0, 0];
-
-const SNAPSHOT_HI: &[u8] = &[
-    0, 0, 0, 28, 0x82, 2, 0, 0, 0, 0, 0, 0, 0, 1, 0, 0, 0, 2, 0x68, 0x69, 0, 0, 0, 0, 0, 0, 0, 0,
-    0, 0, 0, 0,
-];
-
-const STATUS_1: &[u8] = &[
-    0, 0, 0, 20, 0x83, 2, 0, 0, 0, 0, 0, 0, 0, 1, 0, 0, 0, 0, 0, 0, 0, 0, 0, 0,
-];
 
 #[test]
 fn vectors_in_order(rt: HostRuntime) -> Result<(), Fail> {
     let long = long_update(rt.alloc(), 4081)?;
-    let talk: [(&[u8], &[u8]); 11] = [
+    let talk: [Pair<'_>; 11] = [
         (HI, STORED_1),
         (HI, STORED_1),
-        (
-            &[0, 0, 0, 11, 1, 0, 0, 0, 0, 0, 0, 0, 0, 1, 0x68],
-            &[0, 0, 0, 10, 0xE0, 4, 0, 0, 0, 0, 0, 0, 0, 1],
-        ),
-        (
-            &[0, 0, 0, 10, 1, 0, 0, 0, 0, 0, 0, 0, 0, 3],
-            &[0, 0, 0, 10, 0xE0, 5, 0, 0, 0, 0, 0, 0, 0, 1],
-        ),
-        (
-            &[0, 0, 0, 10, 1, 2, 0, 0, 0, 0, 0, 0, 0, 1],
-            &[0, 0, 0, 10, 0xE0, 2, 0, 0, 0, 0, 0, 0, 0, 2],
-        ),
+        CONFLICT,
+        OUT_OF_STEP,
+        NO_SEGMENT,
         (
             long.as_slice(),
             &[0, 0, 0, 10, 0xE0, 3, 0, 0, 0, 0, 0, 0, 0x0F, 0xF1],
         ),
         (SCAN, SNAPSHOT_HI),
-        (STATUS, STATUS_1),
+        STATUS_HI,
         (&[0, 0, 0, 2, 3, 0], MALFORMED),
         (&[0, 0, 0, 0], MALFORMED),
         (
@@ -187,34 +131,33 @@ fn vectors_in_order(rt: HostRuntime) -> Result<(), Fail> {
             &[0, 0, 0, 10, 0xE0, 15, 0, 0, 0, 0, 0, 1, 1, 0xD0],
         ),
     ];
-    assert!(rt; is_talk(&rt, fresh(&rt, 2)?, &talk, End::TooLarge)?);
+    assert!(rt; is_talk(&rt, new_files(rt.alloc(), 2)?, &talk, End::TooLarge)?);
     Ok(())
 }
 
+/// What is said while the only segment's first store fails, and behind it.
+const FAULT: [Pair<'static>; 6] = [
+    (HI, FAILED),
+    (
+        SCAN,
+        &[0, 0, 0, 14, 0x82, 1, 0, 0, 0, 0, 0, 0, 0, 0, 0, 0, 0, 0],
+    ),
+    (HI, FENCED),
+    (REPEAT, STORED_0),
+    (
+        &[0, 0, 0, 12, 1, 0, 0, 0, 0, 0, 0, 0, 0, 5, 0x68, 0x69],
+        &[0, 0, 0, 10, 0xE0, 5, 0, 0, 0, 0, 0, 0, 0, 0],
+    ),
+    (STATUS, &[0, 0, 0, 11, 0x83, 1, 0, 0, 0, 0, 0, 0, 0, 0, 1]),
+];
+
 #[test]
 fn fault_fences_the_segment(rt: HostRuntime) -> Result<(), Fail> {
-    let mut devices = fresh(&rt, 1)?;
-    assert!(rt; devices.len() == 1);
-    let mut plan = FaultPlan::new(rt.alloc());
-    // An opening makes two calls, and the last sync is a store's fourth.
-    plan.fail_call(devices[0].calls().saturating_add(6), Fill::Keep)?;
-    devices[0].set_plan(plan);
-    let nothing: &[u8] = &[0, 0, 0, 14, 0x82, 1, 0, 0, 0, 0, 0, 0, 0, 0, 0, 0, 0, 0];
-    let talk: [(&[u8], &[u8]); 6] = [
-        (HI, &[0, 0, 0, 10, 0xE0, 13, 0, 0, 0, 0, 0, 0, 0, 0]),
-        (SCAN, nothing),
-        (HI, &[0, 0, 0, 10, 0xE0, 6, 0, 0, 0, 0, 0, 0, 0, 0]),
-        (
-            &[0, 0, 0, 10, 1, 0, 0, 0, 0, 0, 0, 0, 0, 0],
-            &[0, 0, 0, 9, 0x81, 0, 0, 0, 0, 0, 0, 0, 0],
-        ),
-        (
-            &[0, 0, 0, 12, 1, 0, 0, 0, 0, 0, 0, 0, 0, 5, 0x68, 0x69],
-            &[0, 0, 0, 10, 0xE0, 5, 0, 0, 0, 0, 0, 0, 0, 0],
-        ),
-        (STATUS, &[0, 0, 0, 11, 0x83, 1, 0, 0, 0, 0, 0, 0, 0, 0, 1]),
-    ];
-    assert!(rt; is_talk(&rt, devices, &talk, End::Closed)?);
+    let mut devices = Vec::new(rt.alloc());
+    for disk in new_files(rt.alloc(), 1)? {
+        devices.push(failing(rt.alloc(), disk)?)?;
+    }
+    assert!(rt; is_talk(&rt, devices, &FAULT, End::Closed)?);
     Ok(())
 }
 
@@ -240,9 +183,9 @@ fn call_node(
     let (asked, fault) = call(rt.alloc(), request, Vec::new(rt.alloc()));
     assert!(rt; fault == Err(ClientFault::Ended));
     let mut input = Vec::from_slice(rt.alloc(), before)?;
-    let (_, skipped) = serve_files(rt, fresh(rt, 2)?, before)?;
+    let (_, skipped) = serve_files(rt, new_files(rt.alloc(), 2)?, before)?;
     input.extend_from_slice(&asked)?;
-    let (_, written) = serve_files(rt, fresh(rt, 2)?, &input)?;
+    let (_, written) = serve_files(rt, new_files(rt.alloc(), 2)?, &input)?;
     let mut replies = Vec::new(rt.alloc());
     for byte in written.iter().skip(skipped.len()) {
         replies.push(*byte)?;

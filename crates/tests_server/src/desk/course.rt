@@ -1,4 +1,5 @@
 //! What a desk's worker is asked while its stores work beside it.
+use crate::frames::SCAN;
 use crossbeam_channel::Receiver;
 use snap_desk::{Desk, Told};
 use snap_disk::Held;
@@ -9,8 +10,6 @@ use std::rt::Clock;
 use std::sync::Wait;
 use std::sync::atomic::{AtomicU64, Ordering};
 use std::thread::yield_now;
-
-pub(crate) const SCAN: &[u8] = &[0, 0, 0, 1, 2];
 
 /// What the peers of a worker do.
 #[derive(Clone, Copy)]
