@@ -3,69 +3,88 @@ mod server;
 
 use snap_order::{FileOrder, Migration, Order};
 use snap_words::{WordFault, order};
-use std::process::Abort;
+use std::alloc::Global;
 use std::test::Fail;
 
-/// These words are this order.
-fn is_order(
-    rt: &(impl Abort + AllocGlobal),
-    words: &[&str],
-    wanted: Order<'_>,
-) -> Result<(), Fail> {
-    assert_eq!(rt; order(rt.alloc(), words)?, wanted);
-    Ok(())
+/// Whether these words are this order.
+fn is_order(alloc: Global, words: &[&str], wanted: &Order<'_>) -> bool {
+    match order(alloc, words) {
+        Ok(given) => given == *wanted,
+        Err(_) => false,
+    }
 }
 
+/// Words of commands on one file.
+const FILE_ORDERS: [(&[&str], FileOrder<'static>); 5] = [
+    (
+        &["snapd", "format", "F"],
+        FileOrder::Format {
+            file: "F",
+            index: 0,
+            count: 1,
+        },
+    ),
+    (
+        &["snapd", "put", "F"],
+        FileOrder::Put {
+            file: "F",
+            index: 0,
+            count: 1,
+        },
+    ),
+    (
+        &["snapd", "get", "F"],
+        FileOrder::Get {
+            file: "F",
+            index: 0,
+            count: 1,
+        },
+    ),
+    (&["snapd", "check", "F"], FileOrder::Check { file: "F" }),
+    (
+        &["snapd", "put", "--count=16", "G", "--index", "15"],
+        FileOrder::Put {
+            file: "G",
+            index: 15,
+            count: 16,
+        },
+    ),
+];
+
 #[test]
-fn orders_have_defaults(rt: HostRuntime) -> Result<(), Fail> {
-    let (file, index, count) = ("F", 0, 1);
-    for (command, wanted) in [
-        ("format", FileOrder::Format { file, index, count }),
-        ("put", FileOrder::Put { file, index, count }),
-        ("get", FileOrder::Get { file, index, count }),
-        ("check", FileOrder::Check { file }),
-    ] {
-        is_order(&rt, &["snapd", command, "F"], Order::File(wanted))?;
+fn orders_have_defaults(rt: HostRuntime) {
+    for (words, wanted) in FILE_ORDERS {
+        assert!(rt;
+            is_order(rt.alloc(), words, &Order::File(wanted)),
+            "{words:?}"
+        );
     }
-    is_order(&rt, &["snapd", "script"], Order::Script)?;
-    let (old, new) = ("F", "G");
-    let wanted = Migration {
-        old,
-        new,
-        index,
-        count,
-    };
-    let words = ["snapd", "migrate", "F", "G"];
-    is_order(&rt, &words, Order::Migrate(wanted))?;
-    let wanted = FileOrder::Put {
-        file: "G",
-        index: 15,
-        count: 16,
-    };
-    let words = ["snapd", "put", "--count=16", "G", "--index", "15"];
-    is_order(&rt, &words, Order::File(wanted))
+    assert!(rt; is_order(rt.alloc(), &["snapd", "script"], &Order::Script));
+    let wanted = Order::Migrate(Migration {
+        old: "F",
+        new: "G",
+        index: 0,
+        count: 1,
+    });
+    assert!(rt; is_order(rt.alloc(), &["snapd", "migrate", "F", "G"], &wanted));
 }
 
 /// The text of what is wrong in these words, and whether they ask for help.
-fn fault(rt: &impl AllocGlobal, words: &[&str]) -> Result<(bool, String), Fail> {
-    match order(rt.alloc(), words) {
-        Ok(_) => Ok((false, String::new(rt.alloc()))),
+fn fault(alloc: Global, words: &[&str]) -> Result<(bool, String), Fail> {
+    match order(alloc, words) {
+        Ok(_) => Ok((false, String::new(alloc))),
         Err(why) => {
             let is_help = matches!(why, WordFault::Help(_));
-            Ok((is_help, why.to_string(rt.alloc())?))
+            Ok((is_help, why.to_string(alloc)?))
         }
     }
 }
 
-/// These last words of a `get` are wrong, for a reason whose text begins so.
-fn is_wrong(rt: &(impl Abort + AllocGlobal), last: &str, begins: &str) -> Result<(), Fail> {
-    let (_, text) = fault(rt, &["snapd", "get", "F", last])?;
-    assert!(rt; text.starts_with(begins), "{last}");
-    assert!(rt;
-        text.contains("For more information, try '--help'."),
-        "{last}"
-    );
-    Ok(())
+/// Whether these words of a command are wrong, for a reason whose text begins so.
+fn is_wrong(alloc: Global, words: &[&str], begins: &str) -> Result<bool, Fail> {
+    let (is_help, text) = fault(alloc, words)?;
+    let has_end = text.contains("For more information, try '--help'.");
+    Ok(!is_help && text.starts_with(begins) && has_end)
 }
 
 #[test]
@@ -81,28 +100,29 @@ fn faults_of_words_say_what_is_wrong(rt: HostRuntime) -> Result<(), Fail> {
         ("--index=x", "error: invalid value 'x' for '--index <I>'"),
         ("G", "error: unexpected argument 'G' found"),
     ] {
-        is_wrong(&rt, last, begins)?;
+        let is = is_wrong(rt.alloc(), &["snapd", "get", "F", last], begins)?;
+        assert!(rt; is, "{last}");
     }
     Ok(())
 }
 
-/// The command's help says this, and has an example.
-fn is_helped(rt: &(impl Abort + AllocGlobal), command: &str, says: &str) -> Result<(), Fail> {
-    let (is_help, text) = fault(rt, &["snapd", command, "--help"])?;
-    assert!(rt; is_help, "{command}");
-    assert!(rt; text.contains(says), "{command}");
-    assert!(rt; text.contains("\nExample"), "{command}");
-    Ok(())
+/// Whether the command's help says this, and has an example.
+fn is_helped(alloc: Global, command: &str, says: &str) -> Result<bool, Fail> {
+    let (is_help, text) = fault(alloc, &["snapd", command, "--help"])?;
+    Ok(is_help && text.contains(says) && text.contains("\nExample"))
 }
 
 #[test]
 fn help_is_no_fault(rt: HostRuntime) -> Result<(), Fail> {
-    for command in ["format", "put", "get", "check"] {
-        is_helped(&rt, command, "<FILE>  The path of the segment's file")?;
+    let file = "<FILE>  The path of the segment's file";
+    for (command, says) in [
+        ("format", file),
+        ("put", file),
+        ("get", file),
+        ("check", file),
+        ("migrate", "<OLD>  The path of the file of the old format"),
+    ] {
+        assert!(rt; is_helped(rt.alloc(), command, says)?, "{command}");
     }
-    is_helped(
-        &rt,
-        "migrate",
-        "<OLD>  The path of the file of the old format",
-    )
+    Ok(())
 }

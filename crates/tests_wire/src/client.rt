@@ -3,10 +3,11 @@ ghost use Rattle.std.specs.Prelude.{◌≤◌, length};
 
 mod again;
 
+use crate::streams::{joined, sink, source};
 use bytes::Bytes;
 use snap_client::{Client, ClientFault};
 use snap_disk::Refusal;
-use snap_frame::Reply;
+use snap_frame::{Reply, SegmentStatus, SegmentValue};
 use snap_stream::TestStream;
 use std::alloc::{AllocError, Global};
 use std::test::Fail;
@@ -36,32 +37,11 @@ pub(crate) const TALK: [(&[u8], &[u8]); 3] = [
 /// The refusal of a worn scanner.
 pub(crate) const REFUSED: [u8; 14] = [0, 0, 0, 10, 0xE0, 17, 0, 0, 0, 0, 0, 0, 0, 0];
 
-/// A stream that gives these bytes in pieces of at most `step`, and fails behind `passes` bytes.
-pub(crate) fn stream(
-    alloc: Global,
-    bytes: &[u8],
-    passes: usize,
-    step: usize,
-) -> Result<TestStream, AllocError> {
-    let mut all = Vec::new(alloc);
-    all.extend_from_slice(bytes)?;
-    Ok(TestStream {
-        bytes: all,
-        passed: 0,
-        passes,
-        step,
-    })
-}
+/// What a call gave: the words of its reply, or its fault.
+pub(crate) type Answer = Result<&'static str, ClientFault>;
 
-/// A stream that takes at most `room` bytes, three at once.
-pub(crate) fn sink(alloc: Global, room: usize) -> TestStream {
-    TestStream {
-        bytes: Vec::new(alloc),
-        passed: 0,
-        passes: room,
-        step: 3,
-    }
-}
+/// The words of the replies above.
+const WORDS: [&str; 3] = ["stored 1", "snapshot", "status"];
 
 /// Makes the request of this row.
 fn ask(client: &mut Client<TestStream, TestStream>, which: usize) -> Result<Reply, ClientFault> {
@@ -72,76 +52,135 @@ fn ask(client: &mut Client<TestStream, TestStream>, which: usize) -> Result<Repl
     }
 }
 
-/// Whether this is the answer of this row.
-fn is_answer(which: usize, reply: &Reply) -> bool {
+/// Whether this is the snapshot above.
+fn is_snapshot(values: &[SegmentValue]) -> bool {
+    values.len() == 2
+        && values[0].number == 1
+        && values[0].value.as_slice() == b"hi".as_slice()
+        && values[1].number == 0
+        && values[1].value.is_empty()
+}
+
+/// Whether this is the status above.
+fn is_status(statuses: &[SegmentStatus]) -> bool {
+    statuses.len() == 2
+        && statuses[0].number == 1
+        && !statuses[0].is_fenced
+        && statuses[1].number == 0
+        && !statuses[1].is_fenced
+}
+
+/// The words of a reply of these tests.
+fn words_of(reply: &Reply) -> &'static str {
     match reply {
-        Reply::Stored(number) => which == 0 && *number == 1,
-        Reply::Snapshot(values) => {
-            which == 1
-                && values.len() == 2
-                && values[0].number == 1
-                && values[0].value.as_slice() == b"hi".as_slice()
-                && values[1].number == 0
-                && values[1].value.is_empty()
-        }
-        Reply::Status(statuses) => {
-            which == 2
-                && statuses.len() == 2
-                && statuses[0].number == 1
-                && !statuses[0].is_fenced
-                && statuses[1].number == 0
-                && !statuses[1].is_fenced
-        }
-        Reply::Refused { .. } => false,
+        Reply::Stored(1) => WORDS[0],
+        Reply::Stored(9) => "stored 9",
+        Reply::Snapshot(values) if is_snapshot(values) => WORDS[1],
+        Reply::Status(statuses) if is_status(statuses) => WORDS[2],
+        Reply::Refused {
+            why: Refusal::Worn,
+            detail: 0,
+        } => "worn",
+        _ => "another reply",
     }
 }
 
-/// What two calls answered, how many bytes were read, and what was written.
-#[derive(Drop)]
-struct Talk {
-    first: Result<Reply, ClientFault>,
-    second: Result<Reply, ClientFault>,
-    read: usize,
-    written: Vec<u8>,
+/// The answer in words.
+pub(crate) fn told(answer: &Result<Reply, ClientFault>) -> Answer {
+    match answer {
+        Ok(reply) => Ok(words_of(reply)),
+        Err(fault) => Err(*fault),
+    }
 }
 
-/// Makes the request of this row twice on one connection.
-fn ask_twice(alloc: Global, which: usize, reader: TestStream, writer: TestStream) -> Talk {
-    let mut client = Client::new(alloc, reader, writer);
-    let first = ask(&mut client, which);
-    let second = ask(&mut client, which);
+/// A connection on which the request of a row is made twice.
+#[derive(Clone, Copy)]
+struct Case<'a> {
+    which: usize,
+    request: &'a [u8],
+    /// What comes, in pieces of at most `step` bytes. The reader fails behind `passes` bytes.
+    replies: &'a [u8],
+    passes: usize,
+    step: usize,
+    /// How many bytes the writer takes.
+    room: usize,
+}
+
+/// The request of this row, where these bytes come and no call fails.
+fn whole<'a>(which: usize, request: &'a [u8], replies: &'a [u8]) -> Case<'a> {
+    Case {
+        which,
+        request,
+        replies,
+        passes: usize::MAX,
+        step: 4096,
+        room: usize::MAX,
+    }
+}
+
+/// What two calls gave, how many bytes were read, and how many of the request's were written: `None`
+/// where others were.
+#[derive(Clone, Copy, PartialEq, Eq)]
+struct Given {
+    first: Answer,
+    second: Answer,
+    read: usize,
+    written: Option<usize>,
+}
+
+/// Both calls gave this, so many bytes were read, and so many of the request's were written.
+fn alike(fault: ClientFault, read: usize, written: usize) -> Given {
+    Given {
+        first: Err(fault),
+        second: Err(fault),
+        read,
+        written: Some(written),
+    }
+}
+
+/// Makes the request of the case twice on one connection.
+fn talk(alloc: Global, case: &Case<'_>) -> Result<Given, AllocError> {
+    let reader = source(alloc, case.replies, case.passes, case.step)?;
+    let mut client = Client::new(alloc, reader, sink(alloc, case.room));
+    let first = told(&ask(&mut client, case.which));
+    let second = told(&ask(&mut client, case.which));
     let (reader, writer) = client.into_parts();
-    Talk {
+    let is_part = case.request.starts_with(&writer.bytes);
+    Ok(Given {
         first,
         second,
         read: reader.passed,
-        written: writer.bytes,
+        written: is_part.then_some(writer.bytes.len()),
+    })
+}
+
+/// What two calls give where the writer takes one request, and these first bytes of the answer come.
+fn talk_of_cut(which: usize, request: &[u8], reply: &[u8], cut: usize) -> Given {
+    if cut < reply.len() {
+        return alike(ClientFault::Ended, cut, request.len());
+    }
+    Given {
+        first: Ok(WORDS[which.min(2)]),
+        second: Err(ClientFault::WriteFailed),
+        read: cut,
+        written: Some(request.len()),
     }
 }
 
 #[test]
 fn answers_in_any_pieces(rt: HostRuntime) -> Result<(), Fail> {
-    let alloc = rt.alloc();
     for which in 0..3 {
         let (request, reply) = TALK[which];
         for cut in 0..=reply.len() {
             for step in [1, 7, 4096] {
-                let reader = stream(alloc, &reply[..cut], usize::MAX, step)?;
-                let talk = ask_twice(alloc, which, reader, sink(alloc, request.len()));
-                if cut < reply.len() {
-                    assert_eq!(rt; talk.first, Err(ClientFault::Ended));
-                    assert_eq!(rt; talk.second, Err(ClientFault::Ended));
-                } else {
-                    let is_right = match &talk.first {
-                        Ok(reply) => is_answer(which, reply),
-                        Err(_) => false,
-                    };
-                    assert!(rt; is_right, "request {which} in pieces of {step}");
-                    // The writer is full.
-                    assert_eq!(rt; talk.second, Err(ClientFault::WriteFailed));
-                }
-                assert_eq!(rt; talk.read, cut);
-                assert_eq!(rt; talk.written.as_slice(), request);
+                let case = Case {
+                    step,
+                    room: request.len(),
+                    ..whole(which, request, &reply[..cut])
+                };
+                let wanted = talk_of_cut(which, request, reply, cut);
+                let is = talk(rt.alloc(), &case)? == wanted;
+                assert!(rt; is, "request {which} cut at {cut} in pieces of {step}");
             }
         }
     }
@@ -150,24 +189,30 @@ fn answers_in_any_pieces(rt: HostRuntime) -> Result<(), Fail> {
 
 #[test]
 fn failed_reads_and_writes(rt: HostRuntime) -> Result<(), Fail> {
-    let alloc = rt.alloc();
     for which in 0..3 {
         let (request, reply) = TALK[which];
         for passes in 0..reply.len() {
-            let reader = stream(alloc, reply, passes, 3)?;
-            let talk = ask_twice(alloc, which, reader, sink(alloc, usize::MAX));
-            assert_eq!(rt; talk.first, Err(ClientFault::ReadFailed));
-            assert_eq!(rt; talk.second, Err(ClientFault::ReadFailed));
-            assert_eq!(rt; talk.read, passes);
-            assert_eq!(rt; talk.written.as_slice(), request);
+            let case = Case {
+                passes,
+                step: 3,
+                ..whole(which, request, reply)
+            };
+            let wanted = alike(ClientFault::ReadFailed, passes, request.len());
+            assert!(rt;
+                talk(rt.alloc(), &case)? == wanted,
+                "request {which}, {passes} pass"
+            );
         }
         for room in 0..request.len() {
-            let reader = stream(alloc, reply, usize::MAX, 4096)?;
-            let talk = ask_twice(alloc, which, reader, sink(alloc, room));
-            assert_eq!(rt; talk.first, Err(ClientFault::WriteFailed));
-            assert_eq!(rt; talk.second, Err(ClientFault::WriteFailed));
-            assert_eq!(rt; talk.read, 0);
-            assert_eq!(rt; talk.written.as_slice(), &request[..room]);
+            let case = Case {
+                room,
+                ..whole(which, request, reply)
+            };
+            let wanted = alike(ClientFault::WriteFailed, 0, room);
+            assert!(rt;
+                talk(rt.alloc(), &case)? == wanted,
+                "request {which}, room for {room}"
+            );
         }
     }
     Ok(())
@@ -186,19 +231,17 @@ const BAD_REPLIES: [&[u8]; 7] = [
 
 #[test]
 fn bad_replies(rt: HostRuntime) -> Result<(), Fail> {
-    let alloc = rt.alloc();
+    let update = TALK[0].0;
     for bad in &BAD_REPLIES {
-        let reader = stream(alloc, *bad, usize::MAX, 4096)?;
-        let talk = ask_twice(alloc, 0, reader, sink(alloc, usize::MAX));
-        assert_eq!(rt; talk.first, Err(ClientFault::BadReply));
-        assert_eq!(rt; talk.second, Err(ClientFault::BadReply));
-        assert_eq!(rt; talk.written.as_slice(), TALK[0].0);
+        let talk = talk(rt.alloc(), &whole(0, update, *bad))?;
+        let wanted = alike(ClientFault::BadReply, talk.read, update.len());
+        assert!(rt; talk == wanted, "{bad:?}");
     }
     for asked in 0..3 {
         for answered in 0..3 {
-            let reader = stream(alloc, TALK[answered].1, usize::MAX, 4096)?;
-            let talk = ask_twice(alloc, asked, reader, sink(alloc, usize::MAX));
-            assert_eq!(rt; talk.first.is_ok(), asked == answered);
+            let case = whole(asked, TALK[asked].0, TALK[answered].1);
+            let is_answer = talk(rt.alloc(), &case)?.first.is_ok();
+            assert!(rt; is_answer == (asked == answered), "{answered} for {asked}");
         }
     }
     Ok(())
@@ -207,59 +250,54 @@ fn bad_replies(rt: HostRuntime) -> Result<(), Fail> {
 /// A refusal answers any request, and another number than was sent is handed on.
 #[test]
 fn refusals_and_other_numbers(rt: HostRuntime) -> Result<(), Fail> {
-    let alloc = rt.alloc();
     for which in 0..3 {
-        let reader = stream(alloc, &REFUSED, usize::MAX, 4096)?;
-        let talk = ask_twice(alloc, which, reader, sink(alloc, usize::MAX));
-        let refused = Reply::Refused {
-            why: Refusal::Worn,
-            detail: 0,
-        };
-        assert_eq!(rt; talk.first, Ok(refused));
-        assert_eq!(rt; talk.second, Err(ClientFault::Ended));
+        let talk = talk(rt.alloc(), &whole(which, TALK[which].0, &REFUSED))?;
+        let is = talk.first == Ok("worn") && talk.second == Err(ClientFault::Ended);
+        assert!(rt; is, "request {which}");
     }
     let other = [0, 0, 0, 9, 0x81, 0, 0, 0, 0, 0, 0, 0, 9];
-    let reader = stream(alloc, &other, usize::MAX, 4096)?;
-    let talk = ask_twice(alloc, 0, reader, sink(alloc, usize::MAX));
-    assert_eq!(rt; talk.first, Ok(Reply::Stored(9)));
+    let talk = talk(rt.alloc(), &whole(0, TALK[0].0, &other))?;
+    assert!(rt; talk.first == Ok("stored 9"));
     Ok(())
 }
 
 /// Bytes that came behind a reply are no answer to the next request.
 #[test]
 fn unasked_bytes(rt: HostRuntime) -> Result<(), Fail> {
-    let alloc = rt.alloc();
     let (request, reply) = TALK[0];
-    let mut twice = Vec::new(alloc);
-    twice.extend_from_slice(reply)?;
-    twice.extend_from_slice(reply)?;
-    let reader = stream(alloc, &twice, usize::MAX, 4096)?;
-    let talk = ask_twice(alloc, 0, reader, sink(alloc, usize::MAX));
-    assert_eq!(rt; talk.first, Ok(Reply::Stored(1)));
-    assert_eq!(rt; talk.second, Err(ClientFault::BadReply));
-    assert_eq!(rt; talk.written.as_slice(), request);
-    let reader = stream(alloc, &twice, usize::MAX, reply.len())?;
-    let talk = ask_twice(alloc, 0, reader, sink(alloc, usize::MAX));
-    assert_eq!(rt; talk.second, Ok(Reply::Stored(1)));
+    let twice = joined(rt.alloc(), &[reply, reply])?;
+    let at_once = whole(0, request, &twice);
+    let in_turn = Case {
+        step: reply.len(),
+        ..at_once
+    };
+    let first = talk(rt.alloc(), &at_once)?;
+    let second = talk(rt.alloc(), &in_turn)?;
+    assert!(rt; first.first == Ok("stored 1") && first.second == Err(ClientFault::BadReply));
+    assert!(rt; first.written == Some(request.len()) && second.second == Ok("stored 1"));
     Ok(())
+}
+
+/// Whether these calls were answered, or say that memory was wanting.
+fn is_answer_without_memory(talk: &Given, words: &str) -> bool {
+    match talk.first {
+        Ok(given) => given == words,
+        Err(ClientFault::NoMemory) => talk.second == Err(ClientFault::NoMemory),
+        // The test's writer found no memory.
+        Err(fault) => fault == ClientFault::WriteFailed,
+    }
 }
 
 /// Run with each allocation refused in turn: a client answers, or says that memory was wanting.
 #[test]
 fn client_without_memory(rt: HostRuntime) -> Result<(), Fail> {
-    let alloc = rt.alloc();
     for which in 0..3 {
-        let Ok(reader) = stream(alloc, TALK[which].1, usize::MAX, 7) else {
-            return Ok(());
+        let case = Case {
+            step: 7,
+            ..whole(which, TALK[which].0, TALK[which].1)
         };
-        let talk = ask_twice(alloc, which, reader, sink(alloc, usize::MAX));
-        match &talk.first {
-            Ok(reply) => assert!(rt; is_answer(which, reply)),
-            Err(ClientFault::NoMemory) => {
-                assert_eq!(rt; talk.second, Err(ClientFault::NoMemory));
-            }
-            // The test's writer found no memory.
-            Err(fault) => assert_eq!(rt; *fault, ClientFault::WriteFailed),
+        if let Ok(talk) = talk(rt.alloc(), &case) {
+            assert!(rt; is_answer_without_memory(&talk, WORDS[which]));
         }
     }
     Ok(())

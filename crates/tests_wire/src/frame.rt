@@ -4,6 +4,7 @@ ghost use Rattle.snap_frame.specs.Messages.{IsInLimits};
 mod random;
 mod written;
 
+use crate::streams::joined;
 use bytes::{Bytes, BytesMut};
 use snap_disk::Refusal;
 use snap_frame::{
@@ -69,11 +70,16 @@ pub(crate) fn request_answers(
     alloc: Global,
 ) -> Result<Vec<Result<Option<Request>, Refusal>>, AllocError> {
     let mut answers = Vec::new(alloc);
-    answers.push(update(alloc, 0, 1, b"hi")?)?;
-    answers.push(update(alloc, 0, 1, b"hi")?)?;
-    answers.push(update(alloc, 0, 1, b"h")?)?;
-    answers.push(update(alloc, 0, 3, b"")?)?;
-    answers.push(update(alloc, 2, 1, b"")?)?;
+    let updates: [(u8, u64, &[u8]); 5] = [
+        (0, 1, b"hi"),
+        (0, 1, b"hi"),
+        (0, 1, b"h"),
+        (0, 3, b""),
+        (2, 1, b""),
+    ];
+    for (segment, number, value) in updates {
+        answers.push(update(alloc, segment, number, value)?)?;
+    }
     answers.push(Ok(Some(Request::Scan)))?;
     answers.push(Ok(Some(Request::Status)))?;
     answers.push(Err(Refusal::Malformed))?;
@@ -81,26 +87,28 @@ pub(crate) fn request_answers(
     Ok(answers)
 }
 
+/// The snapshot of the frames above.
+fn snapshot(alloc: Global) -> Result<Reply, AllocError> {
+    let mut values = Vec::new(alloc);
+    for (number, value) in [(1, b"hi".as_slice()), (0, b"".as_slice())] {
+        let value = Bytes::copy_from_slice(alloc, value)?;
+        values.push(SegmentValue { number, value })?;
+    }
+    Ok(Reply::Snapshot(values))
+}
+
+/// The status of the frames above.
+fn status(alloc: Global) -> Result<Reply, AllocError> {
+    let mut statuses = Vec::new(alloc);
+    for number in [1, 0] {
+        let is_fenced = false;
+        statuses.push(SegmentStatus { number, is_fenced })?;
+    }
+    Ok(Reply::Status(statuses))
+}
+
 /// The replies of the frames above, in order.
 fn replies(alloc: Global) -> Result<Vec<Reply>, AllocError> {
-    let mut values = Vec::new(alloc);
-    values.push(SegmentValue {
-        number: 1,
-        value: Bytes::copy_from_slice(alloc, b"hi")?,
-    })?;
-    values.push(SegmentValue {
-        number: 0,
-        value: Bytes::new(),
-    })?;
-    let mut statuses = Vec::new(alloc);
-    statuses.push(SegmentStatus {
-        number: 1,
-        is_fenced: false,
-    })?;
-    statuses.push(SegmentStatus {
-        number: 0,
-        is_fenced: false,
-    })?;
     let mut replies = Vec::new(alloc);
     replies.push(Reply::Stored(1))?;
     replies.push(Reply::Stored(1))?;
@@ -112,8 +120,8 @@ fn replies(alloc: Global) -> Result<Vec<Reply>, AllocError> {
     ] {
         replies.push(Reply::Refused { why, detail })?;
     }
-    replies.push(Reply::Snapshot(values))?;
-    replies.push(Reply::Status(statuses))?;
+    replies.push(snapshot(alloc)?)?;
+    replies.push(status(alloc)?)?;
     for (why, detail) in [
         (Refusal::Malformed, 0),
         (Refusal::Malformed, 0),
@@ -138,6 +146,14 @@ pub(crate) fn expect_next(
 /// The feed of replies answers so next.
 fn expect_reply(rt: &impl Abort, feed: &mut ReplyFeed, answer: &Result<Option<Reply>, ReplyFault>) {
     assert_eq!(rt; feed.next(), *answer);
+}
+
+/// Whether the feed of replies gives this one next.
+fn gives(feed: &mut ReplyFeed, reply: &Reply) -> bool {
+    match feed.next() {
+        Ok(Some(given)) => given == *reply,
+        _ => false,
+    }
 }
 
 /// Both are the same bytes.
@@ -171,14 +187,14 @@ fn expect_reply_in_bytes(
     rt: &impl Abort,
     feed: &mut ReplyFeed,
     frame: &[u8],
-    answer: &Result<Option<Reply>, ReplyFault>,
+    reply: &Reply,
 ) -> Result<(), Failure> {
     for byte in frame {
         expect_reply(rt, feed, &Ok(None));
         feed.push(&[*byte])?;
         expect(rt, !feed.is_between());
     }
-    expect_reply(rt, feed, answer);
+    expect(rt, gives(feed, reply));
     expect(rt, feed.is_between());
     Ok(())
 }
@@ -201,8 +217,8 @@ fn replies_in_any_pieces(rt: HostRuntime) -> Result<(), Fail> {
     let alloc = rt.alloc();
     let replies = replies(alloc)?;
     let mut feed = ReplyFeed::new(alloc);
-    for (frame, reply) in REPLY_FRAMES.iter().zip(replies) {
-        expect_reply_in_bytes(&rt, &mut feed, *frame, &Ok(Some(reply)))?;
+    for (frame, reply) in REPLY_FRAMES.iter().zip(replies.iter()) {
+        expect_reply_in_bytes(&rt, &mut feed, *frame, reply)?;
     }
     Ok(())
 }
@@ -220,15 +236,6 @@ fn long_value_in_any_pieces(rt: HostRuntime) -> Result<(), Fail> {
     expect_next(&rt, &mut feed, &update(alloc, 1, 1, &[b'v'; 4081])?);
     expect(&rt, feed.is_between());
     Ok(())
-}
-
-/// All requests in one stream.
-fn request_stream(alloc: Global) -> Result<Vec<u8>, AllocError> {
-    let mut stream = Vec::new(alloc);
-    for frame in &REQUEST_FRAMES {
-        stream.extend_from_slice(frame)?;
-    }
-    Ok(stream)
 }
 
 /// The feed takes both pieces in turn, and answers so in all.
@@ -257,7 +264,7 @@ fn expect_of_two(
 #[test]
 fn requests_cut_anywhere(rt: HostRuntime) -> Result<(), Fail> {
     let alloc = rt.alloc();
-    let stream = request_stream(alloc)?;
+    let stream = joined(alloc, &REQUEST_FRAMES)?;
     let answers = request_answers(alloc)?;
     for cut in 0..=stream.len() {
         let (front, back) = stream.split_at(cut);
@@ -320,42 +327,64 @@ fn bad_replies(rt: HostRuntime) -> Result<(), Fail> {
         &[0x84, 0, 0, 0, 0, 0, 0, 0, 1],
     ];
     for payload in bad {
-        let mut feed = ReplyFeed::new(rt.alloc());
-        feed.push(&(payload.len() as u32).to_be_bytes())?;
-        feed.push(payload)?;
-        expect_reply(&rt, &mut feed, &Err(ReplyFault::BadReply));
-        expect(&rt, feed.is_between());
+        is_bad_reply(&rt, rt.alloc(), payload)?;
     }
     Ok(())
+}
+
+/// The payload is refused, and ends nothing.
+fn is_bad_reply(rt: &impl Abort, alloc: Global, payload: &[u8]) -> Result<(), Failure> {
+    let mut feed = ReplyFeed::new(alloc);
+    feed.push(&(payload.len() as u32).to_be_bytes())?;
+    feed.push(payload)?;
+    expect_reply(rt, &mut feed, &Err(ReplyFault::BadReply));
+    expect(rt, feed.is_between());
+    Ok(())
+}
+
+/// The frame is pushed, again where it finds no memory, which changes nothing. Whether the feed has
+/// it.
+fn is_pushed(rt: &impl Abort, feed: &mut Feed, frame: &[u8]) -> bool {
+    if feed.push(frame) != Err(Refusal::NoMemory) {
+        return true;
+    }
+    expect_next(rt, feed, &Ok(None));
+    expect(rt, feed.is_between());
+    feed.push(frame).is_ok()
+}
+
+/// The feed, which has the frame, answers so, or says from then on that it finds no memory. Whether
+/// it goes on.
+fn is_answered(
+    rt: &impl Abort,
+    feed: &mut Feed,
+    frame: &[u8],
+    answer: &Result<Option<Request>, Refusal>,
+) -> bool {
+    let given = feed.next();
+    if given != Err(Refusal::NoMemory) {
+        expect(rt, given == *answer);
+        return true;
+    }
+    expect_next(rt, feed, &Err(Refusal::NoMemory));
+    expect(rt, feed.push(frame) == Err(Refusal::NoMemory));
+    expect(rt, !feed.is_between());
+    false
 }
 
 /// Run with each allocation refused in turn: a push that finds no memory changes nothing and may be
 /// made again, and a feed that couldn't take a frame off says so from then on.
 #[test]
-fn requests_without_memory(rt: HostRuntime) -> Result<(), Fail> {
-    let alloc = rt.alloc();
-    let Ok(answers) = request_answers(alloc) else {
-        return Ok(());
+fn requests_without_memory(rt: HostRuntime) {
+    let Ok(answers) = request_answers(rt.alloc()) else {
+        return;
     };
-    let mut feed = Feed::new(alloc);
-    for (frame, answer) in REQUEST_FRAMES.iter().zip(answers) {
-        if feed.push(*frame) == Err(Refusal::NoMemory) {
-            expect_next(&rt, &mut feed, &Ok(None));
-            expect(&rt, feed.is_between());
-            if feed.push(*frame).is_err() {
-                return Ok(());
-            }
+    let mut feed = Feed::new(rt.alloc());
+    for (frame, answer) in REQUEST_FRAMES.iter().zip(answers.iter()) {
+        if !is_pushed(&rt, &mut feed, *frame) || !is_answered(&rt, &mut feed, *frame, answer) {
+            return;
         }
-        let given = feed.next();
-        if given == Err(Refusal::NoMemory) {
-            expect_next(&rt, &mut feed, &given);
-            expect(&rt, feed.push(*frame) == Err(Refusal::NoMemory));
-            expect(&rt, !feed.is_between());
-            return Ok(());
-        }
-        expect(&rt, given == answer);
     }
-    Ok(())
 }
 
 /// A reply is written as its frame, or the buffer is left as it was.
@@ -372,30 +401,34 @@ fn expect_written_reply(rt: &impl Abort, alloc: Global, reply: &Reply, frame: &[
     }
 }
 
+/// The reply of the frame is read and written again, or memory was wanting: a feed says so from
+/// then on.
+fn expect_reply_of(rt: &impl Abort, alloc: Global, frame: &[u8], reply: &Reply) {
+    let mut feed = ReplyFeed::new(alloc);
+    if feed.push(frame).is_err() {
+        expect(rt, feed.is_between());
+        return;
+    }
+    match feed.next() {
+        Ok(Some(given)) => {
+            expect(rt, given == *reply);
+            expect_written_reply(rt, alloc, &given, frame);
+        }
+        answer => {
+            expect(rt, answer == Err(ReplyFault::Failed(Failure::NoMemory)));
+            expect_reply(rt, &mut feed, &answer);
+        }
+    }
+}
+
 /// Run with each allocation refused in turn: so it is for replies, and one that can't be written
 /// leaves the buffer as it was.
 #[test]
-fn replies_without_memory(rt: HostRuntime) -> Result<(), Fail> {
-    let alloc = rt.alloc();
-    let Ok(replies) = replies(alloc) else {
-        return Ok(());
+fn replies_without_memory(rt: HostRuntime) {
+    let Ok(replies) = replies(rt.alloc()) else {
+        return;
     };
-    for (frame, reply) in REPLY_FRAMES.iter().zip(replies) {
-        let mut feed = ReplyFeed::new(alloc);
-        if feed.push(*frame).is_err() {
-            expect(&rt, feed.is_between());
-            continue;
-        }
-        match feed.next() {
-            Ok(Some(given)) => {
-                expect(&rt, given == reply);
-                expect_written_reply(&rt, alloc, &given, *frame);
-            }
-            answer => {
-                expect(&rt, answer == Err(ReplyFault::Failed(Failure::NoMemory)));
-                expect_reply(&rt, &mut feed, &answer);
-            }
-        }
+    for (frame, reply) in REPLY_FRAMES.iter().zip(replies.iter()) {
+        expect_reply_of(&rt, rt.alloc(), *frame, reply);
     }
-    Ok(())
 }

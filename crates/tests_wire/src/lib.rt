@@ -9,3 +9,5 @@ mod client;
 mod frame;
 #[cfg(test)]
 mod session;
+#[cfg(test)]
+mod streams;

@@ -134,43 +134,60 @@ fn expect_same(
     alloc: Global,
     random: &mut Random,
     stream: &[u8],
-) -> Result<(), Fail> {
-    let mut feed = Feed::new(alloc);
-    let mut plain = PlainParser::new(alloc);
-    let mut piece = Vec::new(alloc);
-    for byte in stream {
-        piece.push(*byte)?;
+) -> Result<(), AllocError> {
+    let mut both = Both::new(alloc);
+    let mut start = 0;
+    for end in 1..=stream.len() {
         if random.byte() > 12 {
             continue;
         }
-        feed.push(&piece)?;
-        if !expect_of_piece(rt, alloc, &mut feed, &mut plain, &piece)? {
+        if !both.expect_of_piece(rt, alloc, &stream[start.min(end)..end])? {
             return Ok(());
         }
-        piece.clear();
+        start = end;
     }
     Ok(())
 }
 
-/// The feed, which has the piece, answers what the plain parser reads in it. Says whether both go
-/// on.
-fn expect_of_piece(
-    rt: &impl Abort,
-    alloc: Global,
-    feed: &mut Feed,
-    plain: &mut PlainParser,
-    piece: &[u8],
-) -> Result<bool, AllocError> {
-    for byte in piece {
-        match plain.take(alloc, *byte)? {
-            Said::Nothing => {}
-            Said::Frame(payload) => expect_next(rt, feed, &answer_to(alloc, &payload)?),
-            Said::TooLarge => {
-                expect_next(rt, feed, &Err(Refusal::TooLarge));
-                return Ok(false);
-            }
+/// A feed and a plain parser that get the same bytes.
+#[derive(Drop)]
+struct Both {
+    feed: Feed,
+    plain: PlainParser,
+}
+
+impl Both {
+    fn new(alloc: Global) -> Both {
+        Both {
+            feed: Feed::new(alloc),
+            plain: PlainParser::new(alloc),
         }
     }
-    expect_next(rt, feed, &Ok(None));
-    Ok(true)
+
+    /// The feed, which gets the piece at once, answers what the plain parser reads in it. Says
+    /// whether both go on.
+    fn expect_of_piece(
+        &mut self,
+        rt: &impl Abort,
+        alloc: Global,
+        piece: &[u8],
+    ) -> Result<bool, AllocError> {
+        if self.feed.push(piece).is_err() {
+            return Err(AllocError);
+        }
+        for byte in piece {
+            match self.plain.take(alloc, *byte)? {
+                Said::Nothing => {}
+                Said::Frame(payload) => {
+                    expect_next(rt, &mut self.feed, &answer_to(alloc, &payload)?);
+                }
+                Said::TooLarge => {
+                    expect_next(rt, &mut self.feed, &Err(Refusal::TooLarge));
+                    return Ok(false);
+                }
+            }
+        }
+        expect_next(rt, &mut self.feed, &Ok(None));
+        Ok(true)
+    }
 }

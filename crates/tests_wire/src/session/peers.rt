@@ -1,8 +1,10 @@
-//! Services that are easily foreseen, and peers whose input is cut and whose output is short.
+//! Services that are easily foreseen, and peers that may make their sessions wait.
 
+use crate::streams::{sink, source};
 use snap_disk::Refusal;
 use snap_frame::{Reply, Request};
 use snap_session::{Service, Session, Turn, proceed};
+use snap_stream::TestStream;
 use std::alloc::{AllocError, Global};
 use std::io;
 use std::io::{Read, Write};
@@ -68,96 +70,31 @@ impl Service for Later {
     }
 }
 
-/// Gives its bytes in pieces, and fails at the read with the given number.
+/// A stream that may say at every other read or write that it would wait.
 #[derive(Drop)]
-pub(crate) struct CutReader {
-    bytes: Vec<u8>,
-    at: usize,
-    piece: usize,
-    reads: usize,
-    pub fails_at: Option<usize>,
+struct Waiting {
+    inner: TestStream,
+    may_wait: bool,
+    waits: bool,
 }
 
-impl CutReader {
-    pub(crate) fn new(alloc: Global, bytes: &[u8], piece: usize) -> Result<CutReader, AllocError> {
-        let mut all = Vec::new(alloc);
-        all.extend_from_slice(bytes)?;
-        Ok(CutReader {
-            bytes: all,
-            at: 0,
-            piece,
-            reads: 0,
-            fails_at: None,
-        })
-    }
-}
-
-impl Read for CutReader {
-    fn read(&mut self, buf: &mut [u8]) -> io::Result<usize> {
-        self.reads = self.reads.wrapping_add(1);
-        if self.fails_at == Some(self.reads) {
-            return Err(io::Error::other("the test's fault"));
-        }
-        let all = self.bytes.as_slice();
-        let left = &all[self.at.min(all.len())..];
-        let n = left.len().min(self.piece).min(buf.len());
-        buf[..n].copy_from_slice(&left[..n]);
-        self.at = self.at.wrapping_add(n);
-        Ok(n)
-    }
-}
-
-/// Takes at most three bytes at once, and no more than it has room for.
-#[derive(Drop)]
-pub(crate) struct ShortWriter {
-    pub bytes: Vec<u8>,
-    room: usize,
-}
-
-impl ShortWriter {
-    pub(crate) fn new(alloc: Global, room: usize) -> ShortWriter {
-        ShortWriter {
-            bytes: Vec::new(alloc),
-            room,
+impl Waiting {
+    fn new(inner: TestStream, may_wait: bool) -> Waiting {
+        Waiting {
+            inner,
+            may_wait,
+            waits: false,
         }
     }
-}
 
-impl Write for ShortWriter {
-    fn write(&mut self, buf: &[u8]) -> io::Result<usize> {
-        let n = self
-            .room
-            .saturating_sub(self.bytes.len())
-            .min(buf.len())
-            .min(3);
-        if n == 0 {
-            return Err(io::Error::other("the test's fault"));
-        }
-        self.bytes.extend_from_slice(&buf[..n])?;
-        Ok(n)
-    }
-
-    fn flush(&mut self) -> io::Result<()> {
-        Ok(())
-    }
-}
-
-/// Says at every other read or write that it would wait.
-#[derive(Drop)]
-pub(crate) struct Waiting<T> {
-    pub inner: T,
-    pub waits: bool,
-}
-
-impl<T> Waiting<T> {
     /// Whether it is to wait this time.
     fn has_to_wait(&mut self) -> bool {
-        self.waits = !self.waits;
+        self.waits = self.may_wait && !self.waits;
         self.waits
     }
 }
 
-impl Read for Waiting<CutReader> {
+impl Read for Waiting {
     fn read(&mut self, buf: &mut [u8]) -> io::Result<usize> {
         if self.has_to_wait() {
             return Err(io::Error::from(io::ErrorKind::WouldBlock));
@@ -166,7 +103,7 @@ impl Read for Waiting<CutReader> {
     }
 }
 
-impl Write for Waiting<ShortWriter> {
+impl Write for Waiting {
     fn write(&mut self, buf: &[u8]) -> io::Result<usize> {
         if self.has_to_wait() {
             return Err(io::Error::from(io::ErrorKind::WouldBlock));
@@ -179,29 +116,58 @@ impl Write for Waiting<ShortWriter> {
     }
 }
 
-/// What stands between a session and its peer: what the peer sends, and what it was sent.
+/// A session, and what stands between it and its peer: what the peer sends, and what it was sent.
 #[derive(Drop)]
-pub(crate) struct Peer<R, W> {
-    pub reader: R,
-    pub writer: W,
+pub(crate) struct Peer {
+    session: Session,
+    reader: Waiting,
+    writer: Waiting,
 }
 
-impl<R: Read, W: Write> Peer<R, W> {
+impl Peer {
+    /// A peer that sends these bytes in such pieces, and may make its session wait at every other
+    /// step.
+    pub(crate) fn new(
+        alloc: Global,
+        bytes: &[u8],
+        piece: usize,
+        may_wait: bool,
+    ) -> Result<Peer, AllocError> {
+        let reader = source(alloc, bytes, usize::MAX, piece)?;
+        Ok(Peer {
+            session: Session::new(alloc),
+            reader: Waiting::new(reader, may_wait),
+            writer: Waiting::new(sink(alloc, usize::MAX), may_wait),
+        })
+    }
+
     /// A turn of its session.
-    pub(crate) fn turn<S: Service>(
-        &mut self,
-        session: &mut Session,
-        service: &mut S,
-        key: usize,
-    ) -> Turn {
+    pub(crate) fn turn<S: Service>(&mut self, service: &mut S, key: usize) -> Turn {
         let mut piece = [0; 4096];
         proceed(
-            session,
+            &mut self.session,
             &mut self.reader,
             &mut self.writer,
             service,
             key,
             &mut piece,
         )
+    }
+
+    /// Whether a request was handed over and nothing was written.
+    pub(crate) fn is_waiting(&self) -> bool {
+        !self.session.is_free() && self.written().is_empty()
+    }
+
+    /// The request that was handed over is finished with this outcome.
+    pub(crate) fn finish(&mut self, outcome: u64) {
+        if self.session.over().is_none() {
+            self.session.finish(&mut Later, outcome);
+        }
+    }
+
+    /// What the peer was sent.
+    pub(crate) fn written(&self) -> &[u8] {
+        self.writer.inner.bytes.as_slice()
     }
 }
