@@ -1,5 +1,6 @@
 //! Servers over loopback, with both ends in one process.
 
+mod beside;
 mod course;
 mod faults;
 mod floods;

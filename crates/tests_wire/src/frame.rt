@@ -335,7 +335,8 @@ fn bad_replies(rt: HostRuntime) -> Result<(), Fail> {
 /// The payload is refused, and ends nothing.
 fn is_bad_reply(rt: &impl Abort, alloc: Global, payload: &[u8]) -> Result<(), Failure> {
     let mut feed = ReplyFeed::new(alloc);
-    feed.push(&(payload.len() as u32).to_be_bytes())?;
+    let len = u32::try_from(payload.len()).unwrap_or(u32::MAX);
+    feed.push(&len.to_be_bytes())?;
     feed.push(payload)?;
     expect_reply(rt, &mut feed, &Err(ReplyFault::BadReply));
     expect(rt, feed.is_between());

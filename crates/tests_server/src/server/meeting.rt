@@ -2,6 +2,7 @@
 
 use super::course::Course;
 use super::{listen, send, serve_behind};
+use crate::frames::SCAN;
 use snap_server::Gate;
 use std::sync::atomic::{AtomicU64, Ordering};
 use std::test::Fail;
@@ -35,8 +36,8 @@ impl Gate for Meeting {
 #[test]
 fn two_workers_answer_at_once(rt: HostRuntime) -> Result<(), Fail> {
     let (tcp, address) = listen(&rt)?;
-    let first = send(&rt, address, b"\x00\x00\x00\x01\x02")?;
-    let second = send(&rt, address, b"\x00\x00\x00\x01\x02")?;
+    let first = send(&rt, address, SCAN)?;
+    let second = send(&rt, address, SCAN)?;
     let meeting = Meeting {
         entered: AtomicU64::new(0),
         met: AtomicU64::new(0),

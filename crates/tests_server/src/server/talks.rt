@@ -1,7 +1,9 @@
 //! Connections that talk with a server.
 
+use super::beside::{Peers, serves};
 use super::course::{Course, Ends};
 use super::{connect, listen, received, send, serve};
+use crate::frames::SCAN;
 use snap_server::Tcp;
 use std::io::{Read, Write};
 use std::net::{Net, Shutdown, SocketAddr, TcpStream};
@@ -12,15 +14,18 @@ use std::thread::Threads;
 use std::time::Duration;
 use std::{io, thread};
 
-/// A scan, and the reply to it.
-pub(crate) const SCAN: &[u8] = b"\x00\x00\x00\x01\x02";
-
+/// The reply to a scan.
 pub(crate) const ZERO: &[u8] = b"\x00\x00\x00\x09\x81\x00\x00\x00\x00\x00\x00\x00\x00";
 
 /// An update of number 5, and the reply to it.
 const UPDATE: &[u8] = b"\x00\x00\x00\x0c\x01\x00\x00\x00\x00\x00\x00\x00\x00\x05hi";
 
 const FIVE: &[u8] = b"\x00\x00\x00\x09\x81\x00\x00\x00\x00\x00\x00\x00\x05";
+
+/// A scan, this update and a scan.
+const THREE: &[u8] = b"\x00\x00\x00\x01\x02\
+\x00\x00\x00\x0c\x01\x00\x00\x00\x00\x00\x00\x00\x00\x05hi\
+\x00\x00\x00\x01\x02";
 
 /// Whether these bytes come next.
 fn gets(mut stream: &TcpStream, wanted: &[u8]) -> io::Result<bool> {
@@ -44,31 +49,39 @@ fn gets_three(rt: &HostRuntime, stream: TcpStream) -> io::Result<bool> {
 #[test]
 fn answers_in_order_inside_the_gate(rt: HostRuntime) -> Result<(), Fail> {
     let (tcp, address) = listen(&rt)?;
-    let mut stream = connect(&rt, address)?;
-    stream.write_all(SCAN)?;
-    stream.write_all(UPDATE)?;
-    stream.write_all(SCAN)?;
-    stream.shutdown(Shutdown::Write)?;
+    let stream = send(&rt, address, THREE)?;
     let course = Course::new();
-    assert!(rt; serve(&rt, &tcp, 1, Some(1), &course) == Ok(1));
-    assert!(rt; course.passed() == (3, 0));
+    assert!(rt; serve(&rt, &tcp, 1, Some(1), &course) == Ok(1) && course.passed() == (3, 0));
     assert!(rt; gets_three(&rt, stream)?);
     Ok(())
+}
+
+/// Five connections that have sent an update each.
+fn five(rt: &HostRuntime, address: SocketAddr) -> io::Result<Vec<TcpStream>> {
+    let mut streams = Vec::new(rt.alloc());
+    for _ in 0..5u64 {
+        streams.push(send(rt, address, UPDATE)?)?;
+    }
+    Ok(streams)
+}
+
+/// Whether each of these connections gets the reply to an update next.
+fn all_get(streams: &[TcpStream]) -> io::Result<bool> {
+    for stream in streams {
+        if !gets(stream, FIVE)? {
+            return Ok(false);
+        }
+    }
+    Ok(true)
 }
 
 #[test]
 fn answers_the_number_of_connections(rt: HostRuntime) -> Result<(), Fail> {
     let (tcp, address) = listen(&rt)?;
     let course = Course::new();
-    let mut streams = Vec::new(rt.alloc());
-    for _ in 0..5u64 {
-        streams.push(send(&rt, address, UPDATE)?)?;
-    }
+    let streams = five(&rt, address)?;
     assert!(rt; serve(&rt, &tcp, 2, Some(5), &course) == Ok(5));
-    assert!(rt; course.ends().closed == 5);
-    for stream in &streams {
-        assert!(rt; gets(stream, FIVE)?);
-    }
+    assert!(rt; course.ends().closed == 5 && all_get(&streams)?);
     Ok(())
 }
 
@@ -91,24 +104,26 @@ fn noted<R: Threads + Wait + Clock + Net + AllocGlobal + Sync>(
 fn notes_each_end(rt: HostRuntime) -> Result<(), Fail> {
     let (tcp, address) = listen(&rt)?;
     let none = Course::new().ends();
-    let stream = send(&rt, address, SCAN)?;
-    assert!(rt; noted(&rt, &tcp, &stream)? == Ends { closed: 1, ..none });
-    let stream = send(&rt, address, b"\x00\x00")?;
-    assert!(rt;
-        noted(&rt, &tcp, &stream)?
-            == Ends {
+    for (bytes, wanted) in [
+        (SCAN, Ends { closed: 1, ..none }),
+        (
+            b"\x00\x00".as_slice(),
+            Ends {
                 truncated: 1,
                 ..none
-            }
-    );
-    let stream = send(&rt, address, b"\x00\x01\x01\xd1")?;
-    assert!(rt;
-        noted(&rt, &tcp, &stream)?
-            == Ends {
+            },
+        ),
+        (
+            b"\x00\x01\x01\xd1".as_slice(),
+            Ends {
                 too_large: 1,
                 ..none
-            }
-    );
+            },
+        ),
+    ] {
+        let stream = send(&rt, address, bytes)?;
+        assert!(rt; noted(&rt, &tcp, &stream)? == wanted, "{bytes:?}");
+    }
     Ok(())
 }
 
@@ -134,33 +149,23 @@ fn drips(rt: &HostRuntime, mut stream: &TcpStream, bytes: &[u8]) -> io::Result<(
     Ok(())
 }
 
-/// The same requests, byte by byte. Whether their replies come.
-fn asks_in_pieces(rt: &HostRuntime, address: SocketAddr) -> io::Result<bool> {
+/// The same three requests, byte by byte. Whether their replies come.
+pub(crate) fn asks_in_pieces(rt: &HostRuntime, address: SocketAddr) -> io::Result<bool> {
     let stream = connect(rt, address)?;
-    drips(rt, &stream, SCAN)?;
-    drips(rt, &stream, UPDATE)?;
-    drips(rt, &stream, SCAN)?;
+    drips(rt, &stream, THREE)?;
     stream.shutdown(Shutdown::Write)?;
     gets_three(rt, stream)
 }
 
 #[test]
 fn frames_come_in_any_pieces(rt: HostRuntime) -> Result<(), Fail> {
-    let (tcp, address) = listen(&rt)?;
-    let course = Course::new();
-    let (rt, tcp, course) = (&rt, &tcp, &course);
-    let (served, asked) = thread::join(
-        rt,
-        move || serve(rt, tcp, 1, Some(1), course),
-        move || asks_in_pieces(rt, address),
-    );
-    assert!(rt; served == Ok(1) && asked?);
+    assert!(rt; serves(&rt, &rt, 1, Peers::InPieces, &Course::new())?);
     Ok(())
 }
 
 /// Asks on one connection again and again beside others that are idle, and then once on each of
 /// these. Whether all replies come.
-fn asks_beside_idle(rt: &HostRuntime, address: SocketAddr) -> io::Result<bool> {
+pub(crate) fn asks_beside_idle(rt: &HostRuntime, address: SocketAddr) -> io::Result<bool> {
     let mut idle = Vec::new(rt.alloc());
     for _ in 0..20u64 {
         idle.push(connect(rt, address)?)?;
@@ -178,15 +183,8 @@ fn asks_beside_idle(rt: &HostRuntime, address: SocketAddr) -> io::Result<bool> {
 
 #[test]
 fn one_worker_serves_many(rt: HostRuntime) -> Result<(), Fail> {
-    let (tcp, address) = listen(&rt)?;
     let course = Course::new();
-    let (rt, tcp, course) = (&rt, &tcp, &course);
-    let (served, asked) = thread::join(
-        rt,
-        move || serve(rt, tcp, 1, Some(21), course),
-        move || asks_beside_idle(rt, address),
-    );
-    assert!(rt; served == Ok(21) && asked?);
+    assert!(rt; serves(&rt, &rt, 21, Peers::BesideIdle, &course)?);
     assert!(rt; course.ends().closed == 21);
     Ok(())
 }
