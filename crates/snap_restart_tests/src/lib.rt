@@ -1,7 +1,0 @@
-//! Whole stores opened and closed by hand, over devices in memory that fail and crash. There is
-//! nothing here but the tests, in a crate of their own, so that the library isn't proved twice for
-//! them.
-#![tactic(auto)]
-
-#[cfg(test)]
-mod tests;

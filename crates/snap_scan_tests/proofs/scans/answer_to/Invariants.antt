@@ -1,8 +1,0 @@
-use Rattle.std.proofs.Common.{◌≡◌, take}
-use Rattle.snap_scan_tests.proofs.scans.answer_to.Given as goal
-
-abbrev pub invariant-loop-look : goal.invariant-loop-look
-invariant-loop-look g l = record {
-  segments : l.scan.segments ≡ l.segments;
-  told : l.scan.told ≡ take l.look l.numbers;
-}

@@ -1,0 +1,8 @@
+use Rattle.std.proofs.Common.{◌≡◌, take}
+use Rattle.tests_snapshots.proofs.scan.scans.answer_to.Given as goal
+
+abbrev pub invariant-loop-look : goal.invariant-loop-look
+invariant-loop-look g l = record {
+  segments : l.scan.segments ≡ l.segments;
+  told : l.scan.told ≡ take l.look l.numbers;
+}

@@ -1,0 +1,3 @@
+//! The tests of `snap_scan` and `snap_history`.
+mod histories;
+mod scans;

@@ -1,0 +1,230 @@
+//! Long lists of events, drawn from fixed seeds, whose memories are compared with the plain
+//! program.
+ghost use Rattle.std.specs.Prelude.{◌<◌};
+
+use crate::draw::Draw;
+use snap_disk::Fill;
+use snap_history::{Update, memory_after};
+use snap_world::{Actor, Event, Reply, World};
+use std::alloc::{AllocError, Global};
+use std::process::Abort;
+use std::test::Fail;
+
+/// This many events, drawn from the seed. Scanners are slow, so that they see writers move.
+fn events_of(
+    alloc: Global,
+    seed: u64,
+    segments: usize,
+    scanners: usize,
+    count: usize,
+) -> Result<Vec<Event>, AllocError>
+    requires segments { 0 < segments }
+    requires scanners { 0 < scanners }
+{
+    let mut draw = Draw { state: seed };
+    let mut events = Vec::new(alloc);
+    for _ in 0..count {
+        let segment = draw.below(segments);
+        let scanner = draw.below(scanners);
+        let byte = draw.below(256) as u8;
+        let len = draw.below(4);
+        events.push(match draw.below(40) {
+            0 | 1 => Event::Begin(segment, [byte; 4][..len].to_vec(alloc)?),
+            2..=8 => Event::Look(Actor::Writer(segment)),
+            9..=15 => Event::Call(segment),
+            16 | 17 => Event::Show(segment),
+            18 | 19 => Event::Acknowledge(segment),
+            20 => Event::Scan(scanner),
+            21..=24 => Event::Look(Actor::Scanner(scanner)),
+            25 => Event::Answer(scanner),
+            26..=35 => Event::RestartCall,
+            36 => Event::Restart,
+            37 => Event::Serve,
+            _ => rare_event(alloc, &mut draw, segment, segments)?,
+        })?;
+    }
+    Ok(events)
+}
+
+/// A fill that keeps, closes or opens the gates that it touches, or any other one.
+fn any_fill(draw: &mut Draw) -> Fill {
+    match draw.below(4) {
+        0 => Fill::Keep,
+        1 => Fill::All(0),
+        2 => Fill::All(0xA5),
+        _ => Fill::All(draw.below(256) as u8),
+    }
+}
+
+/// A fault or a crash.
+fn rare_event(
+    alloc: Global,
+    draw: &mut Draw,
+    segment: usize,
+    segments: usize,
+) -> Result<Event, AllocError> {
+    match draw.below(50) {
+        0..=9 => Ok(Event::Fail(segment, any_fill(draw))),
+        10..=12 => Ok(Event::RestartFail(any_fill(draw))),
+        13 | 14 => {
+            let mut fills = Vec::new(alloc);
+            for _ in 0..segments {
+                fills.push(any_fill(draw))?;
+            }
+            Ok(Event::Crash(fills))
+        }
+        _ => Ok(Event::RestartCall),
+    }
+}
+
+/// What the replies so far imply.
+#[derive(Drop)]
+struct Followed {
+    segments: usize,
+    /// The updates that were shown, or taken by a restart.
+    history: Vec<Update>,
+    /// The value of each writer's update that has begun and was not shown.
+    begun: Vec<Option<Vec<u8>>>,
+    /// How many updates were shown at the beginning of each scanner's scan, and at its last look.
+    scans: Vec<(usize, usize)>,
+}
+
+impl Followed {
+    fn new(alloc: Global, segments: usize, scanners: usize) -> Result<Followed, AllocError> {
+        Ok(Followed {
+            segments,
+            history: Vec::new(alloc),
+            begun: empty_places(alloc, segments)?,
+            scans: vec![in alloc; (0, 0); scanners]?,
+        })
+    }
+
+    /// Takes in one event. False for a memory that did not stand within its scan.
+    fn agrees(&mut self, alloc: Global, event: &Event, reply: &Reply) -> Result<bool, AllocError> {
+        let now = self.history.len();
+        match (event, reply) {
+            (Event::Begin(segment, value), Reply::Begun) => {
+                if let Some(place) = self.begun.get_mut(*segment) {
+                    *place = Some(value.to_vec(alloc)?);
+                }
+            }
+            (Event::Show(segment), Reply::Shown) => {
+                if let Some(place) = self.begun.get_mut(*segment) {
+                    if let Some(value) = place.take() {
+                        self.history.push(Update::new(*segment, value))?;
+                    }
+                }
+            }
+            (Event::Scan(scanner), Reply::ScanBegun) => {
+                if let Some(scan) = self.scans.get_mut(*scanner) {
+                    *scan = (now, now);
+                }
+            }
+            (Event::Look(Actor::Scanner(scanner)), Reply::Number(_)) => {
+                if let Some(scan) = self.scans.get_mut(*scanner) {
+                    scan.1 = now;
+                }
+            }
+            (Event::Answer(scanner), Reply::Memory(memory)) => {
+                return self.stood(alloc, *scanner, memory);
+            }
+            (Event::Serve, Reply::Memory(memory)) => return self.served(alloc, memory),
+            _ => {}
+        }
+        Ok(true)
+    }
+
+    /// Takes in what a restart serves. False where it isn't the memory after the updates so far and
+    /// some of the begun ones.
+    fn served(&mut self, alloc: Global, memory: &Vec<Vec<u8>>) -> Result<bool, AllocError> {
+        let before = memory_after(alloc, self.segments, &self.history)?;
+        for (segment, value) in memory.iter().enumerate() {
+            let begun = match self.begun.get_mut(segment) {
+                Some(place) => place.take(),
+                None => None,
+            };
+            if before.get(segment) != Some(value) {
+                match begun {
+                    Some(new) if new == *value => {
+                        self.history.push(Update::new(segment, new))?;
+                    }
+                    _ => return Ok(false),
+                }
+            }
+        }
+        Ok(memory_after(alloc, self.segments, &self.history)? == *memory)
+    }
+
+    /// Whether this was the memory at a moment of the scanner's scan, by the plain program.
+    fn stood(
+        &self,
+        alloc: Global,
+        scanner: usize,
+        memory: &Vec<Vec<u8>>,
+    ) -> Result<bool, AllocError> {
+        if let Some(scan) = self.scans.get(scanner) {
+            for moment in scan.0..=scan.1.min(self.history.len()) {
+                if let Some(before) = self.history.get(..moment) {
+                    if memory_after(alloc, self.segments, before)? == *memory {
+                        return Ok(true);
+                    }
+                }
+            }
+        }
+        Ok(false)
+    }
+}
+
+/// A place for the update of each writer.
+fn empty_places(alloc: Global, segments: usize) -> Result<Vec<Option<Vec<u8>>>, AllocError> {
+    let mut places = Vec::new(alloc);
+    for _ in 0..segments {
+        places.push(None)?;
+    }
+    Ok(places)
+}
+
+#[test]
+fn generated_runs(rt: HostRuntime) -> Result<(), Fail> {
+    let alloc = rt.alloc();
+    for (seed, segments, scanners) in [(1, 1, 1), (2, 2, 1), (3, 2, 3), (4, 4, 2), (5, 16, 1)] {
+        let events = events_of(alloc, seed, segments, scanners, 30_000)?;
+        let replies = World::new(alloc, segments, scanners)?.run(&events)?;
+        assert!(rt; replies.len() == events.len(), "seed {seed}");
+        let mut followed = Followed::new(alloc, segments, scanners)?;
+        agree(&rt, alloc, &mut followed, &events, &replies, seed)?;
+        are_many(&rt, &events, &replies, seed);
+    }
+    Ok(())
+}
+
+/// Each of these events may get its reply.
+fn agree(
+    rt: &impl Abort,
+    alloc: Global,
+    followed: &mut Followed,
+    events: &[Event],
+    replies: &[Reply],
+    seed: u64,
+) -> Result<(), AllocError> {
+    for (event, reply) in events.iter().zip(replies.iter()) {
+        let is_right = followed.agrees(alloc, event, reply)?;
+        assert!(rt; is_right, "seed {seed}: {reply:?}");
+    }
+    Ok(())
+}
+
+/// Many scans and restarts came to their ends.
+fn are_many(rt: &impl Abort, events: &[Event], replies: &[Reply], seed: u64) {
+    let mut memories = 0_usize;
+    let mut restarts = 0_usize;
+    for (event, reply) in events.iter().zip(replies.iter()) {
+        match (event, reply) {
+            (Event::Serve, Reply::Memory(_)) => restarts = restarts.saturating_add(1),
+            (_, Reply::Memory(_)) => memories = memories.saturating_add(1),
+            _ => {}
+        }
+    }
+    assert!(rt; memories >= 10, "seed {seed}: {memories} memories");
+    assert!(rt; restarts >= 20, "seed {seed}: {restarts} restarts");
+}

@@ -1,0 +1,290 @@
+//! Worked runs of device faults, crashes and restarts.
+use crate::world::steps::{Early, FIRST_STORE, LATER_STORE, Step, play};
+use snap_persist::Write;
+use snap_world::Kind;
+use std::alloc::AllocError;
+use std::process::Abort;
+
+/// The device calls of a segment's first store up to the write that opens the gate.
+const OPENED: [Kind; 3] = [
+    Kind::Write(Write::Body),
+    Kind::Sync,
+    Kind::Write(Write::Open),
+];
+
+const WORKED_SCRIPT: [Step<'static>; 17] = [
+    Step::Begin(0, "hi", &[0, 0]),
+    Step::Calls(0, &OPENED),
+    Step::Scan,
+    Step::Looks(&[0, 0]),
+    Step::Answer(&[""]),
+    Step::Crash(&[Some(0xA5)]),
+    Step::Restarts(&["hi"]),
+    Step::NotNow(Early::Acknowledge),
+    Step::Begin(0, "yo", &[1, 1]),
+    Step::Calls(0, &[Kind::Write(Write::Close)]),
+    Step::Fail(Some(0)),
+    Step::NotNow(Early::Begin("yo")),
+    Step::Crash(&[None]),
+    Step::Restart,
+    Step::RestartFail(Some(0xA5)),
+    Step::NotNow(Early::Serve),
+    Step::Restarts(&["hi"]),
+];
+
+#[test]
+fn worked_script(rt: HostRuntime) -> Result<(), AllocError> {
+    play(&rt, 1, &WORKED_SCRIPT)
+}
+
+/// Two segments whose writers crash between the write that opens the gate and the last sync. The
+/// first gate is left open, and the second one closed.
+const CRASHED_AT_THE_GATE: [Step<'static>; 6] = [
+    Step::Begin(0, "a", &[0, 0, 0, 0]),
+    Step::Begin(1, "b", &[0, 0, 0, 0]),
+    Step::Calls(0, &OPENED),
+    Step::Calls(1, &OPENED),
+    Step::Crash(&[Some(0xA5), Some(0)]),
+    Step::Restarts(&["a", ""]),
+];
+
+/// The machine crashes again once the restart has read the first file.
+const CRASHED_AGAIN: [Step<'static>; 9] = [
+    Step::Begin(0, "a", &[0, 0, 0, 0]),
+    Step::Begin(1, "b", &[0, 0, 0, 0]),
+    Step::Calls(0, &OPENED),
+    Step::Calls(1, &OPENED),
+    Step::Crash(&[Some(0xA5), Some(0)]),
+    Step::Restart,
+    Step::OneFile,
+    Step::Crash(&[Some(0), Some(0xA5)]),
+    Step::Restarts(&["a", "b"]),
+];
+
+#[test]
+fn crash_with_writers_at_the_gate(rt: HostRuntime) -> Result<(), AllocError> {
+    play(&rt, 2, &CRASHED_AT_THE_GATE)?;
+    play(&rt, 2, &CRASHED_AGAIN)
+}
+
+const SYNC_FAILS: [Step<'static>; 6] = [
+    Step::Crash(&[None, None]),
+    Step::Restart,
+    Step::OneFile,
+    Step::RestartFail(None),
+    Step::NotNow(Early::Scan),
+    Step::NotNow(Early::RestartCall),
+];
+
+#[test]
+fn restart_sync_fails(rt: HostRuntime) -> Result<(), AllocError> {
+    play(&rt, 2, &SYNC_FAILS)
+}
+
+const TORN_TWICE: [Step<'static>; 10] = [
+    Step::Begin(0, "hi", &[0, 0]),
+    Step::Calls(0, &[Kind::Write(Write::Body)]),
+    Step::Crash(&[Some(0xA5)]),
+    Step::Restarts(&[""]),
+    Step::Begin(0, "hi", &[0, 0]),
+    Step::Calls(0, &[Kind::Write(Write::Body)]),
+    Step::Crash(&[Some(0xA5)]),
+    Step::Restarts(&[""]),
+    Step::Store(0, "hi", &[0, 0], &FIRST_STORE),
+    Step::Show(0, 1),
+];
+
+#[test]
+fn four_calls_after_a_torn_body(rt: HostRuntime) -> Result<(), AllocError> {
+    play(&rt, 1, &TORN_TWICE)
+}
+
+/// A crash with this fill behind the write that closes the spare gate. The next store is of these
+/// calls.
+fn crash_while_closing(
+    rt: &(impl Abort + AllocGlobal),
+    byte: u8,
+    kinds: &[Kind],
+) -> Result<(), AllocError> {
+    let steps = [
+        Step::Store(0, "hi", &[0, 0], &FIRST_STORE),
+        Step::Show(0, 1),
+        Step::Begin(0, "yo", &[1, 1]),
+        Step::Calls(0, &[Kind::Write(Write::Close)]),
+        Step::Crash(&[Some(byte)]),
+        Step::Restarts(&["hi"]),
+        Step::Store(0, "yo", &[1, 1], kinds),
+        Step::Show(0, 2),
+    ];
+    play(rt, 1, &steps)
+}
+
+/// The next store closes the spare gate only where the crash left it open.
+#[test]
+fn crash_after_the_closing_write(rt: HostRuntime) -> Result<(), AllocError> {
+    crash_while_closing(&rt, 0xA5, &LATER_STORE)?;
+    crash_while_closing(&rt, 0, &FIRST_STORE)
+}
+
+/// A crash with this fill in the second store of a segment, behind these calls, and the value that
+/// is there then.
+fn second_crashes(
+    rt: &(impl Abort + AllocGlobal),
+    kinds: &[Kind],
+    byte: u8,
+    text: &str,
+) -> Result<(), AllocError> {
+    let steps = [
+        Step::Store(0, "hi", &[0, 0], &FIRST_STORE),
+        Step::Show(0, 1),
+        Step::Begin(0, "yo", &[1, 1]),
+        Step::Calls(0, kinds),
+        Step::Crash(&[Some(byte)]),
+        Step::Restarts(&[text]),
+    ];
+    play(rt, 1, &steps)
+}
+
+// A crash after the body and after the opening write.
+#[test]
+fn five_calls(rt: HostRuntime) -> Result<(), AllocError> {
+    second_crashes(&rt, &LATER_STORE[..2], 0xA5, "hi")?;
+    second_crashes(&rt, &LATER_STORE[..2], 0, "hi")?;
+    second_crashes(&rt, &LATER_STORE[..4], 0xA5, "yo")?;
+    second_crashes(&rt, &LATER_STORE[..4], 0, "hi")
+}
+
+/// The last sync of the first store of `hi` fails, and nobody sees the value. Behind a crash with
+/// this fill a restart serves this text, and the next store is of this value and these calls.
+fn sent_again(
+    rt: &(impl Abort + AllocGlobal),
+    byte: u8,
+    served: &str,
+    next: (&str, &[u64], &[Kind], u64),
+) -> Result<(), AllocError> {
+    let (value, numbers, kinds, number) = next;
+    let steps = [
+        Step::Begin(0, "hi", &[0, 0]),
+        Step::Calls(0, &OPENED),
+        Step::Fail(None),
+        Step::NotNow(Early::Show),
+        Step::Scan,
+        Step::Looks(&[0, 0]),
+        Step::Answer(&[""]),
+        Step::Crash(&[Some(byte)]),
+        Step::Restarts(&[served]),
+        Step::Store(0, value, numbers, kinds),
+        Step::Show(0, number),
+    ];
+    play(rt, 1, &steps)
+}
+
+#[test]
+fn the_client_sends_again(rt: HostRuntime) -> Result<(), AllocError> {
+    sent_again(&rt, 0, "", ("hi", &[0, 0], &FIRST_STORE, 1))?;
+    sent_again(&rt, 0xA5, "hi", ("yo", &[1, 1], &LATER_STORE, 2))
+}
+
+/// What touches the gate in a fault or a crash: nothing, or one of these bytes.
+const TOUCHES: [Option<u8>; 3] = [None, Some(0), Some(0xA5)];
+
+/// How a store of `v` stops: behind these calls, of which so many would follow, by this fault, where
+/// there is one, and by a crash.
+#[derive(Clone, Copy)]
+struct Stop<'a> {
+    done: &'a [Kind],
+    left: usize,
+    fault: Option<Option<u8>>,
+    at_crash: Option<u8>,
+}
+
+/// Whether the new value comes back: exactly where the opening write was made or failed and its gate
+/// was left open.
+fn is_new(stop: Stop<'_>) -> bool {
+    match stop.fault {
+        None => stop.left == 0 || (stop.left == 1 && stop.at_crash.unwrap_or(0xA5) == 0xA5),
+        Some(at_fault) => {
+            let before = if stop.left == 1 { 0xA5 } else { 0 };
+            let touched = at_fault.unwrap_or(before);
+            stop.left <= 2 && stop.at_crash.unwrap_or(touched) == 0xA5
+        }
+    }
+}
+
+/// The store of `v` is the first one, and stops so.
+fn first_stops(rt: &(impl Abort + AllocGlobal), stop: Stop<'_>) -> Result<(), AllocError> {
+    let texts = [if is_new(stop) { "v" } else { "" }];
+    let steps = [
+        Step::Begin(0, "v", &[0, 0]),
+        Step::Calls(0, stop.done),
+        Step::FailIf(stop.fault),
+        Step::Crash(&[stop.at_crash]),
+        Step::Restarts(&texts),
+    ];
+    play(rt, 1, &steps)
+}
+
+/// The store of `v` comes behind one of `u`, and stops so.
+fn later_stops(rt: &(impl Abort + AllocGlobal), stop: Stop<'_>) -> Result<(), AllocError> {
+    let texts = [if is_new(stop) { "v" } else { "u" }];
+    let steps = [
+        Step::Store(0, "u", &[0, 0], &FIRST_STORE),
+        Step::Show(0, 1),
+        Step::Begin(0, "v", &[1, 1]),
+        Step::Calls(0, stop.done),
+        Step::FailIf(stop.fault),
+        Step::Crash(&[stop.at_crash]),
+        Step::Restarts(&texts),
+    ];
+    play(rt, 1, &steps)
+}
+
+/// A store of these calls stops so.
+fn stops(
+    rt: &(impl Abort + AllocGlobal),
+    is_later: bool,
+    stop: Stop<'_>,
+) -> Result<(), AllocError> {
+    if is_later {
+        later_stops(rt, stop)
+    } else {
+        first_stops(rt, stop)
+    }
+}
+
+/// A store of these calls stops behind so many of them, in each way.
+fn stops_behind(
+    rt: &(impl Abort + AllocGlobal),
+    kinds: &[Kind],
+    is_later: bool,
+    count: usize,
+) -> Result<(), AllocError> {
+    let mut stop = Stop {
+        done: &kinds[..count.min(kinds.len())],
+        left: kinds.len().saturating_sub(count),
+        fault: None,
+        at_crash: None,
+    };
+    for at_crash in TOUCHES {
+        stop.at_crash = at_crash;
+        stop.fault = None;
+        stops(rt, is_later, stop)?;
+        for at_fault in &TOUCHES[..if stop.left == 0 { 0 } else { 3 }] {
+            stop.fault = Some(*at_fault);
+            stops(rt, is_later, stop)?;
+        }
+    }
+    Ok(())
+}
+
+// Each call of a store is the last one before a crash, or fails before it.
+#[test]
+fn each_call_of_a_store_fails_or_crashes(rt: HostRuntime) -> Result<(), AllocError> {
+    for count in 0..=FIRST_STORE.len() {
+        stops_behind(&rt, &FIRST_STORE, false, count)?;
+    }
+    for count in 0..=LATER_STORE.len() {
+        stops_behind(&rt, &LATER_STORE, true, count)?;
+    }
+    Ok(())
+}
