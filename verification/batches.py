@@ -118,7 +118,7 @@ class Trial:
             self.answers |= found
             self.left -= 1
             is_last = not self.left
-        self.tell(found.values())
+        self.tell([*found.values()])
         if is_last:
             self.sound()
             shutil.rmtree(self.room, ignore_errors=True)

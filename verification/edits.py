@@ -8,6 +8,7 @@ tries what must-fail.lock doesn't have under its digest, with --every all edits 
 import argparse
 import random
 import sys
+import threading
 import time
 from dataclasses import dataclass, field
 
@@ -85,8 +86,8 @@ class Edits:
         write_lock(top, kept | {it: by_name[it] for it in self.refused()})
 
 
-def try_over(copy, edits, log):
-    """Tries the chosen edits over a copy of the tree whose libraries are built."""
+def try_over(copy, edits, log, record=lambda: None):
+    """Tries the chosen edits over a copy of the tree whose libraries are built, and records what is known after each batch."""
     if not edits.chosen:
         return
     rt = kit.load()
@@ -96,13 +97,15 @@ def try_over(copy, edits, log):
     for name, path in edits.chosen:
         chosen.setdefault(name, []).append(path)
     log.parent.mkdir(parents=True, exist_ok=True)
+    telling = threading.Lock()
     with log.open("w") as kept:
 
         def tell(found):
-            for it in found:
-                print(f"{it.name}: {it.text}", file=kept, flush=True)
-                if not it.is_refused:
-                    print(f"edit {it.name}: {it.text}", flush=True)
+            with telling:
+                for it in found:
+                    print(f"{it.name}: {it.text}", file=kept, flush=True)
+                edits.answers += found
+                record()
 
         edits.answers = tried(rt, [(crates[it], paths) for it, paths in chosen.items()], tell)
 
@@ -129,7 +132,7 @@ def main():
             print(*libraries.failures, sep="\n")
             return 1
         began = time.monotonic()
-        try_over(copy, edits, LOG)
+        try_over(copy, edits, LOG, lambda: edits.record(TOP))
     edits.record(TOP)
     print(*told(edits, time.monotonic() - began), sep="\n")
     return 1 if edits.failed() else 0
