@@ -53,7 +53,7 @@ fn run<X: Threads + Wait + Clock + Net + Sync>(
     words: &[&str],
 ) -> io::Result<()> {
     let [name, words @ ..] = words else {
-        return Err(unknown());
+        return explain(rt);
     };
     match *name {
         "segment-sweep" => sweeps::sweep_segment(rt),
@@ -61,16 +61,22 @@ fn run<X: Threads + Wait + Clock + Net + Sync>(
         "restart-threads" => threads::crash_often(host, rt),
         "restart-allocations" => allocations::allocate(rt, words),
         "server" => server::serve(host, rt, words),
-        name => bench::measure(host, rt, name, words),
+        "bench-store" => bench::store::measure_stores(rt, words),
+        "bench-world" => bench::world::measure_events(rt, words),
+        "bench-memory" => bench::memory::measure_memory(host, rt, words),
+        "bench-restart" => bench::restart::measure_restarts(rt, words),
+        "bench-service" => bench::service::measure_requests(host, rt, words),
+        _ => explain(rt),
     }
 }
 
-/// There is nothing of that name.
-pub(crate) fn unknown() -> io::Error {
-    io::Error::other(
-        "wanted: segment-sweep, restart-sweep, restart-threads, restart-allocations, server, \
-        bench-store, bench-world, bench-memory, bench-restart, bench-service or all",
-    )
+/// Says what the first word may be.
+fn explain(rt: &HostRuntime) -> io::Result<()> {
+    eprintln!(rt; "The first word is one of these, or all:")?;
+    for line in RUNS {
+        eprintln!(rt; "{}", line.split(' ').next().unwrap_or(line))?;
+    }
+    Err(io::Error::other("there is no such word"))
 }
 
 /// One run of `all`, behind its heading.
