@@ -1,5 +1,5 @@
 //! Worked runs of device faults, crashes and restarts.
-use crate::world::steps::{Early, FIRST_STORE, LATER_STORE, Step, play};
+use crate::world::steps::{Early, FIRST_STORE, LATER_STORE, Step, play, play_behind};
 use snap_persist::Write;
 use snap_world::Kind;
 use std::alloc::AllocError;
@@ -99,90 +99,116 @@ fn four_calls_after_a_torn_body(rt: HostRuntime) -> Result<(), AllocError> {
     play(&rt, 1, &TORN_TWICE)
 }
 
-/// A crash with this fill behind the write that closes the spare gate. The next store is of these
-/// calls.
-fn crash_while_closing(
-    rt: &(impl Abort + AllocGlobal),
-    byte: u8,
-    kinds: &[Kind],
-) -> Result<(), AllocError> {
-    let steps = [
-        Step::Store(0, "hi", &[0, 0], &FIRST_STORE),
-        Step::Show(0, 1),
-        Step::Begin(0, "yo", &[1, 1]),
-        Step::Calls(0, &[Kind::Write(Write::Close)]),
-        Step::Crash(&[Some(byte)]),
-        Step::Restarts(&["hi"]),
-        Step::Store(0, "yo", &[1, 1], kinds),
-        Step::Show(0, 2),
-    ];
-    play(rt, 1, &steps)
-}
+/// The second store of a segment is begun.
+const SECOND: [Step<'static>; 3] = [
+    Step::Store(0, "hi", &[0, 0], &FIRST_STORE),
+    Step::Show(0, 1),
+    Step::Begin(0, "yo", &[1, 1]),
+];
 
-/// The next store closes the spare gate only where the crash left it open.
+/// A crash behind the write that closes the spare gate. The next store closes it only where the
+/// crash left it open.
+const CRASHED_WHILE_CLOSING: [[Step<'static>; 5]; 2] = [
+    [
+        Step::Calls(0, &[Kind::Write(Write::Close)]),
+        Step::Crash(&[Some(0xA5)]),
+        Step::Restarts(&["hi"]),
+        Step::Store(0, "yo", &[1, 1], &LATER_STORE),
+        Step::Show(0, 2),
+    ],
+    [
+        Step::Calls(0, &[Kind::Write(Write::Close)]),
+        Step::Crash(&[Some(0)]),
+        Step::Restarts(&["hi"]),
+        Step::Store(0, "yo", &[1, 1], &FIRST_STORE),
+        Step::Show(0, 2),
+    ],
+];
+
 #[test]
 fn crash_after_the_closing_write(rt: HostRuntime) -> Result<(), AllocError> {
-    crash_while_closing(&rt, 0xA5, &LATER_STORE)?;
-    crash_while_closing(&rt, 0, &FIRST_STORE)
+    for steps in &CRASHED_WHILE_CLOSING {
+        play_behind(&rt, 1, &SECOND, steps)?;
+    }
+    Ok(())
 }
 
-/// A crash with this fill in the second store of a segment, behind these calls, and the value that
-/// is there then.
-fn second_crashes(
-    rt: &(impl Abort + AllocGlobal),
-    kinds: &[Kind],
-    byte: u8,
-    text: &str,
-) -> Result<(), AllocError> {
-    let steps = [
-        Step::Store(0, "hi", &[0, 0], &FIRST_STORE),
-        Step::Show(0, 1),
-        Step::Begin(0, "yo", &[1, 1]),
-        Step::Calls(0, kinds),
-        Step::Crash(&[Some(byte)]),
-        Step::Restarts(&[text]),
-    ];
-    play(rt, 1, &steps)
-}
+/// The device calls of a later store up to the body.
+const BODY_WRITTEN: [Kind; 2] = [Kind::Write(Write::Close), Kind::Write(Write::Body)];
 
-// A crash after the body and after the opening write.
+/// Those up to the write that opens the gate.
+const GATE_WRITTEN: [Kind; 4] = [
+    Kind::Write(Write::Close),
+    Kind::Write(Write::Body),
+    Kind::Sync,
+    Kind::Write(Write::Open),
+];
+
+/// A crash in the second store, and the value that is there then.
+const SECOND_CRASHED: [[Step<'static>; 3]; 4] = [
+    [
+        Step::Calls(0, &BODY_WRITTEN),
+        Step::Crash(&[Some(0xA5)]),
+        Step::Restarts(&["hi"]),
+    ],
+    [
+        Step::Calls(0, &BODY_WRITTEN),
+        Step::Crash(&[Some(0)]),
+        Step::Restarts(&["hi"]),
+    ],
+    [
+        Step::Calls(0, &GATE_WRITTEN),
+        Step::Crash(&[Some(0xA5)]),
+        Step::Restarts(&["yo"]),
+    ],
+    [
+        Step::Calls(0, &GATE_WRITTEN),
+        Step::Crash(&[Some(0)]),
+        Step::Restarts(&["hi"]),
+    ],
+];
+
 #[test]
 fn five_calls(rt: HostRuntime) -> Result<(), AllocError> {
-    second_crashes(&rt, &LATER_STORE[..2], 0xA5, "hi")?;
-    second_crashes(&rt, &LATER_STORE[..2], 0, "hi")?;
-    second_crashes(&rt, &LATER_STORE[..4], 0xA5, "yo")?;
-    second_crashes(&rt, &LATER_STORE[..4], 0, "hi")
+    for steps in &SECOND_CRASHED {
+        play_behind(&rt, 1, &SECOND, steps)?;
+    }
+    Ok(())
 }
 
-/// The last sync of the first store of `hi` fails, and nobody sees the value. Behind a crash with
-/// this fill a restart serves this text, and the next store is of this value and these calls.
-fn sent_again(
-    rt: &(impl Abort + AllocGlobal),
-    byte: u8,
-    served: &str,
-    next: (&str, &[u64], &[Kind], u64),
-) -> Result<(), AllocError> {
-    let (value, numbers, kinds, number) = next;
-    let steps = [
-        Step::Begin(0, "hi", &[0, 0]),
-        Step::Calls(0, &OPENED),
-        Step::Fail(None),
-        Step::NotNow(Early::Show),
-        Step::Scan,
-        Step::Looks(&[0, 0]),
-        Step::Answer(&[""]),
-        Step::Crash(&[Some(byte)]),
-        Step::Restarts(&[served]),
-        Step::Store(0, value, numbers, kinds),
-        Step::Show(0, number),
-    ];
-    play(rt, 1, &steps)
-}
+/// The last sync of the first store of `hi` fails, and nobody sees the value.
+const FAILED_AT_THE_END: [Step<'static>; 7] = [
+    Step::Begin(0, "hi", &[0, 0]),
+    Step::Calls(0, &OPENED),
+    Step::Fail(None),
+    Step::NotNow(Early::Show),
+    Step::Scan,
+    Step::Looks(&[0, 0]),
+    Step::Answer(&[""]),
+];
+
+/// A crash, what a restart serves, and the next store.
+const SENT_AGAIN: [[Step<'static>; 4]; 2] = [
+    [
+        Step::Crash(&[Some(0)]),
+        Step::Restarts(&[""]),
+        Step::Store(0, "hi", &[0, 0], &FIRST_STORE),
+        Step::Show(0, 1),
+    ],
+    [
+        Step::Crash(&[Some(0xA5)]),
+        Step::Restarts(&["hi"]),
+        Step::Store(0, "yo", &[1, 1], &LATER_STORE),
+        Step::Show(0, 2),
+    ],
+];
 
 #[test]
 fn the_client_sends_again(rt: HostRuntime) -> Result<(), AllocError> {
-    sent_again(&rt, 0, "", ("hi", &[0, 0], &FIRST_STORE, 1))?;
-    sent_again(&rt, 0xA5, "hi", ("yo", &[1, 1], &LATER_STORE, 2))
+    for steps in &SENT_AGAIN {
+        play_behind(&rt, 1, &FAILED_AT_THE_END, steps)?;
+    }
+    Ok(())
 }
 
 /// What touches the gate in a fault or a crash: nothing, or one of these bytes.

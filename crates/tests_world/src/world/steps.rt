@@ -63,7 +63,7 @@ pub(crate) enum Step<'a> {
     OneFile,
     /// The next device call of a restart fails.
     RestartFail(Option<u8>),
-    /// A restart of these many segments, which serves these texts.
+    /// A restart of as many segments, which serves these texts.
     Restarts(&'a [&'a str]),
     /// This isn't done now.
     NotNow(Early<'a>),
@@ -261,8 +261,21 @@ pub(crate) fn play(
     segments: usize,
     steps: &[Step<'_>],
 ) -> Result<(), AllocError> {
+    play_behind(rt, segments, &[], steps)
+}
+
+/// The same, with other steps before them.
+pub(crate) fn play_behind(
+    rt: &(impl Abort + AllocGlobal),
+    segments: usize,
+    before: &[Step<'_>],
+    steps: &[Step<'_>],
+) -> Result<(), AllocError> {
     assert!(rt; 0 < segments && segments <= 16);
     let mut world = World::new(rt.alloc(), segments, 1)?;
+    for step in before {
+        play_step(rt, rt.alloc(), &mut world, *step)?;
+    }
     for step in steps {
         play_step(rt, rt.alloc(), &mut world, *step)?;
     }
