@@ -1,6 +1,5 @@
 //! Servers over loopback, with both ends in one process.
 
-mod beside;
 mod course;
 mod faults;
 mod floods;

@@ -6,17 +6,14 @@ mod talks;
 
 use gates::Holding;
 use rooms::{Plan, Ready, Seen, held_files, host_over, new_files};
-use snap_disk::Disk;
 use snap_order::Status;
-use snap_server::{Gate, NoGate, Tcp};
-use std::net::{Ipv4Addr, Net, SocketAddr};
-use std::rt::Clock;
+use snap_server::{NoGate, Tcp};
+use std::net::{Ipv4Addr, SocketAddr};
+use std::sync::Arc;
 use std::sync::atomic::{AtomicU64, Ordering};
-use std::sync::{Arc, Wait};
 use std::test::Fail;
-use std::thread::Threads;
 use std::{io, thread};
-use talks::{Clients, talk};
+use talks::{passes_a_held_store, passes_a_held_update, reads_what_others_stored};
 
 /// What is found in new files.
 const FOUND: &str = "number 0 length 0 spare closed";
@@ -50,54 +47,68 @@ fn serves_no_connection(rt: HostRuntime) -> Result<(), Fail> {
     Ok(())
 }
 
-/// Whether a server over these files, with so many scanners, prints what it has to and serves so
-/// many connections, while these clients, who connect over `net`, get what they have to.
-fn serves<X, D, G>(
-    rt: &X,
-    net: &HostRuntime,
-    files: Vec<D>,
-    scanners: u8,
-    connections: u64,
-    gate: &G,
-    clients: Clients<'_>,
-) -> Result<bool, Fail>
-where
-    X: Threads + Wait + Clock + Net + AllocGlobal + Sync + Send + Copy,
-    D: Disk + Send + Drop,
-    G: Gate + Sync,
-{
-    let (tcp, address) = listen(net)?;
-    let tcp = &tcp;
-    let plan = Plan::of(scanners, Some(connections));
+#[test]
+fn scan_passes_a_held_update(rt: HostRuntime) -> Result<(), Fail> {
+    let (tcp, address) = listen(&rt)?;
+    let files = new_files(rt.alloc())?;
+    let gate = Holding::new();
+    let plan = Plan::of(2, Some(2));
+    let (rt, tcp, gate) = (&rt, &tcp, &gate);
     let (seen, passed) = thread::join(
         rt,
         move || host_over(rt, rt.alloc(), files, &Ready::new(tcp, address), plan, gate),
-        move || talk(net, address, clients),
+        move || passes_a_held_update(rt, address, gate),
     );
-    Ok(passed? && printed(net, &seen?, address, connections)?)
-}
-
-#[test]
-fn scan_passes_a_held_update(rt: HostRuntime) -> Result<(), Fail> {
-    let files = new_files(rt.alloc())?;
-    let gate = Holding::new();
-    assert!(rt; serves(&rt, &rt, files, 2, 2, &gate, Clients::PassUpdate(&gate))?);
+    assert!(rt; passed?);
     assert!(rt; gate.gave_up.load(Ordering::SeqCst) == 0);
+    assert!(rt; printed(rt, &seen?, address, 2)?);
     Ok(())
 }
 
 #[test]
 fn met_and_unmet_scanners_see_an_update(rt: HostRuntime) -> Result<(), Fail> {
+    let (tcp, address) = listen(&rt)?;
     let files = new_files(rt.alloc())?;
-    assert!(rt; serves(&rt, &rt, files, 3, 3, &NoGate, Clients::ReadOthers)?);
+    let plan = Plan::of(3, Some(3));
+    let (rt, tcp) = (&rt, &tcp);
+    let (seen, read) = thread::join(
+        rt,
+        move || host_over(
+            rt,
+            rt.alloc(),
+            files,
+            &Ready::new(tcp, address),
+            plan,
+            &NoGate,
+        ),
+        move || reads_what_others_stored(rt, address),
+    );
+    assert!(rt; read?);
+    assert!(rt; printed(rt, &seen?, address, 3)?);
     Ok(())
 }
 
 #[test]
 fn scan_passes_a_held_store(rt: HostRuntime) -> Result<(), Fail> {
+    let (tcp, address) = listen(&rt)?;
     let flag = Arc::new(rt.alloc(), AtomicU64::new(0))?;
     let files = held_files(rt.alloc(), &flag)?;
-    assert!(rt; serves(&rt, &rt, files, 2, 2, &NoGate, Clients::PassStore(&flag))?);
+    let plan = Plan::of(2, Some(2));
+    let (rt, tcp, released) = (&rt, &tcp, &*flag);
+    let (seen, passed) = thread::join(
+        rt,
+        move || host_over(
+            rt,
+            rt.alloc(),
+            files,
+            &Ready::new(tcp, address),
+            plan,
+            &NoGate,
+        ),
+        move || passes_a_held_store(rt, address, released),
+    );
+    assert!(rt; passed?);
+    assert!(rt; printed(rt, &seen?, address, 2)?);
     Ok(())
 }
 

@@ -1,9 +1,8 @@
 //! Peers that don't read.
 
-use super::beside::{Peers, serves};
-use super::connect;
 use super::course::Course;
 use super::talks::{ZERO, asks};
+use super::{connect, listen, serve};
 use crate::frames::SCAN;
 use std::io::{ErrorKind, Write};
 use std::net::{SocketAddr, TcpStream};
@@ -37,7 +36,7 @@ fn flood(rt: &HostRuntime, address: SocketAddr) -> io::Result<TcpStream> {
 }
 
 /// Whether a neighbour of a flood is answered.
-pub(crate) fn asks_beside_flood(rt: &HostRuntime, address: SocketAddr) -> io::Result<bool> {
+fn asks_beside_flood(rt: &HostRuntime, address: SocketAddr) -> io::Result<bool> {
     let flood = flood(rt, address)?;
     let stream = connect(rt, address)?;
     let is = asks(&stream, SCAN, ZERO)?;
@@ -47,8 +46,15 @@ pub(crate) fn asks_beside_flood(rt: &HostRuntime, address: SocketAddr) -> io::Re
 
 #[test]
 fn a_peer_that_reads_nothing_is_read_no_more(rt: HostRuntime) -> Result<(), Fail> {
+    let (tcp, address) = listen(&rt)?;
     let course = Course::new();
-    assert!(rt; serves(&rt, &rt, 2, Peers::BesideFlood, &course)?);
+    let (rt, tcp, course) = (&rt, &tcp, &course);
+    let (served, asked) = thread::join(
+        rt,
+        move || serve(rt, tcp, 1, Some(2), course),
+        move || asks_beside_flood(rt, address),
+    );
+    assert!(rt; served == Ok(2) && asked?);
     assert!(rt; course.ends().failed == 1);
     Ok(())
 }

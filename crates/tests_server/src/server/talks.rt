@@ -1,6 +1,5 @@
 //! Connections that talk with a server.
 
-use super::beside::{Peers, serves};
 use super::course::{Course, Ends};
 use super::{connect, listen, received, send, serve};
 use crate::frames::SCAN;
@@ -150,7 +149,7 @@ fn drips(rt: &HostRuntime, mut stream: &TcpStream, bytes: &[u8]) -> io::Result<(
 }
 
 /// The same three requests, byte by byte. Whether their replies come.
-pub(crate) fn asks_in_pieces(rt: &HostRuntime, address: SocketAddr) -> io::Result<bool> {
+fn asks_in_pieces(rt: &HostRuntime, address: SocketAddr) -> io::Result<bool> {
     let stream = connect(rt, address)?;
     drips(rt, &stream, THREE)?;
     stream.shutdown(Shutdown::Write)?;
@@ -159,13 +158,21 @@ pub(crate) fn asks_in_pieces(rt: &HostRuntime, address: SocketAddr) -> io::Resul
 
 #[test]
 fn frames_come_in_any_pieces(rt: HostRuntime) -> Result<(), Fail> {
-    assert!(rt; serves(&rt, &rt, 1, Peers::InPieces, &Course::new())?);
+    let (tcp, address) = listen(&rt)?;
+    let course = Course::new();
+    let (rt, tcp, course) = (&rt, &tcp, &course);
+    let (served, asked) = thread::join(
+        rt,
+        move || serve(rt, tcp, 1, Some(1), course),
+        move || asks_in_pieces(rt, address),
+    );
+    assert!(rt; served == Ok(1) && asked?);
     Ok(())
 }
 
 /// Asks on one connection again and again beside others that are idle, and then once on each of
 /// these. Whether all replies come.
-pub(crate) fn asks_beside_idle(rt: &HostRuntime, address: SocketAddr) -> io::Result<bool> {
+fn asks_beside_idle(rt: &HostRuntime, address: SocketAddr) -> io::Result<bool> {
     let mut idle = Vec::new(rt.alloc());
     for _ in 0..20u64 {
         idle.push(connect(rt, address)?)?;
@@ -183,8 +190,15 @@ pub(crate) fn asks_beside_idle(rt: &HostRuntime, address: SocketAddr) -> io::Res
 
 #[test]
 fn one_worker_serves_many(rt: HostRuntime) -> Result<(), Fail> {
+    let (tcp, address) = listen(&rt)?;
     let course = Course::new();
-    assert!(rt; serves(&rt, &rt, 21, Peers::BesideIdle, &course)?);
+    let (rt, tcp, course) = (&rt, &tcp, &course);
+    let (served, asked) = thread::join(
+        rt,
+        move || serve(rt, tcp, 1, Some(21), course),
+        move || asks_beside_idle(rt, address),
+    );
+    assert!(rt; served == Ok(21) && asked?);
     assert!(rt; course.ends().closed == 21);
     Ok(())
 }

@@ -27,30 +27,6 @@ const BOTH: &[u8] = &[
     0, 0, 0, 2, 0x79, 0x6f,
 ];
 
-/// What the clients of a server do.
-#[derive(Clone, Copy)]
-pub(crate) enum Clients<'a> {
-    /// A scan passes an update that this gate holds.
-    PassUpdate(&'a Holding),
-    /// A scan passes an update whose store begins once this flag is set.
-    PassStore(&'a AtomicU64),
-    /// Scans show what was stored on other connections.
-    ReadOthers,
-}
-
-/// Whether these clients get what they have to.
-pub(crate) fn talk(
-    rt: &HostRuntime,
-    address: SocketAddr,
-    clients: Clients<'_>,
-) -> io::Result<bool> {
-    match clients {
-        Clients::PassUpdate(gate) => passes_a_held_update(rt, address, gate),
-        Clients::PassStore(released) => passes_a_held_store(rt, address, released),
-        Clients::ReadOthers => reads_what_others_stored(rt, address),
-    }
-}
-
 /// Whether these bytes come next.
 fn gets(mut stream: &TcpStream, wanted: &[u8]) -> io::Result<bool> {
     let mut bytes = [0u8; 64];
@@ -67,7 +43,11 @@ fn asks(mut stream: &TcpStream, request: &[u8], reply: &[u8]) -> io::Result<bool
 
 /// Asks for an update, which the gate holds; a scan on another connection is answered meanwhile,
 /// and then the update.
-fn passes_a_held_update(rt: &HostRuntime, address: SocketAddr, gate: &Holding) -> io::Result<bool> {
+pub(crate) fn passes_a_held_update(
+    rt: &HostRuntime,
+    address: SocketAddr,
+    gate: &Holding,
+) -> io::Result<bool> {
     let mut first = TcpStream::connect(rt, address)?;
     let second = TcpStream::connect(rt, address)?;
     first.write_all(HI)?;
@@ -83,7 +63,7 @@ fn passes_a_held_update(rt: &HostRuntime, address: SocketAddr, gate: &Holding) -
 
 /// Asks for an update, whose store is held; a scan on another connection is answered meanwhile, and
 /// then the store goes on.
-fn passes_a_held_store(
+pub(crate) fn passes_a_held_store(
     rt: &HostRuntime,
     address: SocketAddr,
     released: &AtomicU64,
@@ -99,7 +79,7 @@ fn passes_a_held_store(
 
 /// Updates on two connections, and scans on the first of them and on a third one: both scans show
 /// both updates.
-fn reads_what_others_stored(rt: &HostRuntime, address: SocketAddr) -> io::Result<bool> {
+pub(crate) fn reads_what_others_stored(rt: &HostRuntime, address: SocketAddr) -> io::Result<bool> {
     let first = TcpStream::connect(rt, address)?;
     let second = TcpStream::connect(rt, address)?;
     let third = TcpStream::connect(rt, address)?;
