@@ -4,9 +4,9 @@
 .PHONY: build programs demo test test-all edits new-edits tests bench clean
 
 # The program is proved before it is built, with all that it stands on, on as many processors as there are. What this machine has
-# proved before is taken from the kit's store.
+# proved before is taken from the kit's store, with FRESH=1 nothing.
 build:
-	python3 verification/build.py
+	python3 verification/build.py $(if $(FRESH),--fresh)
 
 demo: build
 	sh tests/demo.sh bin/snapd

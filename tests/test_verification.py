@@ -10,6 +10,7 @@ from batches import batches_of, own_error, strangers  # noqa: E402
 from digests import Digests, read_lock, write_lock  # noqa: E402
 from edits import OF_ONE_CRATE, SAMPLE, Edits, drawn  # noqa: E402
 from lanes import Plan  # noqa: E402
+from proofs import prove  # noqa: E402
 from source import function_of, functions_in, named, together  # noqa: E402
 from tree import copied, edits_of  # noqa: E402
 
@@ -175,7 +176,12 @@ def test_an_edit_is_placed_in_its_function(snapd, _):
     names = ["low::ThingLow::more", "low::OtherLow::more", "low::less", "low::inner::less"]
     assert named(more, "low", names) == "low::ThingLow::more"
     assert named(less, "low", names) == "low::less"
-    assert named(less, "low", ["low::other"]) is None
+    assert named(less, "low", ["low::other", "low::Thing::less"]) is None
+    # A method is called by the module of its type, wherever it stands.
+    moved = functions_in("impl<T: Low> Thing<T> {\n    fn more(&self) {\n    }\n}\n", "src/other.rt")[0]
+    assert named(moved, "low", ["low::things::Thing::more", "low::ThingLow::more", "low::other::more"]) == "low::things::Thing::more"
+    assert named(moved, "low", ["low::things::Thing::more", "low::other::Thing::more"]) == "low::other::Thing::more"
+    assert named(moved, "low", ["low::a::Thing::more", "low::b::Thing::more"]) is None
 
 
 def test_no_two_edits_of_a_batch_lie_in_one_function(snapd, _):
@@ -231,3 +237,44 @@ def test_a_copy_has_what_the_prover_reads_and_no_edit(snapd, _):
     assert not copy.exists()
     with copied(top, ["low"], with_edits=True) as copy:
         assert len(edits_of(copy, "low")) == 2
+
+
+PASSED = """\
+rt: low is kept: an earlier run on this machine proved the same files over the same libraries
+== middle
+logic=proved functions=1
+rt: middle proved
+rt: high proved
+rt: high: its tests are proved
+rt: ok; handles allowed: none; must-fail edits: 6 refused; done in this run: 3 of the 5 proofs (of crates and of their tests) and 6 of the 6 edits
+9 passed, 0 failed
+"""
+FAILED = """\
+src/lib.rt:1:1: error: this goal is not proved
+rt: middle NOT PROVED
+rt: FAILED: middle high
+1 passed, 2 failed
+"""
+
+
+def ran(snapd, output, status=0):
+    """What is read of a run of the prover that prints this."""
+    top = tree(snapd.folder / f"status{status}")
+    said = snapd.folder / "said"
+    said.write_text(output)
+    return prove(top, snapd.folder / "log", by=["sh", "-c", f"cat {said}; exit {status}", ""])
+
+
+def test_what_the_prover_says_is_counted(snapd, _):
+    proofs = ran(snapd, PASSED)
+    assert (proofs.passed, proofs.failed, proofs.edits, proofs.kept, proofs.failures) == (9, 0, 6, (2, 5), [])
+    assert (snapd.folder / "log").read_text() == PASSED
+    assert proofs.told()[0].startswith("proofs: 3 crates passed") and proofs.told()[1] == "from this machine's store: 2 of 5 proofs"
+
+
+def test_a_prover_that_fails_is_never_taken_for_one_that_passed(snapd, _):
+    proofs = ran(snapd, FAILED, 1)
+    assert (proofs.passed, proofs.failed) == (1, 2) and any("goal is not proved" in it for it in proofs.failures)
+    assert ran(snapd, PASSED, 3).failed == 1
+    assert ran(snapd, "killed\n", 137).failed == 1
+    assert ran(snapd, "", 0).failed == 1

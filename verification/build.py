@@ -1,10 +1,12 @@
 """Proves the program with all that it stands on, builds it, and puts it at bin/snapd.
 
-    python3 verification/build.py [NAME ..]
+    python3 verification/build.py [--fresh] [NAME ..]
 
-With names it builds these programs too and leaves each in its crate's out/, as the benchmarks want them.
+With names it builds these programs too and leaves each in its crate's out/, as the benchmarks want them. With --fresh
+nothing is taken from this machine's store of earlier proofs.
 """
 
+import argparse
 import shutil
 import sys
 import time
@@ -28,11 +30,13 @@ def take_programs(copy, names):
 
 
 def main():
-    names = ["snapd", *sys.argv[1:]]
-    crates = crates_of(TOP)
-    began = time.monotonic()
+    words = argparse.ArgumentParser(description="Proves and builds snapd, and the programs that are named.")
+    words.add_argument("--fresh", action="store_true", help="take nothing from this machine's store of proofs")
+    words.add_argument("names", nargs="*")
+    words = words.parse_args()
+    names, crates, began = ["snapd", *words.names], crates_of(TOP), time.monotonic()
     with copied(TOP, {it for name in names for it in [*below(crates, name), name]}) as copy:
-        proofs = prove(copy, LOG)
+        proofs = prove(copy, LOG, words.fresh)
         take_programs(copy, names)
     if proofs.failed:
         print(*proofs.failures, sep="\n")

@@ -78,18 +78,24 @@ def prove(copy, log, anew=False, by=LANES):
             lines.append(line.rstrip())
             progress.take(line, watch)
     watch.end()
-    came = Proofs(seconds=time.monotonic() - began, processor=watch.processor())
+    came = judged(lines, run.returncode)
+    came.seconds, came.processor = time.monotonic() - began, watch.processor()
+    came.times = sorted(f"{it.crate} {it.what} {it.processor:.0f}" for it in watch.works.values())
+    if came.failed:
+        came.failures.append(f"the whole log: {os.path.relpath(log)}")
+    return came
+
+
+def judged(lines, status):
+    """What a run came to, by its last lines and its status: one that ends with no count, or with a status of failure, has failed."""
     count = COUNT.fullmatch(lines[-1]) if lines else None
-    came.passed, came.failed = (int(count[1]), int(count[2])) if count else (0, 1)
-    if run.returncode and not came.failed:
-        came.failed = 1
+    passed, failed = (int(count[1]), int(count[2])) if count else (0, 1)
+    came = Proofs(passed, max(failed, 1) if status else failed)
     total = lines[-2] if len(lines) > 1 else ""
     if refused := re.search(r"must-fail edits: (\d+) refused", total):
         came.edits = int(refused[1])
     if done := re.search(r"done in this run: (\d+) of the (\d+) proofs", total):
         came.kept = int(done[2]) - int(done[1]), int(done[2])
-    came.times = sorted(f"{it.crate} {it.what} {it.processor:.0f}" for it in watch.works.values())
     if came.failed:
-        shown = [it for it in lines if re.search(r"NOT PROVED|FAILED|: error", it)][-LAST:] or lines[-LAST:]
-        came.failures = [*shown, f"the whole log: {os.path.relpath(log)}"]
+        came.failures = [it for it in lines if re.search(r"NOT PROVED|FAILED|: error", it)][-LAST:] or lines[-LAST:]
     return came

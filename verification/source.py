@@ -65,17 +65,20 @@ def function_of(folder, edit):
 
 
 def named(function, crate, names):
-    """The one of these names by which the prover calls the function, or None where several fit or none."""
+    """The one of these names by which the prover calls the function, or None where several fit or none.
+
+    A function is called by its module, a method by the module of its type, wherever the method stands, and a method of a
+    trait by its type and the trait in one word.
+    """
     parts = function.path.removeprefix("src/").removesuffix(".rt").split("/")
     module = "::".join([crate, *(it for it in parts if it not in ("lib", "main", "mod"))])
-    fits = [it for it in names if re.fullmatch(rf"{re.escape(module)}::(\w+::)?{function.name}", it)]
-    if not function.of and f"{module}::{function.name}" in fits:
-        return f"{module}::{function.name}"
-    if len(fits) > 1:
-        words = re.findall(r"\w+", function.of)
-        # A method of a trait is called by the type and the trait, in one word.
-        whole = "".join(reversed(words[:1] + words[-1:]))
-        fits = [it for it in fits if it.split("::")[-2] in (*words, whole)]
+    if not function.of:
+        return f"{module}::{function.name}" if f"{module}::{function.name}" in names else None
+    words = re.findall(r"\w+", re.sub(r"<[^<>]*>|\bwhere\b.*|\{.*", "", re.sub(r"<[^<>]*>", "", function.of)))
+    of = {words[0], words[-1]} if "for" not in words else {words[-1] + words[words.index("for") - 1], words[-1]}
+    fits = [it for it in names if it.split("::")[-1] == function.name and it.split("::")[-2:-1] and it.split("::")[-2] in of]
+    here = [it for it in fits if it.startswith(f"{module}::")]
+    fits = here if len(fits) > 1 and here else fits
     return fits[0] if len(fits) == 1 else None
 
 
