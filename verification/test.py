@@ -10,7 +10,6 @@ themselves, how long each took, and the last lines of what failed.
 
 import argparse
 import random
-import re
 import subprocess
 import sys
 import time
