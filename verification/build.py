@@ -37,6 +37,7 @@ def main():
     names, crates, began = ["snapd", *words.names], crates_of(TOP), time.monotonic()
     with copied(TOP, {it for name in names for it in [*below(crates, name), name]}) as copy:
         proofs = prove(copy, LOG, words.fresh)
+        LOG.with_name("times.txt").write_text("\n".join(proofs.times) + "\n")
         take_programs(copy, names)
     if proofs.failed:
         print(*proofs.failures, sep="\n")
