@@ -25,9 +25,10 @@ OF_ONE_CRATE = 4
 
 
 def drawn(edits, seed):
-    """A sample of these edits, given as pairs of crate and path: as a rule SAMPLE of them, each with the same chance.
+    """A sample of these edits, given as pairs of crate and path: as a rule SAMPLE of them, each with about the same chance.
 
     Before an edit is tried its crate is proved, which takes longer than the edit, so some of a crate come together.
+    An edit of a crate that has fewer than OF_ONE_CRATE comes less often.
     """
     draw, left, found = random.Random(seed), sorted(edits), []
     while left and len(found) < SAMPLE:
