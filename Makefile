@@ -4,7 +4,7 @@
 .PHONY: build programs demo test test-all edits new-edits tests bench clean
 
 # The program is proved before it is built, with all that it stands on, on as many processors as there are. What this machine has
-# proved before is taken from the kit's store, with FRESH=1 nothing.
+# proved before is taken from its store, with FRESH=1 nothing.
 build:
 	python3 verification/build.py $(if $(FRESH),--fresh)
 

@@ -1,17 +1,22 @@
 """The parts of `make test` and `make edits`: what a digest rests on, what is tried again, and what is read from the prover's output."""
 
+import os
 import pathlib
 import sys
+import types
 
 TOP = pathlib.Path(__file__).resolve().parent.parent
 sys.path.insert(0, str(TOP / "verification"))
 
-from batches import batches_of, own_error, strangers  # noqa: E402
-from digests import Digests, read_lock, write_lock  # noqa: E402
-from edits import OF_ONE_CRATE, SAMPLE, Edits, drawn  # noqa: E402
-from lanes import Plan  # noqa: E402
+import kit  # noqa: E402
+import store  # noqa: E402
+from batches import Trial, Tried, batches_of, listing, own_error, strangers  # noqa: E402
+from digests import Digests, Refusal, read_lock, write_lock  # noqa: E402
+from edits import OF_ONE_CRATE, SAMPLE, Edits, drawn, told  # noqa: E402
+from lanes import Plan, with_store  # noqa: E402
 from proofs import prove  # noqa: E402
 from source import function_of, functions_in, named, together  # noqa: E402
+from store import PROOF, QUICK, TESTS, Store, over  # noqa: E402
 from tree import copied, edits_of  # noqa: E402
 
 BODY = """\
@@ -54,14 +59,14 @@ def tree(folder):
     return top
 
 
-def digests(top, kit="kit"):
-    made = Digests(top, kit)
+def digests(top, logic="logic"):
+    made = Digests(top, logic)
     return {f"{name}/{it.stem}": made.edit(name, it) for name in ("low", "middle", "high") for it in edits_of(top, name)}
 
 
-def changed(top, before, kit="kit"):
+def changed(top, before, logic="logic"):
     """The edits whose digest isn't the one of before."""
-    now = digests(top, kit)
+    now = digests(top, logic)
     return sorted(it for it in {*before, *now} if before.get(it) != now.get(it))
 
 
@@ -80,11 +85,11 @@ def test_a_digest_changes_with_each_text_of_the_crate_and_of_those_below(snapd, 
         assert changed(top, before) == OF_ALL, path
 
 
-def test_a_digest_changes_with_the_kit_the_line_and_the_files_names(snapd, _):
+def test_a_digest_changes_with_the_logic_the_line_and_the_files_names(snapd, _):
     top = tree(snapd.folder)
     before = digests(top)
     assert len(set(before.values())) == 6 and changed(top, before) == []
-    assert changed(top, before, "another kit") == OF_ALL
+    assert changed(top, before, "another logic") == OF_ALL
     crates = top / "crates.txt"
     crates.write_text(crates.read_text().replace("middle: low", "middle: low bytes"))
     assert changed(top, before) == OF_UPPER
@@ -124,20 +129,25 @@ def test_texts_that_move_between_files_have_another_digest(snapd, _):
 
 def test_the_lock_is_read_as_it_is_written(snapd, _):
     assert read_lock(snapd.folder) == {}
-    lines = {"b/x.edit": "0" * 64, "a/y.edit": "f" * 64}
+    lines = {"b/x.edit": Refusal("0" * 64, "release-2"), "a/y.edit": Refusal("f" * 64, "release-1")}
     write_lock(snapd.folder, lines)
     assert read_lock(snapd.folder) == lines
     text = (snapd.folder / "must-fail.lock").read_text()
     assert text.startswith("#") and text.index("a/y.edit") < text.index("b/x.edit")
 
 
+def refusals(edits, release):
+    """A lock that has each of these edits, by the release that this gives for its name."""
+    return {edits.name(it): Refusal(digest, release(edits.name(it))) for it, digest in edits.digests.items()}
+
+
 def test_what_the_lock_does_not_have_is_tried_and_a_sample_of_the_rest(snapd, _):
     top = tree(snapd.folder)
     edits = Edits.of(top)
     assert len(edits.unknown()) == 6 and not edits.known()
-    write_lock(top, {edits.name(it): digest for it, digest in edits.digests.items()})
+    write_lock(top, refusals(edits, lambda _: kit.release()))
     edits = Edits.of(top)
-    assert len(edits.known()) == 6 and not edits.unknown()
+    assert len(edits.known()) == 6 and not edits.unknown() and not edits.by_others()
     edits.choose(seed=7)
     assert sorted(edits.chosen) == sorted(edits.digests)
     edits.choose()
@@ -148,6 +158,25 @@ def test_what_the_lock_does_not_have_is_tried_and_a_sample_of_the_rest(snapd, _)
     edits = Edits.of(top)
     edits.choose()
     assert [edits.name(it) for it in edits.chosen] == [name]
+
+
+def test_what_another_release_refused_is_drawn_first_and_keeps_its_name_until_it_is_tried(snapd, _):
+    top = tree(snapd.folder)
+    write_lock(top, refusals(Edits.of(top), lambda name: "release-1" if name.startswith("low/") else kit.release()))
+    edits = Edits.of(top)
+    assert not edits.unknown() and sorted(map(edits.name, edits.by_others())) == ["low/first.edit", "low/second.edit"]
+    edits.choose(seed=3)
+    assert sorted(map(edits.name, edits.chosen)) == ["low/first.edit", "low/second.edit"]
+    edits.answers = [Tried("low/first.edit", True, "refused"), Tried("low/second.edit", False, "proved")]
+    assert edits.counts() == (5, 1) and "not refused: 1" in told(edits, 1)[-1]
+    edits.record(top)
+    now = {name: it.release for name, it in read_lock(top).items()}
+    assert now.pop("low/first.edit") == kit.release() and "low/second.edit" not in now
+    write_lock(top, refusals(Edits.of(top), lambda name: "release-1"))
+    edits = Edits.of(top)
+    edits.record(top)
+    assert {it.release for it in read_lock(top).values()} == {"release-1"}
+    assert "release-1" in " ".join(told(edits, 1))
 
 
 def test_a_sample_is_new_with_each_seed_and_reaches_every_edit(snapd, _):
@@ -239,6 +268,145 @@ def test_a_copy_has_what_the_prover_reads_and_no_edit(snapd, _):
         assert len(edits_of(copy, "low")) == 2
 
 
+def test_a_refusal_is_told_by_each_release_in_its_own_word(snapd, _):
+    def refusal(came, **words):
+        return Trial(types.SimpleNamespace(**words), None, [], None).is_refusal(came)
+
+    assert refusal(True) and not refusal(False) and not refusal(None)
+    words = {"REFUSED": "refused", "AT_LIMIT": "at limit"}
+    assert refusal("refused", **words) and refusal("at limit", **words)
+    assert not refusal("proved", **words) and not refusal(True, **words) and not refusal(None, **words)
+
+
+def test_a_try_that_changes_what_it_begins_with_is_seen(snapd, _):
+    (snapd.folder / "seed" / "inner").mkdir(parents=True)
+    file = snapd.folder / "seed" / "inner" / "module"
+    file.write_text("text")
+    before = listing(snapd.folder / "seed")
+    assert list(before) == ["inner/module"] and listing(snapd.folder / "seed") == before
+    file.write_text("taxt")
+    os.utime(file, ns=(0, 0))
+    changed = listing(snapd.folder / "seed")
+    assert changed != before
+    # The prover marks by an empty file when it used the folder.
+    (snapd.folder / "seed" / "used").write_text("")
+    marked = listing(snapd.folder / "seed")
+    os.utime(snapd.folder / "seed" / "used", ns=(0, 0))
+    assert listing(snapd.folder / "seed") == marked != changed
+
+
+def test_a_kit_that_lacks_a_part_or_has_another_one_is_not_known(snapd, _):
+    parts = {name: eval(f"lambda {', '.join(first)}: None") for name, first in kit.PARTS.items()}
+    module = types.SimpleNamespace(**parts, rtlib=None)
+    assert kit.has_parts(module)
+    for name in kit.PARTS:
+        without = types.SimpleNamespace(**{it: parts[it] for it in parts if it != name}, rtlib=None)
+        assert not kit.has_parts(without), name
+    parts["must_fail"] = lambda edit, crate: None
+    assert not kit.has_parts(types.SimpleNamespace(**parts, rtlib=None))
+
+
+def built(top, name, text):
+    """What a proof leaves of a library."""
+    file = top / "crates" / name / "out" / "rlib" / f"{name}.rlib" / "interface"
+    file.parent.mkdir(parents=True, exist_ok=True)
+    file.write_text(text)
+    return file
+
+
+def test_a_proof_is_taken_where_all_that_it_read_is_the_same(snapd, _):
+    folder, top = snapd.folder / "kept", tree(snapd.folder / "one")
+    assert not Store(top, folder).take("low", PROOF)
+    built(top, "low", "low as built")
+    Store(top, folder).keep("low", PROOF)
+    built(top, "middle", "middle as built")
+    Store(top, folder).keep("middle", PROOF)
+    again = tree(snapd.folder / "two")
+    store = Store(again, folder)
+    assert not store.take("middle", TESTS) and store.take("low", PROOF) and store.take("middle", PROOF)
+    assert (again / "crates/middle/out/rlib/middle.rlib/interface").read_text() == "middle as built"
+    # The library below was built anew, and to other bytes.
+    built(again, "low", "low as it was built later")
+    assert not Store(again, folder).take("middle", PROOF)
+    built(again, "low", "low as built")
+    assert Store(again, folder).take("middle", PROOF)
+    for path in FILES:
+        text = (again / "crates/middle" / path).read_text()
+        (again / "crates/middle" / path).write_text(text + "more\n")
+        assert not Store(again, folder).take("middle", PROOF), path
+        (again / "crates/middle" / path).write_text(text)
+    (again / "HANDLES").write_text("Handles allowed: Threads.\n")
+    assert not Store(again, folder).take("middle", PROOF)
+    (again / "HANDLES").write_text("Handles allowed: none.\n")
+    crates = again / "crates.txt"
+    crates.write_text(crates.read_text().replace("middle: low", "middle: low bytes"))
+    assert not Store(again, folder).take("middle", PROOF)
+    assert not Store(top, folder, takes=False).take("low", PROOF) and Store(top, folder).take("low", PROOF)
+
+
+def test_a_quick_proof_is_not_taken_for_a_whole_one(snapd, _):
+    folder, top = snapd.folder / "kept", tree(snapd.folder)
+    built(top, "low", "low as built")
+    Store(top, folder, how=QUICK).keep("low", PROOF)
+    assert Store(top, folder, how=QUICK).take("low", PROOF) and not Store(top, folder).take("low", PROOF)
+    built(top, "middle", "middle as built")
+    Store(top, folder).keep("middle", PROOF)
+    assert Store(top, folder, how=QUICK).take("middle", PROOF) and Store(top, folder).take("middle", PROOF)
+
+
+def test_a_store_that_was_damaged_or_that_others_may_write_to_gives_nothing(snapd, _):
+    folder, top = snapd.folder / "kept", tree(snapd.folder)
+    built(top, "low", "low as built")
+    Store(top, folder).keep("low", PROOF)
+    folder.chmod(0o777)
+    assert not Store(top, folder).take("low", PROOF)
+    folder.chmod(0o700)
+    assert Store(top, folder).take("low", PROOF)
+    kept = next(folder.glob("*/out/rlib/low.rlib/interface"))
+    kept.write_text("low as bu1lt")
+    assert not Store(top, folder).take("low", PROOF) and list(folder.iterdir()) == []
+    Store(top, snapd.folder / "HANDLES" / "no-folder").keep("low", PROOF)
+    (snapd.folder / "file").write_text("")
+    assert not Store(top, snapd.folder / "file" / "kept").take("low", PROOF)
+
+
+def test_a_store_lets_go_of_what_was_not_taken_for_longest(snapd, _):
+    folder, top, room = snapd.folder / "kept", tree(snapd.folder), store.ROOM
+    for name in ("low", "middle", "high"):
+        built(top, name, name * 100)
+        Store(top, folder).keep(name, PROOF)
+    for age, kept in enumerate(sorted(folder.iterdir(), key=lambda it: next(it.rglob("interface")).read_text())):
+        os.utime(kept, (1000 - age, 1000 - age))
+    try:
+        store.ROOM = 1500
+        Store(top, folder).thin()
+    finally:
+        store.ROOM = room
+    left = {next(it.rglob("interface")).read_text()[:3] for it in folder.iterdir()}
+    assert left == {"hig", "low"}
+
+
+def test_what_fails_is_not_kept_and_what_is_kept_is_not_proved_again(snapd, _):
+    top, calls = tree(snapd.folder), []
+
+    def proves(came):
+        def call(given, jobs):
+            calls.append(came)
+            built(top, "low", "low as built")
+            return came
+
+        return call
+
+    def run(came):
+        return over(Store(top, snapd.folder / "kept"), ("low", PROOF), proves(came))({}, 1)
+
+    assert run(False) is False and run(True) is True and run(False) is True
+    assert calls == [False, True]
+    tasks = {("low", it): ([], lines, 1, proves(True)) for it, lines in (("proof", 5), ("tests", 0), ("edits", 5))}
+    wrapped = with_store(Store(top, snapd.folder / "kept"), tasks)
+    assert [wrapped[it][3] is tasks[it][3] for it in tasks] == [False, True, True]
+
+
 PASSED = """\
 rt: low is kept: an earlier run on this machine proved the same files over the same libraries
 == middle
@@ -270,6 +438,23 @@ def test_what_the_prover_says_is_counted(snapd, _):
     assert (proofs.passed, proofs.failed, proofs.edits, proofs.kept, proofs.failures) == (9, 0, 6, (2, 5), [])
     assert (snapd.folder / "log").read_text() == PASSED
     assert proofs.told()[0].startswith("proofs: 3 crates passed") and proofs.told()[1] == "from this machine's store: 2 of 5 proofs"
+
+
+# As a release says it that keeps no proofs and counts no edits.
+PLAINER = """\
+rt: low is kept: this machine has proved the same before
+rt: middle: its tests are kept: this machine has proved the same before
+rt: middle proved
+rt: must-fail low/first.edit: refused, as it must be
+rt: must-fail low/second.edit: refused, as it must be: src/lib.rt:1:1: error
+rt: ok; handles allowed: none
+5 passed, 0 failed
+"""
+
+
+def test_what_a_release_without_a_store_says_is_counted(snapd, _):
+    proofs = ran(snapd, PLAINER)
+    assert (proofs.passed, proofs.failed, proofs.edits, proofs.kept) == (5, 0, 2, (2, 3))
 
 
 def test_a_prover_that_fails_is_never_taken_for_one_that_passed(snapd, _):

@@ -5,12 +5,13 @@ own body and on the contracts of what it calls, and an edit changes one body. So
 it is refused alone, and each of the functions has to be refused by an error of its own: that something else isn't proved
 doesn't count. What isn't told so clearly is tried alone, as the kit does it.
 
-The kit's own `rt` reads and applies edits, checks the copies and judges single edits. What it says of a batch is read
-here, so this goes with the kit that verification/kit.py names.
+The kit's own `rt` reads and applies edits, checks the copies and judges single edits. What the prover says of a batch is
+read here. Where a release says it in other words, nothing is found, and each edit is tried alone.
 """
 
 import heapq
 import itertools
+import os
 import pathlib
 import re
 import shutil
@@ -39,6 +40,12 @@ class Tried:
     name: str
     is_refused: bool
     text: str
+
+
+def listing(folder):
+    """The files of a folder, each with its length and its last change; an empty one, by which the prover tells when it used the folder, with its length alone."""
+    found = {it: it.stat() for it in folder.rglob("*") if it.is_file()}
+    return {str(it.relative_to(folder)): (status.st_size, status.st_size and status.st_mtime_ns) for it, status in found.items()}
 
 
 def own_error(said, function, name):
@@ -92,7 +99,7 @@ class Trial:
             why = f"{self.crate.name} isn't proved without an edit"
             self.answers = {it: Tried(self.name(it), False, why) for it in self.edits}
             return self.end([])
-        self.files = self.rt.listing(str(self.room / "seed"))
+        self.files = listing(self.room / "seed")
         proved = [it for it, text in SAID.findall(control.stdout) if text.startswith("proved")]
         self.places = {it: function_of(self.folder, it) for it in self.edits}
         self.names = {it: at and named(at, self.crate.name, proved) for it, at in self.places.items()}
@@ -126,7 +133,7 @@ class Trial:
     def over_seed(self, call):
         """Gives the call a folder with what proved the crate as it stands."""
         with tempfile.TemporaryDirectory(prefix="over-", dir=self.room) as over:
-            self.rt.linked(str(self.room / "seed"), f"{over}/kept")
+            shutil.copytree(self.room / "seed", f"{over}/kept", copy_function=os.link)
             return call(f"{over}/kept")
 
     def told_at_once(self, edits):
@@ -146,14 +153,19 @@ class Trial:
 
     def alone(self, edit):
         """What the kit itself comes to with this edit; an edit that is still proved over kept work is tried once more from nothing."""
-        kind, text = self.over_seed(lambda kept: self.rt.must_fail(self.crate, str(edit), ALONE, kept))
-        if kind not in self.rt.SETTLED:
-            kind, text = self.rt.must_fail(self.crate, str(edit), ALONE)
-        return Tried(self.name(edit), kind in (self.rt.REFUSED, self.rt.AT_LIMIT), f"{text} (tried alone)")
+        came, text = self.over_seed(lambda kept: self.rt.must_fail(self.crate, str(edit), ALONE, kept))
+        if not self.is_refusal(came):
+            came, text = self.rt.must_fail(self.crate, str(edit), ALONE)
+        return Tried(self.name(edit), self.is_refusal(came), f"{text} (tried alone)")
+
+    def is_refusal(self, came):
+        """Whether this is the kit's word for a refusal: some releases have a word for each end, and others say whether it was one."""
+        refusals = {getattr(self.rt, it) for it in ("REFUSED", "AT_LIMIT") if hasattr(self.rt, it)}
+        return came in refusals if refusals else came is True
 
     def sound(self):
         """Nothing that was refused counts where a try changed what the others began with."""
-        if self.rt.listing(str(self.room / "seed")) != self.files:
+        if listing(self.room / "seed") != self.files:
             why = "what the tries begin with was changed meanwhile"
             self.answers = {it: Tried(self.name(it), False, why) for it in self.edits}
 

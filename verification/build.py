@@ -11,7 +11,7 @@ import shutil
 import sys
 import time
 
-from proofs import prove
+from proofs import QUICK, prove
 from tree import TOP, below, copied, crates_of
 
 LOG = TOP / "out" / "build.log"
@@ -36,7 +36,7 @@ def main():
     words = words.parse_args()
     names, crates, began = ["snapd", *words.names], crates_of(TOP), time.monotonic()
     with copied(TOP, {it for name in names for it in [*below(crates, name), name]}) as copy:
-        proofs = prove(copy, LOG, words.fresh)
+        proofs = prove(copy, LOG, words.fresh, QUICK)
         LOG.with_name("times.txt").write_text("\n".join(proofs.times) + "\n")
         take_programs(copy, names)
     if proofs.failed:

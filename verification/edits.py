@@ -14,7 +14,7 @@ from dataclasses import dataclass, field
 
 import kit
 from batches import tried
-from digests import Digests, read_lock, write_lock
+from digests import Digests, Refusal, read_lock, write_lock
 from proofs import prove
 from tree import TOP, below, copied, crates_of, edits_of
 
@@ -50,21 +50,28 @@ class Edits:
 
     @classmethod
     def of(cls, top):
-        digests, names = Digests(top, kit.identity()), crates_of(top)
+        digests, names = Digests(top, kit.logic()), crates_of(top)
         return cls({(it, path): digests.edit(it, path) for it in names for path in edits_of(top, it)}, read_lock(top))
 
     def name(self, edit):
         return f"{edit[0]}/{edit[1].name}"
 
     def known(self):
-        return [it for it, digest in self.digests.items() if self.recorded.get(self.name(it)) == digest]
+        found = [(it, digest, self.recorded.get(self.name(it))) for it, digest in self.digests.items()]
+        return [it for it, digest, refusal in found if refusal and refusal.digest == digest]
 
     def unknown(self):
         known = set(self.known())
         return [it for it in self.digests if it not in known]
 
+    def by_others(self):
+        """The edits that stand in the lock as another release refused them."""
+        return [it for it in self.known() if self.recorded[self.name(it)].release != kit.release()]
+
     def choose(self, every=False, seed=None):
-        self.chosen = list(self.digests) if every else self.unknown() + (drawn(self.known(), seed) if seed is not None else [])
+        """Chooses all, or what the lock doesn't have and with a seed a sample, from what another release refused where there is such."""
+        sample = drawn(self.by_others() or self.known(), seed) if seed is not None else []
+        self.chosen = list(self.digests) if every else self.unknown() + sample
 
     def refused(self):
         return [it.name for it in self.answers if it.is_refused]
@@ -80,8 +87,8 @@ class Edits:
 
     def record(self, top):
         """Writes what stands in the lock and what was refused now, and nothing of an edit that is gone or wasn't refused."""
-        by_name = {self.name(it): digest for it, digest in self.digests.items()}
-        kept = {self.name(it): self.digests[it] for it in self.known()}
+        by_name = {self.name(it): Refusal(digest, kit.release()) for it, digest in self.digests.items()}
+        kept = {self.name(it): self.recorded[self.name(it)] for it in self.known()}
         for it in self.answers:
             kept.pop(it.name, None)
         write_lock(top, kept | {it: by_name[it] for it in self.refused()})
@@ -114,6 +121,8 @@ def try_over(copy, edits, log, record=lambda: None):
 def told(edits, seconds):
     refused, failed = edits.counts()
     lines = [f"edits: {refused} refused, of these {len(edits.refused())} tried now in {seconds:.0f} s"]
+    others = {edits.recorded[edits.name(it)].release for it in set(edits.by_others()) - set(edits.chosen)}
+    lines += [f"edits that stand as another release of the kit refused them: {', '.join(sorted(others))}"] if others else []
     return lines + [f"edit {it.name}: NOT REFUSED: {it.text}" for it in edits.failed()] + ([f"edits not refused: {failed}"] if failed else [])
 
 
@@ -122,7 +131,7 @@ def main():
     words.add_argument("--every", action="store_true", help="all edits, also those that must-fail.lock has")
     words = words.parse_args()
     if not kit.is_known():
-        sys.exit(f"this reads what {kit.KNOWN} says, and here is {kit.identity()}: look through verification/batches.py first")
+        sys.exit(f"{kit.identity()} lacks a part of rt that verification/kit.py names: look through it first")
     edits = Edits.of(TOP)
     edits.choose(every=words.every)
     crates = crates_of(TOP)

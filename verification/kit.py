@@ -1,33 +1,77 @@
-"""The kit's command `rt`, and its parts as a module where they are known here."""
+"""The kit's command `rt`: what it calls itself, and its parts, which order proofs and try edits here."""
 
 import functools
 import importlib.machinery
 import importlib.util
+import inspect
 import os
+import pathlib
 import shutil
 import subprocess
 import sys
 
 sys.dont_write_bytecode = True
 
-# The kit whose parts and messages are read here. Another one is asked for everything by its command.
-KNOWN = "rattle-kit-13f logic dac8208d650f15bf"
+# The parts of `rt` that are used here, each function with its first parameters.
+PARTS = {
+    "in_lanes": ["tasks"],
+    "processors": [],
+    "free": [],
+    "need": ["crate"],
+    "unread": ["line", "changed"],
+    "checked": ["crate", "texts", "flags", "kept"],
+    "must_fail": ["crate", "edit", "flags", "kept"],
+}
 
 
 @functools.lru_cache(maxsize=None)
 def identity():
-    """The kit's one-line identity."""
+    """The kit's one-line identity: its release, and the logic that its proofs are of."""
     return subprocess.run(["rt", "version"], capture_output=True, text=True, check=True).stdout.strip()
 
 
-def is_known():
-    return identity() == KNOWN
+def release():
+    return identity().partition(" ")[0]
+
+
+def logic():
+    """What a proof is a proof of, whichever release finds it; the whole identity where that isn't told."""
+    return identity().partition(" ")[2] or identity()
+
+
+def path():
+    return pathlib.Path(os.path.realpath(shutil.which("rt")))
+
+
+def keeps_proofs():
+    """Whether the kit itself keeps the proofs that this machine has made."""
+    return "--anew" in path().read_text()
+
+
+def contents():
+    """What the kit says that it is made of."""
+    what = path().parent.parent / "WHAT"
+    return identity() + (what.read_text() if what.exists() else "")
 
 
 def load():
     """The command `rt` as a module."""
-    path = os.path.realpath(shutil.which("rt"))
-    loader = importlib.machinery.SourceFileLoader("rt_of_the_kit", path)
+    loader = importlib.machinery.SourceFileLoader("rt_of_the_kit", str(path()))
     rt = importlib.util.module_from_spec(importlib.util.spec_from_loader("rt_of_the_kit", loader))
     loader.exec_module(rt)
     return rt
+
+
+def has_parts(rt):
+    """Whether this module has the parts that are used here."""
+    functions = {name: getattr(rt, name, None) for name in PARTS}
+    if not all(map(callable, functions.values())) or not hasattr(rt, "rtlib"):
+        return False
+    takes = {name: list(inspect.signature(it).parameters) for name, it in functions.items()}
+    return all(takes[name][: len(first)] == first for name, first in PARTS.items())
+
+
+@functools.lru_cache(maxsize=None)
+def is_known():
+    """Whether this kit has the parts that are used here. Another one is asked for everything by its command."""
+    return has_parts(load())

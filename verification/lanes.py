@@ -1,15 +1,21 @@
 """The kit's `rt ci` in this folder, with its work handed out so that no processor waits for the longest chain of crates.
 
     python3 lanes.py ci [--anew]
+    python3 lanes.py build [--anew]
 
 The kit proves, builds, runs and judges; only which crate comes next, and on how many processors, is settled here. The
 kit gives a crate the processors that are idle when it begins, so the lowest crate, on which nearly all others wait,
 begins beside four others with one processor, and later the rest of them have nothing to do. Here a crate whose chain
 would take longer than all that is left gets as many as it needs to keep up.
 
+Where the kit keeps no proofs of earlier runs, they are kept here (store.py), and with --anew none is taken. There `build`
+proves every function too, and leaves to the gate what is no proof: the search for contracts that no call can meet, and
+the second compiler.
+
 A kit whose parts aren't those that are known here runs its own way.
 """
 
+import contextlib
 import math
 import os
 import pathlib
@@ -17,6 +23,7 @@ import sys
 from concurrent.futures import FIRST_COMPLETED, ThreadPoolExecutor, wait
 
 import kit
+from store import PROOF, QUICK, TESTS, WHOLE, Store, over
 
 # What each proof took when it was last measured on one processor, in seconds: only the order goes by it.
 SECONDS = pathlib.Path(__file__).resolve().parent / "seconds.txt"
@@ -60,13 +67,20 @@ class Plan:
         return max(1, min(MOST, lanes, idle, max(wanted, idle - others)))
 
 
-def in_lanes(rt):
+def with_store(store, tasks):
+    """These tasks, of which each proof is taken from the store where it has it."""
+    return {key: (*task[:3], over(store, key, task[3]) if key[1] in (PROOF, TESTS) and task[1] else task[3]) for key, task in tasks.items()}
+
+
+def in_lanes(rt, store=None):
     """What takes the place of the kit's function of that name."""
 
     def run(tasks):
+        tasks = with_store(store, tasks) if store else tasks
         lanes, memory, plan = rt.processors(), 0.85 * rt.free(), Plan(tasks)
         running, given = {}, {}
-        with rt.ending(), ThreadPoolExecutor(max(lanes, 2)) as pool:
+        # A release that ends its processes when it is interrupted says how.
+        with getattr(rt, "ending", contextlib.nullcontext)(), ThreadPoolExecutor(max(lanes, 2)) as pool:
             while plan.left or running:
                 ready = plan.ready(given)
                 for key in [it for it in ready if not plan.seconds[it]]:
@@ -91,13 +105,28 @@ def in_lanes(rt):
     return run
 
 
+def leave_to_the_gate(rt):
+    """Leaves out of the kit's run what only its verdict asks for."""
+    help_of, compile_by = rt.rtlib.help_of, rt.Crate.compile_by
+    rt.rtlib.help_of = lambda verb: help_of(verb).replace("--empty-contracts", "")
+    rt.Crate.compile_by = lambda crate, backend, *rest: compile_by(crate, backend, *rest) if backend == "llvm" else 0
+
+
 def main():
+    keeps, is_anew, is_quick = kit.keeps_proofs(), "--anew" in sys.argv, "build" in sys.argv
+    words = ["ci", *(["--anew"] if keeps and is_anew else [])]
     if not kit.is_known():
-        os.execvp("rt", ["rt", *sys.argv[1:]])
+        os.execvp("rt", ["rt", *words])
     rt = kit.load()
-    rt.in_lanes = in_lanes(rt)
-    status = rt.main(sys.argv[1:])
+    store = None if keeps else Store(pathlib.Path.cwd(), takes=not is_anew, how=QUICK if is_quick else WHOLE)
+    rt.in_lanes = in_lanes(rt, store)
+    # A kit's own store may not tell what was left out.
+    if is_quick and not keeps and hasattr(rt.rtlib, "help_of") and hasattr(rt.Crate, "compile_by"):
+        leave_to_the_gate(rt)
+    status = rt.main(words)
     sys.stdout.flush()
+    if store:
+        store.thin()
     return status
 
 

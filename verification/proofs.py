@@ -7,14 +7,17 @@ import sys
 import time
 from dataclasses import dataclass, field
 
+import kit
 from tree import TOP, crates_of, has_tests
 from watch import Watch
 
-# The kit's `rt ci`, with its work handed out in another order, and as it is.
-LANES, PLAIN = [sys.executable, str(TOP / "verification" / "lanes.py"), "ci"], ["rt", "ci"]
+# The kit's `rt ci`, with its work handed out in another order, without what is no proof, and as it is.
+BY_LANES = [sys.executable, str(TOP / "verification" / "lanes.py")]
+LANES, QUICK, PLAIN = [*BY_LANES, "ci"], [*BY_LANES, "build"], ["rt", "ci"]
 COUNT = re.compile(r"(\d+) passed, (\d+) failed")
 # What `rt` says of one crate.
-SAID = re.compile(r"rt: (\w+)(: its tests are)? (proved|NOT PROVED|is kept)")
+SAID = re.compile(r"rt: (\w+)(: its tests are)? (proved|NOT PROVED|(?:is )?kept\b)")
+REFUSED = re.compile(r"rt: must-fail \S+: refused")
 # How many lines of a failed run are shown again.
 LAST = 12
 
@@ -45,7 +48,7 @@ class Progress:
     def __init__(self, top):
         crates = crates_of(top)
         with_tests = [it for it in crates if has_tests(top / "crates" / it)]
-        self.all, self.done = len(crates) + len(with_tests), 0
+        self.all, self.done, self.kept = len(crates) + len(with_tests), 0, 0
         self.failed = []
 
     def take(self, line, watch):
@@ -54,7 +57,8 @@ class Progress:
             return
         self.done += 1
         name, of_tests, came = said.groups()
-        if came == "is kept":
+        if came.endswith("kept"):
+            self.kept += 1
             return
         seconds, _ = watch.took(name, "tests" if of_tests else "proof")
         what = f"the tests of {name}" if of_tests else name
@@ -66,7 +70,7 @@ class Progress:
 def prove(copy, log, anew=False, by=LANES):
     """Proves, builds and runs all crates of this copy of the tree, and tries the edits that it has. The kit's own lines go
     into the log."""
-    words = [*by, *(["--anew"] if anew else [])]
+    words = [*by, *(["--anew"] if anew and (by != PLAIN or kit.keeps_proofs()) else [])]
     began, progress, lines = time.monotonic(), Progress(copy), []
     log.parent.mkdir(parents=True, exist_ok=True)
     how = {"cwd": copy, "stdin": subprocess.DEVNULL, "stdout": subprocess.PIPE, "stderr": subprocess.STDOUT}
@@ -79,6 +83,7 @@ def prove(copy, log, anew=False, by=LANES):
             progress.take(line, watch)
     watch.end()
     came = judged(lines, run.returncode)
+    came.kept = came.kept if came.kept[1] else (progress.kept, progress.all)
     came.seconds, came.processor = time.monotonic() - began, watch.processor()
     came.times = sorted(f"{it.crate} {it.what} {it.processor:.0f}" for it in watch.works.values())
     if came.failed:
@@ -92,8 +97,9 @@ def judged(lines, status):
     passed, failed = (int(count[1]), int(count[2])) if count else (0, 1)
     came = Proofs(passed, max(failed, 1) if status else failed)
     total = lines[-2] if len(lines) > 1 else ""
-    if refused := re.search(r"must-fail edits: (\d+) refused", total):
-        came.edits = int(refused[1])
+    # Some releases count the edits in their last line but one.
+    refused = re.search(r"must-fail edits: (\d+) refused", total)
+    came.edits = int(refused[1]) if refused else sum(bool(REFUSED.match(it)) for it in lines)
     if done := re.search(r"done in this run: (\d+) of the (\d+) proofs", total):
         came.kept = int(done[2]) - int(done[1]), int(done[2])
     if came.failed:

@@ -10,7 +10,7 @@ import threading
 import time
 from dataclasses import dataclass
 
-PAUSE = 0.2
+PAUSE = 1
 TICK = os.sysconf("SC_CLK_TCK")
 
 
