@@ -296,13 +296,16 @@ def test_a_try_that_changes_what_it_begins_with_is_seen(snapd, _):
 
 
 def test_a_kit_that_lacks_a_part_or_has_another_one_is_not_known(snapd, _):
-    parts = {name: eval(f"lambda {', '.join(first)}: None") for name, first in kit.PARTS.items()}
+    takes = {0: lambda: None, 1: lambda one: None, 2: lambda one, two: None, 4: lambda one, two, three, four=None, five=None: None}
+    parts = {name: takes[count] for name, count in kit.PARTS.items()}
     module = types.SimpleNamespace(**parts, rtlib=None)
     assert kit.has_parts(module)
     for name in kit.PARTS:
         without = types.SimpleNamespace(**{it: parts[it] for it in parts if it != name}, rtlib=None)
         assert not kit.has_parts(without), name
-    parts["must_fail"] = lambda edit, crate: None
+    parts["must_fail"] = lambda crate, edit: None
+    assert not kit.has_parts(types.SimpleNamespace(**parts, rtlib=None))
+    parts["must_fail"] = lambda crate, edit, flags, kept, how: None
     assert not kit.has_parts(types.SimpleNamespace(**parts, rtlib=None))
 
 

@@ -12,16 +12,9 @@ import sys
 
 sys.dont_write_bytecode = True
 
-# The parts of `rt` that are used here, each function with its first parameters.
-PARTS = {
-    "in_lanes": ["tasks"],
-    "processors": [],
-    "free": [],
-    "need": ["crate"],
-    "unread": ["line", "changed"],
-    "checked": ["crate", "texts", "flags", "kept"],
-    "must_fail": ["crate", "edit", "flags", "kept"],
-}
+# The functions of `rt` that are used here, each with the most arguments that it is given: `in_lanes(tasks)`,
+# `need(crate)`, `unread(line, texts)`, `checked(crate, texts, flags, kept)`, `must_fail(crate, edit, flags, kept)`.
+PARTS = {"in_lanes": 1, "processors": 0, "free": 0, "need": 1, "unread": 2, "checked": 4, "must_fail": 4}
 
 
 @functools.lru_cache(maxsize=None)
@@ -67,8 +60,12 @@ def has_parts(rt):
     functions = {name: getattr(rt, name, None) for name in PARTS}
     if not all(map(callable, functions.values())) or not hasattr(rt, "rtlib"):
         return False
-    takes = {name: list(inspect.signature(it).parameters) for name, it in functions.items()}
-    return all(takes[name][: len(first)] == first for name, first in PARTS.items())
+    try:
+        for name, count in PARTS.items():
+            inspect.signature(functions[name]).bind(*range(count))
+    except TypeError:
+        return False
+    return True
 
 
 @functools.lru_cache(maxsize=None)
