@@ -3,6 +3,7 @@ are served, and nothing that was acknowledged is lost."""
 
 import errno
 import itertools
+import re
 
 from preload import library
 from serving import FRESH, LOOPBACK, SCAN, STATUS, Server, segments, snapshot, standings, stored, update
@@ -19,6 +20,8 @@ CALLS = {
     "send": (errno.EPIPE, errno.ENOBUFS),
     "shutdown": (errno.ENOTCONN,),
 }
+# What it says of a connection that has ended.
+NOTE = re.compile(r"snapd: 127\.0\.0\.1:\d+ (closed|ended inside a request|lost while it was (read|written))")
 # What the server ends with where a worker can't wait.
 REFUSED = "the system refused to watch the connections of a worker"
 # The calls of a start.
@@ -128,8 +131,10 @@ def test_a_worker_that_cannot_wait_ends_the_server(snapd, _):
             assert [asked(server, SCAN) for _ in range(failed + 1)] == [shown] * failed + [CLOSED]
             assert told(streams[1 - failed], update(1, 1, b"hi")) == stored(1)
         run = server.end()
-        # A thread of its own writes the notes, so the last of them may come behind the complaint.
-        assert run.status == 1 and run.errors.splitlines().count(f"snapd: {LOOPBACK}: {REFUSED}") == 1, run
+        # A thread of its own writes the notes, so the last of them may come behind the complaint; nothing else is said.
+        lines, complaint = run.errors.splitlines(), f"snapd: {LOOPBACK}: {REFUSED}"
+        assert run.status == 1 and run.errors.endswith("\n") and lines.count(complaint) == 1, run
+        assert all(NOTE.fullmatch(it) for it in lines if it != complaint), run
     with Server(snapd, *files) as server:
         server.ask(SCAN, HELD)
 
