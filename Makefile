@@ -19,12 +19,13 @@ test:
 test-all:
 	python3 verification/test.py --every-edit $(if $(FRESH),--fresh)
 
-# Tries all edits from nothing, or those alone that must-fail.lock doesn't have as they are now, and writes the lock.
+# Tries all edits from nothing, or those alone that must-fail.lock doesn't have as they are now, and writes the lock. With
+# CRATES="NAME .." it tries those of these crates.
 edits:
-	python3 verification/edits.py --every
+	python3 verification/edits.py --every $(CRATES)
 
 new-edits:
-	python3 verification/edits.py
+	python3 verification/edits.py $(CRATES)
 
 # The program that tests and benchmarks run beside snapd.
 programs:

@@ -11,9 +11,10 @@ sys.path.insert(0, str(TOP / "verification"))
 import kit  # noqa: E402
 import store  # noqa: E402
 from batches import Trial, Tried, batches_of, listing, own_error, strangers  # noqa: E402
+from costs import costs  # noqa: E402
 from digests import Digests, Refusal, read_lock, write_lock  # noqa: E402
 from edits import OF_ONE_CRATE, SAMPLE, Edits, drawn, told  # noqa: E402
-from lanes import Plan, with_store  # noqa: E402
+from lanes import Plan, keep_apart, with_store  # noqa: E402
 from proofs import prove  # noqa: E402
 from source import function_of, functions_in, named, together  # noqa: E402
 from store import PROOF, QUICK, TESTS, Store, over  # noqa: E402
@@ -152,6 +153,8 @@ def test_what_the_lock_does_not_have_is_tried_and_a_sample_of_the_rest(snapd, _)
     assert sorted(edits.chosen) == sorted(edits.digests)
     edits.choose()
     assert edits.chosen == []
+    edits.choose(every=True, names=["low", "high"])
+    assert {it[0] for it in edits.chosen} == {"low", "high"} and len(edits.chosen) == 4
     lock = top / "must-fail.lock"
     name = edits.name(edits.known()[0])
     lock.write_text(lock.read_text().replace(f"{name} ", f"{name} 0"))
@@ -250,9 +253,12 @@ def test_the_longest_chain_gets_the_processors_that_it_needs(snapd, _):
     tasks = {("a", "proof"): task(), ("b", "proof"): task("a"), ("c", "proof"): task("b"), ("d", "proof"): task(), ("e", "proof"): task()}
     plan = Plan(tasks)
     assert plan.ready({}) == [("a", "proof"), ("d", "proof"), ("e", "proof")]
-    assert plan.jobs(("a", "proof"), 4, 4, 2, []) == 3 and plan.jobs(("d", "proof"), 4, 2, 1, []) == 1
-    # On two processors all that is left takes longer than the chain, so none is given twice.
-    assert plan.jobs(("a", "proof"), 2, 2, 2, []) == 1
+    first, other = ("a", "proof"), ("d", "proof")
+    assert plan.jobs(first, 4, 4, 2, []) == 3 and plan.jobs(first, 2, 2, 2, []) == 2
+    # Where no processor is idle the longest chain shares with what runs, until there are half as many jobs again.
+    assert plan.jobs(first, 4, 0, 2, []) == 2 and plan.jobs(first, 4, -1, 2, []) == 1 and plan.jobs(first, 4, -2, 2, []) == 0
+    short = Plan({**tasks, other: ([], 80, 1, None)})
+    assert [short.jobs(other, 4, idle, 2, []) for idle in (4, 1, 0)] == [2, 1, 0]
 
 
 def test_a_copy_has_what_the_prover_reads_and_no_edit(snapd, _):
@@ -466,3 +472,44 @@ def test_a_prover_that_fails_is_never_taken_for_one_that_passed(snapd, _):
     assert ran(snapd, PASSED, 3).failed == 1
     assert ran(snapd, "killed\n", 137).failed == 1
     assert ran(snapd, "", 0).failed == 1
+
+
+class KitsStore:
+    """What is used here of the store of a kit that has one."""
+
+    def __init__(self, at):
+        self.at = at
+
+    def give(self, crate, tests, key):
+        return bool(self.at) and (pathlib.Path(self.at) / key).exists()
+
+    def is_whole(self, crate, tests, files):
+        return len(files) == 2
+
+
+def test_a_run_that_asks_less_keeps_apart_what_it_proves(snapd, _):
+    of_gate, apart = snapd.folder / "kit", snapd.folder / "apart"
+    for folder, key in ((of_gate, "whole"), (apart, "quick")):
+        (folder / key).mkdir(parents=True)
+    rt = types.SimpleNamespace(Kept=type("Kept", (KitsStore,), {}), STORE=str(of_gate))
+    keep_apart(rt, apart)
+    assert rt.STORE == str(apart)
+    kept = rt.Kept(rt.STORE)
+    assert kept.give(None, False, "whole") and kept.give(None, False, "quick") and not kept.give(None, False, "other")
+    assert kept.at == str(apart)
+    # What others may write to isn't taken.
+    of_gate.chmod(0o777)
+    assert not kept.give(None, False, "whole")
+    program = types.SimpleNamespace(name="snapd")
+    assert [kept.is_whole(program, False, it) for it in (["snapd"], ["snapd", "snapd.by-rattle"], [])] == [True, True, False]
+    # The gate's own runs are as they were.
+    assert not KitsStore(of_gate).give(None, False, "quick") and not KitsStore(of_gate).is_whole(program, False, ["snapd"])
+
+
+def test_costs_go_by_when_each_module_was_written(snapd, _):
+    at = "antt-checked-81.bid-0/"
+    written = [(10.0, f"{at}Rattle-low.oantt"), (15.0, f"{at}Rattle-low-proofs.thing.Thing.more.Lts.oantt"), (12.0, f"{at}Rattle-low-specs.Words.oantt")]
+    written += [(15.5, f"{at}records/Rattle-low-proofs.thing.Thing.more.Lts.decls.oantt"), (17.5, f"{at}Rattle-low-proofs.thing.Thing.more.Proof.oantt")]
+    modules, functions = costs(written)
+    assert modules == {"Rattle-low": 0, "Rattle-low-specs.Words": 2, "Rattle-low-proofs.thing.Thing.more.Lts": 3.5, "Rattle-low-proofs.thing.Thing.more.Proof": 2}
+    assert functions == {"what is no function": 2, "thing.Thing.more": 5.5}

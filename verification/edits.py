@@ -1,8 +1,9 @@
 """Tries the must-fail edits: each turns the meaning of a function, and the prover has to refuse it.
 
-    python3 verification/edits.py [--every] [--seed N]
+    python3 verification/edits.py [--every] [NAME ..]
 
-tries what must-fail.lock doesn't have under its digest, with --every all edits from nothing, and writes the lock.
+tries what must-fail.lock doesn't have under its digest, with --every all edits from nothing, and writes the lock. With names
+it tries the edits of these crates alone.
 """
 
 import argparse
@@ -21,7 +22,7 @@ from tree import TOP, below, copied, crates_of, edits_of
 LOG = TOP / "out" / "edits.log"
 # How many recorded edits each run of the tests tries again, and how many of one crate: each crate is proved first.
 SAMPLE = 20
-OF_ONE_CRATE = 4
+OF_ONE_CRATE = 5
 
 
 def drawn(edits, seed):
@@ -68,10 +69,12 @@ class Edits:
         """The edits that stand in the lock as another release refused them."""
         return [it for it in self.known() if self.recorded[self.name(it)].release != kit.release()]
 
-    def choose(self, every=False, seed=None):
-        """Chooses all, or what the lock doesn't have and with a seed a sample, from what another release refused where there is such."""
+    def choose(self, every=False, seed=None, names=()):
+        """Chooses all, or what the lock doesn't have and with a seed a sample, from what another release refused where there is such.
+        With names it chooses of these crates alone."""
         sample = drawn(self.by_others() or self.known(), seed) if seed is not None else []
-        self.chosen = list(self.digests) if every else self.unknown() + sample
+        found = list(self.digests) if every else self.unknown() + sample
+        self.chosen = [it for it in found if not names or it[0] in names]
 
     def refused(self):
         return [it.name for it in self.answers if it.is_refused]
@@ -129,12 +132,14 @@ def told(edits, seconds):
 def main():
     words = argparse.ArgumentParser(description="Tries must-fail edits, and records which were refused.")
     words.add_argument("--every", action="store_true", help="all edits, also those that must-fail.lock has")
+    words.add_argument("names", nargs="*", metavar="NAME", help="the crates whose edits are tried: all, where none is named")
     words = words.parse_args()
     if not kit.is_known():
         sys.exit(f"{kit.identity()} lacks a part of rt that verification/kit.py names: look through it first")
-    edits = Edits.of(TOP)
-    edits.choose(every=words.every)
-    crates = crates_of(TOP)
+    edits, crates = Edits.of(TOP), crates_of(TOP)
+    if strange := [it for it in words.names if it not in crates]:
+        sys.exit(f"crates.txt has no {', '.join(strange)}")
+    edits.choose(every=words.every, names=words.names)
     wanted = {it for name, _ in edits.chosen for it in [*below(crates, name), name]}
     with copied(TOP, wanted) as copy:
         libraries = prove(copy, LOG.with_name("proofs.log")) if wanted else None

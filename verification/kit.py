@@ -55,6 +55,12 @@ def load():
     return rt
 
 
+def has(rt, *names):
+    """Whether this module has these parts, given by their names with dots."""
+    missing = object()
+    return missing not in (functools.reduce(lambda it, part: getattr(it, part, missing), name.split("."), rt) for name in names)
+
+
 def has_parts(rt):
     """Whether this module has the parts that are used here."""
     functions = {name: getattr(rt, name, None) for name in PARTS}

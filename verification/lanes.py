@@ -6,16 +6,18 @@
 The kit proves, builds, runs and judges; only which crate comes next, and on how many processors, is settled here. The
 kit gives a crate the processors that are idle when it begins, so the lowest crate, on which nearly all others wait,
 begins beside four others with one processor, and later the rest of them have nothing to do. Here a crate whose chain
-would take longer than all that is left gets as many as it needs to keep up.
+would take longer than all that is left gets as many as it needs to keep up, also where others are at work: it then
+shares the processors with them.
 
-Where the kit keeps no proofs of earlier runs, they are kept here (store.py), and with --anew none is taken. There `build`
-proves every function too, and leaves to the gate what is no proof: the search for contracts that no call can meet, and
-the second compiler.
+`build` proves every function too, and leaves to the gate what is no proof: the search for contracts that no call can
+meet, and the second compiler. What it has proved is kept apart, since the gate asks more; what the gate has proved it
+takes. Where the kit keeps no proofs of earlier runs, they are kept here (store.py). With --anew none is taken.
 
 A kit whose parts aren't those that are known here runs its own way.
 """
 
 import contextlib
+import copy
 import math
 import os
 import pathlib
@@ -23,7 +25,7 @@ import sys
 from concurrent.futures import FIRST_COMPLETED, ThreadPoolExecutor, wait
 
 import kit
-from store import PROOF, QUICK, TESTS, WHOLE, Store, over
+from store import PROOF, QUICK, TESTS, WHOLE, Store, home, is_ours, over
 
 # What each proof took when it was last measured on one processor, in seconds: only the order goes by it.
 SECONDS = pathlib.Path(__file__).resolve().parent / "seconds.txt"
@@ -31,6 +33,9 @@ SECONDS = pathlib.Path(__file__).resolve().parent / "seconds.txt"
 START, EACH_LINE = 12, 0.12
 # More processors than this gain next to nothing for one crate.
 MOST = 4
+# How many jobs there may be for each processor, where a crate on the longest chain would else wait, and by how much of a
+# processor a chain gets more than it needs. Both did best in simulations with the times of all crates, on two and on four.
+SHARED, EARLY = 1.5, 0.5
 # What a further processor takes of the memory of the first.
 MORE_MEMORY = 0.6
 
@@ -61,10 +66,14 @@ class Plan:
         return sorted(found, key=lambda key: -self.behind[key])
 
     def jobs(self, key, lanes, idle, others, running):
-        """On how many processors a task begins: all that the others leave, and as many as its chain needs to end with the rest."""
+        """On how many processors a task begins, where so many are idle and so many others are ready: those that the others
+        leave, and as many as its chain needs to end with the rest, for which it shares with what runs. None where it waits."""
         rest = sum(self.seconds[it] for it in self.left) + sum(self.seconds[it] for it in running) / 2
-        wanted = math.ceil(self.behind[key] * lanes / rest - 0.25) if rest else 1
-        return max(1, min(MOST, lanes, idle, max(wanted, idle - others)))
+        wanted = math.ceil(self.behind[key] * lanes / rest + EARLY) if rest else 1
+        shared = math.ceil(lanes * SHARED) - (lanes - idle)
+        if idle < 1 and (wanted < 2 or shared < 1):
+            return 0
+        return max(1, min(MOST, max(min(wanted, shared), idle - others)))
 
 
 def with_store(store, tasks):
@@ -80,7 +89,7 @@ def in_lanes(rt, store=None):
         lanes, memory, plan = rt.processors(), 0.85 * rt.free(), Plan(tasks)
         running, given = {}, {}
         # A release that ends its processes when it is interrupted says how.
-        with getattr(rt, "ending", contextlib.nullcontext)(), ThreadPoolExecutor(max(lanes, 2)) as pool:
+        with getattr(rt, "ending", contextlib.nullcontext)(), ThreadPoolExecutor(2 * lanes) as pool:
             while plan.left or running:
                 ready = plan.ready(given)
                 for key in [it for it in ready if not plan.seconds[it]]:
@@ -90,9 +99,11 @@ def in_lanes(rt, store=None):
                     _, _, needs, call = plan.left[key]
                     idle = lanes - sum(jobs for _, _, jobs in running.values())
                     room = memory - sum(much for _, much, _ in running.values())
-                    if idle < 1 or (running and needs > room):
+                    if running and needs > room:
                         break
                     jobs = plan.jobs(key, lanes, idle, len(ready) - at - 1, [it for it, _, _ in running.values()])
+                    if not jobs:
+                        continue
                     while jobs > 1 and needs * (1 + MORE_MEMORY * (jobs - 1)) > room:
                         jobs -= 1
                     plan.left.pop(key)
@@ -103,6 +114,21 @@ def in_lanes(rt, store=None):
         return given
 
     return run
+
+
+def keep_apart(rt, folder):
+    """Has the kit keep what it proves in this folder, which whole runs never read. What they have kept it takes all the same."""
+    give, is_whole, of_whole_runs = rt.Kept.give, rt.Kept.is_whole, rt.STORE
+    rt.STORE = str(folder)
+
+    def give_either(kept, crate, tests, key):
+        whole = copy.copy(kept)
+        whole.at = of_whole_runs if kept.at and is_ours(of_whole_runs) else None
+        return give(whole, crate, tests, key) or give(kept, crate, tests, key)
+
+    rt.Kept.give = give_either
+    # A program by one compiler is all that such a run makes.
+    rt.Kept.is_whole = lambda kept, crate, tests, files: is_whole(kept, crate, tests, files) or files == [crate.name]
 
 
 def leave_to_the_gate(rt):
@@ -120,9 +146,12 @@ def main():
     rt = kit.load()
     store = None if keeps else Store(pathlib.Path.cwd(), takes=not is_anew, how=QUICK if is_quick else WHOLE)
     rt.in_lanes = in_lanes(rt, store)
-    # A kit's own store may not tell what was left out.
-    if is_quick and not keeps and hasattr(rt.rtlib, "help_of") and hasattr(rt.Crate, "compile_by"):
+    # What asks less is kept where the gate doesn't look: our store tells the two apart, and a kit's own is given another folder.
+    may_keep = not keeps or kit.has(rt, "STORE", "Kept.give", "Kept.is_whole")
+    if is_quick and may_keep and kit.has(rt, "rtlib.help_of", "Crate.compile_by"):
         leave_to_the_gate(rt)
+        if keeps:
+            keep_apart(rt, home() / "by-the-kit")
     status = rt.main(words)
     sys.stdout.flush()
     if store:

@@ -32,6 +32,15 @@ def home():
     return pathlib.Path(cache) / "snapd-proofs"
 
 
+def is_ours(folder):
+    """Whether the folder is there, and nobody else may write to it."""
+    try:
+        status = os.stat(folder)
+    except OSError:
+        return False
+    return status.st_uid == os.geteuid() and not status.st_mode & 0o022
+
+
 def sum_of(path):
     return hashlib.sha256(path.read_bytes()).hexdigest()
 
@@ -53,12 +62,9 @@ class Store:
 
     def opened(self):
         """Makes the folder; whether it is there, and nobody else may write to it."""
-        try:
+        with contextlib.suppress(OSError):
             self.folder.mkdir(parents=True, mode=0o700, exist_ok=True)
-            status = self.folder.stat()
-        except OSError:
-            return False
-        return status.st_uid == os.geteuid() and not status.st_mode & 0o022
+        return is_ours(self.folder)
 
     def out(self, name):
         return self.top / "crates" / name / "out"
