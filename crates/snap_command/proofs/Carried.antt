@@ -1,27 +1,5 @@
 -- What a migration leaves, in the words of the command.
-use Rattle.std.proofs.Common.{
-  ◌≡◌,
-  ◌⊎◌,
-  ℕ,
-  ◌≤◌,
-  List,
-  ◌++◌,
-  length,
-  inl,
-  inr,
-  le_refl,
-  sym,
-  ap,
-  ap₂,
-  ◌∙◌,
-  subst,
-  refl,
-  false,
-  Option,
-  Result,
-  Ok,
-  Err,
-}
+use Rattle.std.proofs.Common.{rules, ◌≡◌, ◌⊎◌, ℕ, List, inl, inr, le_refl, sym, ap, subst, refl, false, Result, Err}
 use Rattle.snap_disk.specs.Device.{Device, LeavesOnly, MayLeave}
 use Rattle.snap_disk.specs.declared.refusal.Refusal.{Refusal}
 use Rattle.snap_disk.specs.declared.refusal.Refusal.TheVariants.{
@@ -51,7 +29,14 @@ use Rattle.snap_segment.specs.Migration.{IsPast}
 use Rattle.snap_segment.specs.Refusals.{IsMigrationRefusal}
 use Rattle.snap_segment.specs.declared.migration.Which.{Which}
 use Rattle.snap_segment.specs.declared.migration.Which.TheVariants.{Old, New}
-use Rattle.snap_command.specs.Migrating.{IsMigrated, IsOldFile, MigrationLeaves}
+use Rattle.snap_command.specs.Migrating.{
+  IsMigrated,
+  IsOldFile,
+  MigrationKeeps,
+  MigrationLeaves,
+  MigrationReads,
+}
+use Rattle.snap_command.specs.declared.migrating.MigrationFailure.TheVariants.{OfFile}
 
 widened : (i n k : ℕ) (v : List ℕ) (old new : Device) → OldHead old.bytes i n
     → OldHolds old.bytes k v → (b : List ℕ) → IsMadeOrLeft i n k v new b
@@ -135,3 +120,22 @@ migrated i n number old new new' file unformatted rests =
       unformatted = unformatted;
       rests = subst (λ (x : ℕ). IsAtRest i n x v false new') (sym end.0) end.1;
     }
+
+-- what a refused migration leaves of the old file
+pub refused_reads : (same : Type 0) (which : Which) (why : Refusal)
+    → ((which ≡ Old → why ≡ DeviceFailed → ⊥) → same)
+    → MigrationReads (Err (OfFile which why)) same
+refused_reads same which why reads = search rules
+
+-- and of both
+pub migration_keeps : (same_old same_new kept : Type 0) (which : Which) (why : Refusal)
+    → (which ≡ Old → same_new) → (which ≡ New → why ≡ WrongFile → same_old × same_new)
+    → (which ≡ New → why ≡ AlreadyFormatted → kept)
+    → MigrationKeeps (Err (OfFile which why)) same_old same_new kept
+migration_keeps same_old same_new kept which why old wrong taken = search rules
+
+pub told_apart : (which w : Which) (why y : Refusal)
+    → ◌≡◌ {A = Result ℕ (Which × Refusal)} (Err (which, why)) (Err (w, y)) → (which ≡ w) × (why ≡ y)
+told_apart which w why y same =
+    let pair : ◌≡◌ {A = Which × Refusal} (which, why) (w, y) = cc in
+    (ap (λ (p : Which × Refusal). p.0) pair, ap (λ (p : Which × Refusal). p.1) pair)

@@ -1,5 +1,5 @@
 -- Why a command was refused, from the refusals that a segment answers.
-use Rattle.std.proofs.Common.{◌≡◌, ℕ, ◌-◌, ◌^◌, List, refl, Option, Some, None, IsSome, Err}
+use Rattle.std.proofs.Common.{rules, subst, sym, ◌≡◌, ℕ, ◌-◌, ◌^◌, List, refl, Option, Some, None, IsSome, Err}
 use Rattle.std.specs.Io.KnownBytes.{Keeps}
 use Rattle.snap_disk.specs.Device.{Device}
 use Rattle.snap_disk.specs.declared.refusal.Refusal.{Refusal}
@@ -25,7 +25,10 @@ use Rattle.snap_disk.specs.declared.refusal.Refusal.TheVariants.{
 use Rattle.snap_slot.specs.Layout.{Head, Holds}
 use Rattle.snap_slot.specs.Findings.{IsNoOpening}
 use Rattle.snap_segment.specs.Refusals.{IsStoreRefusal, IsOpenRefusal}
-use Rattle.snap_command.specs.Commands.{EndsStore}
+use Rattle.snap_segment.specs.Segment.{CountsRefusal}
+use Rattle.snap_segment.specs.Open.{CountsFailed}
+use Rattle.snap_command.specs.Commands.{End, EndsStore, CountsEnd}
+use Rattle.snap_command.specs.Keeping.{StoreKeeps, PutKeeps}
 use Rattle.snap_command.specs.declared.failure.Failure.TheVariants.{Refused}
 
 pub refused_store : (honest : Type 0) (i n : ℕ) (v : List ℕ) (old new : Device)
@@ -78,3 +81,28 @@ refused_open honest i n v old new out out' Worn is not_open keeps = absurd is
 pub not_fenced : (begun : Option (List ℕ)) → begun ≡ None → IsSome begun → ⊥
 not_fenced None is_none fenced = cc
 not_fenced (Some v) is_none fenced = cc
+
+-- the device's failure count, once an opening was refused
+pub refused_count : (why : Refusal) (old new : ℕ) → CountsFailed why old new
+    → CountsEnd (Err (Refused why)) old new
+refused_count why old new counts = search rules
+
+-- and once a store was
+pub refused_store_count : (T : Type 0) (why : Refusal) (old mid new last : ℕ) → mid ≡ old
+    → last ≡ new → CountsRefusal {T = T} (Err why) mid new
+    → CountsEnd (Err (Refused why)) old last
+refused_store_count T why old mid new last same still counts =
+    let at : CountsEnd (Err (Refused why)) mid new = search rules in
+    subst (λ k. CountsEnd (Err (Refused why)) k last) same
+    (subst (λ k. CountsEnd (Err (Refused why)) mid k) (sym still) at)
+
+-- what a refused store leaves
+pub refused_keeps : (kept : Type 0) (why : Refusal) → ((why ≡ DeviceFailed → ⊥) → kept)
+    → StoreKeeps kept (Err (Refused why))
+refused_keeps kept why keeps = search rules
+
+-- a put keeps what its store keeps
+pub put_keeps : (honest same kept : Type 0) (i n : ℕ) (v : List ℕ) (old new : Device)
+    (out out' : Option (List ℕ)) (end : End) → EndsStore honest i n v old new out out' end
+    → StoreKeeps kept end → PutKeeps same kept end
+put_keeps honest same kept i n v old new out out' end ends keeps = search rules

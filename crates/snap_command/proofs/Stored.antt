@@ -1,27 +1,5 @@
 -- What a store that succeeded leaves, in the words of the command.
-use Rattle.std.proofs.Common.{
-  ◌≡◌,
-  ℕ,
-  ◌+◌,
-  ◌<◌,
-  List,
-  length,
-  subst,
-  Option,
-  Some,
-  None,
-  IfSome,
-  Ok,
-  Err,
-  ◌++◌,
-  ◌∙◌,
-  inl,
-  inr,
-  arith,
-  append-nil,
-  ap,
-  length-append,
-}
+use Rattle.std.proofs.Common.{◌≡◌, ℕ, ◌+◌, ◌<◌, List, length, subst, Option, Some, None, IfSome, Ok, Err, inl, inr, arith, ap, length-append}
 use Rattle.std.specs.Io.KnownBytes.{Consumes}
 use Rattle.snap_disk.specs.Device.{Device, IsSettled, LeavesOnly, MayLeave}
 use Rattle.snap_disk.specs.Laws.{then}

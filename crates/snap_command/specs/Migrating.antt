@@ -27,7 +27,6 @@ use Rattle.snap_slot.specs.States.{IsAtRest}
 use Rattle.snap_old_slot.specs.Old.{OldHead, OldHolds}
 use Rattle.snap_old_slot.specs.Reading.{IsNoOldOpening}
 use Rattle.snap_segment.specs.Migration.{CountsFault}
-use Rattle.snap_segment.specs.declared.migration.Which.{Which}
 use Rattle.snap_segment.specs.declared.migration.Which.TheVariants.{Old, New}
 use Rattle.snap_stream.specs.Streams.{AppendsBeginning, SaysLines, refused_line}
 use Rattle.snap_order.specs.declared.order.Migration.{Migration}

@@ -44,6 +44,21 @@ pub fn store_one<R: Wait + Copy, M: Memory, D: Disk + Drop>(
     Outcome::new(job, told, Lent { rt, home, writer })
 }
 
+/// A window of this segment, and what its store needs of it: where updates come, and where to say
+/// how it stands, which is so at first.
+fn window_of(
+    alloc: Global,
+    segment: usize,
+    standing: u64,
+) -> Result<(Window, Receiver<Job>, Arc<AtomicU64, Global>), AllocError>
+    ensures { IfOk result (λ made. made.0 ≡ segment) }
+{
+    let standing = Arc::new(alloc, AtomicU64::new(standing))?;
+    let (to, jobs) = unbounded(alloc)?;
+    let window = Window::new(segment, to, Arc::try_clone(&standing)?);
+    Ok((window, jobs, standing))
+}
+
 /// The store of a segment: its writer, and what was handed over to it. One thread drives it, step
 /// by step.
 #[derive(Drop)]
@@ -67,10 +82,8 @@ impl<R: Wait + Copy, M: Memory, D: Disk + Drop> StoreThread<R, M, D> {
     ) -> Result<(StoreThread<R, M, D>, Window), AllocError>
         ensures { IfOk result (λ made. made.1 ≡ own_of writer.seat) }
     {
-        let (to, jobs) = unbounded(alloc)?;
         let (home, back) = bounded(alloc, 1)?;
-        let standing = Arc::new(alloc, AtomicU64::new(standing_of(&writer)))?;
-        let window = Window::new(writer.segment(), to, Arc::try_clone(&standing)?);
+        let (window, jobs, standing) = window_of(alloc, writer.segment(), standing_of(&writer))?;
         let store = StoreThread {
             rt,
             writer: Some(writer),

@@ -3,11 +3,9 @@ use Rattle.std.proofs.Common.{◌≡◌, ℕ, List, map, length, Option, Ok, Err
 use Rattle.std.proofs.lemmas.Simd.{map-map}
 use Rattle.std.specs.declared.io.Error.{Error}
 use Rattle.std.specs.declared.net.socket_addr.SocketAddr.{SocketAddr}
-use Rattle.std.proofs.KnownBytes.{Keeps-refl}
 use Rattle.snap_disk.specs.Device.{Device}
 use Rattle.snap_disk.specs.declared.refusal.Refusal.{Refusal}
 use Rattle.snap_history.specs.Pairs.{Pairs}
-use Rattle.snap_segment.specs.Segment.{SegmentState}
 use Rattle.snap_writer.specs.Writer.{WriterState}
 use Rattle.snap_restart.specs.Opened.{IsOpened, recovered}
 use Rattle.snap_restart.specs.declared.report.Report.{Report}

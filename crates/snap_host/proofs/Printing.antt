@@ -1,10 +1,9 @@
 -- What a server has written, step by step.
-use Rattle.std.proofs.Common.{◌≡◌, ◌⊎◌, ℕ, List, Option, Some, Result, Ok, Err, inl, inr}
+use Rattle.std.proofs.Common.{◌≡◌, ℕ, List, Option, Some, Ok, Err, inl, inr}
 use Rattle.std.specs.Io.KnownBytes.{Appends, Keeps}
 use Rattle.std.specs.declared.io.Error.{Error}
 use Rattle.std.specs.declared.net.socket_addr.SocketAddr.{SocketAddr}
 use Rattle.std.proofs.KnownBytes.{Appends-trans, Appends-kept}
-use Rattle.snap_stream.specs.Streams.{AppendsBeginning}
 use Rattle.snap_stream.proofs.Lines.{beginning_behind}
 use Rattle.snap_restart.specs.Report.{report_text}
 use Rattle.snap_restart.specs.declared.report.Report.{Report}

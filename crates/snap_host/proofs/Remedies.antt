@@ -1,23 +1,5 @@
 -- What standard error gets of a refusal at a file.
-use Rattle.std.proofs.Common.{
-  ◌≡◌,
-  ◌++◌,
-  ℕ,
-  List,
-  [],
-  Bool,
-  true,
-  false,
-  Option,
-  Some,
-  None,
-  IfSome,
-  IsNone,
-  String,
-  Global,
-  string_bytes,
-  refl,
-}
+use Rattle.std.proofs.Common.{◌≡◌, ◌++◌, ℕ, List, [], Bool, false, Option, Some, None, IfSome, IsNone, String, Global, string_bytes, refl}
 use Rattle.snap_disk.specs.declared.refusal.Refusal.{Refusal}
 use Rattle.snap_stream.specs.Streams.{SaysLines, refused_line}
 use Rattle.snap_host.specs.declared.failure.HostFailure.TheVariants.{Refused}

@@ -1,5 +1,5 @@
 //! The threads that store, and the workers' desks.
-ghost use Rattle.std.specs.Prelude.{◌≡◌, ℕ, length, slice_get, Some, IfOk, IfErr};
+ghost use Rattle.std.specs.Prelude.{◌≡◌, ◌+◌, ℕ, length, slice_get, Some, IfOk, IfErr, OnOk};
 ghost use Rattle.snap_register.specs.Rule.{segments};
 ghost use Rattle.snap_register.specs.Seat.{Known};
 ghost use Rattle.snap_service.specs.Memory.{AreWriters, IsOf};
@@ -53,14 +53,29 @@ fn open_stores<R: Wait + Copy, M: Memory, D: Disk + Drop>(
     ensures stores { IfOk result (λ r. length r.0.items ≡ length writers.items) }
     ensures windows { IfOk result (λ r. length r.1.items ≡ length writers.items) }
 {
-    let mut stores = Vec::with_capacity(alloc, writers.len())?;
-    let mut windows = Vec::with_capacity(alloc, writers.len())?;
+    let mut stores = Vec::new(alloc);
+    let mut windows = Vec::new(alloc);
     'writers: for writer in writers {
-        let (store, window) = StoreThread::new(rt, alloc, writer)?;
-        stores.push(Storing { store })?;
-        windows.push(window)?;
+        add_store(rt, alloc, writer, &mut stores, &mut windows)?;
     }
     Ok((stores, windows))
+}
+
+/// Adds a store for this writer, and its window.
+fn add_store<R: Wait + Copy, M: Memory, D: Disk + Drop>(
+    rt: R,
+    alloc: Global,
+    writer: WriterOf<M, D>,
+    stores: &mut Vec<Storing<R, M, D>>,
+    windows: &mut Vec<Window>,
+) -> Result<(), AllocError>
+    ensures stores { OnOk result (length stores.new.items ≡ length stores.old.items + 1) }
+    ensures windows { OnOk result (length windows.new.items ≡ length windows.old.items + 1) }
+{
+    let (store, window) = StoreThread::new(rt, alloc, writer)?;
+    stores.push(Storing { store })?;
+    windows.push(window)?;
+    Ok(())
 }
 
 /// A desk for each scanner.
@@ -73,14 +88,27 @@ fn open_desks<R: Wait + Copy + Clock, M: Memory, D: Disk + Drop>(
     requires windows { length windows.items ≡ segments M.plan }
     requires scanners { AreScanners M.table M.plan scanners.items }
 {
-    let mut desks = Vec::with_capacity(alloc, scanners.len())?;
+    let mut desks = Vec::new(alloc);
     'scanners: for scanner in scanners {
-        let worker = desks.len();
-        let snapshot = Snapshot::new(alloc, windows.len())?;
-        let own = windows.clone()?;
-        desks.push(Desk::new(rt, alloc, worker, own, scanner, snapshot))?;
+        desks.push(open_desk(rt, alloc, desks.len(), &windows, scanner)?)?;
     }
     Ok(desks)
+}
+
+/// The desk of this worker, with windows of its own.
+fn open_desk<R: Wait + Copy + Clock, M: Memory, D: Disk + Drop>(
+    rt: R,
+    alloc: Global,
+    worker: usize,
+    windows: &Vec<Window>,
+    scanner: Scanner,
+) -> Result<Desk<R, M, D>, AllocError>
+    requires windows { length windows.now.items ≡ segments M.plan }
+    requires memory { IsOf M.table M.plan scanner }
+{
+    let snapshot = Snapshot::new(alloc, windows.len())?;
+    let own = windows.clone()?;
+    Ok(Desk::new(rt, alloc, worker, own, scanner, snapshot))
 }
 
 /// Serves the memory of these writers and scanners, as [`run`] does.

@@ -1,57 +1,12 @@
 -- Scripts that come in pieces: what was taken in, and how they end.
-use Rattle.std.proofs.Common.{
-  ◌≡◌,
-  ◌≢◌,
-  ℕ,
-  suc,
-  ◌+◌,
-  ◌-◌,
-  ◌^◌,
-  ◌<◌,
-  ◌≤◌,
-  min,
-  inl,
-  inr,
-  Option,
-  Some,
-  None,
-  Result,
-  Ok,
-  Err,
-  List,
-  [],
-  ◌∷◌,
-  ◌++◌,
-  length,
-  take,
-  refl,
-  sym,
-  ap,
-  ◌∙◌,
-  subst,
-  append_assoc,
-  append-nil,
-  length-append,
-  arith,
-}
+use Rattle.std.proofs.Common.{◌≡◌, ◌≢◌, ℕ, suc, ◌+◌, ◌<◌, ◌≤◌, inr, Option, Result, Ok, Err, List, [], ◌∷◌, ◌++◌, length, refl, sym, ap, ◌∙◌, subst, append_assoc, append-nil, length-append, arith}
 use Rattle.std.specs.Prelude.{All, OnOk, IfErr}
-use Rattle.std.specs.Io.KnownBytes.{Appends, Consumes, IsAtEnd, Keeps}
-use Rattle.std.proofs.KnownBytes.{Consumes-nil, Consumes-trans, Consumes-kept}
 use Rattle.std.proofs.lemmas.List.Elements.{All-push}
-use Rattle.snap_script.proofs.Lines.{BeginsBy, first_line, goes_on, held_line, lines_on, one_line}
-use Rattle.snap_script.proofs.Steps.{done_none, next_number, prints, some_list}
+use Rattle.snap_script.proofs.Lines.{first_line, goes_on, held_line, lines_on, one_line}
+use Rattle.snap_script.proofs.Steps.{next_number, prints}
 use Rattle.snap_script.specs.Intake.{CannotHold, IsTaken, IsUnended}
 use Rattle.snap_script.specs.Progress.{HasDone, Halts}
-use Rattle.snap_script.specs.Script.{
-  Ends,
-  IsAt,
-  IsShort,
-  MayPrint,
-  Prints,
-  PrintsPart,
-  Runs,
-  full_lines,
-}
+use Rattle.snap_script.specs.Script.{Ends, IsShort}
 use Rattle.snap_script.specs.Words.{lines_of}
 use Rattle.snap_script.specs.declared.run.ScriptEnd.{ScriptEnd}
 use Rattle.snap_script.specs.declared.run.ScriptEnd.TheVariants.{
@@ -63,7 +18,6 @@ use Rattle.snap_script.specs.declared.run.ScriptEnd.TheVariants.{
   WriteFailed,
 }
 use Rattle.snap_script.specs.declared.run.TheConstants.{MAX_LINE}
-use Rattle.snap_stream.specs.Streams.{Had}
 use Rattle.snap_world.specs.declared.world.World.{World}
 
 -- the line behind those that were done ends the script

@@ -1,28 +1,5 @@
 -- A script from its first read to its end, and a flush behind it.
-use Rattle.std.proofs.Common.{
-  ◌≡◌,
-  ℕ,
-  ◌<◌,
-  ◌≤◌,
-  inl,
-  inr,
-  Option,
-  Some,
-  None,
-  List,
-  [],
-  ◌∷◌,
-  ◌++◌,
-  length,
-  take,
-  refl,
-  sym,
-  ap,
-  ◌∙◌,
-  subst,
-  append-nil,
-  arith,
-}
+use Rattle.std.proofs.Common.{◌≡◌, ℕ, ◌<◌, inl, inr, Option, Some, None, List, [], ◌∷◌, ◌++◌, length, take, refl, sym, ap, ◌∙◌, subst, append-nil, arith}
 use Rattle.std.specs.Io.KnownBytes.{Appends, Consumes, IsAtEnd, Keeps}
 use Rattle.std.proofs.KnownBytes.{
   Appends-nil,
@@ -36,8 +13,7 @@ use Rattle.std.specs.declared.io.Error.{Error}
 use Rattle.snap_script.proofs.Lines.{lines_behind, lines_on}
 use Rattle.snap_script.proofs.Steps.{done_none, prints}
 use Rattle.snap_script.specs.Intake.{IsTaken, IsUnended}
-use Rattle.snap_script.specs.Progress.{HasDone}
-use Rattle.snap_script.specs.Script.{Ends, IsAt, IsShort, Prints, PrintsPart, Runs, full_lines}
+use Rattle.snap_script.specs.Script.{Ends, IsShort, Prints, PrintsPart, Runs, full_lines}
 use Rattle.snap_script.specs.Words.{lines_of}
 use Rattle.snap_script.specs.declared.run.ScriptEnd.{ScriptEnd}
 use Rattle.snap_script.specs.declared.run.ScriptEnd.TheVariants.{

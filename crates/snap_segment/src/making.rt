@@ -47,7 +47,6 @@ use snap_slot::{
 /// nothing is written; `DeviceFailed` where a device call failed. The header's gate is opened last,
 /// behind a sync, so a crash at any time leaves what was there, an unformatted file or the whole
 /// new one; and of a formatted file only what was there.
-#[tactic(auto, using(snap_slot::proofs::Formatting::gate_leaves, snap_slot::proofs::Formatting::formatted))]
 pub(crate) fn make_file<D: Disk>(
     device: &mut D,
     index: u8,
@@ -110,7 +109,6 @@ pub(crate) fn make_file<D: Disk>(
 }
 
 /// Syncs, and looks at the header's gate.
-#[tactic(auto, using(snap_slot::proofs::Formatting::gate_read))]
 fn is_unformatted<D: Disk>(device: &mut D) -> Result<bool, DeviceFault>
     requires size { length (D.device device.old).bytes ≡ FILE_LEN }
     requires headroom { D.failure_count device.old < 2 ^ 64 - 1 }

@@ -1,2 +1,3 @@
 mod Sharing
 mod Listing
+mod Made

@@ -39,7 +39,8 @@ emptied : {T : Type 0} (slots : List (Option T)) (key : ℕ) → IsSome (get_or 
     → count_by is_some (set slots key None) + 1 ≡ count_by is_some slots
 emptied slots key filled =
     let within : key < length slots = grind (arith, get_or_past) in
-    let one : ◌≡◌ {A = ℕ} (cond (is_some (get_or slots key None)) 1 0) 1 = ap (λ b. cond {A = ℕ} b 1 0) filled in
+    let one : ◌≡◌ {A = ℕ} (cond (is_some (get_or slots key None)) 1 0) 1 =
+    ap (λ b. cond {A = ℕ} b 1 0) filled in
     omega (arith, one, sum_by-set (λ o. cond (is_some o) 1 0) slots key None None within)
 
 -- different keys of filled slots are at most as many as these
@@ -78,7 +79,8 @@ pub written_len : {T : Type 0} (s : Slab T) (key : ℕ) (old new : T) → get s 
 written_len s key old new found =
     let filled : IsSome (get_or s.slots key None) = ap is_some found in
     let within : key < length s.slots = grind (arith, get_or_past) in
-    let one : ◌≡◌ {A = ℕ} (cond (is_some (get_or s.slots key None)) 1 0) 1 = ap (λ b. cond {A = ℕ} b 1 0) filled in
+    let one : ◌≡◌ {A = ℕ} (cond (is_some (get_or s.slots key None)) 1 0) 1 =
+    ap (λ b. cond {A = ℕ} b 1 0) filled in
     omega (arith, one, sum_by-set (λ o. cond (is_some o) 1 0) s.slots key (Some new) None within)
 
 pub not_both : (s : Stage) → s ≡ Idle → s ≡ Listed → ⊥
@@ -274,3 +276,17 @@ none_first key rest connections lists none =
 pub same_value : (connections : Slab Connection) (key : ℕ) (c d : Connection)
     → get connections key ≡ Some c → get connections key ≡ Some d → c ≡ d
 same_value connections key c d one two = let both : Some c ≡ Some d = sym one ∙ two in cc
+
+-- nobody is there
+pub none_there : (connections : Slab Connection) (key : ℕ) → get connections key ≡ None
+    → (c : Connection) → get connections key ≡ Some c → ⊥
+none_there connections key none c at = let wrong : None ≡ Some c = sym none ∙ at in absurd cc
+
+-- the connection that is written notes that it is on the list, or has ended
+pub enlisted_at : (old : Slab Connection) (key : ℕ) (b c d : Connection) → get old key ≡ Some c
+    → d ≡ record c { stage = enlisted c.stage } → get old key ≡ Some b
+    → get (with_value old key d) key ≡ Some (record b { stage = enlisted b.stage })
+enlisted_at old key b c d at is found =
+    written_at old key c d at
+    ∙ ap Some (is ∙ ap (λ (z : Connection). record z { stage = enlisted z.stage })
+    (same_value old key c b at found))

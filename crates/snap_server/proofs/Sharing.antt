@@ -16,7 +16,8 @@ use Rattle.snap_server.proofs.Listing.{same_value, written_at, written_others}
 
 module _ {S : Type 0} (gives : S → Request → Reply → S → Type 0) where
   -- a turn of a session moves the service
-  moved : (t u : S) (a b : Talk) → Turns Stays gives t u a None None None None b → Moves gives t u
+  pub moved : (t u : S) (a b : Talk) → Turns Stays gives t u a None None None None b
+      → Moves gives t u
   moved t u a b turn =
       let g = turn.goes in (g.payloads, g.replies ++ g.unsaid, g.run)
 
@@ -54,7 +55,8 @@ module _ {S : Type 0} (gives : S → Request → Reply → S → Type 0) where
     moves = are.moves;
     each = λ key d at. elim (was key d at) [
       | inl new_one ↦ subst (IsSession gives are.first t) (sym new_one)
-          (then_moves are.first are.first t start (shares gives are.first start None None) are.moves)
+          (then_moves are.first are.first t start (shares gives are.first start None None)
+          are.moves)
       | inr p ↦ subst (IsSession gives are.first t) (sym p.2) (are.each key p.0 p.1)
     ];
   }

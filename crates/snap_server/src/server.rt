@@ -17,7 +17,7 @@ use std::rt::Clock;
 use std::sync::Wait;
 use std::sync::atomic::{AtomicBool, Ordering};
 use std::thread;
-use std::thread::Threads;
+use std::thread::{Scope, Threads};
 
 /// Tells the workers what is done, until no more will be.
 fn tell_all<X: Wait + Clock, B: Background + Drop>(
@@ -51,9 +51,9 @@ fn gate_all<'a, S: Service + Drop, G: Gate>(
 {
     let mut gated = Vec::new(alloc);
     'services: for service in services {
-        if gated.push(Gated::new(service, gate)).is_err() {
+        let Ok(()) = gated.push(Gated::new(service, gate)) else {
             return Err(ServerFault::NoMemory);
-        }
+        };
     }
     Ok(gated)
 }
@@ -80,6 +80,13 @@ where
         }
     }
     Ok((workers, doors))
+}
+
+/// Whether there is a thread for this work.
+fn starts<'s, E, F: FnOnce() + Send + Drop + 's>(scope: &Scope<'s, E>, work: F) -> bool
+    requires { F.pre work }
+{
+    scope.spawn(work).is_ok()
 }
 
 /// Runs the threads of all workers and backgrounds, and accepts on this one.
@@ -121,7 +128,7 @@ where
                 {
                     tell_all(rt, background, doors);
                 };
-                is_whole &= scope.spawn(told).is_ok();
+                is_whole &= starts(scope, told);
             }
             for worker in workers {
                 let served = move ||
@@ -132,7 +139,7 @@ where
                         failed.store(true, Ordering::SeqCst);
                     }
                 };
-                is_whole &= scope.spawn(served).is_ok();
+                is_whole &= starts(scope, served);
             }
             let accepted = if is_whole {
                 Dealer::new(doors).accept_all(rt, listener, connections)

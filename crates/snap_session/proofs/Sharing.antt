@@ -1,5 +1,5 @@
 -- Several sessions on one service.
-use Rattle.std.proofs.Common.{ℕ, List, ◌++◌, Option}
+use Rattle.std.proofs.Common.{ℕ, List, Option}
 use Rattle.snap_frame.specs.declared.request.Request.{Request}
 use Rattle.snap_frame.specs.declared.reply.Reply.{Reply}
 use Rattle.snap_session.specs.Talk.{Talk, Goes, Stays, Moves}

@@ -22,11 +22,24 @@ use Rattle.std.proofs.Common.{
   length-append,
   arith,
   ◌≤◌,
+  ◌∷◌,
+  Bool,
+  true,
+  eqb-true,
 }
+use Rattle.std.specs.Bool.{◌==◌}
 use Rattle.std.specs.Io.KnownBytes.{Appends, Consumes, Keeps}
 use Rattle.snap_frame.specs.declared.request.Request.{Request}
 use Rattle.snap_frame.specs.declared.reply.Reply.{Reply}
 use Rattle.snap_session.specs.declared.turns.End.{End}
+use Rattle.snap_session.specs.declared.turns.Sent.TheVariants.{All, Blocked, Failed}
+use Rattle.snap_session.specs.declared.turns.Turn.TheVariants.{
+  Again,
+  NeedsInput,
+  NeedsRoom,
+  NeedsOutcome,
+  Over,
+}
 use Rattle.std.proofs.lemmas.List.{take-append-drop}
 use Rattle.snap_session.specs.Talk.{
   Talk,
@@ -228,3 +241,29 @@ or_new (Some q) P before now = before
 
 pub still_under : (a b : Option Request) (P : Type 0) → b ≡ a → OnSome a P → OnSome b P
 still_under a b P same on = subst (λ z. OnSome z P) (sym same) on
+
+-- nothing is owed
+pub none_owed : (is_empty : Bool) (seen owed : List ℕ) → is_empty ≡ true
+    → is_empty ≡ (length seen == 0) → seen ≡ owed → owed ≡ []
+none_owed is_empty [] owed so by same = sym same
+none_owed is_empty (x ∷ xs) owed so by same =
+    absurd (omega (arith, eqb-true (length (x ∷ xs)) 0 (sym by ∙ so)))
+
+-- one ends in one way
+pub again_apart : Again ≡ NeedsOutcome → ⊥
+again_apart wrong = absurd cc
+
+pub input_apart : NeedsInput ≡ NeedsOutcome → ⊥
+input_apart wrong = absurd cc
+
+pub room_apart : NeedsRoom ≡ NeedsOutcome → ⊥
+room_apart wrong = absurd cc
+
+pub over_apart : (end : End) → Over end ≡ NeedsOutcome → ⊥
+over_apart end wrong = absurd cc
+
+pub blocked_apart : Blocked ≡ All → ⊥
+blocked_apart wrong = absurd cc
+
+pub failed_apart : Failed ≡ All → ⊥
+failed_apart wrong = absurd cc

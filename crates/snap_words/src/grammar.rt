@@ -1,6 +1,7 @@
 //! The commands and their words, as the parser of words reads them.
 ghost use Rattle.std.specs.Prelude.{◌≡◌, IfOk, codes, false};
-ghost use Rattle.clap.specs.Words.{app_of, new_app, rule_of, with_rule};
+ghost use Rattle.clap.specs.Words.{App, Rule, app_of, new_app, rule_of, with_rule};
+ghost use Rattle.clap.specs.Words.{with_subcommand};
 ghost use Rattle.clap.specs.declared.builder.Command.TheViews.{out-Command};
 ghost use Rattle.snap_words.specs.Grammar.{IsCommandOf, addressed, called, filed, grammar_of};
 ghost use Rattle.snap_words.specs.Grammar.{large_number_rule, number_rule, paired, placed};
@@ -19,14 +20,49 @@ const VERSION: &str = "0.1.0";
 pub(crate) fn grammar<'a>(alloc: Global) -> Result<Command<'a>, AllocError>
     ensures { IfOk result (λ command. app_of command ≡ grammar_of) }
 {
-    let commands = program(alloc).subcommand(format_command(alloc)?)?;
-    let commands = commands.subcommand(put_command(alloc)?)?;
-    let commands = commands.subcommand(get_command(alloc)?)?;
-    let commands = commands.subcommand(check_command(alloc)?)?;
-    let commands = commands.subcommand(migrate_command(alloc)?)?;
-    let commands = commands.subcommand(serve_command(alloc)?)?;
-    let commands = commands.subcommand(call_command(alloc)?)?;
-    commands.subcommand(script_command(alloc))
+    let commands = with_command(segment_commands(alloc), migrate_command(alloc));
+    let commands = with_command(commands, serve_command(alloc));
+    let commands = with_command(commands, call_command(alloc));
+    with_command(commands, Ok(script_command(alloc)))
+}
+
+/// The program with its commands about one segment's file.
+fn segment_commands<'a>(alloc: Global) -> Result<Command<'a>, AllocError>
+    ensures { IfOk result (λ all. app_of all ≡ with_subcommand (with_subcommand
+        (with_subcommand (with_subcommand program_of
+        (placed (filed (new_app (codes "format")))).top)
+        (placed (filed (new_app (codes "put")))).top)
+        (placed (filed (new_app (codes "get")))).top)
+        (filed (new_app (codes "check"))).top) }
+{
+    let commands = with_command(Ok(program(alloc)), format_command(alloc));
+    let commands = with_command(commands, put_command(alloc));
+    let commands = with_command(commands, get_command(alloc));
+    with_command(commands, check_command(alloc))
+}
+
+/// The commands and one more, where all were made.
+fn with_command<'a>(
+    commands: Result<Command<'a>, AllocError>,
+    made: Result<Command<'a>, AllocError>,
+) -> Result<Command<'a>, AllocError>
+    ensures { (program words : App) → IfOk commands.entry (λ all. app_of all ≡ program)
+        → IfOk made.entry (IsCommandOf words)
+        → IfOk result (λ all. app_of all ≡ with_subcommand program words.top) }
+{
+    commands?.subcommand(made?)
+}
+
+/// The command and one more word, where it was made.
+fn with_arg<'a>(
+    made: Result<Command<'a>, AllocError>,
+    arg: Arg<'a>,
+) -> Result<Command<'a>, AllocError>
+    requires local { arg.global ≡ false }
+    ensures { (words : App) (rule : Rule) → IfOk made.entry (IsCommandOf words)
+        → rule_of arg.entry ≡ rule → IfOk result (IsCommandOf (with_rule words rule)) }
+{
+    made?.arg(arg)
 }
 
 fn format_command<'a>(alloc: Global) -> Result<Command<'a>, AllocError>
@@ -55,54 +91,53 @@ fn check_command<'a>(alloc: Global) -> Result<Command<'a>, AllocError>
 {
     let about = "Show what a file holds, slot by slot, and change nothing";
     let file = required_word(alloc, "file", "FILE", "The path of the segment's file");
-    let command = Command::new(alloc, "check").arg(file)?;
-    Ok(described(command, about, CHECK_HELP))
+    described_command(alloc, "check", about, CHECK_HELP).arg(file)
 }
 
 fn migrate_command<'a>(alloc: Global) -> Result<Command<'a>, AllocError>
     ensures { IfOk result (IsCommandOf (paired (new_app (codes "migrate")))) }
 {
     let about = "Carry a file of the old format over to a new file, and leave the old one as it is";
-    let command = pair_command(alloc, "migrate")?;
-    Ok(described(command, about, MIGRATE_HELP))
+    let help = "The path of the file of the old format";
+    let old = required_word(alloc, "old", "OLD", help);
+    let new = required_word(alloc, "new", "NEW", "The path of the new file");
+    let command = described_command(alloc, "migrate", about, MIGRATE_HELP);
+    with_place(alloc, with_arg(with_arg(Ok(command), old), new))
 }
 
 fn serve_command<'a>(alloc: Global) -> Result<Command<'a>, AllocError>
     ensures { IfOk result (IsCommandOf (served (new_app (codes "serve")))) }
 {
     let about = "Serve segments to clients, safe from crashes";
-    let command = addressed_command(alloc, "serve")?;
+    let command = addressed_command(alloc, "serve", about, SERVE_HELP);
     let help = "The files, in order of segment: 1 to 16";
-    let command = command.arg(required_words(alloc, "files", "FILE", help))?;
-    let command = with_service(alloc, command)?;
-    Ok(described(command, about, SERVE_HELP))
+    let command = with_arg(command, required_words(alloc, "files", "FILE", help));
+    with_service(alloc, command)
 }
 
 fn call_command<'a>(alloc: Global) -> Result<Command<'a>, AllocError>
     ensures { IfOk result (IsCommandOf (called (new_app (codes "call")))) }
 {
     let about = "Ask a server, and print its reply";
-    let command = addressed_command(alloc, "call")?;
+    let command = addressed_command(alloc, "call", about, CALL_HELP);
     let help = "The request: update I NUMBER HEX, scan or status";
-    let command = command.arg(required_words(alloc, "request", "WORD", help))?;
+    let command = with_arg(command, required_words(alloc, "request", "WORD", help));
     let help = "The most connections that are made, 1 to 10";
-    let command = command.arg(number_option(alloc, "tries", "1", "T", help))?;
-    Ok(described(command, about, CALL_HELP))
+    with_arg(command, number_option(alloc, "tries", "1", "T", help))
 }
 
 fn script_command<'a>(alloc: Global) -> Command<'a>
     ensures { IsCommandOf (new_app (codes "script")) result }
 {
     let about = "Run a script of writers and scanners, and print what each step answers";
-    described(Command::new(alloc, "script"), about, SCRIPT_HELP)
+    described_command(alloc, "script", about, SCRIPT_HELP)
 }
 
-/// The command with its texts for help.
-fn described<'a>(command: Command<'a>, about: &'a str, more: &'a str) -> Command<'a>
-    ensures app { app_of result ≡ app_of command.entry }
-    ensures local { (out-Command result).has_globals ≡ (out-Command command.entry).has_globals }
+/// A command with its texts for help.
+fn described_command<'a>(alloc: Global, name: &'a str, about: &'a str, more: &'a str) -> Command<'a>
+    ensures { IsCommandOf (new_app name.entry.now) result }
 {
-    command.about(about).after_help(more)
+    Command::new(alloc, name).about(about).after_help(more)
 }
 
 /// The command with the program's version, which each of its own commands has too.
@@ -119,8 +154,8 @@ fn program<'a>(alloc: Global) -> Command<'a>
     ensures local { (out-Command result).has_globals ≡ false }
 {
     let about = "Keep one value of up to 4,080 bytes in a file, safe from crashes";
-    let command = versioned_command(Command::new(alloc, "snapd"));
-    described(command.subcommand_required(true), about, PROGRAM_HELP)
+    let command = described_command(alloc, "snapd", about, PROGRAM_HELP);
+    versioned_command(command).subcommand_required(true)
 }
 
 /// A command with its file and the place of the file's segment, and its texts for help.
@@ -133,60 +168,54 @@ fn placed_command<'a>(
     ensures { IfOk result (IsCommandOf (placed (filed (new_app name.entry.now)))) }
 {
     let file = required_word(alloc, "file", "FILE", "The path of the segment's file");
-    let command = Command::new(alloc, name).arg(file)?;
-    let command = with_place(alloc, command)?;
-    Ok(described(command, about, more))
+    let command = described_command(alloc, name, about, more);
+    with_place(alloc, with_arg(Ok(command), file))
 }
 
-/// A command with an old file, a new one, and the place of their segment.
-fn pair_command<'a>(alloc: Global, name: &'a str) -> Result<Command<'a>, AllocError>
-    ensures app { IfOk result (λ command. app_of command ≡ paired (new_app name.entry.now)) }
-    ensures local { IfOk result (λ command. (out-Command command).has_globals ≡ false) }
-{
-    let old = required_word(
-        alloc,
-        "old",
-        "OLD",
-        "The path of the file of the old format",
-    );
-    let command = Command::new(alloc, name).arg(old)?;
-    let new = required_word(alloc, "new", "NEW", "The path of the new file");
-    let command = command.arg(new)?;
-    with_place(alloc, command)
-}
-
-/// A command with a server's address.
-fn addressed_command<'a>(alloc: Global, name: &'a str) -> Result<Command<'a>, AllocError>
-    ensures app { IfOk result (λ command. app_of command ≡ addressed (new_app name.entry.now)) }
-    ensures local { IfOk result (λ command. (out-Command command).has_globals ≡ false) }
+/// A command with a server's address, and its texts for help.
+fn addressed_command<'a>(
+    alloc: Global,
+    name: &'a str,
+    about: &'a str,
+    more: &'a str,
+) -> Result<Command<'a>, AllocError>
+    ensures { IfOk result (IsCommandOf (addressed (new_app name.entry.now))) }
 {
     let help = "Where the server listens, as 127.0.0.1:7878";
-    Command::new(alloc, name).arg(required_word(alloc, "address", "ADDR", help))
+    let address = required_word(alloc, "address", "ADDR", help);
+    described_command(alloc, name, about, more).arg(address)
 }
 
-/// The command with the numbers of a server.
-fn with_service<'a>(alloc: Global, command: Command<'a>) -> Result<Command<'a>, AllocError>
-    requires local { (out-Command command).has_globals ≡ false }
-    ensures app { IfOk result (λ with. app_of with ≡ with_rule (with_rule (app_of command.entry)
-        (number_rule (codes "scanners") (codes "4"))) (large_number_rule (codes "connections"))) }
-    ensures local { IfOk result (λ with. (out-Command with).has_globals ≡ false) }
+/// The command with the numbers of a server, where it was made.
+fn with_service<'a>(
+    alloc: Global,
+    made: Result<Command<'a>, AllocError>,
+) -> Result<Command<'a>, AllocError>
+    ensures { (words : App) → IfOk made.entry (IsCommandOf words) → IfOk result (IsCommandOf
+        (with_rule (with_rule words (number_rule (codes "scanners") (codes "4")))
+        (large_number_rule (codes "connections")))) }
 {
     let help = "How many requests are answered at the same moment, 1 to 16";
-    let command = command.arg(number_option(alloc, "scanners", "4", "S", help))?;
+    let command = with_arg(made, number_option(alloc, "scanners", "4", "S", help));
     let help = "End after so many connections";
-    command.arg(large_number_option(alloc, "connections", "K", help))
+    with_arg(
+        command,
+        large_number_option(alloc, "connections", "K", help),
+    )
 }
 
-/// The command with the place of a segment.
-fn with_place<'a>(alloc: Global, command: Command<'a>) -> Result<Command<'a>, AllocError>
-    requires local { (out-Command command).has_globals ≡ false }
-    ensures app { IfOk result (λ with. app_of with ≡ placed (app_of command.entry)) }
-    ensures local { IfOk result (λ with. (out-Command with).has_globals ≡ false) }
+/// The command with the place of a segment, where it was made.
+fn with_place<'a>(
+    alloc: Global,
+    made: Result<Command<'a>, AllocError>,
+) -> Result<Command<'a>, AllocError>
+    ensures { (words : App) → IfOk made.entry (IsCommandOf words)
+        → IfOk result (IsCommandOf (placed words)) }
 {
     let help = "The segment's index, below N";
-    let command = command.arg(number_option(alloc, "index", "0", "I", help))?;
+    let command = with_arg(made, number_option(alloc, "index", "0", "I", help));
     let help = "How many segments there are, 1 to 16";
-    command.arg(number_option(alloc, "count", "1", "N", help))
+    with_arg(command, number_option(alloc, "count", "1", "N", help))
 }
 
 /// A word that has to be there, as a file's path.

@@ -1,6 +1,7 @@
 use Rattle.std.proofs.Common.{rules}
 use Rattle.snap_stream.proofs.Known.{had}
 use Rattle.snap_command.proofs.Stored.{store_ends_put}
+use Rattle.snap_command.proofs.Refused.{put_keeps}
 use Rattle.snap_command.proofs.acting.put.Goals as goal
 
 pub returns-clause-ends : goal.returns-clause-ends
@@ -11,3 +12,7 @@ returns-clause-ends g c =
 
 pub returns-clause-wrong_length : goal.returns-clause-wrong_length
 returns-clause-wrong_length g c = c.store.ensures.wrong_length
+
+pub returns-clause-keeps : goal.returns-clause-keeps
+returns-clause-keeps g c =
+    put_keeps _ _ _ _ _ _ _ _ _ _ _ c.store.ensures.ends c.store.ensures.keeps

@@ -1,11 +1,11 @@
-use Rattle.std.proofs.Common.{rules, arith, ◌+◌, sym, ap, subst, Err, ℕ}
+use Rattle.std.proofs.Common.{rules, arith, ◌+◌, sym, ap, subst, ◌∙◌, refl, Err, ℕ}
 use Rattle.std.specs.Io.KnownBytes.{Appends}
 use Rattle.std.proofs.KnownBytes.{Keeps-refl}
 use Rattle.snap_slot.specs.Layout.{Holds}
-use Rattle.snap_disk.specs.Device.{LeavesOnly}
+use Rattle.snap_disk.specs.Device.{LeavesOnly, MayLeave}
 use Rattle.snap_command.specs.Commands.{IsStored, StoreLeaves, stored_line}
 use Rattle.snap_stream.specs.Streams.{AppendsBeginning}
-use Rattle.snap_command.proofs.Refused.{refused_store, refused_open, not_fenced}
+use Rattle.snap_command.proofs.Refused.{refused_store, refused_open, refused_count, refused_store_count, refused_keeps, not_fenced}
 use Rattle.snap_command.proofs.Stored.{stored, store_leaves}
 use Rattle.snap_command.proofs.acting.store.Goals as goal
 
@@ -136,3 +136,27 @@ returns-clause-any_time g c = λ honest.
     segment.count segment.number segment.value c.args.value.now
     opened.opened.0 opened.opened.1 holds.0 holds.1 (opened.any_time_ok was_honest)
     (answer.any_time is_honest opened.opened.2))
+
+pub returns-in-Err-clause-honest : goal.returns-in-Err-clause-honest
+returns-in-Err-clause-honest g c = c.in-Err.ensures.honest_err
+
+pub returns-in-Err-clause-count : goal.returns-in-Err-clause-count
+returns-in-Err-clause-count g c = refused_count c.in-Err.why _ _ c.in-Err.ensures.count_err
+
+pub returns-in-Err-clause-keeps : goal.returns-in-Err-clause-keeps
+returns-in-Err-clause-keeps g c =
+    refused_keeps _ c.in-Err.why (λ other. c.in-Err.ensures.any_time_err)
+
+pub returns-in-Err-store-clause-count : goal.returns-in-Err-store-clause-count
+returns-in-Err-store-clause-count g c =
+    refused_store_count ℕ c.in-Err-store.why _ _ _ _ c.in-Ok.ensures.count_ok
+    (ap g.D.Disk.failure_count c.into_device-in-Err-store.ensures.device)
+    c.in-Err-store.ensures.count
+
+pub returns-in-Err-store-clause-keeps : goal.returns-in-Err-store-clause-keeps
+returns-in-Err-store-clause-keeps g c = refused_keeps _ c.in-Err-store.why (λ other.
+    let is = c.into_device-in-Err-store.ensures.device
+    ∙ ap (λ s. s.device) (c.in-Err-store.ensures.same c.in-Err-store.why refl other) in
+    λ honest. subst (λ (d : g.row.D.Denot). LeavesOnly g.D.Disk.clock g.D.Disk.might_have_left
+    c.args.disk d (MayLeave (g.D.Disk.device c.args.disk))) (sym is)
+    (c.in-Ok.ensures.any_time_ok (subst g.D.Disk.is_honest is honest)))

@@ -1,12 +1,22 @@
-use Rattle.std.proofs.Common.{rules, ◌≡◌, ◌++◌, ◌∙◌, ap, ap₂, sym, subst, List, ℕ, Err, codes}
+use Rattle.std.proofs.Common.{rules, ◌≡◌, ◌++◌, ◌∙◌, ap, ap₂, subst, List, ℕ, Err, codes}
 use Rattle.std.specs.Fmt.{decimal}
 use Rattle.std.specs.Io.KnownBytes.{Appends}
 use Rattle.snap_disk.specs.Device.{LeavesOnly, MayLeave}
 use Rattle.snap_disk.specs.declared.refusal.Refusal.{Refusal}
+use Rattle.snap_disk.specs.declared.refusal.Refusal.TheVariants.{DeviceFailed}
 use Rattle.snap_segment.specs.declared.migration.Which.{Which}
+use Rattle.snap_segment.specs.declared.migration.Which.TheVariants.{Old}
 use Rattle.snap_stream.specs.Streams.{AppendsBeginning}
 use Rattle.snap_command.specs.Migrating.{MigrationLeaves, migrated_line}
-use Rattle.snap_command.proofs.Carried.{by_refusal, made_leaves, migrated, untouched_leaves}
+use Rattle.snap_command.proofs.Carried.{
+  by_refusal,
+  made_leaves,
+  migrated,
+  migration_keeps,
+  refused_reads,
+  told_apart,
+  untouched_leaves,
+}
 use Rattle.snap_command.proofs.migrating.migrate_files.Goals as goal
 
 pub returns-in-Err-clause-new_any_time : goal.returns-in-Err-clause-new_any_time
@@ -80,3 +90,17 @@ returns-clause-new_any_time g c = λ old_honest new_honest.
     c.args.order.now.index c.args.order.now.count (g.O.Disk.device c.args.old)
     (g.N.Disk.device c.args.new) (answer.old_read old_honest tt)
     (answer.any_time old_honest new_honest)
+
+pub returns-in-Err-clause-reads : goal.returns-in-Err-clause-reads
+returns-in-Err-clause-reads g c = refused_reads _ c.in-Err.which c.in-Err.why (λ other honest.
+    c.in-Err.ensures.old_same honest (λ same.
+    let both = told_apart c.in-Err.which Old c.in-Err.why DeviceFailed same in other both.0 both.1))
+
+pub returns-in-Err-clause-keeps : goal.returns-in-Err-clause-keeps
+returns-in-Err-clause-keeps g c =
+    let answer = c.in-Err.ensures in
+    migration_keeps _ _ _ c.in-Err.which c.in-Err.why answer.new_untouched
+    (λ is_new is_wrong. answer.wrong_new_same (ap₂ (λ (w : Which) (y : Refusal). Err (w, y)) is_new
+    is_wrong))
+    (λ is_new is_taken honest. answer.kept honest (answer.taken honest
+    (ap₂ (λ (w : Which) (y : Refusal). Err (w, y)) is_new is_taken)).0)

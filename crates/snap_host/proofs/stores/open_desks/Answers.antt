@@ -1,11 +1,11 @@
-use Rattle.std.proofs.Common.{◌≡◌, ℕ, ◌+◌, length, drop, ap, sym, ◌∙◌, arith}
+use Rattle.std.proofs.Common.{ℕ, length, drop, ap, sym, ◌∙◌, arith}
 use Rattle.std.proofs.lemmas.List.{length_push}
 use Rattle.std.proofs.lemmas.Option.{slice_get_within}
 use Rattle.snap_service.proofs.Lines.{get_dropped, rest_dropped}
 use Rattle.snap_host.proofs.stores.open_desks.Goals as goal
 
-pub new-requires-in-scanners-clause-memory : goal.new-requires-in-scanners-clause-memory
-new-requires-in-scanners-clause-memory g c =
+pub open_desk-requires-clause-memory : goal.open_desk-requires-clause-memory
+open_desk-requires-clause-memory g c =
     let ss = c.args.scanners.items in
     let k : ℕ = length c.scanners.yielded in
     let at = get_dropped k ss c.in-Some.scanner _

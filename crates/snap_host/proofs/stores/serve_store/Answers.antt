@@ -1,4 +1,4 @@
-use Rattle.std.proofs.Common.{◌≡◌, List, sym, subst}
+use Rattle.std.proofs.Common.{List, sym, subst}
 use Rattle.snap_register.specs.Seat.{Known}
 use Rattle.snap_writer.specs.Writer.{WriterState}
 use Rattle.snap_service.specs.Memory.{AreWriters}

@@ -1,8 +1,8 @@
 use Rattle.std.proofs.Common.{◌≡◌, ℕ, ◌+◌, ◌∷◌, ◌++◌, ◌≤◌, ◌<◌, [], length, map, take, drop, ap, sym, ◌∙◌, arith}
-use Rattle.std.proofs.lemmas.List.{length_push}
+use Rattle.std.proofs.lemmas.List.{length_push, take_all}
 use Rattle.std.proofs.lemmas.Option.{slice_get_within}
 use Rattle.std.specs.Vec.Iter.{into_iter_items}
-use Rattle.snap_restart.proofs.Returning.{get_dropped, rest_dropped, drop_short, map_more, nothing_left}
+use Rattle.snap_restart.proofs.Returning.{get_dropped, rest_dropped, drop_short, map_more, nothing_left, so_far}
 use Rattle.snap_restart.proofs.Meetings.{rests_moved, rests_more}
 use Rattle.snap_restart.proofs.closing.release_all.Goals as goal
 
@@ -44,3 +44,21 @@ returns-clause-rests g c = λ i w at. (
     let short : length ws ≤ length c.writers.yielded = drop_short _ ws (sym inv.rest ∙ empty) in
     let inside = slice_get_within ws i w at in
     inv.rests i w at (omega arith))
+
+pub keep-requires : goal.keep-requires
+keep-requires g c =
+    let ws = c.args.writers.items in
+    let inv = c.writers.invariant in
+    let k : ℕ = length c.writers.yielded in
+    let head = sym inv.rest ∙ c.in-Some.ensures.steps.0 in
+    let inside = slice_get_within ws k _ (get_dropped k ws c.in-Some.writer _ head) in
+    let long = so_far (λ w. w.segment.device) [] _ ws k inv.devices inside in
+    let room = inv.room in omega arith
+
+pub returns-clause-devices : goal.returns-clause-devices
+returns-clause-devices g c =
+    let inv = c.writers.invariant in
+    let empty = nothing_left (into_iter_items c.writers.writer-iterator)
+    (sym inv.long ∙ c.in-None.ensures.steps.0) in
+    inv.devices ∙ ap (map (λ w. w.segment.device))
+    (take_all _ _ (drop_short _ c.args.writers.items (sym inv.rest ∙ empty)))

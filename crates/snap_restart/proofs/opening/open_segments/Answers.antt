@@ -1,14 +1,20 @@
 use Rattle.std.proofs.Common.{rules, ◌≡◌, ℕ, ◌+◌, ◌∷◌, ◌++◌, ◌<◌, ◌-◌, ◌^◌, List, [], length, take, drop, subst, ap, sym, ◌∙◌, arith}
-use Rattle.std.proofs.lemmas.List.{length_push, length-take-le}
+use Rattle.std.proofs.lemmas.List.{length_push, length-take-le, length-drop, take_all}
 use Rattle.std.proofs.lemmas.Option.{slice_get_within}
 use Rattle.std.specs.Vec.Iter.{into_iter_items}
 use Rattle.snap_segment.specs.Segment.{SegmentState}
 use Rattle.snap_history.specs.Pairs.{Pairs}
 use Rattle.snap_register.proofs.Pushing.{Pairs-push}
 use Rattle.snap_restart.specs.Opened.{IsOpened, IsReturned}
-use Rattle.snap_restart.proofs.Returning.{get_dropped, rest_dropped, take_dropped, all_dropped}
+use Rattle.snap_restart.proofs.Returning.{get_dropped, rest_dropped, take_dropped, drop_short, nothing_left, all_dropped, all_taken}
 use Rattle.snap_restart.proofs.Stopping.{back_later, returned_here, stopped_at}
 use Rattle.snap_restart.proofs.opening.open_segments.Goals as goal
+
+left_over : {A : Type 0} (k : ℕ) (ds : List A) (d : A) (rest : List A) → drop k ds ≡ d ∷ rest
+    → k + 1 + length rest ≡ length ds
+left_over k ds d rest e =
+    let low = slice_get_within ds k d (get_dropped k ds d rest e) in
+    omega (arith, length-drop k ds, ap length e)
 
 pub open-requires-clause-headroom : goal.open-requires-clause-headroom
 open-requires-clause-headroom g c = all_dropped (λ d. g.D.Disk.failure_count d < 2 ^ 64 - 1) (length c.opening.segments.items) c.args.devices.items c.in-Some.device (into_iter_items c.next.new.self) c.requires.headroom (sym c.opening.invariant.rest ∙ c.in-Some.ensures.cases.0)
@@ -73,3 +79,37 @@ returns-in-Err-clause-stopped g c =
     index (ap (λ (n : ℕ). drop n ds) index ∙ head) (omega arith)
     (subst (λ (n : ℕ). Pairs (IsOpened g.D.Disk.device g.D.Disk.failure_count g.D.Disk.is_honest g.D.Disk.clock g.D.Disk.might_have_left (length ds)) (take n ds) ss) (sym index) inv.opened)
     o.refusals placed c.returned.ensures
+
+pub open-requires-clause-below : goal.open-requires-clause-below
+open-requires-clause-below g c =
+    let head = sym c.opening.invariant.rest ∙ c.in-Some.ensures.cases.0 in
+    rw (c.len-index.ensures, c.opening.segments.ok.0, c.opening.invariant.count)
+    (slice_get_within c.args.devices.items _ _ (get_dropped _ c.args.devices.items _ _ head))
+
+pub keep-requires : goal.keep-requires
+keep-requires g c =
+    let head = sym c.opening.invariant.rest ∙ c.in-Some.ensures.cases.0 in
+    let low = slice_get_within c.args.devices.items _ _
+    (get_dropped _ c.args.devices.items _ _ head) in
+    let room = c.opening.invariant.room in omega arith
+
+pub returned-requires-clause-room : goal.returned-requires-clause-room
+returned-requires-clause-room g c =
+    let inv = c.opening.invariant in
+    let head = sym inv.rest ∙ c.in-Some.ensures.cases.0 in
+    let all = left_over (length c.opening.segments.items) c.args.devices.items _ _ head in
+    let gone = c.in-Some.ensures.cases.1 in
+    let long = inv.long in
+    let short = ap length c.in-Some.ensures.cases.0 in
+    let space = inv.space in omega arith
+
+pub returns-clause-opened : goal.returns-clause-opened
+returns-clause-opened g c =
+    let inv = c.opening.invariant in
+    let none = c.in_default-next.not-Some in
+    let empty = all_taken _ _ c.next.ensures.variant.1 none in
+    let short = drop_short (length c.opening.segments.items) c.args.devices.items
+    (sym inv.rest ∙ nothing_left _ (sym inv.long ∙ empty)) in
+    subst (λ (l : List _). Pairs (IsOpened g.D.Disk.device g.D.Disk.failure_count g.D.Disk.is_honest
+    g.D.Disk.clock g.D.Disk.might_have_left (length c.args.devices.items)) l
+    c.opening.segments.items) (take_all _ c.args.devices.items short) inv.opened

@@ -71,3 +71,21 @@ returns-in-Err-prepare-clause-stopped g c =
     (size ∙ sym count)
     (stopped_last g.D.Disk.device g.D.Disk.failure_count g.D.Disk.is_honest g.D.Disk.clock
     g.D.Disk.might_have_left ds c.release.new.devices.items ss opened news)
+
+pub prepare-requires-clause-count : goal.prepare-requires-clause-count
+prepare-requires-clause-count g c = rw (← c.in-Ok.ensures.opened.size) c.requires.count
+
+pub seat_scanners-requires-clause-room : goal.seat_scanners-requires-clause-room
+seat_scanners-requires-clause-room g c =
+    rw c.in-Ok-prepare.ensures.counts.1 c.in-Ok-prepare.ensures.scanners.1
+
+pub release-requires : goal.release-requires
+release-requires g c =
+    let size = c.in-Ok.ensures.opened.size in
+    let none = ap length c.in-Ok.ensures.emptied.0 in
+    let space = c.in-Ok.ensures.emptied.1 in
+    let few = c.requires.count.1 in omega arith
+
+pub returns-in-Ok-prepare-clause-scanners : goal.returns-in-Ok-prepare-clause-scanners
+returns-in-Ok-prepare-clause-scanners g c =
+    ap length c.seat_scanners.ensures ∙ c.in-Ok-prepare.ensures.counts.1

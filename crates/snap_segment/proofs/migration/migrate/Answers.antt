@@ -73,3 +73,7 @@ returns-in-Err-make_file-clause-new_untouched g c = search rules
 
 pub returns-in-Err-make_file-clause-old_refused : goal.returns-in-Err-make_file-clause-old_refused
 returns-in-Err-make_file-clause-old_refused g c = search rules
+
+pub returns-in-Err-clause-old_same : goal.returns-in-Err-clause-old_same
+returns-in-Err-clause-old_same g c honest other =
+    c.in-Err.ensures.same honest (λ same. other cc)

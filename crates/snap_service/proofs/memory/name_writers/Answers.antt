@@ -48,3 +48,14 @@ returns-clause-named g c =
     let none = c.in-None.ensures.steps.0 in
     let long = inv.long in
     inv.named ∙ all_taken c.args.writers.items (length c.writers.named.items) _ (sym inv.rest) (omega arith)
+
+pub unreachable-requires : goal.unreachable-requires
+unreachable-requires g c =
+    let ws = c.args.writers.items in
+    let inv = c.writers.invariant in
+    let k : ℕ = length c.writers.named.items in
+    let head = sym inv.rest ∙ c.in-Some.ensures.steps.0 in
+    let inside = slice_get_within ws k c.in-Some.writer (get_dropped k ws c.in-Some.writer _ head)
+    in
+    let full = c.in-Err.ensures.full in
+    let count = c.writers.named.ok.0 in let room = inv.room in omega arith

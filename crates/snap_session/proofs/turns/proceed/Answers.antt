@@ -1,4 +1,4 @@
-use Rattle.std.proofs.Common.{ap, sym, subst, length, ◌≤◌, ◌∙◌, take, [], ◌≡◌}
+use Rattle.std.proofs.Common.{ap, sym, subst, length, ◌≤◌, ◌∙◌, take, [], ◌≡◌, ◌<◌, Some, true≢false}
 use Rattle.snap_session.specs.Talk.{most_owed}
 use Rattle.snap_session.proofs.Steps.{taken_asked, taken_owed}
 use Rattle.snap_session.proofs.Turning.{
@@ -9,6 +9,13 @@ use Rattle.snap_session.proofs.Turning.{
   then_keeps,
   then_ends,
   few_left,
+  none_owed,
+  again_apart,
+  input_apart,
+  room_apart,
+  over_apart,
+  blocked_apart,
+  failed_apart,
   on_any,
   on_none,
   or_new,
@@ -25,26 +32,6 @@ loop-init g c = record {
       λ few. few;
 }
 
-pub returns-in-Blocked-clause-goes : goal.returns-in-Blocked-clause-goes
-returns-in-Blocked-clause-goes g c =
-    then_sends g.S.Service.gives _ _ _ _ _ _ _ _ _ _ c.loop.invariant.turns
-    c.send_owed.ensures.sends
-
-pub returns-in-Failed-clause-goes : goal.returns-in-Failed-clause-goes
-returns-in-Failed-clause-goes g c =
-    then_sends g.S.Service.gives _ _ _ _ _ _ _ _ _ _ c.loop.invariant.turns
-    c.send_owed.ensures.sends
-
-pub returns-in-Some-TooLarge-clause-goes : goal.returns-in-Some-TooLarge-clause-goes
-returns-in-Some-TooLarge-clause-goes g c =
-    then_sends g.S.Service.gives _ _ _ _ _ _ _ _ _ _ c.loop.invariant.turns
-    c.send_owed.ensures.sends
-
-pub returns-in-Some-NoMemory-clause-goes : goal.returns-in-Some-NoMemory-clause-goes
-returns-in-Some-NoMemory-clause-goes g c =
-    then_sends g.S.Service.gives _ _ _ _ _ _ _ _ _ _ c.loop.invariant.turns
-    c.send_owed.ensures.sends
-
 pub loop-preserved-in-Turn : goal.loop-preserved-in-Turn
 loop-preserved-in-Turn g c =
     record {
@@ -55,11 +42,6 @@ loop-preserved-in-Turn g c =
       bounded = λ few. c.answer.ensures.bounded
           (few_left _ _ _ c.send_owed.ensures.sends.owed (c.loop.invariant.bounded few));
     }
-
-pub returns-in-Outcome-clause-goes : goal.returns-in-Outcome-clause-goes
-returns-in-Outcome-clause-goes g c =
-    then_round g.S.Service.gives _ _ _ _ _ _ _ _ _ _ _ _ c.loop.invariant.turns
-    c.send_owed.ensures.sends c.answer.ensures.goes
 
 pub loop-preserved-in-Outcome-2 : goal.loop-preserved-in-Outcome-2
 loop-preserved-in-Outcome-2 g c =
@@ -87,36 +69,6 @@ loop-preserved-then-not-is_empty g c =
           (few_left _ _ _ c.send_owed.ensures.sends.owed (c.loop.invariant.bounded few));
     }
 
-pub returns-in-Ok-eq0-clause-goes : goal.returns-in-Ok-eq0-clause-goes
-returns-in-Ok-eq0-clause-goes g c =
-    let read = rw c.in-Ok-eq0.is at c.read.ensures.bytes in
-    let none : take c.in-Ok-eq0.field-0 c.read.new.buf ≡ [] =
-    ap (λ k. take k c.read.new.buf) c.in-Ok-eq0.field-0-test in
-    then_ends g.S.Service.gives _ _ _ _ _ _ _ _ _ _
-    (then_round g.S.Service.gives _ _ _ _ _ _ _ _ _ _ _ _ c.loop.invariant.turns
-    c.send_owed.ensures.sends c.answer.ensures.goes) read.0 none
-
-pub returns-in-Ok-eq0-2-clause-goes : goal.returns-in-Ok-eq0-2-clause-goes
-returns-in-Ok-eq0-2-clause-goes g c =
-    let read = rw c.in-Ok-eq0-2.is at c.read.ensures.bytes in
-    let none : take c.in-Ok-eq0-2.field-0 c.read.new.buf ≡ [] =
-    ap (λ k. take k c.read.new.buf) (sym c.in-Ok-eq0-2.field-0-is ∙ c.in-Ok-eq0.field-0-test) in
-    then_ends g.S.Service.gives _ _ _ _ _ _ _ _ _ _
-    (then_round g.S.Service.gives _ _ _ _ _ _ _ _ _ _ _ _ c.loop.invariant.turns
-    c.send_owed.ensures.sends c.answer.ensures.goes) read.0 none
-
-pub returns-in-Err-clause-goes : goal.returns-in-Err-clause-goes
-returns-in-Err-clause-goes g c =
-    then_keeps g.S.Service.gives _ _ _ _ _ _ _ _ _
-    (then_round g.S.Service.gives _ _ _ _ _ _ _ _ _ _ _ _ c.loop.invariant.turns
-    c.send_owed.ensures.sends c.answer.ensures.goes) c.in-Err.ensures.bytes
-
-pub returns-in-Err-2-clause-goes : goal.returns-in-Err-2-clause-goes
-returns-in-Err-2-clause-goes g c =
-    then_keeps g.S.Service.gives _ _ _ _ _ _ _ _ _
-    (then_round g.S.Service.gives _ _ _ _ _ _ _ _ _ _ _ _ c.loop.invariant.turns
-    c.send_owed.ensures.sends c.answer.ensures.goes) c.in-Err-2.ensures.bytes
-
 pub loop-preserved : goal.loop-preserved
 loop-preserved g c =
     record {
@@ -133,75 +85,170 @@ loop-preserved g c =
           (few_left _ _ _ c.send_owed.ensures.sends.owed (c.loop.invariant.bounded few)));
     }
 
-pub returns-in-Blocked-clause-bounded : goal.returns-in-Blocked-clause-bounded
-returns-in-Blocked-clause-bounded g c =
-    λ few. few_left _ _ _ c.send_owed.ensures.sends.owed (c.loop.invariant.bounded few)
+pub returns-in-Blocked : goal.returns-in-Blocked
+returns-in-Blocked g c = record {
+  goes = then_sends g.S.Service.gives _ _ _ _ _ _ _ _ _ _ c.loop.invariant.turns
+      c.send_owed.ensures.sends;
+  stands = λ empty. blocked_apart (sym c.in-Blocked.is ∙ c.send_owed.ensures.all.1 empty);
+  bounded = λ few. few_left _ _ _ c.send_owed.ensures.sends.owed (c.loop.invariant.bounded few);
+  free = λ no at. c.send_owed.ensures.sends.asked ∙ c.loop.invariant.free no at;
+  outcome = λ no at. room_apart;
+  under = λ none. still_under _ _ _ c.send_owed.ensures.sends.asked (c.loop.invariant.under none);
+}
 
-pub returns-in-Failed-clause-bounded : goal.returns-in-Failed-clause-bounded
-returns-in-Failed-clause-bounded g c =
-    λ few. few_left _ _ _ c.send_owed.ensures.sends.owed (c.loop.invariant.bounded few)
+pub returns-in-Failed : goal.returns-in-Failed
+returns-in-Failed g c = record {
+  goes = then_sends g.S.Service.gives _ _ _ _ _ _ _ _ _ _ c.loop.invariant.turns
+      c.send_owed.ensures.sends;
+  stands = λ empty. failed_apart (sym c.in-Failed.is ∙ c.send_owed.ensures.all.1 empty);
+  bounded = λ few. few_left _ _ _ c.send_owed.ensures.sends.owed (c.loop.invariant.bounded few);
+  free = λ no at. c.send_owed.ensures.sends.asked ∙ c.loop.invariant.free no at;
+  outcome = λ no at. over_apart _;
+  under = λ none. still_under _ _ _ c.send_owed.ensures.sends.asked (c.loop.invariant.under none);
+}
 
-pub returns-in-Some-TooLarge-clause-bounded : goal.returns-in-Some-TooLarge-clause-bounded
-returns-in-Some-TooLarge-clause-bounded g c =
-    λ few. few_left _ _ _ c.send_owed.ensures.sends.owed (c.loop.invariant.bounded few)
+pub returns-in-Some-TooLarge : goal.returns-in-Some-TooLarge
+returns-in-Some-TooLarge g c = record {
+  goes = then_sends g.S.Service.gives _ _ _ _ _ _ _ _ _ _ c.loop.invariant.turns
+      c.send_owed.ensures.sends;
+  stands = (
+    sym c.over.ensures ∙ c.in-Some-TooLarge.is ∙ ap Some c.in-Some-TooLarge.field-0-is,
+    c.send_owed.ensures.all.0 c.in-All.is,
+  );
+  bounded = λ few. few_left _ _ _ c.send_owed.ensures.sends.owed (c.loop.invariant.bounded few);
+  free = λ no at. c.send_owed.ensures.sends.asked ∙ c.loop.invariant.free no at;
+  outcome = λ no at. over_apart _;
+  under = λ none. still_under _ _ _ c.send_owed.ensures.sends.asked (c.loop.invariant.under none);
+}
 
-pub returns-in-Some-NoMemory-clause-bounded : goal.returns-in-Some-NoMemory-clause-bounded
-returns-in-Some-NoMemory-clause-bounded g c =
-    λ few. few_left _ _ _ c.send_owed.ensures.sends.owed (c.loop.invariant.bounded few)
+pub returns-in-Some-NoMemory : goal.returns-in-Some-NoMemory
+returns-in-Some-NoMemory g c = record {
+  goes = then_sends g.S.Service.gives _ _ _ _ _ _ _ _ _ _ c.loop.invariant.turns
+      c.send_owed.ensures.sends;
+  stands = (
+    sym c.over.ensures ∙ c.in-Some-NoMemory.is ∙ ap Some c.in-Some-NoMemory.field-0-is,
+    c.send_owed.ensures.all.0 c.in-All.is,
+  );
+  bounded = λ few. few_left _ _ _ c.send_owed.ensures.sends.owed (c.loop.invariant.bounded few);
+  free = λ no at. c.send_owed.ensures.sends.asked ∙ c.loop.invariant.free no at;
+  outcome = λ no at. over_apart _;
+  under = λ none. still_under _ _ _ c.send_owed.ensures.sends.asked (c.loop.invariant.under none);
+}
 
-pub returns-in-Outcome-clause-bounded : goal.returns-in-Outcome-clause-bounded
-returns-in-Outcome-clause-bounded g c =
-    λ few. c.answer.ensures.bounded
-    (few_left _ _ _ c.send_owed.ensures.sends.owed (c.loop.invariant.bounded few))
+pub returns-in-Outcome : goal.returns-in-Outcome
+returns-in-Outcome g c = record {
+  goes = then_round g.S.Service.gives _ _ _ _ _ _ _ _ _ _ _ _ c.loop.invariant.turns
+      c.send_owed.ensures.sends c.answer.ensures.goes;
+  stands = (
+    c.in-Outcome.ensures.wants.1,
+    none_owed _ _ _ c.if-is_empty.true c.is_empty.ensures c.owed.ensures,
+    c.in-Outcome.ensures.wants.2,
+  );
+  bounded = λ few. c.answer.ensures.bounded
+      (few_left _ _ _ c.send_owed.ensures.sends.owed (c.loop.invariant.bounded few));
+  free = λ no at. absurd (no (c.in-Outcome.ensures.wants.0 (c.send_owed.ensures.sends.asked
+      ∙ c.loop.invariant.free no at)).0);
+  outcome = λ no at same. no (c.in-Outcome.ensures.wants.0 (c.send_owed.ensures.sends.asked
+      ∙ c.loop.invariant.free no at)).0;
+  under = λ none. on_any _ _ (or_new _ _ (c.loop.invariant.under none)
+      (λ free. (c.in-Outcome.ensures.wants.0 (c.send_owed.ensures.sends.asked ∙ free)).1));
+}
 
-pub returns-in-Ok-eq0-clause-bounded : goal.returns-in-Ok-eq0-clause-bounded
-returns-in-Ok-eq0-clause-bounded g c =
-    λ few. c.answer.ensures.bounded
-    (few_left _ _ _ c.send_owed.ensures.sends.owed (c.loop.invariant.bounded few))
+pub returns-in-Ok-eq0 : goal.returns-in-Ok-eq0
+returns-in-Ok-eq0 g c =
+    let read = rw c.in-Ok-eq0.is at c.read.ensures.bytes in
+    let none : take c.in-Ok-eq0.field-0 c.read.new.buf ≡ [] =
+    ap (λ k. take k c.read.new.buf) c.in-Ok-eq0.field-0-test in
+    record {
+      goes = then_ends g.S.Service.gives _ _ _ _ _ _ _ _ _ _
+          (then_round g.S.Service.gives _ _ _ _ _ _ _ _ _ _ _ _ c.loop.invariant.turns
+          c.send_owed.ensures.sends c.answer.ensures.goes) read.0 none;
+      stands = (
+        c.in-Bytes.ensures.wants.0,
+        none_owed _ _ _ c.if-not-is_empty.false c.is_empty-in-loop.ensures c.owed-in-loop.ensures,
+        c.in-Bytes.ensures.wants.1,
+        (c.is_between.ensures.0 c.if-is_between.true).1,
+        read.1 c.in-Ok-eq0.field-0-test (subst (λ n. 0 < n)
+            (sym (c.read.auto.buf ∙ c.loop.auto.piece)) c.requires),
+      );
+      bounded = λ few. c.answer.ensures.bounded
+          (few_left _ _ _ c.send_owed.ensures.sends.owed (c.loop.invariant.bounded few));
+      free = λ no at. c.in-Bytes.ensures.wants.1;
+      outcome = λ no at. over_apart _;
+      under = λ none. on_none _ _ c.in-Bytes.ensures.wants.1;
+    }
 
-pub returns-in-Ok-eq0-2-clause-bounded : goal.returns-in-Ok-eq0-2-clause-bounded
-returns-in-Ok-eq0-2-clause-bounded g c =
-    λ few. c.answer.ensures.bounded
-    (few_left _ _ _ c.send_owed.ensures.sends.owed (c.loop.invariant.bounded few))
+pub returns-in-Ok-eq0-2 : goal.returns-in-Ok-eq0-2
+returns-in-Ok-eq0-2 g c =
+    let read = rw c.in-Ok-eq0-2.is at c.read.ensures.bytes in
+    let zero = sym c.in-Ok-eq0-2.field-0-is ∙ c.in-Ok-eq0.field-0-test in
+    let none : take c.in-Ok-eq0-2.field-0 c.read.new.buf ≡ [] = ap (λ k. take k c.read.new.buf) zero
+    in
+    record {
+      goes = then_ends g.S.Service.gives _ _ _ _ _ _ _ _ _ _
+          (then_round g.S.Service.gives _ _ _ _ _ _ _ _ _ _ _ _ c.loop.invariant.turns
+          c.send_owed.ensures.sends c.answer.ensures.goes) read.0 none;
+      stands = (
+        (
+          c.in-Bytes.ensures.wants.0,
+          none_owed _ _ _ c.if-not-is_empty.false c.is_empty-in-loop.ensures c.owed-in-loop.ensures,
+          c.in-Bytes.ensures.wants.1,
+          c.in-Bytes.ensures.wants.2,
+        ),
+        λ empty. true≢false
+            (sym (c.is_between.ensures.1 (c.in-Bytes.ensures.wants.0, empty)) ∙
+            c.if-is_between.false),
+        read.1 zero (subst (λ n. 0 < n) (sym (c.read.auto.buf ∙ c.loop.auto.piece)) c.requires),
+      );
+      bounded = λ few. c.answer.ensures.bounded
+          (few_left _ _ _ c.send_owed.ensures.sends.owed (c.loop.invariant.bounded few));
+      free = λ no at. c.in-Bytes.ensures.wants.1;
+      outcome = λ no at. over_apart _;
+      under = λ none. on_none _ _ c.in-Bytes.ensures.wants.1;
+    }
 
-pub returns-in-Err-clause-bounded : goal.returns-in-Err-clause-bounded
-returns-in-Err-clause-bounded g c =
-    λ few. c.answer.ensures.bounded
-    (few_left _ _ _ c.send_owed.ensures.sends.owed (c.loop.invariant.bounded few))
+pub returns-in-Err : goal.returns-in-Err
+returns-in-Err g c = record {
+  goes = then_keeps g.S.Service.gives _ _ _ _ _ _ _ _ _
+      (then_round g.S.Service.gives _ _ _ _ _ _ _ _ _ _ _ _ c.loop.invariant.turns
+      c.send_owed.ensures.sends c.answer.ensures.goes) c.in-Err.ensures.bytes;
+  stands = (
+    c.in-Bytes.ensures.wants.0,
+    none_owed _ _ _ c.if-not-is_empty.false c.is_empty-in-loop.ensures c.owed-in-loop.ensures,
+    c.in-Bytes.ensures.wants.1,
+    c.in-Bytes.ensures.wants.2,
+  );
+  bounded = λ few. c.answer.ensures.bounded
+      (few_left _ _ _ c.send_owed.ensures.sends.owed (c.loop.invariant.bounded few));
+  free = λ no at. c.in-Bytes.ensures.wants.1;
+  outcome = λ no at. input_apart;
+  under = λ none. on_none _ _ c.in-Bytes.ensures.wants.1;
+}
 
-pub returns-in-Err-2-clause-bounded : goal.returns-in-Err-2-clause-bounded
-returns-in-Err-2-clause-bounded g c =
-    λ few. c.answer.ensures.bounded
-    (few_left _ _ _ c.send_owed.ensures.sends.owed (c.loop.invariant.bounded few))
+pub returns-in-Err-2 : goal.returns-in-Err-2
+returns-in-Err-2 g c = record {
+  goes = then_keeps g.S.Service.gives _ _ _ _ _ _ _ _ _
+      (then_round g.S.Service.gives _ _ _ _ _ _ _ _ _ _ _ _ c.loop.invariant.turns
+      c.send_owed.ensures.sends c.answer.ensures.goes) c.in-Err-2.ensures.bytes;
+  stands = (
+    c.in-Bytes.ensures.wants.0,
+    none_owed _ _ _ c.if-not-is_empty.false c.is_empty-in-loop.ensures c.owed-in-loop.ensures,
+    c.in-Bytes.ensures.wants.1,
+    c.in-Bytes.ensures.wants.2,
+  );
+  bounded = λ few. c.answer.ensures.bounded
+      (few_left _ _ _ c.send_owed.ensures.sends.owed (c.loop.invariant.bounded few));
+  free = λ no at. c.in-Bytes.ensures.wants.1;
+  outcome = λ no at. over_apart _;
+  under = λ none. on_none _ _ c.in-Bytes.ensures.wants.1;
+}
 
-pub returns-in-Blocked-clause-under : goal.returns-in-Blocked-clause-under
-returns-in-Blocked-clause-under g c =
-    λ none. still_under _ _ _ c.send_owed.ensures.sends.asked (c.loop.invariant.under none)
-
-pub returns-in-Failed-clause-under : goal.returns-in-Failed-clause-under
-returns-in-Failed-clause-under g c =
-    λ none. still_under _ _ _ c.send_owed.ensures.sends.asked (c.loop.invariant.under none)
-
-pub returns-in-Some-TooLarge-clause-under : goal.returns-in-Some-TooLarge-clause-under
-returns-in-Some-TooLarge-clause-under g c =
-    λ none. still_under _ _ _ c.send_owed.ensures.sends.asked (c.loop.invariant.under none)
-
-pub returns-in-Some-NoMemory-clause-under : goal.returns-in-Some-NoMemory-clause-under
-returns-in-Some-NoMemory-clause-under g c =
-    λ none. still_under _ _ _ c.send_owed.ensures.sends.asked (c.loop.invariant.under none)
-
-pub returns-in-Outcome-clause-under : goal.returns-in-Outcome-clause-under
-returns-in-Outcome-clause-under g c = λ none. on_any _ _ (or_new _ _ (c.loop.invariant.under none)
-    (λ free. (c.in-Outcome.ensures.wants.0 (c.send_owed.ensures.sends.asked ∙ free)).1))
-
-pub returns-in-Ok-eq0-clause-under : goal.returns-in-Ok-eq0-clause-under
-returns-in-Ok-eq0-clause-under g c = λ none. on_none _ _ c.in-Bytes.ensures.wants.1
-
-pub returns-in-Ok-eq0-2-clause-under : goal.returns-in-Ok-eq0-2-clause-under
-returns-in-Ok-eq0-2-clause-under g c = λ none. on_none _ _ c.in-Bytes.ensures.wants.1
-
-pub returns-in-Err-clause-under : goal.returns-in-Err-clause-under
-returns-in-Err-clause-under g c = λ none. on_none _ _ c.in-Bytes.ensures.wants.1
-
-pub returns-in-Err-2-clause-under : goal.returns-in-Err-2-clause-under
-returns-in-Err-2-clause-under g c = λ none. on_none _ _ c.in-Bytes.ensures.wants.1
+pub returns : goal.returns
+returns g c = record {
+  goes = c.loop.invariant.turns;
+  stands = tt;
+  bounded = c.loop.invariant.bounded;
+  free = c.loop.invariant.free;
+  outcome = λ no at. again_apart;
+  under = c.loop.invariant.under;
+}

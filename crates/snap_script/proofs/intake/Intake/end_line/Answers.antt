@@ -1,24 +1,21 @@
-use Rattle.std.proofs.Common.{
-  ◌≡◌,
-  ◌≢◌,
-  ◌++◌,
-  ◌<◌,
-  ℕ,
-  List,
-  [],
-  IfErr,
-  subst,
-  sym,
-  ap,
-  arith,
-  length,
-  length-append,
-  ◌∙◌,
-}
+use Rattle.std.proofs.Common.{◌≡◌, ◌≢◌, ◌++◌, ◌<◌, [], sym, ap, arith, length, length-append, ◌∙◌}
 use Rattle.std.proofs.lemmas.Bool.Decides.{nat_tests}
-use Rattle.snap_script.proofs.Ends.{hold_halts}
-use Rattle.snap_script.proofs.Steps.{empty_list, some_list}
+use Rattle.snap_script.specs.Progress.{HasDone}
+use Rattle.snap_script.proofs.Ends.{hold_halts, on_ok}
+use Rattle.snap_script.proofs.Steps.{empty_list}
 use Rattle.snap_script.proofs.intake.Intake.end_line.Goals as goal
+
+pub returns-then-is_empty-clause-held : goal.returns-then-is_empty-clause-held
+returns-then-is_empty-clause-held g c =
+    let none : c.args.self.now.held.items ≡ [] =
+    empty_list c.args.self.now.held.items (grind (arith, nat_tests)) in
+    on_ok c.line.result c.line.ensures.ok (λ _. none)
+
+pub returns-then-is_empty-clause-ok : goal.returns-then-is_empty-clause-ok
+returns-then-is_empty-clause-ok g c =
+    let none : c.args.self.now.held.items ≡ [] =
+    empty_list c.args.self.now.held.items (grind (arith, nat_tests)) in
+    rw none c.line.ensures.ok
 
 pub returns-then-is_empty-clause-err : goal.returns-then-is_empty-clause-err
 returns-then-is_empty-clause-err g c =
@@ -37,3 +34,22 @@ returns-in-Err-clause-err g c = λ done old h.
           ∙ ap length e,
     ) in
     hold_halts done _ old _ _ _ c.in-Err.end h some c.in-Err.ensures.err
+
+pub returns-in-Err-line-clause-err : goal.returns-in-Err-line-clause-err
+returns-in-Err-line-clause-err g c = λ done old h.
+    let before : HasDone done old (g.W.Write.contents c.args.writer.now)
+    c.hold.new.self.progress.player.world c.hold.new.self.progress.number =
+    rw c.hold.ensures.progress h in
+    rw (c.deref.ensures.value ∙ c.in-Ok.ensures.held)
+    at (c.in-Err-line.ensures.err done old before)
+
+pub returns-clause-held : goal.returns-clause-held
+returns-clause-held g c = c.clear.ensures.items
+
+pub returns-clause-ok : goal.returns-clause-ok
+returns-clause-ok g c = λ done old h.
+    let before : HasDone done old (g.W.Write.contents c.args.writer.now)
+    c.hold.new.self.progress.player.world c.hold.new.self.progress.number =
+    rw c.hold.ensures.progress h in
+    rw (c.deref.ensures.value ∙ c.in-Ok.ensures.held)
+    at (c.in-Ok-line.ensures.ok done old before)

@@ -1,19 +1,4 @@
-use Rattle.std.proofs.Common.{
-  ◌≡◌,
-  ◌<◌,
-  ◌∷◌,
-  ◌++◌,
-  [],
-  List,
-  ℕ,
-  length,
-  refl,
-  ap,
-  ◌∙◌,
-  append-nil,
-  subst,
-  arith,
-}
+use Rattle.std.proofs.Common.{◌≡◌, ◌<◌, ◌∷◌, ◌++◌, [], length, refl, ap, ◌∙◌, append-nil, subst, arith}
 use Rattle.std.proofs.lemmas.Bool.Decides.{nat_tests}
 use Rattle.snap_script.proofs.Ends.{
   held_more,

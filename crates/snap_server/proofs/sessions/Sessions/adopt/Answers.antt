@@ -1,9 +1,10 @@
-use Rattle.std.proofs.Common.{ap, ◌∙◌}
+use Rattle.std.proofs.Common.{ℕ, ◌+◌, ◌≡◌, sym, ap, ◌∙◌, refl, true≢false}
 use mathlib.Core.Logic.{∥∥₁_map}
-use Rattle.slab.specs.Slab.{Slab, get}
+use Rattle.slab.specs.Slab.{Slab, get, slab_len}
 use Rattle.snap_server.specs.declared.connection.Connection.{Connection}
 use Rattle.snap_server.proofs.Sharing.{added_are, same_are}
-use Rattle.snap_server.proofs.Listing.{lists_added, lists_same}
+use Rattle.snap_server.proofs.Listing.{lists_added, lists_same, none_there}
+use Rattle.snap_server.proofs.sessions.Sessions.adopt.Goals.{then-is_err-via-then-is_err, then-is_err-via-else-is_err+then-is_err-2}
 use Rattle.snap_server.proofs.sessions.Sessions.adopt.Goals as goal
 
 pub invariant_of-self-then-is_err-2-clause-are : goal.invariant_of-self-then-is_err-2-clause-are
@@ -46,3 +47,57 @@ invariant_of-self-2-clause-lists g c = rw c.reserve.ensures.items
     (lists_same _ c.args.self.now.connections c.reserve-else-is_err.new.self
     (λ key. ap (λ (s : Slab Connection). get s key) c.reserve-else-is_err.ensures.rest_kept)
     lists)))
+
+pub returns-in_default : goal.returns-in_default
+returns-in_default g c = record {
+  service = refl;
+  kept = λ key b at. at;
+  refused = λ no key. refl;
+  taken = λ wrong. absurd (true≢false (sym wrong));
+}
+
+pub returns-then-is_err : goal.returns-then-is_err
+returns-then-is_err g c =
+    let same : (key : ℕ)
+    → get c.then-is_err.self.connections key ≡ get c.args.self.now.connections key =
+    elim c.then-is_err.branch [
+      | then-is_err-via-then-is_err w ↦ λ key. ap (λ s. get s.connections key) w.self-is
+      | then-is_err-via-else-is_err+then-is_err-2 w ↦ λ key. ap (λ s. get s.connections key)
+          w.self-is
+          ∙ ap (λ (s : Slab Connection). get s key) w.reserve-else-is_err.ensures.rest_kept
+    ] in
+    record {
+      service = elim c.then-is_err.branch [
+        | then-is_err-via-then-is_err w ↦ ap (λ s. s.service) w.self-is
+        | then-is_err-via-else-is_err+then-is_err-2 w ↦ ap (λ s. s.service) w.self-is
+      ];
+      kept = λ key b at. same key ∙ at;
+      refused = λ no. same;
+      taken = λ wrong. absurd (true≢false (sym wrong));
+    }
+
+pub returns-then-is_err-3 : goal.returns-then-is_err-3
+returns-then-is_err-3 g c = record {
+  service = refl;
+  kept = λ key b at. ap (λ (s : Slab Connection). get s key) c.reserve-else-is_err.ensures.rest_kept
+      ∙ at;
+  refused = λ no key. ap (λ (s : Slab Connection). get s key)
+      c.reserve-else-is_err.ensures.rest_kept;
+  taken = λ wrong. absurd (true≢false (sym wrong));
+}
+
+pub returns : goal.returns
+returns g c =
+    let mid = c.reserve-else-is_err.new.self in
+    record {
+      service = refl;
+      kept = λ key b at.
+          let there : get mid key ≡ get c.args.self.now.connections key = ap
+          (λ (s : Slab Connection). get s key) c.reserve-else-is_err.ensures.rest_kept in
+          c.insert_reserved.ensures.updates.others key (λ is.
+          none_there mid c.insert_reserved.result c.insert_reserved.ensures.was_vacant b
+          (ap (get mid) (sym is) ∙ there ∙ at)) ∙ there ∙ at;
+      refused = λ wrong. absurd (true≢false wrong);
+      taken = λ yes. c.insert_reserved.ensures.len
+          ∙ ap (λ (s : Slab Connection). slab_len s + 1) c.reserve-else-is_err.ensures.rest_kept;
+    }

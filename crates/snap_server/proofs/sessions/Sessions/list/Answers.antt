@@ -1,4 +1,4 @@
-use Rattle.std.proofs.Common.{arith, sym, ap, ◌∙◌, ◌≡◌, true≢false}
+use Rattle.std.proofs.Common.{arith, sym, ap, ◌∙◌, ◌≡◌, refl, true≢false}
 use mathlib.Core.Logic.{∥∥₁_map}
 use Rattle.snap_server.specs.declared.connection.Connection.{Connection}
 use Rattle.snap_server.proofs.Sharing.{written_are}
@@ -8,6 +8,9 @@ use Rattle.snap_server.proofs.Listing.{
   lists_room,
   written_len,
   enlisted_same,
+  enlisted_at,
+  none_there,
+  written_others,
 }
 use Rattle.snap_server.proofs.sessions.Sessions.list.Goals as goal
 
@@ -72,3 +75,45 @@ invariant_of-self-else-enlist-clause-room g c = omega (
   written_len c.args.self.now.connections c.args.key c.in-Some.connection.now
       c.enlist.new.self (sym c.in-Some.ensures.value),
 )
+
+pub returns-in_default : goal.returns-in_default
+returns-in_default g c = record {
+  service = refl;
+  listed = λ b old. absurd (none_there c.args.self.now.connections c.args.key
+      (sym c.in_default.ensures.value) b old);
+  nobody = λ none. refl;
+  others = λ other apart. refl;
+  count = refl;
+}
+
+pub returns-then-enlist : goal.returns-then-enlist
+returns-then-enlist g c =
+    let at = (sym c.in-Some.ensures.value) in
+    record {
+      service = refl;
+      listed = λ b old. enlisted_at c.args.self.now.connections c.args.key b
+          c.in-Some.connection.now
+          c.enlist.new.self at c.enlist.ensures.listed old;
+      nobody = λ none. absurd (none_there c.args.self.now.connections c.args.key none
+          c.in-Some.connection.now at);
+      others = written_others c.args.self.now.connections c.args.key c.in-Some.connection.now
+          c.enlist.new.self at;
+      count = written_len c.args.self.now.connections c.args.key c.in-Some.connection.now
+          c.enlist.new.self at;
+    }
+
+pub returns-else-enlist : goal.returns-else-enlist
+returns-else-enlist g c =
+    let at = (sym c.in-Some.ensures.value) in
+    record {
+      service = refl;
+      listed = λ b old. enlisted_at c.args.self.now.connections c.args.key b
+          c.in-Some.connection.now
+          c.enlist.new.self at c.enlist.ensures.listed old;
+      nobody = λ none. absurd (none_there c.args.self.now.connections c.args.key none
+          c.in-Some.connection.now at);
+      others = written_others c.args.self.now.connections c.args.key c.in-Some.connection.now
+          c.enlist.new.self at;
+      count = written_len c.args.self.now.connections c.args.key c.in-Some.connection.now
+          c.enlist.new.self at;
+    }

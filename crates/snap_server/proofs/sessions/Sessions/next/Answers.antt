@@ -1,6 +1,8 @@
-use Rattle.std.proofs.Common.{arith, sym, ap, subst, ◌∷◌, ◌≡◌, ℕ, List}
+use Rattle.std.proofs.Common.{arith, sym, ap, subst, ◌∙◌, refl, Some, ◌∷◌, ◌≡◌, ℕ, List}
 use mathlib.Core.Logic.{∥∥₁_map}
+use Rattle.slab.specs.Slab.{with_value}
 use Rattle.snap_server.specs.declared.connection.Connection.{Connection}
+use Rattle.snap_server.specs.declared.connection.Stage.TheVariants.{Idle}
 use Rattle.snap_server.specs.Listing.{Lists}
 use Rattle.snap_server.proofs.Sharing.{written_are}
 use Rattle.snap_server.proofs.Listing.{
@@ -9,6 +11,8 @@ use Rattle.snap_server.proofs.Listing.{
   written_others,
   written_len,
   none_first,
+  none_there,
+  same_value,
 }
 use Rattle.snap_server.proofs.sessions.Sessions.next.Goals as goal
 
@@ -54,3 +58,37 @@ invariant_of-self-in_default-clause-room g c = omega (
   c.args.self.now.room,
   c.pop_front.ensures.capacity,
 )
+
+pub returns-in-Some : goal.returns-in-Some
+returns-in-Some g c =
+    let old = c.args.self.now.connections in
+    let at = sym c.in-Some.ensures.value in
+    let now = written_at old c.in_ok-key.key c.in-Some.connection.now c.delist.new.self at in
+    record {
+      service = refl;
+      first = c.in_ok-key.ensures.items;
+      idle = λ d new. sym (ap (λ (z : Connection). z.stage)
+          (same_value (with_value old c.in_ok-key.key c.delist.new.self) c.in_ok-key.key
+          c.delist.new.self d now new))
+          ∙ ap (λ (z : Connection). z.stage) c.delist.ensures;
+      sessions = λ b was. now ∙ ap Some (c.delist.ensures
+          ∙ ap (λ (z : Connection). record z { stage = Idle })
+          (same_value old c.in_ok-key.key c.in-Some.connection.now b at was));
+      others = written_others old c.in_ok-key.key c.in-Some.connection.now c.delist.new.self at;
+      nobody = tt;
+      none = tt;
+    }
+
+pub returns-in_default : goal.returns-in_default
+returns-in_default g c =
+    let off = none_there c.args.self.now.connections c.in_ok-key.key
+    (sym c.in_default.ensures.value) in
+    record {
+      service = refl;
+      first = c.in_ok-key.ensures.items;
+      idle = λ d new. absurd (off d new);
+      sessions = λ b old. absurd (off b old);
+      others = λ other apart. refl;
+      nobody = tt;
+      none = tt;
+    }

@@ -1,22 +1,35 @@
-use Rattle.std.proofs.Common.{arith, sym, ap, subst, ◌∙◌, ◌≡◌, [], None, OnSome, inl, refl}
+use Rattle.std.proofs.Common.{arith, sym, ap, subst, ◌∙◌, ◌≡◌, ◌⊎◌, [], None, OnSome, inl, inr, refl}
 use mathlib.Core.Logic.{∥∥₁_map}
 use Rattle.slab.specs.Slab.{with_value}
-use Rattle.snap_session.specs.Talk.{Talk, Stays}
-use Rattle.snap_session.specs.Turns.{Turns, EndsAt}
+use Rattle.snap_session.specs.Talk.{Talk, Stays, Moves}
+use Rattle.snap_session.specs.Turns.{Turns, EndsAt, StandsAt}
 use Rattle.snap_session.specs.declared.turns.End.{End}
+use Rattle.snap_session.specs.declared.turns.Turn.{Turn}
+use Rattle.snap_session.specs.declared.turns.Turn.TheVariants.{NeedsInput, NeedsRoom, NeedsOutcome}
 use Rattle.snap_server.specs.declared.connection.Connection.{Connection}
 use Rattle.snap_server.specs.Listing.{enlisted}
 use Rattle.snap_server.specs.Sharing.{IsTurn}
-use Rattle.snap_server.proofs.Sharing.{written_turned, turn_at, under_at}
+use Rattle.snap_server.specs.Standing.{Waits}
+use Rattle.snap_server.proofs.Sharing.{moved, written_turned, turn_at, under_at}
 use Rattle.snap_server.proofs.Listing.{
   lists_written,
+  none_there,
   written_at,
   written_len,
+  written_others,
   not_both,
   over_off,
   same_value,
 }
 use Rattle.snap_server.proofs.sessions.Sessions.turn.Goals as goal
+
+-- it waits for one of the three
+waiting : (turn : Turn) (t : Talk)
+    → (turn ≡ NeedsInput) ⊎ ((turn ≡ NeedsRoom) ⊎ (turn ≡ NeedsOutcome)) → StandsAt turn t None
+    → Waits t
+waiting turn t (inl is) at = inl (subst (λ (r : Turn). StandsAt r t None) is at)
+waiting turn t (inr (inl is)) at = inr (inl (subst (λ (r : Turn). StandsAt r t None) is at))
+waiting turn t (inr (inr is)) at = inr (inr (subst (λ (r : Turn). StandsAt r t None) is at))
 
 pub invariant_of-self-in-Again-clause-are : goal.invariant_of-self-in-Again-clause-are
 invariant_of-self-in-Again-clause-are g c = ∥∥₁_map c.args.self.now.are
@@ -40,8 +53,10 @@ invariant_of-self-in-Again-clause-room g c = omega (
 pub returns-in-Again-clause-waits : goal.returns-in-Again-clause-waits
 returns-in-Again-clause-waits g c = λ d new.
     let at = sym c.in_ok-connection.ensures.value in
-    let is = same_value c.list.new.self.connections c.args.key _ d (c.list.ensures.listed c.go_on.new.self
-    (written_at c.args.self.now.connections c.args.key c.in_ok-connection.connection.now c.go_on.new.self at)) new in
+    let is = same_value c.list.new.self.connections c.args.key _ d
+    (c.list.ensures.listed c.go_on.new.self
+    (written_at c.args.self.now.connections c.args.key c.in_ok-connection.connection.now
+    c.go_on.new.self at)) new in
     inl (sym (ap (λ (z : Connection). z.stage) is)
     ∙ ap enlisted (c.go_on.ensures.stage
     ∙ c.requires.idle c.in_ok-connection.connection.now at))
@@ -119,7 +134,8 @@ returns-in-Again-clause-turn g c = λ b d old new.
     let at = sym c.in_ok-connection.ensures.value in
     let stands = c.list.ensures.listed c.go_on.new.self
     (written_at c.args.self.now.connections c.args.key was c.go_on.new.self at) in
-    turn_at g.S.Service.gives _ _ _ c.args.self.now.connections c.list.new.self.connections c.args.key
+    turn_at g.S.Service.gives _ _ _ c.args.self.now.connections c.list.new.self.connections
+    c.args.key
     b d was _ at stands c.list.ensures.service c.go_on.ensures.goes old new
 
 pub returns-in-Again-clause-under : goal.returns-in-Again-clause-under
@@ -177,3 +193,77 @@ returns-in-Over-clause-under g c = λ b d old new.
 
 pub returns-in_err-connection-clause-moves : goal.returns-in_err-connection-clause-moves
 returns-in_err-connection-clause-moves g c = ([], [], refl)
+
+pub returns-in_err-connection-clause-waits : goal.returns-in_err-connection-clause-waits
+returns-in_err-connection-clause-waits g c = rw c.from_residual.ensures (λ d new.
+    absurd (none_there c.args.self.now.connections c.args.key
+    (sym c.in_err-connection.ensures.value) d new))
+
+pub returns-in_err-connection-clause-turn : goal.returns-in_err-connection-clause-turn
+returns-in_err-connection-clause-turn g c = λ b d old new.
+    absurd (none_there c.args.self.now.connections c.args.key
+    (sym c.in_err-connection.ensures.value) b old)
+
+pub returns-in_err-connection-clause-under : goal.returns-in_err-connection-clause-under
+returns-in_err-connection-clause-under g c = λ b d old new free.
+    absurd (none_there c.args.self.now.connections c.args.key
+    (sym c.in_err-connection.ensures.value) b old)
+
+pub returns-in-Again-clause-moves : goal.returns-in-Again-clause-moves
+returns-in-Again-clause-moves g c =
+    subst (Moves g.S.Service.gives c.args.self.now.service) (sym c.list.ensures.service)
+    (moved g.S.Service.gives _ _ _ _ c.go_on.ensures.goes)
+
+pub returns-in-Again-clause-nobody : goal.returns-in-Again-clause-nobody
+returns-in-Again-clause-nobody g c = λ none.
+    absurd (none_there c.args.self.now.connections c.args.key none c.in_ok-connection.connection.now
+    (sym c.in_ok-connection.ensures.value))
+
+pub returns-in-Again-clause-others : goal.returns-in-Again-clause-others
+returns-in-Again-clause-others g c = λ o off. c.list.ensures.others o off
+    ∙ written_others c.args.self.now.connections c.args.key c.in_ok-connection.connection.now
+    c.go_on.new.self (sym c.in_ok-connection.ensures.value) o off
+
+pub returns-in-Again-clause-count : goal.returns-in-Again-clause-count
+returns-in-Again-clause-count g c = c.list.ensures.count
+    ∙ written_len c.args.self.now.connections c.args.key c.in_ok-connection.connection.now
+    c.go_on.new.self (sym c.in_ok-connection.ensures.value)
+
+pub returns-in-NeedsInput-clause-waits : goal.returns-in-NeedsInput-clause-waits
+returns-in-NeedsInput-clause-waits g c = λ d new.
+    let is = same_value (with_value c.args.self.now.connections c.args.key c.go_on.new.self)
+    c.args.key c.go_on.new.self d
+    (written_at c.args.self.now.connections c.args.key c.in_ok-connection.connection.now
+    c.go_on.new.self (sym c.in_ok-connection.ensures.value)) new in
+    inr (subst (λ (z : Connection). Waits z.session) is
+    (waiting c.go_on.result c.go_on.new.self.session c.in-NeedsInput.is c.go_on.ensures.stands))
+
+pub returns-in-NeedsInput-clause-nobody : goal.returns-in-NeedsInput-clause-nobody
+returns-in-NeedsInput-clause-nobody g c = λ none.
+    absurd (none_there c.args.self.now.connections c.args.key none c.in_ok-connection.connection.now
+    (sym c.in_ok-connection.ensures.value))
+
+pub returns-in-NeedsInput-clause-others : goal.returns-in-NeedsInput-clause-others
+returns-in-NeedsInput-clause-others g c =
+    written_others c.args.self.now.connections c.args.key c.in_ok-connection.connection.now
+    c.go_on.new.self (sym c.in_ok-connection.ensures.value)
+
+pub returns-in-NeedsInput-clause-count : goal.returns-in-NeedsInput-clause-count
+returns-in-NeedsInput-clause-count g c =
+    written_len c.args.self.now.connections c.args.key c.in_ok-connection.connection.now
+    c.go_on.new.self (sym c.in_ok-connection.ensures.value)
+
+pub returns-in-Over-clause-nobody : goal.returns-in-Over-clause-nobody
+returns-in-Over-clause-nobody g c = λ none.
+    absurd (none_there c.args.self.now.connections c.args.key none c.in_ok-connection.connection.now
+    (sym c.in_ok-connection.ensures.value))
+
+pub returns-in-Over-clause-others : goal.returns-in-Over-clause-others
+returns-in-Over-clause-others g c =
+    written_others c.args.self.now.connections c.args.key c.in_ok-connection.connection.now
+    c.end.new.self (sym c.in_ok-connection.ensures.value)
+
+pub returns-in-Over-clause-count : goal.returns-in-Over-clause-count
+returns-in-Over-clause-count g c =
+    written_len c.args.self.now.connections c.args.key c.in_ok-connection.connection.now
+    c.end.new.self (sym c.in_ok-connection.ensures.value)

@@ -1,7 +1,9 @@
-use Rattle.std.proofs.Common.{ℕ, ◌+◌, length, ap, ◌∙◌}
+use Rattle.std.proofs.Common.{◌≡◌, ℕ, ◌+◌, length, ap, sym, ◌∙◌, arith}
 use Rattle.std.proofs.lemmas.List.{length_push}
 use Rattle.snap_frame.specs.Messages.{IsStatus}
 use Rattle.snap_frame.specs.declared.entries.SegmentStatus.{SegmentStatus}
+use Rattle.snap_register.specs.Rule.{segments}
+use Rattle.snap_register.specs.Seat.{Known}
 use Rattle.snap_service.proofs.Lines.{all_more}
 use Rattle.snap_service.proofs.node.Node.list_statuses.Goals as goal
 
@@ -13,3 +15,16 @@ loop-writer-preserved g c =
       all_more IsStatus c.loop-writer.statuses.items _ s c.in_ok-push.ensures.items
           c.loop-writer.invariant.1 c.number.ensures.low,
     )
+
+pub returns-clause-limits : goal.returns-clause-limits
+returns-clause-limits g c = c.loop-writer.invariant.1
+
+pub returns-clause-count : goal.returns-clause-count
+returns-clause-count g c =
+    let inv = c.loop-writer.invariant.0 in
+    let short = c.loop-writer-test.false in
+    let within = c.loop-writer.auto.writer-index-end in
+    let items = ap length c.deref-writer-items.ensures.value in
+    let all = c.self.inside.shared.now.all in
+    let long : length c.loop-writer.statuses.items ≡ segments g.M.Memory.plan = omega arith in
+    long ∙ ap segments (sym c.self.invariant.plan_is ∙ ap (λ (a : Known). a.plan) c.self.view_is)

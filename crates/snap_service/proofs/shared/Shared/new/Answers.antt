@@ -1,5 +1,5 @@
 use Rattle.std.proofs.Common.{◌≡◌, ℕ, ◌+◌, length, drop, ap, sym, ◌∙◌, arith}
-use Rattle.std.proofs.lemmas.List.{length_push}
+use Rattle.std.proofs.lemmas.List.{length_push, length-drop}
 use Rattle.std.proofs.lemmas.Option.{slice_get_within}
 use Rattle.snap_service.proofs.Lines.{get_dropped, rest_dropped}
 use Rattle.snap_service.proofs.shared.Shared.new.Goals as goal
@@ -35,3 +35,21 @@ writers-preserved g c =
       within = omega arith;
       room = (let r = c.in-Ok-push.ensures.capacity in let was = inv.room in omega arith);
     }
+
+pub invariant_of-result : goal.invariant_of-result
+invariant_of-result g c =
+    let inv = c.writers.invariant in
+    let none = sym inv.long ∙ c.in-None.ensures.steps.0 in
+    let left = ap length inv.rest ∙ length-drop (length c.writers.locks.items) c.args.writers.items
+    in
+    let within = inv.within in let all = c.requires.all in record { all = omega arith }
+
+pub unreachable-requires : goal.unreachable-requires
+unreachable-requires g c =
+    let ws = c.args.writers.items in
+    let inv = c.writers.invariant in
+    let k : ℕ = length c.writers.locks.items in
+    let head = sym inv.rest ∙ c.in-Some.ensures.steps.0 in
+    let inside = slice_get_within ws k c.in-Some.writer (get_dropped k ws c.in-Some.writer _ head) in
+    let full = c.in-Err.ensures.full in
+    let count = c.writers.locks.ok.0 in let room = inv.room in omega arith

@@ -1,4 +1,4 @@
-use Rattle.std.proofs.Common.{◌≡◌, ℕ, Result, IfOk, IfErr, Some, rules, subst, sym}
+use Rattle.std.proofs.Common.{◌≡◌, ℕ, Result, IfOk, IfErr, Some, arith, rules, subst, sym}
 use mir.Syntax.{of_param}
 use denote.Exit.{unseen}
 use denote.Param.Send.{Quiet-if}
@@ -7,8 +7,9 @@ use Rattle.snap_server.specs.declared.fault.ServerFault.{ServerFault}
 use Rattle.snap_server.specs.declared.fault.ServerFault.TheVariants.{AcceptFailed, NoMemory}
 use Rattle.snap_server.proofs.server.fn.run_threads.scope.Goals as goal
 
-pub spawn-requires-in-loop-worker-after_bounds : goal.spawn-requires-in-loop-worker-after_bounds
-spawn-requires-in-loop-worker-after_bounds g c κs l = (
+pub starts-is_whole-requires-in-loop-worker-after_bounds :
+    goal.starts-is_whole-requires-in-loop-worker-after_bounds
+starts-is_whole-requires-in-loop-worker-after_bounds g c κs l = (
   search rules,
   search rules,
   record {
@@ -17,6 +18,12 @@ spawn-requires-in-loop-worker-after_bounds g c κs l = (
   },
   search rules,
 )
+
+pub loop-background-smaller : goal.loop-background-smaller
+loop-background-smaller g c = omega (arith, c.in-Some.ensures.steps.1)
+
+pub loop-worker-smaller : goal.loop-worker-smaller
+loop-worker-smaller g c = omega (arith, c.in-Some-worker.ensures.steps.1)
 
 pub returns : goal.returns
 returns g c =

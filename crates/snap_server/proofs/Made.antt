@@ -1,0 +1,40 @@
+-- A list that a loop makes, one by one, of what an iterator gives.
+use Rattle.std.proofs.Common.{◌≡◌, List, [], ◌∷◌, ◌++◌, length, length-append, map, Bool, true, sym, ap, ◌∙◌, append_assoc, append-nil, arith}
+use Rattle.std.specs.Bool.{if◌then◌else◌}
+use Rattle.std.proofs.lemmas.List.{map_push, length-map}
+
+-- one more is made
+pub made_more : {X Y : Type 0} (f : X → Y) (made new : List X) (x : X) (left rest all : List Y)
+    → map f made ++ left ≡ all → new ≡ made ++ x ∷ [] → left ≡ f x ∷ rest → map f new ++ rest ≡ all
+made_more f made new x left rest all had is next =
+    ap (λ l. map f l ++ rest) is
+    ∙ ap (λ l. l ++ rest) (map_push f made x)
+    ∙ append_assoc (map f made) (f x ∷ []) rest
+    ∙ ap (λ l. map f made ++ l) (sym next)
+    ∙ had
+
+-- nothing is left
+pub made_all : {X Y : Type 0} (f : X → Y) (made : List X) (left all : List Y)
+    → map f made ++ left ≡ all → length left ≡ 0 → map f made ≡ all
+made_all f made [] all had none = sym (append-nil (map f made)) ∙ had
+made_all f made (y ∷ ys) all had none = absurd (omega arith)
+
+pub made_len : {X Y : Type 0} (f : X → Y) (made : List X) (all : List Y) → map f made ≡ all
+    → length made ≡ length all
+made_len f made all is = sym (length-map made f) ∙ ap length is
+
+-- what a push made that was not refused
+pub pushed : {X : Type 0} (new made : List X) (x : X) (is_ok : Bool)
+    → new ≡ (if is_ok then made ++ x ∷ [] else made) → is_ok ≡ true → new ≡ made ++ x ∷ []
+pushed new made x is_ok by ok = rw ok at by
+
+-- two lists stay as long as each other
+pub pushed_len : {X Y : Type 0} (xs xs' : List X) (ys ys' : List Y) (x : X) (y : Y)
+    → length xs ≡ length ys → xs' ≡ xs ++ x ∷ [] → ys' ≡ ys ++ y ∷ [] → length xs' ≡ length ys'
+pushed_len xs xs' ys ys' x y same one two = omega (
+  arith,
+  ap length one,
+  ap length two,
+  length-append xs (x ∷ []),
+  length-append ys (y ∷ []),
+)

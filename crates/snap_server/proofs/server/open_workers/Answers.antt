@@ -1,0 +1,45 @@
+use Rattle.std.proofs.Common.{◌≡◌, ◌∷◌, length, not, ap, sym, ◌∙◌, arith}
+use Rattle.std.specs.Vec.Iter.{into_iter_items}
+use Rattle.snap_server.proofs.Made.{made_more, made_all, made_len, pushed, pushed_len}
+use Rattle.snap_server.proofs.server.open_workers.Goals as goal
+
+pub returns-then-is_err : goal.returns-then-is_err
+returns-then-is_err g c = record {
+  workers = tt;
+  doors = tt;
+  faults = λ wrong. absurd cc;
+}
+
+pub services-preserved : goal.services-preserved
+services-preserved g c =
+    let next : into_iter_items c.services.service-iterator ≡ c.in-Some.service ∷ into_iter_items
+    c.next.new.self =
+    c.in-Some.ensures.steps.0 in
+    record {
+      made = made_more _ c.services.workers.items _ c.in_ok-worker.worker _ _ _
+          c.services.invariant.made
+          (pushed _ _ _ _ c.push.ensures.items (c.is_err.ensures.negation ∙ ap not
+          c.if-is_err.false))
+          (next ∙ ap (λ s. s ∷ into_iter_items c.next.new.self)
+          (sym c.in_ok-worker.ensures.service));
+      doors = pushed_len _ _ _ _ _ _ c.services.invariant.doors
+          (pushed _ _ _ _ c.push-else-is_err.ensures.items
+          (c.is_err-else-is_err.ensures.negation ∙ ap not c.if-is_err-2.false))
+          (pushed _ _ _ _ c.push.ensures.items (c.is_err.ensures.negation ∙ ap not
+          c.if-is_err.false));
+      long = omega (arith, c.services.invariant.long, c.in-Some.ensures.steps.1, ap length next);
+    }
+
+pub services-smaller : goal.services-smaller
+services-smaller g c = omega (arith, c.in-Some.ensures.steps.1)
+
+pub returns : goal.returns
+returns g c =
+    let made = made_all _ _ _ _ c.services.invariant.made
+    (sym c.services.invariant.long ∙ c.in-None.ensures.steps.0) in
+    record {
+      workers = made;
+      doors = c.services.doors.ok.0 ∙ c.services.invariant.doors ∙ made_len _ _ _ made
+          ∙ sym c.args.services.ok.0;
+      faults = tt;
+    }
