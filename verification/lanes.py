@@ -33,9 +33,9 @@ SECONDS = pathlib.Path(__file__).resolve().parent / "seconds.txt"
 START, EACH_LINE = 12, 0.12
 # More processors than this gain next to nothing for one crate.
 MOST = 4
-# How many jobs there may be for each processor, where a crate on the longest chain would else wait, and by how much of a
-# processor a chain gets more than it needs. Both did best in simulations with the times of all crates, on two and on four.
-SHARED, EARLY = 1.5, 0.5
+# How many jobs there may be for each processor, where a crate on the longest chain would else wait. It did best in simulations
+# with the times of all crates, on two processors and on four.
+SHARED = 1.5
 # What a further processor takes of the memory of the first.
 MORE_MEMORY = 0.6
 
@@ -69,7 +69,7 @@ class Plan:
         """On how many processors a task begins, where so many are idle and so many others are ready: those that the others
         leave, and as many as its chain needs to end with the rest, for which it shares with what runs. None where it waits."""
         rest = sum(self.seconds[it] for it in self.left) + sum(self.seconds[it] for it in running) / 2
-        wanted = math.ceil(self.behind[key] * lanes / rest + EARLY) if rest else 1
+        wanted = math.ceil(self.behind[key] * lanes / rest) if rest else 1
         shared = math.ceil(lanes * SHARED) - (lanes - idle)
         if idle < 1 and (wanted < 2 or shared < 1):
             return 0
