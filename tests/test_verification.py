@@ -14,7 +14,7 @@ from batches import Trial, Tried, batches_of, listing, own_error, strangers  # n
 from costs import costs  # noqa: E402
 from digests import Digests, Refusal, read_lock, write_lock  # noqa: E402
 from edits import OF_ONE_CRATE, SAMPLE, Edits, drawn, told  # noqa: E402
-from lanes import Plan, keep_apart, with_store  # noqa: E402
+from lanes import Plan, jobs_of, keep_apart, with_store  # noqa: E402
 from proofs import prove  # noqa: E402
 from source import function_of, functions_in, named, together  # noqa: E402
 from store import PROOF, QUICK, TESTS, Store, over  # noqa: E402
@@ -246,19 +246,14 @@ def test_each_function_is_refused_by_an_error_of_its_own(snapd, _):
     assert strangers(SAID, ["low::less"]) == {"low::ThingLow::more"}
 
 
-def test_the_longest_chain_gets_the_processors_that_it_needs(snapd, _):
+def test_the_longest_chain_comes_first_and_gets_what_nobody_waits_for(snapd, _):
     def task(*waits):
         return [(it, "proof") for it in waits], 800, 1, None
 
-    tasks = {("a", "proof"): task(), ("b", "proof"): task("a"), ("c", "proof"): task("b"), ("d", "proof"): task(), ("e", "proof"): task()}
-    plan = Plan(tasks)
-    assert plan.ready({}) == [("a", "proof"), ("d", "proof"), ("e", "proof")]
-    first, other = ("a", "proof"), ("d", "proof")
-    assert plan.jobs(first, 4, 4, 2, []) == 3 and plan.jobs(first, 2, 2, 2, []) == 2
-    # Where no processor is idle the longest chain shares with what runs, until there are half as many jobs again.
-    assert plan.jobs(first, 4, 0, 2, []) == 2 and plan.jobs(first, 4, -1, 2, []) == 1 and plan.jobs(first, 4, -2, 2, []) == 0
-    short = Plan({**tasks, other: ([], 80, 1, None)})
-    assert [short.jobs(other, 4, idle, 2, []) for idle in (4, 1, 0)] == [2, 1, 0]
+    tasks = {("d", "proof"): task(), ("a", "proof"): task(), ("b", "proof"): task("a"), ("c", "proof"): task("b"), ("e", "proof"): task()}
+    assert Plan(tasks).ready({}) == [("a", "proof"), ("d", "proof"), ("e", "proof")]
+    assert [jobs_of(4, others) for others in (0, 1, 2, 3, 9)] == [4, 3, 2, 1, 1]
+    assert jobs_of(1, 0) == 1 and jobs_of(16, 2) == 4
 
 
 def test_a_copy_has_what_the_prover_reads_and_no_edit(snapd, _):

@@ -4,10 +4,9 @@
     python3 lanes.py build [--anew]
 
 The kit proves, builds, runs and judges; only which crate comes next, and on how many processors, is settled here. The
-kit gives a crate the processors that are idle when it begins, so the lowest crate, on which nearly all others wait,
-begins beside four others with one processor, and later the rest of them have nothing to do. Here a crate whose chain
-would take longer than all that is left gets as many as it needs to keep up, also where others are at work: it then
-shares the processors with them.
+kit goes by the lines of a crate; here the crate with the longest chain of measured times behind it comes first. On
+several processors a library takes four to six tenths more of them in all and ends only a third sooner, since what its
+parts have proved is gathered by one of them. So a crate gets one, and beside it those alone that no other crate waits for.
 
 `build` proves every function too, and leaves to the gate what is no proof: the search for contracts that no call can
 meet, and the second compiler. What it has proved is kept apart, since the gate asks more; what the gate has proved it
@@ -18,7 +17,6 @@ A kit whose parts aren't those that are known here runs its own way.
 
 import contextlib
 import copy
-import math
 import os
 import pathlib
 import sys
@@ -33,9 +31,6 @@ SECONDS = pathlib.Path(__file__).resolve().parent / "seconds.txt"
 START, EACH_LINE = 12, 0.12
 # More processors than this gain next to nothing for one crate.
 MOST = 4
-# How many jobs there may be for each processor, where a crate on the longest chain would else wait. It did best in simulations
-# with the times of all crates, on two processors and on four.
-SHARED = 1.5
 # What a further processor takes of the memory of the first.
 MORE_MEMORY = 0.6
 
@@ -65,15 +60,10 @@ class Plan:
         found = [key for key, (waits, _, _, _) in self.left.items() if all(it in given for it in waits)]
         return sorted(found, key=lambda key: -self.behind[key])
 
-    def jobs(self, key, lanes, idle, others, running):
-        """On how many processors a task begins, where so many are idle and so many others are ready: those that the others
-        leave, and as many as its chain needs to end with the rest, for which it shares with what runs. None where it waits."""
-        rest = sum(self.seconds[it] for it in self.left) + sum(self.seconds[it] for it in running) / 2
-        wanted = math.ceil(self.behind[key] * lanes / rest) if rest else 1
-        shared = math.ceil(lanes * SHARED) - (lanes - idle)
-        if idle < 1 and (wanted < 2 or shared < 1):
-            return 0
-        return max(1, min(MOST, max(min(wanted, shared), idle - others)))
+
+def jobs_of(idle, others):
+    """On how many processors a task begins, where so many are idle and so many other tasks are ready."""
+    return max(1, min(MOST, idle - others))
 
 
 def with_store(store, tasks):
@@ -89,7 +79,7 @@ def in_lanes(rt, store=None):
         lanes, memory, plan = rt.processors(), 0.85 * rt.free(), Plan(tasks)
         running, given = {}, {}
         # A release that ends its processes when it is interrupted says how.
-        with getattr(rt, "ending", contextlib.nullcontext)(), ThreadPoolExecutor(2 * lanes) as pool:
+        with getattr(rt, "ending", contextlib.nullcontext)(), ThreadPoolExecutor(lanes) as pool:
             while plan.left or running:
                 ready = plan.ready(given)
                 for key in [it for it in ready if not plan.seconds[it]]:
@@ -99,11 +89,9 @@ def in_lanes(rt, store=None):
                     _, _, needs, call = plan.left[key]
                     idle = lanes - sum(jobs for _, _, jobs in running.values())
                     room = memory - sum(much for _, much, _ in running.values())
-                    if running and needs > room:
+                    if idle < 1 or running and needs > room:
                         break
-                    jobs = plan.jobs(key, lanes, idle, len(ready) - at - 1, [it for it, _, _ in running.values()])
-                    if not jobs:
-                        continue
+                    jobs = jobs_of(idle, len(ready) - at - 1)
                     while jobs > 1 and needs * (1 + MORE_MEMORY * (jobs - 1)) > room:
                         jobs -= 1
                     plan.left.pop(key)
