@@ -15,7 +15,7 @@ demo: build
 test:
 	python3 verification/test.py $(if $(FRESH),--fresh)
 
-# The same with every must-fail edit tried by the kit itself.
+# The same with every must-fail edit tried by the kit itself. Where it refuses all, must-fail.lock says so.
 test-all:
 	python3 verification/test.py --every-edit $(if $(FRESH),--fresh)
 

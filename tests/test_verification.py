@@ -13,9 +13,9 @@ import store  # noqa: E402
 from batches import Trial, Tried, batches_of, listing, own_error, strangers  # noqa: E402
 from costs import costs  # noqa: E402
 from digests import Digests, Refusal, read_lock, write_lock  # noqa: E402
-from edits import OF_ONE_CRATE, SAMPLE, Edits, drawn, told  # noqa: E402
+from edits import OF_ONE_CRATE, SAMPLE, Edits, drawn, record_all, told  # noqa: E402
 from lanes import Plan, jobs_of, keep_apart, with_store  # noqa: E402
-from proofs import prove  # noqa: E402
+from proofs import Proofs, prove  # noqa: E402
 from source import function_of, functions_in, named, together  # noqa: E402
 from store import PROOF, QUICK, TESTS, Store, over  # noqa: E402
 from tree import copied, edits_of  # noqa: E402
@@ -180,6 +180,15 @@ def test_what_another_release_refused_is_drawn_first_and_keeps_its_name_until_it
     edits.record(top)
     assert {it.release for it in read_lock(top).values()} == {"release-1"}
     assert "release-1" in " ".join(told(edits, 1))
+
+
+def test_a_run_of_the_kit_over_everything_is_recorded_where_each_edit_was_refused(snapd, _):
+    top = tree(snapd.folder)
+    for short in (Proofs(passed=9, failed=1, edits=6), Proofs(passed=9, edits=5)):
+        record_all(top, short)
+        assert read_lock(top) == {}
+    record_all(top, Proofs(passed=9, edits=6))
+    assert read_lock(top) == refusals(Edits.of(top), lambda name: kit.release())
 
 
 def test_a_sample_is_new_with_each_seed_and_reaches_every_edit(snapd, _):

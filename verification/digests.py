@@ -14,8 +14,8 @@ from tree import crates_of, files_of
 LOCK = "must-fail.lock"
 HEAD = """\
 # Each edit that the prover has refused, with the digest of what that rests on (the edit, its crate, the libraries below
-# it and the kit's logic) and the kit's release that refused it. `make edits` writes it; `make test` tries what doesn't
-# stand here, and a sample of what does.
+# it and the kit's logic) and the kit's release that refused it. `make edits` and `make test-all` write it; `make test`
+# tries what doesn't stand here, and a sample of what does.
 """
 
 

@@ -14,7 +14,7 @@ import time
 from dataclasses import dataclass, field
 
 import kit
-from batches import tried
+from batches import Tried, tried
 from digests import Digests, Refusal, read_lock, write_lock
 from proofs import prove
 from tree import TOP, below, copied, crates_of, edits_of
@@ -76,6 +76,11 @@ class Edits:
         found = list(self.digests) if every else self.unknown() + sample
         self.chosen = [it for it in found if not names or it[0] in names]
 
+    def refuse_all(self):
+        """Takes each edit as refused now: the kit itself has tried it."""
+        self.chosen = list(self.digests)
+        self.answers = [Tried(self.name(it), True, "by the kit") for it in self.chosen]
+
     def refused(self):
         return [it.name for it in self.answers if it.is_refused]
 
@@ -119,6 +124,14 @@ def try_over(copy, edits, log, record=lambda: None):
                 record()
 
         edits.answers = tried(rt, [(crates[it], paths) for it, paths in chosen.items()], tell)
+
+
+def record_all(top, proofs):
+    """Has the lock say that each edit is refused, where a run of the kit over everything has tried them and refused all."""
+    edits = Edits.of(top)
+    if kit.is_known() and not proofs.failed and proofs.edits == len(edits.digests):
+        edits.refuse_all()
+        edits.record(top)
 
 
 def told(edits, seconds):

@@ -17,7 +17,7 @@ import time
 import kit
 from build import take_programs
 from digests import LOCK
-from edits import Edits, told, try_over
+from edits import Edits, record_all, told, try_over
 from proofs import COUNT, LANES, PLAIN, prove
 from tree import TOP, copied, crates_of
 
@@ -32,7 +32,7 @@ def prove_all(copy, fresh, by=LANES):
     (LOGS / "times.txt").write_text("\n".join(proofs.times) + "\n")
     lines = proofs.told() + ([f"edits: {proofs.edits} refused, all by the kit itself"] if proofs.edits else [])
     print(*lines, sep="\n", flush=True)
-    return proofs.passed, proofs.failed, proofs.failures
+    return proofs
 
 
 def try_edits(copy, seed):
@@ -53,9 +53,12 @@ def prove_and_try(words):
     names = list(crates_of(TOP))
     every = words.every_edit or not kit.is_known()
     with copied(TOP, names, with_edits=every) as copy:
-        parts = [prove_all(copy, words.fresh, PLAIN if every else LANES)]
+        proofs = prove_all(copy, words.fresh, PLAIN if every else LANES)
         take_programs(copy, [it for it in names if (copy / "crates" / it / "src" / "main.rt").exists()])
-        if not every and not parts[0][1]:
+        parts = [(proofs.passed, proofs.failed, proofs.failures)]
+        if every:
+            record_all(TOP, proofs)
+        elif not proofs.failed:
             parts.append(try_edits(copy, words.seed))
     return parts
 
