@@ -185,10 +185,14 @@ def test_what_another_release_refused_is_drawn_first_and_keeps_its_name_until_it
 def test_a_run_of_the_kit_over_everything_is_recorded_where_each_edit_was_refused(snapd, _):
     top = tree(snapd.folder)
     for short in (Proofs(passed=9, failed=1, edits=6), Proofs(passed=9, edits=5)):
-        record_all(top, short)
+        record_all(top, Edits.of(top), short)
         assert read_lock(top) == {}
-    record_all(top, Proofs(passed=9, edits=6))
-    assert read_lock(top) == refusals(Edits.of(top), lambda name: kit.release())
+    edits = Edits.of(top)
+    body = top / "crates" / "high" / "src" / "lib.rt"
+    body.write_text(body.read_text() + "// A change during the run.\n")
+    record_all(top, edits, Proofs(passed=9, edits=6))
+    assert read_lock(top) == refusals(edits, lambda name: kit.release())
+    assert {it[0] for it in Edits.of(top).unknown()} == {"high"}
 
 
 def test_a_sample_is_new_with_each_seed_and_reaches_every_edit(snapd, _):

@@ -126,10 +126,10 @@ def try_over(copy, edits, log, record=lambda: None):
         edits.answers = tried(rt, [(crates[it], paths) for it, paths in chosen.items()], tell)
 
 
-def record_all(top, proofs):
-    """Has the lock say that each edit is refused, where a run of the kit over everything has tried them and refused all."""
-    edits = Edits.of(top)
-    if kit.is_known() and not proofs.failed and proofs.edits == len(edits.digests):
+def record_all(top, edits, proofs):
+    """Has the lock say that each of these edits is refused, where a run of the kit over everything has tried and refused them.
+    They are read before that run, so a text that changed meanwhile isn't said to have been tried."""
+    if not proofs.failed and proofs.edits == len(edits.digests):
         edits.refuse_all()
         edits.record(top)
 

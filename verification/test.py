@@ -35,8 +35,8 @@ def prove_all(copy, fresh, by=LANES):
     return proofs
 
 
-def try_edits(copy, seed):
-    edits, began = Edits.of(TOP), time.monotonic()
+def try_edits(copy, edits, seed):
+    began = time.monotonic()
     edits.choose(seed=seed)
     new, known = len(edits.unknown()), len(edits.known())
     print(f"edits: {known} stand in {LOCK} as they are now, {new} don't; these and a sample are tried (seed {seed})", flush=True)
@@ -50,16 +50,16 @@ def try_edits(copy, seed):
 def prove_and_try(words):
     """Proves all, and tries edits: those that the lock doesn't have and a sample, or each of them as the kit does it. A kit
     that isn't known here is asked for everything."""
-    names = list(crates_of(TOP))
-    every = words.every_edit or not kit.is_known()
+    names, is_known = list(crates_of(TOP)), kit.is_known()
+    every, edits = words.every_edit or not is_known, Edits.of(TOP) if is_known else None
     with copied(TOP, names, with_edits=every) as copy:
         proofs = prove_all(copy, words.fresh, PLAIN if every else LANES)
         take_programs(copy, [it for it in names if (copy / "crates" / it / "src" / "main.rt").exists()])
         parts = [(proofs.passed, proofs.failed, proofs.failures)]
-        if every:
-            record_all(TOP, proofs)
-        elif not proofs.failed:
-            parts.append(try_edits(copy, words.seed))
+        if words.every_edit and is_known:
+            record_all(TOP, edits, proofs)
+        elif not every and not proofs.failed:
+            parts.append(try_edits(copy, edits, words.seed))
     return parts
 
 
