@@ -28,7 +28,7 @@ use Rattle.snap_disk.specs.Device.{Device, IsSettled, MayLeave}
 use Rattle.snap_disk.specs.declared.refusal.Refusal.{Refusal}
 use Rattle.snap_disk.specs.declared.refusal.Refusal.TheVariants as refusal
 use Rattle.snap_disk.specs.declared.file.TheConstants.{FILE_LEN}
-use Rattle.snap_slot.specs.declared.layout.TheConstants.{MAX_VALUE_LEN, LAST_NUMBER}
+use Rattle.snap_history.specs.declared.limits.TheConstants.{MAX_VALUE_LEN, LAST_NUMBER}
 use Rattle.snap_slot.specs.Layout.{Head, Holds, IsUnformatted, IsFormatted, IsFileOf}
 use Rattle.snap_slot.specs.States.{IsAtRest, IsEither}
 use Rattle.snap_slot.specs.Findings.{AreFindings, IsNoOpening}

@@ -6,8 +6,8 @@
 ghost use Rattle.std.specs.Prelude.{◌≡◌, ◌≢◌, ◌<◌, ◌≤◌, ◌-◌, ◌^◌, length};
 ghost use Rattle.snap_disk.specs.Device.{Device, LeavesOnly, MayLeave};
 ghost use Rattle.snap_disk.specs.declared.file.TheConstants.{FILE_LEN};
-ghost use Rattle.snap_slot.specs.declared.layout.TheConstants.{MAX_COUNT};
-ghost use Rattle.snap_slot.specs.Layout.{IsShort};
+ghost use Rattle.snap_history.specs.declared.limits.TheConstants.{MAX_COUNT};
+ghost use Rattle.snap_history.specs.Limits.{IsShort};
 ghost use Rattle.snap_segment.specs.Making.{IsFresh};
 ghost use Rattle.snap_command.specs.Commands.{CountsEnd, End, EndSays, EndsCheck, EndsFormat};
 ghost use Rattle.snap_command.specs.Commands.{EndsGet, EndsOrder, EndsPut, EndsStore, OrderLeaves};
@@ -17,9 +17,9 @@ ghost use Rattle.snap_order.specs.Order.{IsFileWithinLimits, file_of};
 
 use crate::Failure;
 use snap_disk::{Disk, Refusal};
+use snap_history::MAX_VALUE_LEN;
 use snap_order::{Ended, FileOrder, Status};
 use snap_segment::{Segment, check, format};
-use snap_slot::MAX_VALUE_LEN;
 use snap_stream::{read_up_to, write_whole};
 use std::alloc::Global;
 use std::io::{Read, Write};

@@ -1,6 +1,6 @@
 //! One worker's half of the service, which waits for no store.
 ghost use Rattle.std.specs.Prelude.{◌≡◌, ℕ, ◌<◌, All, IfOk, IfSome, IfNone, length, true};
-ghost use Rattle.snap_slot.specs.Layout.{IsShort};
+ghost use Rattle.snap_history.specs.Limits.{IsShort};
 ghost use Rattle.snap_register.specs.Rule.{segments};
 ghost use Rattle.snap_register.specs.Seat.{own_of};
 ghost use Rattle.snap_frame.specs.Messages.{IsInLimits, IsStatus};

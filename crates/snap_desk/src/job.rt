@@ -1,6 +1,6 @@
 //! Updates that are handed over.
 ghost use Rattle.std.specs.Prelude.{◌≡◌, IfOk};
-ghost use Rattle.snap_slot.specs.Layout.{IsShort};
+ghost use Rattle.snap_history.specs.Limits.{IsShort};
 
 use std::alloc::{AllocError, Global};
 use std::marker::Model;
@@ -14,7 +14,7 @@ pub struct Payload {
 
 impl Model for Payload {
     ghost use Rattle.std.specs.Prelude.{List, ℕ};
-    ghost use Rattle.snap_slot.specs.Layout.{IsShort};
+    ghost use Rattle.snap_history.specs.Limits.{IsShort};
 
     ghost Value = { List ℕ };
 

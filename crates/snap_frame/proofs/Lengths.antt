@@ -15,7 +15,7 @@ use Rattle.std.proofs.Common.{
   length-append,
 }
 use Rattle.std.proofs.lemmas.List.Elements.{All-tail}
-use Rattle.snap_slot.specs.declared.layout.TheConstants.{MAX_VALUE_LEN}
+use Rattle.snap_history.specs.declared.limits.TheConstants.{MAX_VALUE_LEN}
 use Rattle.snap_frame.specs.declared.entries.SegmentValue.{SegmentValue}
 use Rattle.snap_frame.specs.declared.entries.SegmentStatus.{SegmentStatus}
 use Rattle.snap_frame.specs.declared.reply.Reply.{Reply}

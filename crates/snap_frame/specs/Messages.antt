@@ -16,8 +16,8 @@ use Rattle.std.specs.Prelude.{
 }
 use Rattle.std.specs.Int.{w32, w64, to_be_bytes}
 use Rattle.snap_disk.specs.Refusal.{code_of}
-use Rattle.snap_slot.specs.Layout.{IsNumber, IsShort}
-use Rattle.snap_slot.specs.declared.layout.TheConstants.{MAX_COUNT}
+use Rattle.snap_history.specs.Limits.{IsNumber, IsShort}
+use Rattle.snap_history.specs.declared.limits.TheConstants.{MAX_COUNT}
 use Rattle.snap_frame.specs.declared.frame.TheConstants.{MAX_PAYLOAD}
 use Rattle.snap_frame.specs.declared.request.Request.{Request}
 use Rattle.snap_frame.specs.declared.request.Request.TheVariants.{Update, Scan, Status}

@@ -20,7 +20,7 @@ ghost use Rattle.std.specs.Prelude.{
   IfNone,
 };
 ghost use Rattle.std.specs.Int.{w32, w64, to_be_bytes};
-ghost use Rattle.snap_slot.specs.declared.layout.TheConstants.{MAX_COUNT};
+ghost use Rattle.snap_history.specs.declared.limits.TheConstants.{MAX_COUNT};
 ghost use Rattle.snap_frame.specs.Messages.{
   max_payload,
   value_bytes,
@@ -31,7 +31,7 @@ ghost use Rattle.snap_frame.specs.Messages.{
 
 use crate::numbers::{first_u32, first_u64};
 use bytes::{Bytes, BytesMut};
-use snap_slot::{LAST_NUMBER, MAX_VALUE_LEN};
+use snap_history::{LAST_NUMBER, MAX_VALUE_LEN};
 use std::alloc::{AllocError, Global};
 
 /// A segment's number and value.

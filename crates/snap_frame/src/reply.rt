@@ -19,7 +19,7 @@ ghost use Rattle.std.specs.Prelude.{
   IfNone,
 };
 ghost use Rattle.std.specs.Int.{w64, to_be_bytes};
-ghost use Rattle.snap_slot.specs.declared.layout.TheConstants.{MAX_COUNT};
+ghost use Rattle.snap_history.specs.declared.limits.TheConstants.{MAX_COUNT};
 ghost use Rattle.snap_frame.specs.Messages.{
   max_payload,
   frame,
@@ -37,7 +37,7 @@ use crate::frame::start_frame;
 use crate::numbers::first_u64;
 use bytes::{Bytes, BytesMut};
 use snap_disk::Refusal;
-use snap_slot::{LAST_NUMBER, MAX_COUNT};
+use snap_history::{LAST_NUMBER, MAX_COUNT};
 use std::alloc::AllocError;
 
 /// What the server answers to a request (docs/FORMATS.md, "Frames and messages").

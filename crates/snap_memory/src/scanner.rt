@@ -1,7 +1,7 @@
 //! The scanners.
 ghost use Rattle.std.specs.Prelude.{◌≡◌, ℕ, ◌+◌, ◌<◌, ◌≤◌, ◌⊎◌, length, take};
 ghost use Rattle.std.specs.Prelude.{OnOk, OnErr, IfOk, IfErr, IsTrue, ◌↔◌};
-ghost use Rattle.snap_slot.specs.declared.layout.TheConstants.{MAX_COUNT, MAX_VALUE_LEN};
+ghost use Rattle.snap_history.specs.declared.limits.TheConstants.{MAX_COUNT, MAX_VALUE_LEN};
 ghost use Rattle.snap_register.specs.Rule.{segments};
 ghost use Rattle.snap_register.specs.Seat.{Grows, Meets, IsBelow, AreTogether, number_in, value_in};
 ghost use Rattle.snap_scan.specs.Looks.{most_looks};
@@ -12,9 +12,9 @@ use crate::looks::{scan, scan_again};
 use crate::room::Room;
 use crate::snapshot::Snapshot;
 use snap_disk::Refusal;
+use snap_history::MAX_VALUE_LEN;
 use snap_register::{Looker, ReadSeat, WriteSeat};
 use snap_scan::most_looks;
-use snap_slot::MAX_VALUE_LEN;
 use std::alloc::{AllocError, Global};
 use std::marker::Model;
 use std::mem;

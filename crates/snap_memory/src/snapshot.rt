@@ -1,7 +1,7 @@
 //! The answer of a scan, in room that is made once and filled again and again.
 ghost use Rattle.std.specs.Prelude.{◌≡◌, ℕ, ◌<◌, List, [], length, slice_get, Some};
 ghost use Rattle.std.specs.Prelude.{IfOk, replicate};
-ghost use Rattle.snap_slot.specs.Layout.{IsShort};
+ghost use Rattle.snap_history.specs.Limits.{IsShort};
 
 use snap_register::SnapshotBuf;
 use std::alloc::{AllocError, Global};

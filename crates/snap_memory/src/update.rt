@@ -1,6 +1,6 @@
 //! The two halves of an update: the scan that it takes along, and its publication.
 ghost use Rattle.std.specs.Prelude.{◌≡◌, ℕ, ◌+◌, ◌^◌, ◌<◌, ◌≤◌, length};
-ghost use Rattle.snap_slot.specs.Layout.{IsNumber, IsShort};
+ghost use Rattle.snap_history.specs.Limits.{IsNumber, IsShort};
 ghost use Rattle.snap_register.specs.Seat.{Grows, IsBelow, MayPublish, Shows, number_in, own_of};
 ghost use Rattle.snap_memory.specs.Scans.{IsScan, CanScan, TakesLooks};
 

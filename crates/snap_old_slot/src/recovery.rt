@@ -1,7 +1,8 @@
 //! Finds what an old file holds.
 ghost use Rattle.std.specs.Prelude.{◌≡◌, ◌+◌, ◌<◌, ◌≤◌, ℕ, List, length, IfOk, IfErr, MatchOption};
 ghost use Rattle.snap_disk.specs.Device.{part};
-ghost use Rattle.snap_slot.specs.declared.layout.TheConstants.{BLOCK_LEN, MAX_VALUE_LEN};
+ghost use Rattle.snap_history.specs.declared.limits.TheConstants.{MAX_VALUE_LEN};
+ghost use Rattle.snap_slot.specs.declared.layout.TheConstants.{BLOCK_LEN};
 ghost use Rattle.snap_old_slot.specs.declared.layout.TheConstants.{OLD_FILE_LEN, OLD_SLOT_COUNT};
 ghost use Rattle.snap_slot.specs.Findings.{IsOfBytes};
 ghost use Rattle.snap_old_slot.specs.Old.{OldHolds};
@@ -20,9 +21,9 @@ use snap_slot::{BLOCK_LEN, Header, Slot, VALUE_AT, body_at, gate_at, read_header
 /// The newest number of an old file, and how long its value is.
 #[derive(Clone, Copy, Debug, PartialEq, Eq)]
 pub struct OldFound {
-    /// At most [`LAST_NUMBER`](snap_slot::LAST_NUMBER); it lies in the slot [`old_slot_of`] it.
+    /// At most [`LAST_NUMBER`](snap_history::LAST_NUMBER); it lies in the slot [`old_slot_of`] it.
     pub number: u64,
-    /// How many bytes its value has, at most [`MAX_VALUE_LEN`](snap_slot::MAX_VALUE_LEN).
+    /// How many bytes its value has, at most [`MAX_VALUE_LEN`](snap_history::MAX_VALUE_LEN).
     pub length: u16,
 }
 

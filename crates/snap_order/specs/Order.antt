@@ -1,6 +1,6 @@
 -- What holds of an order.
 use Rattle.std.specs.Prelude.{ℕ, ◌<◌, ◌≤◌, List, length}
-use Rattle.snap_slot.specs.declared.layout.TheConstants.{MAX_COUNT}
+use Rattle.snap_history.specs.declared.limits.TheConstants.{MAX_COUNT}
 use Rattle.snap_history.specs.declared.limits.TheConstants.{MAX_SCANNERS}
 use Rattle.snap_frame.specs.Messages.{max_payload, payload}
 use Rattle.snap_client.specs.declared.again.TheConstants.{MAX_TRIES}

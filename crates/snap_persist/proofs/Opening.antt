@@ -26,21 +26,8 @@ use Rattle.std.proofs.Common.{
 use Rattle.std.proofs.lemmas.Bool.{cases_eq, or_parts}
 use Rattle.snap_disk.specs.Device.{Device, in_range, part, opened, MayLeave, IsWritten}
 use Rattle.snap_slot.specs.declared.layout.TheConstants.{BLOCK_LEN, SLOT_COUNT, OPEN_GATE}
-use Rattle.snap_slot.specs.Layout.{
-  IsNumber,
-  IsShort,
-  slot_of,
-  next_slot,
-  spare_slot,
-  gate_block,
-  body_block,
-  gate_at,
-  body_at,
-  Open,
-  IsClosed,
-  Head,
-  IsFileOf,
-}
+use Rattle.snap_history.specs.Limits.{IsNumber, IsShort}
+use Rattle.snap_slot.specs.Layout.{slot_of, next_slot, spare_slot, gate_block, body_block, gate_at, body_at, Open, IsClosed, Head, IsFileOf}
 use Rattle.snap_slot.specs.States.{IsEither, IsAtRest}
 use Rattle.snap_persist.specs.Device.{IsBodyStored}
 use Rattle.snap_persist.proofs.Keeping.{

@@ -49,20 +49,8 @@ use Rattle.snap_slot.specs.declared.layout.TheConstants.{
   OPEN_GATE,
   CLOSED_GATE,
 }
-use Rattle.snap_slot.specs.Layout.{
-  IsShort,
-  slot_of,
-  next_slot,
-  spare_slot,
-  gate_block,
-  body_block,
-  gate_at,
-  body_at,
-  Open,
-  IsClosed,
-  Head,
-  IsFileOf,
-}
+use Rattle.snap_history.specs.Limits.{IsShort}
+use Rattle.snap_slot.specs.Layout.{slot_of, next_slot, spare_slot, gate_block, body_block, gate_at, body_at, Open, IsClosed, Head, IsFileOf}
 use Rattle.snap_slot.proofs.Blocks.{length-body_block}
 use Rattle.snap_slot.specs.States.{IsAtRest}
 use Rattle.snap_persist.specs.Device.{IsBodyStored, IsJustWritten}

@@ -46,7 +46,7 @@ use native.Mathlib.Decide.{ℕ_discrete}
 use lib.ListN.{get_elem?}
 use Rattle.atomic_table.specs.Table.{State, Me, step, stepped, Allows}
 use Rattle.atomic_table.specs.Table.Act.{keeps}
-use Rattle.snap_slot.specs.Layout.{IsNumber}
+use Rattle.snap_history.specs.Limits.{IsNumber}
 use Rattle.snap_register.specs.declared.plan.Entry.{Entry}
 use Rattle.snap_register.specs.declared.plan.Plan.{Plan}
 use Rattle.snap_register.specs.declared.plan.Pool.{Pool}

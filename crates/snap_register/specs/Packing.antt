@@ -18,7 +18,7 @@ use Rattle.std.specs.Prelude.{
   take,
 }
 use Rattle.std.specs.Int.{w64, to_le_bytes}
-use Rattle.snap_slot.specs.declared.layout.TheConstants.{MAX_VALUE_LEN}
+use Rattle.snap_history.specs.declared.limits.TheConstants.{MAX_VALUE_LEN}
 use Rattle.snap_history.specs.History.{Start}
 
 -- how many words hold this many bytes

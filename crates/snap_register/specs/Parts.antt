@@ -1,6 +1,6 @@
 -- The seats of one opening.
 use Rattle.std.specs.Prelude.{◌≡◌, ℕ, ◌+◌, List, [], length, slice_get, Some}
-use Rattle.snap_slot.specs.Layout.{IsNumber}
+use Rattle.snap_history.specs.Limits.{IsNumber}
 use Rattle.snap_register.specs.declared.packing.TheConstants.{BLOCK_WORDS}
 use Rattle.snap_register.specs.declared.plan.Opening.{Opening}
 use Rattle.snap_register.specs.declared.plan.Plan.{Plan}

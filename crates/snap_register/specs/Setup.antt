@@ -17,8 +17,8 @@ use Rattle.std.specs.Prelude.{
   false,
 }
 use Rattle.std.specs.List.{flat_map}
-use Rattle.snap_slot.specs.Layout.{IsNumber}
-use Rattle.snap_slot.specs.declared.layout.TheConstants.{MAX_COUNT}
+use Rattle.snap_history.specs.Limits.{IsNumber}
+use Rattle.snap_history.specs.declared.limits.TheConstants.{MAX_COUNT}
 use Rattle.snap_register.specs.declared.packing.TheConstants.{BLOCK_WORDS}
 use Rattle.snap_history.specs.declared.limits.TheConstants.{MAX_SCANNERS}
 use Rattle.snap_register.specs.declared.setup.Setup.{Setup}

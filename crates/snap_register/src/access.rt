@@ -1,6 +1,6 @@
 //! A seat with its table, and where each word lies.
 ghost use Rattle.std.specs.Prelude.{◌≡◌, ◌<◌, ◌≤◌, slice_index, IsTrue, ◌↔◌};
-ghost use Rattle.snap_slot.specs.declared.layout.TheConstants.{MAX_COUNT};
+ghost use Rattle.snap_history.specs.declared.limits.TheConstants.{MAX_COUNT};
 ghost use Rattle.snap_register.specs.Rule.{segments, buffers, width, given, cell};
 ghost use Rattle.snap_register.specs.Setup.{IsSized, IsSeated};
 

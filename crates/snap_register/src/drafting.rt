@@ -1,7 +1,7 @@
 //! The record of an update, as its writer drafts it word by word in a free buffer.
 ghost use Rattle.std.specs.Prelude.{◌≡◌, ◌+◌, ◌*◌, ◌<◌, ◌≤◌, ◌++◌, ◌∷◌, length, take, []};
 ghost use mathlib.Core.List.{IsPrefix};
-ghost use Rattle.snap_slot.specs.Layout.{IsShort};
+ghost use Rattle.snap_history.specs.Limits.{IsShort};
 ghost use Rattle.snap_register.specs.declared.packing.TheConstants.{BLOCK_WORDS};
 ghost use Rattle.snap_register.specs.Rule.{segments, width, without_last};
 ghost use Rattle.snap_register.specs.Packing.{IsWhole, IsBlock, AreBlocks, bytes_at, piece};

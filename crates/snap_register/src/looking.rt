@@ -1,7 +1,7 @@
 //! Looks: a seat gives its old pin back, pins the current buffer, and reads what is pinned.
 ghost use Rattle.std.specs.Prelude.{◌≡◌, ℕ, ◌+◌, ◌^◌, ◌<◌, ◌≤◌, length, slice_index};
 ghost use Rattle.std.specs.Prelude.{◌*◌, slice_get, slice_set, take, Some};
-ghost use Rattle.snap_slot.specs.declared.layout.TheConstants.{MAX_VALUE_LEN};
+ghost use Rattle.snap_history.specs.declared.limits.TheConstants.{MAX_VALUE_LEN};
 ghost use Rattle.snap_register.specs.declared.packing.TheConstants.{BLOCK_WORDS};
 ghost use Rattle.snap_register.specs.History.{number};
 ghost use Rattle.snap_register.specs.Rule.{segments, Learns, IsLegal};

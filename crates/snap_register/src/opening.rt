@@ -4,7 +4,7 @@ ghost use Rattle.std.specs.Prelude.{replicate, IfOk, OnOk, slice_index, false};
 ghost use Rattle.std.specs.List.{flat_map};
 ghost use Rattle.std.specs.Arc.{arc_value};
 ghost use Rattle.atomic_table.specs.Seated.{TableId};
-ghost use Rattle.snap_slot.specs.declared.layout.TheConstants.{MAX_COUNT};
+ghost use Rattle.snap_history.specs.declared.limits.TheConstants.{MAX_COUNT};
 ghost use Rattle.snap_history.specs.declared.limits.TheConstants.{MAX_SCANNERS};
 ghost use Rattle.snap_register.specs.History.{start_at};
 ghost use Rattle.snap_register.specs.Rule.{segments, seats, size};

@@ -1,10 +1,10 @@
 //! The sizes of a record: numbers and values as words.
 ghost use Rattle.std.specs.Prelude.{◌≡◌, ◌≤◌, ◌<◌, ◌+◌, ◌-◌, length, take, drop, replicate};
 ghost use Rattle.std.specs.Int.{w64, to_le_bytes};
-ghost use Rattle.snap_slot.specs.declared.layout.TheConstants.{MAX_VALUE_LEN};
+ghost use Rattle.snap_history.specs.declared.limits.TheConstants.{MAX_VALUE_LEN};
 ghost use Rattle.snap_register.specs.Packing.{words_for};
 
-use snap_slot::MAX_VALUE_LEN;
+use snap_history::MAX_VALUE_LEN;
 
 /// The most words that a value takes.
 pub(crate) const VALUE_WORDS: usize = MAX_VALUE_LEN / 8;

@@ -1,7 +1,6 @@
 //! What the rule of the pins speaks of: the table's plan, updates, and what each seat knows.
 
-use snap_history::MAX_SCANNERS;
-use snap_slot::MAX_COUNT;
+use snap_history::{MAX_COUNT, MAX_SCANNERS};
 
 /// The most segments, as there are in a file's header.
 pub(crate) const MAX_SEGMENTS: usize = MAX_COUNT as usize;

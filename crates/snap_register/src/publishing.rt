@@ -1,7 +1,7 @@
 //! Publications: a writer finds a free buffer, fills it, and makes it the current one.
 ghost use Rattle.std.specs.Prelude.{◌-◌, ◌≡◌, ℕ, ◌+◌, ◌<◌, ◌≤◌, ◌^◌, length, slice_index, []};
 ghost use Rattle.std.specs.Prelude.{IsTrue, IsFalse};
-ghost use Rattle.snap_slot.specs.Layout.{IsNumber, IsShort};
+ghost use Rattle.snap_history.specs.Limits.{IsNumber, IsShort};
 ghost use Rattle.snap_register.specs.History.{entry, number};
 ghost use Rattle.snap_register.specs.Rule.{seats, buffers, next_other, Publishes, Follows, IsLegal};
 ghost use Rattle.snap_register.specs.Held.{CanTake, MayTake, IsShown, moved_pool};

@@ -1,8 +1,8 @@
 //! Registers that start with given numbers and values.
 ghost use Rattle.std.specs.Prelude.{◌≡◌, ℕ, ◌^◌, ◌<◌, ◌≤◌, length, map, slice_get, Some, IfOk};
 ghost use Rattle.atomic_table.specs.Seated.{TableId};
-ghost use Rattle.snap_slot.specs.Layout.{IsNumber, IsShort};
-ghost use Rattle.snap_slot.specs.declared.layout.TheConstants.{MAX_COUNT};
+ghost use Rattle.snap_history.specs.Limits.{IsNumber, IsShort};
+ghost use Rattle.snap_history.specs.declared.limits.TheConstants.{MAX_COUNT};
 ghost use Rattle.snap_register.specs.declared.packing.TheConstants.{BLOCK_WORDS};
 ghost use Rattle.snap_history.specs.declared.limits.TheConstants.{MAX_SCANNERS};
 ghost use Rattle.snap_register.specs.declared.plan.Plan.{Plan};
@@ -12,7 +12,7 @@ ghost use Rattle.snap_register.specs.Parts.{IsOpening, AreWriters, AreReaders};
 use crate::opening::{Parts, open};
 use crate::packing::{BLOCK_WORDS, VALUE_WORDS, word_of};
 use crate::plan::Opening;
-use snap_slot::MAX_VALUE_LEN;
+use snap_history::MAX_VALUE_LEN;
 use std::alloc::{AllocError, Global};
 
 /// Registers that threads share, one for each segment.

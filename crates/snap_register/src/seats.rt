@@ -1,7 +1,7 @@
 //! The two kinds of seat.
 ghost use Rattle.std.specs.Prelude.{◌≡◌, ℕ, ◌+◌, ◌*◌, ◌^◌, ◌<◌, ◌≤◌, length, take, [], IsTrue, ◌↔◌};
-ghost use Rattle.snap_slot.specs.Layout.{IsNumber, IsShort};
-ghost use Rattle.snap_slot.specs.declared.layout.TheConstants.{MAX_COUNT, MAX_VALUE_LEN};
+ghost use Rattle.snap_history.specs.Limits.{IsNumber, IsShort};
+ghost use Rattle.snap_history.specs.declared.limits.TheConstants.{MAX_COUNT, MAX_VALUE_LEN};
 ghost use Rattle.snap_register.specs.History.{start_at};
 ghost use Rattle.snap_register.specs.Rule.{segments, IsWriter};
 ghost use Rattle.snap_register.specs.Setup.{IsPool, first_pool};

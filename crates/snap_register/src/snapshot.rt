@@ -1,12 +1,12 @@
 //! Room for the numbers and values of all segments, which is made once and filled again and again.
 ghost use Rattle.std.specs.Prelude.{◌≡◌, ◌≢◌, ℕ, ◌<◌, List, [], length, slice_get, Some};
 ghost use Rattle.std.specs.Prelude.{IfOk, replicate};
-ghost use Rattle.snap_slot.specs.Layout.{IsShort};
+ghost use Rattle.snap_history.specs.Limits.{IsShort};
 ghost use Rattle.snap_register.specs.Rule.{segments};
 ghost use Rattle.snap_register.specs.Seat.{looked, IsValue};
 
 use crate::seats::Looker;
-use snap_slot::MAX_VALUE_LEN;
+use snap_history::MAX_VALUE_LEN;
 use std::alloc::{AllocError, Global};
 use std::marker::Model;
 
@@ -20,7 +20,7 @@ pub(crate) struct Held {
 
 impl Model for Held {
     ghost use Rattle.std.specs.Prelude.{◌≤◌, ℕ, List, take};
-    ghost use Rattle.snap_slot.specs.declared.layout.TheConstants.{MAX_VALUE_LEN};
+    ghost use Rattle.snap_history.specs.declared.limits.TheConstants.{MAX_VALUE_LEN};
 
     ghost Value = { ℕ × List ℕ };
 

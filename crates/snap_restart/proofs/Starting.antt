@@ -4,7 +4,7 @@ use Rattle.std.specs.Prelude.{option_map}
 use Rattle.std.proofs.lemmas.List.{length-map}
 use Rattle.std.proofs.lemmas.Option.{slice_get-map}
 use Rattle.atomic_table.specs.Seated.{TableId}
-use Rattle.snap_slot.specs.declared.layout.TheConstants.{MAX_COUNT}
+use Rattle.snap_history.specs.declared.limits.TheConstants.{MAX_COUNT}
 use Rattle.snap_segment.specs.Segment.{SegmentState}
 use Rattle.snap_history.specs.History.{number_after, value_after}
 use Rattle.snap_history.specs.Pairs.{Pairs}

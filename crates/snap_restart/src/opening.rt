@@ -18,14 +18,14 @@ ghost use Rattle.std.specs.Prelude.{
   vec_capacity,
 };
 ghost use Rattle.std.specs.Vec.Iter.{into_iter_items, into_iter_len};
-ghost use Rattle.snap_slot.specs.declared.layout.TheConstants.{MAX_COUNT};
+ghost use Rattle.snap_history.specs.declared.limits.TheConstants.{MAX_COUNT};
 ghost use Rattle.snap_history.specs.Pairs.{Pairs};
 ghost use Rattle.snap_restart.specs.Opened.{IsOpened, IsStopped};
 
 use crate::keep::keep;
 use snap_disk::{Disk, Refusal};
+use snap_history::MAX_COUNT;
 use snap_segment::Segment;
-use snap_slot::MAX_COUNT;
 use std::alloc::Global;
 use std::vec::IntoIter;
 

@@ -19,8 +19,8 @@ ghost use Rattle.std.specs.Prelude.{
   vec_capacity,
 };
 ghost use Rattle.atomic_table.specs.Seated.{TableId};
-ghost use Rattle.snap_slot.specs.declared.layout.TheConstants.{MAX_COUNT};
-ghost use Rattle.snap_slot.specs.Layout.{IsNumber, IsShort};
+ghost use Rattle.snap_history.specs.declared.limits.TheConstants.{MAX_COUNT};
+ghost use Rattle.snap_history.specs.Limits.{IsNumber, IsShort};
 ghost use Rattle.snap_history.specs.declared.limits.TheConstants.{MAX_SCANNERS};
 ghost use Rattle.snap_history.specs.History.{Update};
 ghost use Rattle.snap_history.specs.Pairs.{Pairs};

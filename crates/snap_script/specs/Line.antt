@@ -3,7 +3,7 @@ use Rattle.std.specs.Prelude.{◌≡◌, ℕ, ◌≤◌, List, [], ◌∷◌, le
 use Rattle.std.specs.declared.vec.Vec.{Vec}
 use Rattle.std.specs.declared.alloc.Global.{Global}
 use Rattle.snap_disk.specs.declared.fill.Fill.{Fill}
-use Rattle.snap_slot.specs.declared.layout.TheConstants.{MAX_COUNT}
+use Rattle.snap_history.specs.declared.limits.TheConstants.{MAX_COUNT}
 use Rattle.snap_hex.specs.Text.{IsHex}
 use Rattle.snap_script.specs.Words.{words_of, IsNumber, IsFill}
 use Rattle.snap_script.specs.declared.verb.Verb.{Verb}

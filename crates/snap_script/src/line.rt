@@ -1,13 +1,13 @@
 //! The lines of a script, read.
 ghost use Rattle.std.specs.Prelude.{ℕ, ◌≤◌, [], MatchOption, IfOk};
-ghost use Rattle.snap_slot.specs.declared.layout.TheConstants.{MAX_COUNT};
+ghost use Rattle.snap_history.specs.declared.limits.TheConstants.{MAX_COUNT};
 ghost use Rattle.snap_script.specs.Words.{Finds, words_of, IsNumber};
 ghost use Rattle.snap_script.specs.Line.{IsWorldLine, IsEventLine, IsActor, TakesNumber, HasForm};
 
 use crate::verb::Verb;
 use crate::words::{cut, fill, is, number, one_part, two_parts};
 use snap_hex::read_hex;
-use snap_slot::MAX_COUNT;
+use snap_history::MAX_COUNT;
 use snap_world::{Actor, Event};
 use std::alloc::{AllocError, Global};
 

@@ -27,8 +27,9 @@ ghost use Rattle.snap_disk.specs.Device.{
   CountsCalls,
   LeavesOnly,
 };
-ghost use Rattle.snap_slot.specs.declared.layout.TheConstants.{MAX_COUNT};
-ghost use Rattle.snap_slot.specs.Layout.{IsNumber, IsShort, IsUnformatted, IsFormatted};
+ghost use Rattle.snap_history.specs.declared.limits.TheConstants.{MAX_COUNT};
+ghost use Rattle.snap_history.specs.Limits.{IsNumber, IsShort};
+ghost use Rattle.snap_slot.specs.Layout.{IsUnformatted, IsFormatted};
 ghost use Rattle.snap_slot.specs.States.{IsAtRest, IsPrepared};
 ghost use Rattle.snap_segment.specs.Refusals.{IsMakeRefusal};
 ghost use Rattle.snap_segment.specs.Segment.{CountsRefusal};

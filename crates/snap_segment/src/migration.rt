@@ -19,7 +19,7 @@ ghost use Rattle.std.specs.Prelude.{
 };
 ghost use Rattle.snap_disk.specs.declared.file.TheConstants.{FILE_LEN};
 ghost use Rattle.snap_disk.specs.Device.{Device, IsSynced, MayLeave, CountsCalls, LeavesOnly};
-ghost use Rattle.snap_slot.specs.declared.layout.TheConstants.{MAX_COUNT};
+ghost use Rattle.snap_history.specs.declared.limits.TheConstants.{MAX_COUNT};
 ghost use Rattle.snap_slot.specs.Layout.{IsUnformatted, IsFormatted};
 ghost use Rattle.snap_slot.specs.States.{IsAtRest};
 ghost use Rattle.snap_old_slot.specs.declared.layout.TheConstants.{OLD_FILE_LEN};

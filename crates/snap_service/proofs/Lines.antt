@@ -29,8 +29,8 @@ use Rattle.std.proofs.Common.{
 use Rattle.std.proofs.lemmas.List.{length-map, drop-drop}
 use Rattle.std.proofs.lemmas.List.Elements.{All-push}
 use Rattle.std.proofs.lemmas.Option.{slice_get-get_or, same_Some}
-use Rattle.snap_slot.specs.Layout.{IsNumber, IsShort}
-use Rattle.snap_slot.specs.declared.layout.TheConstants.{MAX_COUNT}
+use Rattle.snap_history.specs.Limits.{IsNumber, IsShort}
+use Rattle.snap_history.specs.declared.limits.TheConstants.{MAX_COUNT}
 use Rattle.snap_history.proofs.Beginnings.{number-beginning}
 use Rattle.snap_register.specs.History.{starts}
 use Rattle.snap_register.specs.Rule.{segments}

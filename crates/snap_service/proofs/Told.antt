@@ -1,7 +1,7 @@
 -- What an update told fits the number and the value that it leaves.
 use Rattle.std.proofs.Common.{◌≡◌, ◌≢◌, ℕ, ◌+◌, List, Result, Ok, Err, OnOk, OnErr, refl, ap, sym, subst, ◌∙◌, arith}
 use Rattle.snap_disk.specs.declared.refusal.Refusal.{Refusal}
-use Rattle.snap_slot.specs.Layout.{IsNumber, IsShort}
+use Rattle.snap_history.specs.Limits.{IsNumber, IsShort}
 use Rattle.snap_segment.specs.Segment.{SegmentState}
 use Rattle.snap_writer.specs.Writer.{WriterState, number_of, value_of}
 use Rattle.snap_writer.specs.Judge.{IsJudged, IsAnswer}

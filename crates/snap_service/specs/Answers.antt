@@ -7,8 +7,8 @@ use Rattle.snap_disk.specs.declared.refusal.Refusal.TheVariants.{
   NoMemory,
   Worn,
 }
-use Rattle.snap_slot.specs.declared.layout.TheConstants.{MAX_VALUE_LEN}
-use Rattle.snap_slot.specs.Layout.{IsShort}
+use Rattle.snap_history.specs.declared.limits.TheConstants.{MAX_VALUE_LEN}
+use Rattle.snap_history.specs.Limits.{IsShort}
 use Rattle.snap_scan.specs.Looks.{most_looks}
 use Rattle.snap_register.specs.Rule.{segments}
 use Rattle.snap_register.specs.Seat.{Known, Grows}

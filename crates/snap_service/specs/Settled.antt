@@ -2,8 +2,8 @@
 use Rattle.std.specs.Prelude.{◌≡◌, ◌≢◌, ℕ, ◌+◌, List, Result, Ok, Err}
 use Rattle.snap_disk.specs.declared.refusal.Refusal.{Refusal}
 use Rattle.snap_disk.specs.declared.refusal.Refusal.TheVariants as refusal
-use Rattle.snap_slot.specs.declared.layout.TheConstants.{LAST_NUMBER}
-use Rattle.snap_slot.specs.Layout.{IsNumber}
+use Rattle.snap_history.specs.declared.limits.TheConstants.{LAST_NUMBER}
+use Rattle.snap_history.specs.Limits.{IsNumber}
 use Rattle.snap_register.specs.Seat.{Known, number_in, value_in}
 use Rattle.snap_frame.specs.declared.reply.Reply.{Reply}
 use Rattle.snap_frame.specs.declared.reply.Reply.TheVariants.{Stored, Snapshot, Status, Refused}

@@ -1,7 +1,7 @@
 //! What is replied to an update without its writer.
 ghost use Rattle.std.specs.Prelude.{◌≡◌, ℕ, ◌+◌, ◌<◌, IfSome, IfNone};
 ghost use Rattle.snap_disk.specs.declared.refusal.Refusal.{Refusal};
-ghost use Rattle.snap_slot.specs.Layout.{IsNumber, IsShort};
+ghost use Rattle.snap_history.specs.Limits.{IsNumber, IsShort};
 ghost use Rattle.snap_register.specs.Rule.{segments};
 ghost use Rattle.snap_frame.specs.declared.reply.Reply.{Reply};
 ghost use Rattle.snap_frame.specs.Messages.{IsInLimits};
@@ -10,8 +10,8 @@ ghost use Rattle.snap_service.specs.Answers.{AnswersUpdate};
 
 use snap_disk::Refusal;
 use snap_frame::Reply;
+use snap_history::{LAST_NUMBER, MAX_VALUE_LEN};
 use snap_memory::Scanner;
-use snap_slot::{LAST_NUMBER, MAX_VALUE_LEN};
 
 /// Refuses an update whose segment isn't there (2, with the number of segments), or whose value is
 /// too long (3, with its length), in this order. `None` where neither is so.

@@ -15,7 +15,7 @@ ghost use Rattle.std.specs.Prelude.{
   IfErr,
 };
 ghost use Rattle.atomic_table.specs.Seated.{TableId};
-ghost use Rattle.snap_slot.specs.Layout.{IsNumber, IsShort};
+ghost use Rattle.snap_history.specs.Limits.{IsNumber, IsShort};
 ghost use Rattle.snap_register.specs.declared.plan.Plan.{Plan};
 ghost use Rattle.snap_register.specs.Rule.{segments};
 ghost use Rattle.snap_register.specs.Seat.{own_of, Meets};

@@ -13,7 +13,7 @@ use Rattle.std.specs.Prelude.{
 }
 use Rattle.std.specs.Str.Parse.{IsNumeral, digits_value, without_leading_plus}
 use Rattle.clap.specs.Words.{Text}
-use Rattle.snap_slot.specs.declared.layout.TheConstants.{MAX_COUNT}
+use Rattle.snap_history.specs.declared.limits.TheConstants.{MAX_COUNT}
 use Rattle.snap_history.specs.declared.limits.TheConstants.{MAX_SCANNERS}
 use Rattle.snap_client.specs.declared.again.TheConstants.{MAX_TRIES}
 use Rattle.snap_words.specs.declared.fault.WordFault.{WordFault}

@@ -11,8 +11,7 @@ ghost use Rattle.snap_words.specs.Numbers.{IsTriesFault};
 use crate::WordFault;
 use clap::ArgMatches;
 use snap_client::MAX_TRIES;
-use snap_history::MAX_SCANNERS;
-use snap_slot::MAX_COUNT;
+use snap_history::{MAX_COUNT, MAX_SCANNERS};
 
 /// The place of a file's segment, within the limits.
 pub(crate) fn place(matches: &ArgMatches<'_>) -> Result<(u8, u8), WordFault>

@@ -9,8 +9,8 @@ ghost use Rattle.snap_words.specs.Words.{all_values};
 use crate::WordFault;
 use crate::numbers::{connections_of, scanners_of};
 use clap::ArgMatches;
+use snap_history::MAX_COUNT;
 use snap_order::Serving;
-use snap_slot::MAX_COUNT;
 use std::alloc::Global;
 
 /// A server's address, its files in order of segment, and its numbers.

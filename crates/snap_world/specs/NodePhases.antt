@@ -24,8 +24,8 @@ use Rattle.snap_history.specs.History.{from_nothing, number_after}
 use Rattle.snap_world.specs.Machine.{State, WriterState, Opened}
 use Rattle.snap_world.specs.Answers.{ScanState}
 use Rattle.snap_world.specs.Phases.{Phases, WriterIs, ScannerIs, writer_to, scanner_to}
-use Rattle.snap_slot.specs.declared.layout.TheConstants.{LAST_NUMBER}
-use Rattle.snap_slot.specs.Layout.{IsShort}
+use Rattle.snap_history.specs.declared.limits.TheConstants.{LAST_NUMBER}
+use Rattle.snap_history.specs.Limits.{IsShort}
 use Rattle.snap_persist.specs.declared.persist.NextCall.{NextCall}
 use Rattle.snap_persist.specs.Stage.{store_calls}
 use Rattle.snap_world.specs.Calls.{store_call, opening_kind}

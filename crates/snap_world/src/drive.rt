@@ -3,9 +3,11 @@ ghost use Rattle.std.specs.Prelude.{◌≡◌, ◌≢◌, ◌∷◌, ◌+◌, �
 ghost use Rattle.snap_disk.specs.Device.{Device, IsTouched};
 ghost use Rattle.snap_disk.specs.declared.fill.Fill.{Fill};
 ghost use Rattle.snap_disk.specs.declared.file.TheConstants.{FILE_LEN};
-ghost use Rattle.snap_slot.specs.declared.layout.TheConstants.{SLOT_COUNT, MAX_COUNT};
-ghost use Rattle.snap_slot.specs.declared.layout.TheConstants.{MAX_VALUE_LEN};
-ghost use Rattle.snap_slot.specs.Layout.{IsNumber, IsShort, body_block, IsFileOf};
+ghost use Rattle.snap_history.specs.declared.limits.TheConstants.{MAX_COUNT};
+ghost use Rattle.snap_slot.specs.declared.layout.TheConstants.{SLOT_COUNT};
+ghost use Rattle.snap_history.specs.declared.limits.TheConstants.{MAX_VALUE_LEN};
+ghost use Rattle.snap_history.specs.Limits.{IsNumber, IsShort};
+ghost use Rattle.snap_slot.specs.Layout.{body_block, IsFileOf};
 ghost use Rattle.snap_slot.specs.Findings.{IsFound};
 ghost use Rattle.snap_persist.specs.Device.{IsJustWritten, write_at, write_bytes, write_len};
 ghost use Rattle.snap_persist.specs.Stage.{calls_left, after_call, first_call};

@@ -1,6 +1,6 @@
 //! A node: its parts in memory, the devices of its segments, and what one event does to them.
 ghost use Rattle.std.specs.Prelude.{◌≡◌, ℕ, ◌<◌, ◌≤◌, IfOk, OnErr};
-ghost use Rattle.snap_slot.specs.declared.layout.TheConstants.{MAX_COUNT};
+ghost use Rattle.snap_history.specs.declared.limits.TheConstants.{MAX_COUNT};
 ghost use Rattle.snap_world.specs.Start.{start_state, start_world_phases, AreFormatted};
 ghost use Rattle.snap_world.specs.NodePhases.{NeedsMemory};
 ghost use Rattle.snap_world.specs.inside.NodeStands.{NodeStands, NodeStand};

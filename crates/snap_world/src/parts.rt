@@ -1,6 +1,6 @@
 //! What a node has in memory, and what an event of a writer or a scanner does to it.
 ghost use Rattle.std.specs.Prelude.{◌≡◌, ℕ, ◌<◌, ◌≤◌, IfOk, OnErr};
-ghost use Rattle.snap_slot.specs.declared.layout.TheConstants.{MAX_COUNT};
+ghost use Rattle.snap_history.specs.declared.limits.TheConstants.{MAX_COUNT};
 ghost use Rattle.snap_world.specs.Start.{start_state, start_phases};
 ghost use Rattle.snap_world.specs.NodePhases.{NeedsMemory, up};
 ghost use Rattle.snap_world.specs.inside.Stands.{PartsStand, Stand};

@@ -1,8 +1,8 @@
 //! A value in a place of its own, so that no copy of one takes memory.
 ghost use Rattle.std.specs.Prelude.{◌≡◌, [], IfOk};
-ghost use Rattle.snap_slot.specs.Layout.{IsShort};
+ghost use Rattle.snap_history.specs.Limits.{IsShort};
 
-use snap_slot::MAX_VALUE_LEN;
+use snap_history::MAX_VALUE_LEN;
 use std::alloc::{AllocError, Global};
 use std::marker::Model;
 
@@ -15,7 +15,7 @@ pub struct Value {
 
 impl Model for Value {
     ghost use Rattle.std.specs.Prelude.{ℕ, ◌≤◌, List, take};
-    ghost use Rattle.snap_slot.specs.declared.layout.TheConstants.{MAX_VALUE_LEN};
+    ghost use Rattle.snap_history.specs.declared.limits.TheConstants.{MAX_VALUE_LEN};
 
     ghost Value = { List ℕ };
 

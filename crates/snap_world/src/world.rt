@@ -1,7 +1,7 @@
 //! A world, which always stands for some state of the abstract machine.
 ghost use Rattle.std.specs.Prelude.{◌≡◌, ℕ, ◌<◌, ◌≤◌, List, [], ◌∷◌, length, take};
 ghost use Rattle.std.specs.Prelude.{IfOk, IfErr, OnErr};
-ghost use Rattle.snap_slot.specs.declared.layout.TheConstants.{MAX_COUNT};
+ghost use Rattle.snap_history.specs.declared.limits.TheConstants.{MAX_COUNT};
 ghost use Rattle.snap_history.specs.declared.limits.TheConstants.{MAX_SCANNERS};
 ghost use Rattle.snap_history.specs.History.{IsBeginning};
 ghost use Rattle.snap_world.specs.Machine.{State};

@@ -11,8 +11,8 @@ use crate::collector::{Collector, copy_all};
 use crate::event::Reply;
 use crate::parts::Parts;
 use crate::value::Value;
+use snap_history::{LAST_NUMBER, MAX_VALUE_LEN};
 use snap_scan::Scan;
-use snap_slot::{LAST_NUMBER, MAX_VALUE_LEN};
 
 /// How far a writer is with its update.
 #[derive(Clone, Copy, Debug, Drop, PartialEq, Eq)]

@@ -17,8 +17,8 @@ use Rattle.std.proofs.Common.{
 use mathlib.Core.Logic.{dite}
 use mathlib.Core.List.{List-discrete}
 use native.Mathlib.Decide.{dec_le, ℕ_discrete}
-use Rattle.snap_slot.specs.declared.layout.TheConstants.{MAX_VALUE_LEN, LAST_NUMBER}
-use Rattle.snap_slot.specs.Layout.{IsNumber, IsShort}
+use Rattle.snap_history.specs.declared.limits.TheConstants.{MAX_VALUE_LEN, LAST_NUMBER}
+use Rattle.snap_history.specs.Limits.{IsNumber, IsShort}
 use Rattle.snap_scan.specs.Looks.{most_looks}
 use Rattle.snap_register.specs.Rule.{segments}
 use Rattle.snap_writer.specs.Writer.{WriterState, number_of, value_of}

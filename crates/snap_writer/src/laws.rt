@@ -1,7 +1,7 @@
 //! What the judge obeys, whatever the writer and the update: the contract of a call that does
 //! nothing.
 ghost use Rattle.std.specs.Prelude.{◌≡◌, ℕ, List};
-ghost use Rattle.snap_slot.specs.Layout.{IsNumber};
+ghost use Rattle.snap_history.specs.Limits.{IsNumber};
 ghost use Rattle.snap_writer.specs.Writer.{WriterState, number_of};
 ghost use Rattle.snap_writer.specs.Judge.{IsJudged};
 ghost use Rattle.snap_writer.specs.declared.judgement.Judgement.{Judgement};

@@ -17,7 +17,8 @@ ghost use Rattle.std.specs.Prelude.{
 };
 ghost use Rattle.std.specs.Option.{option_copied};
 ghost use Rattle.snap_disk.specs.Device.{IsSettled, CountsCalls, MayLeave, LeavesOnly};
-ghost use Rattle.snap_slot.specs.Layout.{IsNumber, IsShort, IsFileOf};
+ghost use Rattle.snap_history.specs.Limits.{IsNumber, IsShort};
+ghost use Rattle.snap_slot.specs.Layout.{IsFileOf};
 ghost use Rattle.snap_slot.specs.States.{IsEither};
 ghost use Rattle.snap_persist.specs.Stage.{store_calls};
 ghost use Rattle.snap_segment.specs.Segment.{CountsRefusal, IsKept};
@@ -30,11 +31,11 @@ ghost use Rattle.snap_writer.specs.Update.{IsSameSeat, Advances, Fails};
 
 use crate::judgement::Judgement;
 use snap_disk::{Disk, Refusal};
+use snap_history::{LAST_NUMBER, MAX_VALUE_LEN};
 use snap_memory::{Scanner, prepare, show};
 use snap_register::{Looker, WriteSeat};
 use snap_scan::most_looks;
 use snap_segment::Segment;
-use snap_slot::{LAST_NUMBER, MAX_VALUE_LEN};
 use std::marker::Model;
 
 /// The only writer of a segment: its file and its seat at the registers.

@@ -4,12 +4,12 @@ ghost use Rattle.snap_register.specs.Seat.{AreTogether};
 
 use crate::files::{file, plan_fault};
 use snap_disk::{Disk, FaultPlan, Fill, MemDisk, Refusal};
+use snap_history::{LAST_NUMBER, MAX_VALUE_LEN};
 use snap_memory::{Scanner, Snapshot};
 use snap_register::{Parts, Registers};
 use snap_segment::Segment;
 use snap_slot::{
-    BLOCK_LEN, CLOSED_GATE, FILE_LEN, LAST_NUMBER, MAX_VALUE_LEN, OPEN_GATE, body_at, encode_body,
-    gate_at, slot_of,
+    BLOCK_LEN, CLOSED_GATE, FILE_LEN, OPEN_GATE, body_at, encode_body, gate_at, slot_of,
 };
 use snap_writer::Writer;
 use std::process::Abort;

@@ -7,10 +7,10 @@ ghost use Rattle.snap_register.specs.Seat.{AreTogether};
 
 use crate::seats::{last_seat, last_writer};
 use snap_disk::Refusal;
+use snap_history::MAX_VALUE_LEN;
 use snap_memory::{Scanner, Snapshot, prepare, show};
 use snap_register::{Looker, Parts, Registers, WriteSeat};
 use snap_scan::most_looks;
-use snap_slot::MAX_VALUE_LEN;
 use std::alloc::{AllocError, Global};
 use std::process::Abort;
 use std::test::Fail;

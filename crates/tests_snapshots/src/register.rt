@@ -1,11 +1,11 @@
 //! Registers of one segment, by hand.
 ghost use Rattle.std.specs.Prelude.{◌≤◌, ◌^◌, length};
-ghost use Rattle.snap_slot.specs.Layout.{IsShort};
+ghost use Rattle.snap_history.specs.Limits.{IsShort};
 ghost use Rattle.snap_history.specs.declared.limits.TheConstants.{MAX_SCANNERS};
 
 use crate::seats::{last_seat, last_writer};
+use snap_history::MAX_VALUE_LEN;
 use snap_register::{Looker, Parts, ReadSeat, Registers, View, WriteSeat};
-use snap_slot::MAX_VALUE_LEN;
 use std::alloc::{AllocError, Global};
 use std::test::Fail;
 use std::thread::{Threads, join};

@@ -2,7 +2,7 @@
 use Rattle.std.specs.Prelude.{◌≡◌, ℕ, ◌+◌, ◌<◌, ◌≤◌, List, length, Some, slice_get}
 use Rattle.snap_disk.specs.Device.{IsSettled}
 use Rattle.snap_slot.specs.Findings.{IsFound}
-use Rattle.snap_slot.specs.declared.layout.TheConstants.{MAX_COUNT}
+use Rattle.snap_history.specs.declared.limits.TheConstants.{MAX_COUNT}
 use Rattle.snap_history.specs.Pairs.{Pairs}
 use Rattle.snap_world.specs.inside.Drives.{DrivesStand, DrivesDown, device_of}
 use Rattle.snap_world.specs.Machine.{State, WriterState, ScannerState, Closed}

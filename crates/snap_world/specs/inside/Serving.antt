@@ -1,8 +1,9 @@
 -- What a restart found on the devices, and what it makes of it.
 use Rattle.std.specs.Prelude.{◌≡◌, ℕ, ◌+◌, ◌≤◌, List, length, Some, slice_get}
 use Rattle.snap_disk.specs.declared.file.TheConstants.{FILE_LEN}
-use Rattle.snap_slot.specs.declared.layout.TheConstants.{MAX_VALUE_LEN}
-use Rattle.snap_slot.specs.Layout.{IsNumber, slot_of}
+use Rattle.snap_history.specs.declared.limits.TheConstants.{MAX_VALUE_LEN}
+use Rattle.snap_history.specs.Limits.{IsNumber}
+use Rattle.snap_slot.specs.Layout.{slot_of}
 use Rattle.snap_slot.specs.Findings.{value_in}
 use Rattle.snap_persist.specs.Stage.{calls_left, first_stage, store_calls}
 use Rattle.snap_world.specs.inside.Drives.{device_of}

@@ -2,8 +2,8 @@
 use Rattle.std.specs.Prelude.{◌≡◌, ℕ, ◌+◌, ◌<◌, ◌≤◌, Bool, true, false, List, length}
 use Rattle.snap_history.specs.History.{Update, from_nothing, number_after}
 use Rattle.snap_history.specs.Pairs.{Pairs}
-use Rattle.snap_slot.specs.Layout.{IsNumber, IsShort}
-use Rattle.snap_slot.specs.declared.layout.TheConstants.{MAX_COUNT}
+use Rattle.snap_history.specs.Limits.{IsNumber, IsShort}
+use Rattle.snap_history.specs.declared.limits.TheConstants.{MAX_COUNT}
 use Rattle.snap_scan.specs.Looks.{IsDecided}
 use Rattle.snap_world.specs.Answers.{ScanState, IsAnswer, number_at}
 use Rattle.snap_world.specs.inside.Gathers.{Gathers, IsUnderWay, RegistersStand}

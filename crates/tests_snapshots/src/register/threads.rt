@@ -6,8 +6,8 @@ ghost use Rattle.snap_register.specs.Rule.{segments};
 ghost use Rattle.snap_register.specs.Seat.{IsCollected};
 
 use crate::seats::{last_seat, last_writer};
+use snap_history::MAX_VALUE_LEN;
 use snap_register::{Looker, Parts, ReadSeat, Registers, View, WriteSeat};
-use snap_slot::MAX_VALUE_LEN;
 use std::alloc::{AllocError, Global};
 use std::test::Fail;
 use std::thread::{Threads, join};

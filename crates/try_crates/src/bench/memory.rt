@@ -12,15 +12,14 @@
 //! opens a memory for the most scanners, prints `open`, waits for a line, uses the buffers, prints
 //! `used` and waits for another line, so that the process can be measured before and after.
 ghost use Rattle.std.specs.Prelude.{◌≡◌, ◌<◌, ◌≤◌};
-ghost use Rattle.snap_slot.specs.Layout.{IsShort};
-ghost use Rattle.snap_slot.specs.declared.layout.TheConstants.{MAX_COUNT};
+ghost use Rattle.snap_history.specs.Limits.{IsShort};
+ghost use Rattle.snap_history.specs.declared.limits.TheConstants.{MAX_COUNT};
 ghost use Rattle.snap_history.specs.declared.limits.TheConstants.{MAX_SCANNERS};
 
-use snap_history::MAX_SCANNERS;
+use snap_history::{LAST_NUMBER, MAX_SCANNERS, MAX_VALUE_LEN};
 use snap_memory::{Scanner, Snapshot, prepare, show};
 use snap_register::{Looker, Parts, ReadSeat, Registers, WriteSeat};
 use snap_scan::{MAX_SEGMENTS, most_looks};
-use snap_slot::{LAST_NUMBER, MAX_VALUE_LEN};
 use std::alloc::{AllocError, Global};
 use std::io;
 use std::sync::atomic::{AtomicU64, Ordering};

@@ -1,5 +1,5 @@
 use Rattle.std.proofs.Common.{◌≡◌, ◌+◌, ◌*◌, ◌≤◌, length, take, flat_map}
-use Rattle.snap_slot.specs.declared.layout.TheConstants.{MAX_VALUE_LEN}
+use Rattle.snap_history.specs.declared.limits.TheConstants.{MAX_VALUE_LEN}
 use Rattle.snap_frame.specs.Messages.{value_bytes}
 use Rattle.snap_frame.proofs.entries.values_len.Given as goal
 

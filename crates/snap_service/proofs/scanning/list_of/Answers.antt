@@ -1,6 +1,6 @@
 use Rattle.std.proofs.Common.{◌<◌, length, map, ap, sym, subst, ◌∙◌, arith}
 use Rattle.snap_history.proofs.Pairing.{element}
-use Rattle.snap_slot.specs.Layout.{IsShort}
+use Rattle.snap_history.specs.Limits.{IsShort}
 use Rattle.snap_frame.specs.declared.entries.SegmentValue.{SegmentValue}
 use Rattle.snap_service.specs.Answers.{pair_of}
 use Rattle.snap_service.proofs.Lines.{list_more, all_more}

@@ -1,5 +1,5 @@
 use Rattle.std.proofs.Common.{◌≡◌, All, map, take}
-use Rattle.snap_slot.specs.Layout.{IsShort}
+use Rattle.snap_history.specs.Limits.{IsShort}
 use Rattle.snap_service.specs.Answers.{pair_of}
 use Rattle.snap_service.proofs.scanning.list_of.Given as goal
 

@@ -1,5 +1,5 @@
 use Rattle.std.proofs.Common.{◌≡◌, ℕ, length, Some, slice_get, Vec, Global}
-use Rattle.snap_slot.specs.Layout.{IsNumber, IsShort}
+use Rattle.snap_history.specs.Limits.{IsNumber, IsShort}
 use Rattle.try_crates.proofs.bench.memory.open.Given as goal
 
 abbrev pub invariant-loop : goal.invariant-loop
