@@ -27,7 +27,7 @@ use Rattle.std.specs.Io.KnownBytes.{Appends, Keeps}
 use Rattle.snap_disk.specs.Device.{Device, IsSettled, MayLeave}
 use Rattle.snap_disk.specs.declared.refusal.Refusal.{Refusal}
 use Rattle.snap_disk.specs.declared.refusal.Refusal.TheVariants as refusal
-use Rattle.snap_disk.specs.declared.file.TheConstants.{FILE_LEN}
+use Rattle.snap_slot.specs.declared.layout.TheConstants.{FILE_LEN}
 use Rattle.snap_history.specs.declared.limits.TheConstants.{MAX_VALUE_LEN, LAST_NUMBER}
 use Rattle.snap_slot.specs.Layout.{Head, Holds, IsUnformatted, IsFormatted, IsFileOf}
 use Rattle.snap_slot.specs.States.{IsAtRest, IsEither}

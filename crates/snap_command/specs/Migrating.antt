@@ -21,7 +21,7 @@ use Rattle.std.specs.Io.KnownBytes.{Appends, Keeps}
 use Rattle.snap_disk.specs.Device.{Device, MayLeave}
 use Rattle.snap_disk.specs.declared.refusal.Refusal.{Refusal}
 use Rattle.snap_disk.specs.declared.refusal.Refusal.TheVariants as refusal
-use Rattle.snap_disk.specs.declared.file.TheConstants.{FILE_LEN}
+use Rattle.snap_slot.specs.declared.layout.TheConstants.{FILE_LEN}
 use Rattle.snap_slot.specs.Layout.{IsFileOf, IsFormatted, IsUnformatted}
 use Rattle.snap_slot.specs.States.{IsAtRest}
 use Rattle.snap_old_slot.specs.Old.{OldHead, OldHolds}

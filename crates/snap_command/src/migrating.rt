@@ -6,7 +6,7 @@ ghost use Rattle.std.specs.Prelude.{codes, IfSome};
 ghost use Rattle.std.specs.Fmt.{decimal};
 ghost use Rattle.std.specs.Prelude.{string_bytes, string_capacity, string_len};
 ghost use Rattle.snap_disk.specs.Device.{Device, LeavesOnly, MayLeave};
-ghost use Rattle.snap_disk.specs.declared.file.TheConstants.{FILE_LEN};
+ghost use Rattle.snap_slot.specs.declared.layout.TheConstants.{FILE_LEN};
 ghost use Rattle.snap_history.specs.declared.limits.TheConstants.{MAX_COUNT};
 ghost use Rattle.snap_old_slot.specs.declared.layout.TheConstants.{OLD_FILE_LEN};
 ghost use Rattle.snap_order.specs.Order.{IsPlace};

@@ -17,7 +17,7 @@ ghost use Rattle.std.specs.Prelude.{
   IsTrue,
   ◌↔◌,
 };
-ghost use Rattle.snap_disk.specs.declared.file.TheConstants.{FILE_LEN};
+ghost use Rattle.snap_slot.specs.declared.layout.TheConstants.{FILE_LEN};
 ghost use Rattle.snap_disk.specs.Device.{
   Device,
   IsSettled,

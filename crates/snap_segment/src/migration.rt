@@ -17,7 +17,7 @@ ghost use Rattle.std.specs.Prelude.{
   IfErr,
   IsErrOf,
 };
-ghost use Rattle.snap_disk.specs.declared.file.TheConstants.{FILE_LEN};
+ghost use Rattle.snap_slot.specs.declared.layout.TheConstants.{FILE_LEN};
 ghost use Rattle.snap_disk.specs.Device.{Device, IsSynced, MayLeave, CountsCalls, LeavesOnly};
 ghost use Rattle.snap_history.specs.declared.limits.TheConstants.{MAX_COUNT};
 ghost use Rattle.snap_slot.specs.Layout.{IsUnformatted, IsFormatted};
@@ -32,8 +32,9 @@ ghost use Rattle.snap_segment.specs.Migration.{CountsFault, IsRead};
 
 use crate::making::make_file;
 use crate::opening::read_all;
-use snap_disk::{Disk, FILE_LEN, Refusal};
+use snap_disk::{Disk, Refusal};
 use snap_old_slot::{OLD_FILE_LEN, OldFound, recover_old};
+use snap_slot::FILE_LEN;
 
 /// Which file of a migration a refusal speaks of.
 #[derive(Clone, Copy, Debug, PartialEq, Eq)]

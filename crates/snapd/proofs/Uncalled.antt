@@ -1,8 +1,8 @@
 -- Files on which no call was made have never failed.
 use Rattle.std.proofs.Common.{ℕ, ◌-◌, ◌^◌, ◌<◌, List, All, subst, sym, lit<}
 use Rattle.std.proofs.lemmas.List.Elements.{All-weaker}
-use Rattle.snap_disk.specs.FileDisk.{IsUncalled}
-use Rattle.snap_disk.specs.declared.file.FileDisk.{FileDisk}
+use Rattle.snap_devices.specs.FileDisk.{IsUncalled}
+use Rattle.snap_devices.specs.declared.file.FileDisk.{FileDisk}
 
 pub headroom : (files : List FileDisk) → All IsUncalled files
     → All (λ d. d.failures < 2 ^ 64 - 1) files

@@ -1,8 +1,9 @@
 //! The files of an order, as the system gives them.
 ghost use Rattle.std.specs.Prelude.{IfOk};
-ghost use Rattle.snap_disk.specs.FileDisk.{IsUncalled};
+ghost use Rattle.snap_devices.specs.FileDisk.{IsUncalled};
 
-use snap_disk::{Disk, FileDisk, FileFault, Lock};
+use snap_devices::{FileDisk, FileFault, Lock};
+use snap_disk::Disk;
 use snap_order::{FileOrder, Migration};
 use snap_segment::{OLD_FILE_LEN, Which};
 use std::fs::File;

@@ -1,10 +1,10 @@
 //! A server on files and sockets of the system.
 ghost use Rattle.std.specs.Prelude.{◌≡◌, ◌-◌, ◌^◌, ◌<◌, length, All, IfOk};
 ghost use Rattle.std.specs.Thread.{IsSync};
-ghost use Rattle.snap_disk.specs.FileDisk.{IsUncalled};
+ghost use Rattle.snap_devices.specs.FileDisk.{IsUncalled};
 ghost use Rattle.snap_order.specs.Order.{IsServable};
 
-use snap_disk::{FileDisk, FileFault, Lock};
+use snap_devices::{FileDisk, FileFault, Lock};
 use snap_host::{Edge, Network, Notes, host, write_notes};
 use snap_order::{Ended, Serving};
 use snap_server::NoGate;

@@ -1,7 +1,8 @@
 //! New segment files in memory, and faults planned for them.
 ghost use Rattle.std.specs.Prelude.{◌<◌, ◌≤◌};
 
-use snap_disk::{Disk, FaultPlan, Fill, MemDisk};
+use snap_devices::{FaultPlan, MemDisk};
+use snap_disk::{Disk, Fill};
 use snap_segment::format;
 use snap_slot::FILE_LEN;
 use std::test::Fail;

@@ -3,7 +3,8 @@ ghost use Rattle.std.specs.Prelude.{◌≡◌, ◌^◌, ◌-◌, ◌<◌, ◌≤
 ghost use Rattle.snap_restart.specs.Closed.{AreBack};
 
 use crate::files::{file, plan_fault};
-use snap_disk::{Disk, Fill, MemDisk, Refusal};
+use snap_devices::MemDisk;
+use snap_disk::{Disk, Fill, Refusal};
 use snap_restart::{Report, Stopped, Store, open_all};
 use std::process::Abort;
 use std::test::Fail;

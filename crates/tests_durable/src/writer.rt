@@ -3,7 +3,8 @@ ghost use Rattle.std.specs.Prelude.{◌≡◌, ◌^◌, ◌≤◌, IfOk};
 ghost use Rattle.snap_register.specs.Seat.{AreTogether};
 
 use crate::files::{file, plan_fault};
-use snap_disk::{Disk, FaultPlan, Fill, MemDisk, Refusal};
+use snap_devices::{FaultPlan, MemDisk};
+use snap_disk::{Disk, Fill, Refusal};
 use snap_history::{LAST_NUMBER, MAX_VALUE_LEN};
 use snap_memory::{Scanner, Snapshot};
 use snap_register::{Parts, Registers};

@@ -9,7 +9,7 @@ use crate::frames::{
 use crate::stores::{failing, new_files, open};
 use course::Course;
 use seats::{Seen, run_store};
-use snap_disk::Held;
+use snap_devices::Held;
 use std::alloc::Global;
 use std::process::Abort;
 use std::rt::Clock;

@@ -11,7 +11,7 @@ use crate::frames::{
 use crate::stores::{failing, new_files, open};
 use bytes::Bytes;
 use snap_client::{Client, ClientFault};
-use snap_disk::MemDisk;
+use snap_devices::MemDisk;
 use snap_frame::{Reply, Request};
 use snap_memory::{Scanner, Snapshot};
 use snap_restart::Store;

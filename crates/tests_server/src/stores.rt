@@ -1,7 +1,8 @@
 //! Whole stores over devices in memory.
 ghost use Rattle.snap_restart.specs.Closed.{AreBack};
 
-use snap_disk::{Disk, FaultPlan, Fill, MemDisk};
+use snap_devices::{FaultPlan, MemDisk};
+use snap_disk::{Disk, Fill};
 use snap_restart::{Store, open_all};
 use snap_segment::format;
 use snap_slot::FILE_LEN;

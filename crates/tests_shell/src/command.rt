@@ -5,9 +5,11 @@ ghost use Rattle.snap_order.specs.Order.{IsFileWithinLimits};
 mod migrations;
 
 use snap_command::act;
-use snap_disk::{Disk, FILE_LEN, FaultPlan, Fill, MemDisk};
+use snap_devices::{FaultPlan, MemDisk};
+use snap_disk::{Disk, Fill};
 use snap_order::{FileOrder, Status};
 use snap_segment::OLD_FILE_LEN;
+use snap_slot::FILE_LEN;
 use snap_stream::TestStream;
 use std::io::{Read, Write};
 use std::process::Abort;

@@ -10,7 +10,8 @@ ghost use Rattle.snap_register.specs.Seat.{AreTogether};
 ghost use Rattle.snap_restart.specs.Closed.{AreBack};
 
 use crate::files::{new_memories, try_open_all};
-use snap_disk::{Fill, MemDisk, Refusal};
+use snap_devices::MemDisk;
+use snap_disk::{Fill, Refusal};
 use snap_memory::{Scanner, Snapshot};
 use snap_restart::Store;
 use snap_writer::Writer;

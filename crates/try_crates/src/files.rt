@@ -2,9 +2,11 @@
 ghost use Rattle.std.specs.Prelude.{◌≡◌, ◌<◌, ◌≤◌, length, IfOk};
 ghost use Rattle.snap_restart.specs.Closed.{AreBack};
 
-use snap_disk::{Disk, FILE_LEN, MemDisk, Refusal};
+use snap_devices::MemDisk;
+use snap_disk::{Disk, Refusal};
 use snap_restart::{Report, Stopped, Store, open_all};
 use snap_segment::format;
+use snap_slot::FILE_LEN;
 use std::alloc::Global;
 use std::io;
 use std::io::ErrorKind;

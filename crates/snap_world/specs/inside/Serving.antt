@@ -1,6 +1,6 @@
 -- What a restart found on the devices, and what it makes of it.
 use Rattle.std.specs.Prelude.{◌≡◌, ℕ, ◌+◌, ◌≤◌, List, length, Some, slice_get}
-use Rattle.snap_disk.specs.declared.file.TheConstants.{FILE_LEN}
+use Rattle.snap_slot.specs.declared.layout.TheConstants.{FILE_LEN}
 use Rattle.snap_history.specs.declared.limits.TheConstants.{MAX_VALUE_LEN}
 use Rattle.snap_history.specs.Limits.{IsNumber}
 use Rattle.snap_slot.specs.Layout.{slot_of}

@@ -1,6 +1,7 @@
 //! Scans and other updates pass an update whose store is held at its first write.
 use crate::restart::fresh;
-use snap_disk::{Disk, Held};
+use snap_devices::Held;
+use snap_disk::Disk;
 use snap_memory::{Scanner, Snapshot};
 use snap_restart::open_all;
 use snap_writer::Writer;

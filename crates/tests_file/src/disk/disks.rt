@@ -1,6 +1,7 @@
 //! What no clause says of devices in memory: texts, and the happy path of each call.
 use crate::checks::{are, prints};
-use snap_disk::{DeviceFault, Disk, FaultPlan, Fill, Image, MemDisk, Refusal};
+use snap_devices::{FaultPlan, MemDisk};
+use snap_disk::{DeviceFault, Disk, Fill, Image, Refusal};
 use std::process::Abort;
 use std::test::Fail;
 

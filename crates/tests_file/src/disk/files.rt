@@ -1,7 +1,9 @@
 //! What no clause says of real files: the happy path of each call, locks, and the folder of a new
 //! file.
 use crate::checks::{are, prints};
-use snap_disk::{DeviceFault, Disk, FILE_LEN, FileDisk, FileFault, Lock};
+use snap_devices::{FileDisk, FileFault, Lock};
+use snap_disk::{DeviceFault, Disk};
+use snap_slot::FILE_LEN;
 use std::alloc::{AllocError, Allocator};
 use std::fs::{self, OpenOptions};
 use std::process::Abort;

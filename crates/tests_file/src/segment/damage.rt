@@ -3,7 +3,8 @@ use crate::segment::devices::{
     GATE_0, GATE_1, GATE_2, HEADER, HEADER_GATE, Part, device, finds, formats, is_refused,
     is_unchecked, made,
 };
-use snap_disk::{Disk, MemDisk, Refusal};
+use snap_devices::MemDisk;
+use snap_disk::{Disk, Refusal};
 use std::process::Abort;
 use std::test::Fail;
 

@@ -1,7 +1,9 @@
 //! Devices that hold a segment file, and what the calls on them answer.
 use crate::checks::{are, prints};
-use snap_disk::{Disk, FILE_LEN, FaultPlan, Fill, MemDisk, Refusal};
+use snap_devices::{FaultPlan, MemDisk};
+use snap_disk::{Disk, Fill, Refusal};
 use snap_segment::{Segment, check, format};
+use snap_slot::FILE_LEN;
 use std::process::Abort;
 use std::test::Fail;
 

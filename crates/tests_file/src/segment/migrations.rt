@@ -3,7 +3,8 @@ use crate::segment::devices::{
     GATE_0, GATE_1, HEADER_GATE, Part, after_crash, blank, failing, filled, finds, fresh, holds,
     made, written,
 };
-use snap_disk::{Disk, Fill, MemDisk, Refusal};
+use snap_devices::MemDisk;
+use snap_disk::{Disk, Fill, Refusal};
 use snap_segment::{OLD_FILE_LEN, Which, migrate};
 use std::process::Abort;
 use std::test::Fail;

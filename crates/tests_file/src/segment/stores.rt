@@ -3,7 +3,8 @@ use crate::segment::devices::{
     GATE_0, GATE_1, HEADER, HEADER_GATE, Part, after_crash, blank, crashed, device, failing, finds,
     formats, fresh, has_bytes, holds, made, opened, stored, stores,
 };
-use snap_disk::{Disk, FaultPlan, Fill, MemDisk, Refusal};
+use snap_devices::{FaultPlan, MemDisk};
+use snap_disk::{Disk, Fill, Refusal};
 use snap_segment::{Segment, format};
 use std::process::Abort;
 use std::test::Fail;

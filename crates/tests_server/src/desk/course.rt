@@ -2,7 +2,7 @@
 use crate::frames::SCAN;
 use crossbeam_channel::Receiver;
 use snap_desk::{Desk, Told};
-use snap_disk::Held;
+use snap_devices::Held;
 use snap_service::Memory;
 use snap_session::{Session, Wants};
 use std::alloc::{AllocError, Global};

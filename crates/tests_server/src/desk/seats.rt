@@ -6,7 +6,7 @@ ghost use Rattle.snap_service.specs.Memory.{AreWriters, IsOf};
 use super::course::{Course, Worker};
 use crossbeam_channel::{Sender, bounded};
 use snap_desk::{Desk, StoreThread, Told, Window};
-use snap_disk::{Held, Waited};
+use snap_devices::{Held, Waited};
 use snap_memory::{Scanner, Snapshot};
 use snap_restart::Store;
 use snap_service::{Memory, WriterOf, name_writers};

@@ -1,7 +1,8 @@
 //! Migrations over devices in memory.
 use super::{Command, LEN, OLD_LEN, does, done, failing, says};
 use snap_command::act_pair;
-use snap_disk::{Disk, FaultPlan, Fill, MemDisk};
+use snap_devices::{FaultPlan, MemDisk};
+use snap_disk::{Disk, Fill};
 use snap_order::{Migration, Status};
 use std::io::Write;
 use std::process::Abort;

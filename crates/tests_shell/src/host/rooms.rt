@@ -1,10 +1,12 @@
 //! Servers over two segments in memory.
 
-use snap_disk::{Disk, FILE_LEN, Held, MemDisk};
+use snap_devices::{Held, MemDisk};
+use snap_disk::Disk;
 use snap_host::{Bind, Edge, host};
 use snap_order::{Serving, Status};
 use snap_segment::format;
 use snap_server::{Arrival, Ended, Gate, Listen, Tcp};
+use snap_slot::FILE_LEN;
 use std::alloc::{AllocError, Global};
 use std::io;
 use std::net::{Net, SocketAddr};

@@ -12,9 +12,11 @@
 //! makes the files of 16 segments in FOLDER, opens all of them for 16 scanners in each round, and then
 //! syncs and reads each of them. It prints the nanoseconds of both, a line a round.
 use crate::files::{formatted, new_memory, opened_all};
-use snap_disk::{Disk, FILE_LEN, FileDisk};
+use snap_devices::FileDisk;
+use snap_disk::Disk;
 use snap_restart::Store;
 use snap_segment::Segment;
+use snap_slot::FILE_LEN;
 use snap_writer::Writer;
 use std::alloc::Global;
 use std::io;

@@ -22,7 +22,7 @@ ghost use Rattle.snap_service.specs.Memory.{AreWriters, IsOf};
 use crate::bench::calls::call_rounds;
 use crate::files::{new_memories, opened_all};
 use bytes::Bytes;
-use snap_disk::MemDisk;
+use snap_devices::MemDisk;
 use snap_frame::{Reply, Request};
 use snap_memory::{Scanner, Snapshot};
 use snap_restart::Store;

@@ -4,7 +4,8 @@
 //!     try_crates bench-store FILE COUNT
 //!
 //! makes and formats FILE, stores COUNT values of 1,000 bytes and prints the last number.
-use snap_disk::{FileDisk, Refusal};
+use snap_devices::FileDisk;
+use snap_disk::Refusal;
 use snap_segment::{Segment, format};
 use std::io;
 

@@ -3,8 +3,10 @@
 use crate::files::as_io;
 use crate::sweeps::segment::restarted;
 use crate::sweeps::stop::{Garbage, Stop};
-use snap_disk::{DeviceFault, Disk, FILE_LEN, FaultPlan, MemDisk, Refusal};
+use snap_devices::{FaultPlan, MemDisk};
+use snap_disk::{DeviceFault, Disk, Refusal};
 use snap_segment::{OLD_FILE_LEN, Which, migrate};
+use snap_slot::FILE_LEN;
 use std::alloc::Global;
 use std::io;
 use std::string::String;

@@ -2,7 +2,8 @@
 use crate::files::{as_io, new_memory, try_open_all};
 use crate::sweeps::segment::open_segment;
 use crate::sweeps::stop::{Garbage, Stop};
-use snap_disk::{Disk, FaultPlan, Fill, MemDisk, Refusal};
+use snap_devices::{FaultPlan, MemDisk};
+use snap_disk::{Disk, Fill, Refusal};
 use std::alloc::Global;
 use std::io;
 use std::string::String;

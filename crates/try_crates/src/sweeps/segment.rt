@@ -1,8 +1,10 @@
 //! A formatting and stores that are stopped, and what is found after the crash.
 use crate::files::{as_io, new_memory};
 use crate::sweeps::stop::{Garbage, Stop};
-use snap_disk::{Disk, FILE_LEN, FaultPlan, MemDisk, Refusal};
+use snap_devices::{FaultPlan, MemDisk};
+use snap_disk::{Disk, Refusal};
 use snap_segment::{Segment, format};
+use snap_slot::FILE_LEN;
 use std::alloc::Global;
 use std::io;
 use std::string::String;

@@ -1,5 +1,6 @@
 //! How a run is stopped, and what a crash leaves.
-use snap_disk::{FaultPlan, Fill};
+use snap_devices::FaultPlan;
+use snap_disk::Fill;
 use std::alloc::{AllocError, Global};
 
 /// What stands at the touched places: the bytes that were there, or the byte of a closed or an open

@@ -1,7 +1,8 @@
 //! Numbers drawn from a seed.
 ghost use Rattle.std.specs.Prelude.{◌<◌};
 
-use snap_disk::{FaultPlan, Fill, MemDisk};
+use snap_devices::{FaultPlan, MemDisk};
+use snap_disk::Fill;
 use std::alloc::{AllocError, Global};
 
 /// A fixed sequence of numbers for each seed: the linear congruential generator of Knuth's MMIX.

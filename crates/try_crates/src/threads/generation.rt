@@ -4,7 +4,7 @@ ghost use Rattle.std.specs.Prelude.{◌<◌};
 use crate::files::opened_all;
 use crate::threads::draw::Draw;
 use crate::threads::worker::{Client, Numbers, SEGMENTS, Watcher, Worker, is_value_of, work};
-use snap_disk::MemDisk;
+use snap_devices::MemDisk;
 use snap_memory::{Scanner, Snapshot};
 use snap_writer::Writer;
 use std::alloc::Global;

@@ -1,7 +1,8 @@
 //! What the writers and the scanners do, each in a thread of its own, and what came of it.
 ghost use Rattle.std.specs.Prelude.{◌<◌};
 
-use snap_disk::{MemDisk, Refusal};
+use snap_devices::MemDisk;
+use snap_disk::Refusal;
 use snap_memory::{Scanner, Snapshot};
 use snap_writer::Writer;
 use std::sync::atomic::{AtomicU64, Ordering};

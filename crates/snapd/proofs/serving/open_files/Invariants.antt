@@ -1,5 +1,5 @@
 use Rattle.std.proofs.Common.{◌≡◌, length, All}
-use Rattle.snap_disk.specs.FileDisk.{IsUncalled}
+use Rattle.snap_devices.specs.FileDisk.{IsUncalled}
 use Rattle.snapd.proofs.serving.open_files.Given as goal
 
 abbrev pub invariant-files : goal.invariant-files

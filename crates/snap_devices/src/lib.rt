@@ -1,0 +1,23 @@
+//! The devices: a file of the operating system, and for tests one in memory whose calls fail by a
+//! plan, one that waits where it is told to, and one whose bytes are noise.
+//!
+//! What a device is and does says `snap_disk`. [`MemDisk`], [`Held`] and [`Noise`] do that by proof.
+//! Of a real file, [`FileDisk`], honesty is a premise that no code can test, so no safety rests on
+//! it.
+#![tactic(auto)]
+
+mod call;
+mod fault_plan;
+mod file;
+mod held;
+mod log;
+mod memory;
+mod noise;
+
+pub(crate) use call::Call;
+pub use fault_plan::FaultPlan;
+pub use file::{FileDisk, FileFault, Lock};
+pub use held::{Held, Waited};
+pub(crate) use log::Log;
+pub use memory::MemDisk;
+pub use noise::Noise;
