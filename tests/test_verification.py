@@ -2,6 +2,7 @@
 
 import os
 import pathlib
+import subprocess
 import sys
 import types
 
@@ -521,3 +522,9 @@ def test_costs_go_by_when_each_module_was_written(snapd, _):
     modules, functions = costs(written)
     assert modules == {"Rattle-low": 0, "Rattle-low-specs.Words": 2, "Rattle-low-proofs.thing.Thing.more.Lts": 3.5, "Rattle-low-proofs.thing.Thing.more.Proof": 2}
     assert functions == {"what is no function": 2, "thing.Thing.more": 5.5}
+
+
+def test_a_crate_that_is_not_there_is_told_by_its_name(snapd, _):
+    for program in ("build", "costs", "edits"):
+        run = subprocess.run([sys.executable, TOP / "verification" / f"{program}.py", "nowhere"], capture_output=True, text=True, timeout=30)
+        assert (run.returncode, run.stdout, run.stderr) == (1, "", "crates.txt has no nowhere\n"), (program, run)

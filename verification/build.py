@@ -12,7 +12,7 @@ import sys
 import time
 
 from proofs import QUICK, prove
-from tree import TOP, below, copied, crates_of
+from tree import TOP, below, copied, crates_of, refuse_strange
 
 LOG = TOP / "out" / "build.log"
 
@@ -35,6 +35,7 @@ def main():
     words.add_argument("names", nargs="*")
     words = words.parse_args()
     names, crates, began = ["snapd", *words.names], crates_of(TOP), time.monotonic()
+    refuse_strange(crates, words.names)
     with copied(TOP, {it for name in names for it in [*below(crates, name), name]}) as copy:
         proofs = prove(copy, LOG, words.fresh, QUICK)
         LOG.with_name("times.txt").write_text("\n".join(proofs.times) + "\n")

@@ -18,7 +18,7 @@ import tempfile
 
 import kit
 from proofs import prove
-from tree import TOP, below, copied, crates_of
+from tree import TOP, below, copied, crates_of, refuse_strange
 
 # The modules that belong to one function, by the last part of their names.
 OF_FUNCTIONS = r"Lts|Proof|Answers|Tie|Code|Mir|Goals|Statement|TheLink|Met|Named|Layout|Kinds|Instances|Reads|Invariants"
@@ -71,6 +71,7 @@ def main():
     words.add_argument("--tests", action="store_true", help="of the crate with its tests")
     words.add_argument("name")
     words = words.parse_args()
+    refuse_strange(crates_of(TOP), [words.name])
     written, said = measure(words.name, words.tests)
     modules, functions = costs(written)
     for title, found in (("functions", functions), ("modules", modules)):

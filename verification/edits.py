@@ -17,7 +17,7 @@ import kit
 from batches import Tried, tried
 from digests import Digests, Refusal, read_lock, write_lock
 from proofs import prove
-from tree import TOP, below, copied, crates_of, edits_of
+from tree import TOP, below, copied, crates_of, edits_of, refuse_strange
 
 LOG = TOP / "out" / "edits.log"
 # How many recorded edits each run of the tests tries again, and how many of one crate: each crate is proved first.
@@ -150,8 +150,7 @@ def main():
     if not kit.is_known():
         sys.exit(f"{kit.identity()} lacks a part of rt that verification/kit.py names: look through it first")
     edits, crates = Edits.of(TOP), crates_of(TOP)
-    if strange := [it for it in words.names if it not in crates]:
-        sys.exit(f"crates.txt has no {', '.join(strange)}")
+    refuse_strange(crates, words.names)
     edits.choose(every=words.every, names=words.names)
     wanted = {it for name, _ in edits.chosen for it in [*below(crates, name), name]}
     with copied(TOP, wanted) as copy:

@@ -4,6 +4,7 @@ import contextlib
 import pathlib
 import re
 import shutil
+import sys
 import tempfile
 from dataclasses import dataclass
 
@@ -32,6 +33,12 @@ def crates_of(top):
             name = head.split()[0]
             crates[name] = Crate(name, " ".join(line.split()), tuple(uses.split()))
     return crates
+
+
+def refuse_strange(crates, names):
+    """Ends the program where one of these names, which somebody typed, is no crate."""
+    if strange := [it for it in names if it not in crates]:
+        sys.exit(f"crates.txt has no {', '.join(strange)}")
 
 
 def below(crates, name):

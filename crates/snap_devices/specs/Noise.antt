@@ -1,5 +1,5 @@
 -- What a device of noise shows.
-use Rattle.std.specs.Prelude.{ℕ, ◌+◌, ◌*◌, ◌/◌, ◌%◌, ◌^◌, List, length, replicate, true}
+use Rattle.std.specs.Prelude.{ℕ, ◌+◌, ◌*◌, ◌/◌, ◌%◌, ◌^◌, length, replicate, true}
 use Rattle.snap_disk.specs.Device.{Device}
 use Rattle.snap_devices.specs.declared.noise.Noise.{Noise}
 

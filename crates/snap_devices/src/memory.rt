@@ -4,8 +4,8 @@ ghost use Rattle.std.specs.Prelude.{IfOk, OnOk, OnErr, IsErr, IsSome, IfSome, No
 ghost use Rattle.std.proofs.Common.{inl};
 ghost use Rattle.snap_devices.specs.Past.{LeftFrom, only_left_now};
 
-use crate::fault_plan::FaultPlan;
 use crate::Log;
+use crate::fault_plan::FaultPlan;
 use snap_disk::{DeviceFault, Disk, Fill, Image};
 use std::alloc::{AllocError, Global};
 use std::slice;
@@ -134,7 +134,7 @@ impl Disk for MemDisk {
     }
 
     /// It is counted, and fails exactly where that is planned.
-    #[tactic(auto, unfolding(crate::specs::Device::part))]
+    #[tactic(auto, unfolding(snap_disk::specs::Device::part))]
     fn read_at(&mut self, at: u64, buf: &mut [u8]) -> Result<(), DeviceFault>
         requires within { at + length buf.old ≤ length (memory_device self.old).bytes }
         requires headroom { memory_failures self.old < 2 ^ 64 - 1 }

@@ -3,3 +3,4 @@ pub mod Beginnings
 pub mod Lists
 pub mod Pairing
 pub mod Memories
+pub mod Taking

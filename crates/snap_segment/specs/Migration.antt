@@ -1,11 +1,7 @@
 -- What a migration answers.
 use Rattle.std.specs.Prelude.{◌≡◌, ℕ, ◌+◌, Result, Ok, Err}
 use Rattle.snap_disk.specs.declared.refusal.Refusal.{Refusal}
-use Rattle.snap_disk.specs.declared.refusal.Refusal.TheVariants.{
-  AlreadyFormatted,
-  DeviceFailed,
-  WrongFile,
-}
+use Rattle.snap_disk.specs.declared.refusal.Refusal.TheVariants.{AlreadyFormatted, DeviceFailed}
 use Rattle.snap_segment.specs.declared.migration.Which.{Which}
 use Rattle.snap_segment.specs.declared.migration.Which.TheVariants.{Old, New}
 

@@ -103,10 +103,7 @@ pub(crate) fn make_file<D: Disk>(
         Err(_) => return Err(Refusal::DeviceFailed),
         Ok(()) => {}
     }
-    match write_synced(device, HEADER_GATE_AT, &[OPEN_GATE]) {
-        Err(_) => Err(Refusal::DeviceFailed),
-        Ok(()) => Ok(()),
-    }
+    write_synced(device, HEADER_GATE_AT, &[OPEN_GATE]).map_err(|_| Refusal::DeviceFailed)
 }
 
 /// Syncs, and looks at the header's gate.

@@ -15,7 +15,6 @@ use Rattle.std.proofs.Common.{
   length,
   map,
   take,
-  drop,
   slice_get,
   slice_index_or,
   Some,
@@ -26,7 +25,7 @@ use Rattle.std.proofs.Common.{
   ◌∙◌,
   arith,
 }
-use Rattle.std.proofs.lemmas.List.{length-map, drop-drop}
+use Rattle.std.proofs.lemmas.List.{length-map}
 use Rattle.std.proofs.lemmas.List.Elements.{All-push}
 use Rattle.std.proofs.lemmas.Option.{slice_get-get_or, same_Some}
 use Rattle.snap_history.specs.Limits.{IsNumber, IsShort}
@@ -60,19 +59,6 @@ list_more memory i values s x e at number value =
 pub all_more : {A : Type 0} (P : A → Type 0) (xs ys : List A) (x : A) → ys ≡ xs ++ x ∷ [] → All P xs
     → P x → All P ys
 all_more P xs ys x e all one = subst (λ l. All P l) (sym e) (All-push P xs x all one)
-
--- lists whose items are taken one after another
-
-pub get_dropped : {A : Type 0} (k : ℕ) (xs : List A) (x : A) (rest : List A) → drop k xs ≡ x ∷ rest
-    → slice_get xs k ≡ Some x
-get_dropped zero [] x rest e = absurd cc
-get_dropped zero (y ∷ xs) x rest e = cc
-get_dropped (suc k) [] x rest e = absurd cc
-get_dropped (suc k) (y ∷ xs) x rest e = get_dropped k xs x rest e
-
-pub rest_dropped : {A : Type 0} (k : ℕ) (xs : List A) (x : A) (rest : List A) → drop k xs ≡ x ∷ rest
-    → rest ≡ drop (k + 1) xs
-rest_dropped k xs x rest e = ap (drop 1) (sym e) ∙ drop-drop 1 k xs
 
 get_pair : (values : List SegmentValue) (k : ℕ) (s : SegmentValue) → slice_get values k ≡ Some s
     → slice_get (map pair_of values) k ≡ Some (pair_of s)

@@ -1,24 +1,5 @@
 -- Lists whose items fit their places.
-use Rattle.std.proofs.Common.{
-  ◌≡◌,
-  ℕ,
-  zero,
-  suc,
-  List,
-  [],
-  ◌∷◌,
-  ◌++◌,
-  length,
-  take,
-  drop,
-  refl,
-  ap,
-  arith,
-  slice_get,
-  Some,
-  subst,
-  ◌∙◌,
-}
+use Rattle.std.proofs.Common.{◌≡◌, ℕ, zero, suc, List, [], ◌∷◌, ◌++◌, length, slice_get, Some, subst, ◌∙◌}
 use Rattle.std.proofs.lemmas.Option.{same_Some, slice_get_within}
 use Rattle.snap_history.proofs.Lists.{get-append_left}
 
@@ -47,12 +28,3 @@ stands_more P xs x w = (
 pub no_place : {A : Type 0} (xs : List A) (i : ℕ) (x : A) → xs ≡ [] → slice_get xs i ≡ Some x → ⊥
 no_place [] i x none e = absurd cc
 no_place (y ∷ xs) i x none e = absurd cc
-
--- what is left of a list is empty, so all of it was taken
-pub all_taken : {A : Type 0} (xs : List A) (k : ℕ) (rest : List A) → drop k xs ≡ rest
-    → length rest ≡ 0 → take k xs ≡ xs
-all_taken [] zero rest e none = refl
-all_taken [] (suc k) rest e none = refl
-all_taken (x ∷ xs) zero [] e none = absurd cc
-all_taken (x ∷ xs) zero (y ∷ rest) e none = absurd (omega arith)
-all_taken (x ∷ xs) (suc k) rest e none = ap (λ l. x ∷ l) (all_taken xs k rest e none)

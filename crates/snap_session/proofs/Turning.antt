@@ -242,6 +242,29 @@ or_new (Some q) P before now = before
 pub still_under : (a b : Option Request) (P : Type 0) → b ≡ a → OnSome a P → OnSome b P
 still_under a b P same on = subst (λ z. OnSome z P) (sym same) on
 
+-- ---- how far a turn has come
+
+-- what stands in a turn: its bytes are those of a run, few are owed, and what is handed over is
+-- handed over under its key
+pub record Stood {S : Type 0} (gives : S → Request → Reply → S → Type 0) (hands_over one : Type 0)
+    (s t : S) (old new : Talk) (r0 r1 w0 w1 : Option (List ℕ)) : Type 0 where
+  pub turns : Turns Stays gives s t old r0 r1 w0 w1 new
+  pub bounded : length old.owed ≤ most_owed → length new.owed ≤ most_owed
+  pub free : (hands_over → ⊥) → old.asked ≡ None → new.asked ≡ None
+  pub under : old.asked ≡ None → OnSome new.asked one
+
+-- it stands when bytes that are owed are written
+pub stood_sent : {S : Type 0} (gives : S → Request → Reply → S → Type 0) (hands_over one : Type 0)
+    (s t : S) (old mid new : Talk) (r0 r1 w0 w1 w2 : Option (List ℕ))
+    → Stood gives hands_over one s t old mid r0 r1 w0 w1 → Sends mid new w1 w2
+    → Stood gives hands_over one s t old new r0 r1 w0 w2
+stood_sent gives hands_over one s t old mid new r0 r1 w0 w1 w2 stood sent = record {
+  turns = then_sends gives s t old mid new r0 r1 w0 w1 w2 stood.turns sent;
+  bounded = λ few. few_left _ _ _ sent.owed (stood.bounded few);
+  free = λ no at. sent.asked ∙ stood.free no at;
+  under = λ none. still_under _ _ _ sent.asked (stood.under none);
+}
+
 -- nothing is owed
 pub none_owed : (is_empty : Bool) (seen owed : List ℕ) → is_empty ≡ true
     → is_empty ≡ (length seen == 0) → seen ≡ owed → owed ≡ []

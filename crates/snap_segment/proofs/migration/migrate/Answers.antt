@@ -1,8 +1,6 @@
 use Rattle.std.proofs.Common.{◌≡◌, ℕ, List, false, ◌∙◌, rules}
-use Rattle.snap_disk.specs.Device.{MayLeave, LeavesOnly}
+use Rattle.snap_disk.specs.Device.{LeavesOnly}
 use Rattle.snap_slot.specs.States.{IsAtRest}
-use Rattle.snap_slot.specs.Findings.{value_in}
-use Rattle.snap_old_slot.specs.Old.{old_slot_of}
 use Rattle.snap_segment.specs.Making.{IsMadeOrLeft}
 use Rattle.snap_segment.proofs.Migrating.{found_same, carried}
 use Rattle.snap_segment.proofs.migration.migrate.Goals as goal

@@ -2,8 +2,9 @@ use Rattle.std.proofs.Common.{ap, sym, subst, length, ◌≤◌, ◌∙◌, take
 use Rattle.snap_session.specs.Talk.{most_owed}
 use Rattle.snap_session.proofs.Steps.{taken_asked, taken_owed}
 use Rattle.snap_session.proofs.Turning.{
+  Stood,
+  stood_sent,
   begins,
-  then_sends,
   then_round,
   then_takes,
   then_keeps,
@@ -19,9 +20,39 @@ use Rattle.snap_session.proofs.Turning.{
   on_any,
   on_none,
   or_new,
-  still_under,
 }
 use Rattle.snap_session.proofs.turns.proceed.Goals as goal
+use Rattle.snap_session.proofs.turns.proceed.Goals.{After-send_owed, In-Bytes}
+
+-- what stands once the bytes that are owed are written
+sent_on : (g : _) (c : After-send_owed g) → Stood g.S.Service.gives g.S.Service.hands_over
+    (g.S.Service.hands_over_under c.args.key) c.args.service.now c.loop.service c.args.session.now
+    c.send_owed.new.session (g.R.Read.remaining c.args.reader.now)
+    (g.R.Read.remaining c.loop.reader) (g.W.Write.contents c.args.writer.now)
+    (g.W.Write.contents c.send_owed.new.writer)
+sent_on g c = stood_sent g.S.Service.gives _ _ _ _ _ _ _ _ _ _ _ _
+    (record {
+      turns = c.loop.invariant.turns;
+      bounded = c.loop.invariant.bounded;
+      free = c.loop.invariant.free;
+      under = c.loop.invariant.under;
+    })
+    c.send_owed.ensures.sends
+
+-- and once all that is held is answered
+answered_on : (g : _) (c : In-Bytes g) → Stood g.S.Service.gives g.S.Service.hands_over
+    (g.S.Service.hands_over_under c.args.key) c.args.service.now c.answer.new.service
+    c.args.session.now c.answer.new.self (g.R.Read.remaining c.args.reader.now)
+    (g.R.Read.remaining c.loop.reader) (g.W.Write.contents c.args.writer.now)
+    (g.W.Write.contents c.send_owed.new.writer)
+answered_on g c = record {
+  turns = then_round g.S.Service.gives _ _ _ _ _ _ _ _ _ _ _ _ c.loop.invariant.turns
+      c.send_owed.ensures.sends c.answer.ensures.goes;
+  bounded = λ few. c.answer.ensures.bounded
+      (few_left _ _ _ c.send_owed.ensures.sends.owed (c.loop.invariant.bounded few));
+  free = λ no at. c.in-Bytes.ensures.wants.1;
+  under = λ none. on_none _ _ c.in-Bytes.ensures.wants.1;
+}
 
 pub loop-init : goal.loop-init
 loop-init g c = record {
@@ -60,80 +91,82 @@ loop-preserved-in-Outcome-2 g c =
 
 pub loop-preserved-then-not-is_empty : goal.loop-preserved-then-not-is_empty
 loop-preserved-then-not-is_empty g c =
+    let answered = answered_on g (goal.at.loop-preserved-then-not-is_empty g c).In-Bytes in
     record {
-      turns = then_round g.S.Service.gives _ _ _ _ _ _ _ _ _ _ _ _ c.loop.invariant.turns
-          c.send_owed.ensures.sends c.answer.ensures.goes;
-      free = λ no at. c.in-Bytes.ensures.wants.1;
-      under = λ none. on_none _ _ c.in-Bytes.ensures.wants.1;
-      bounded = λ few. c.answer.ensures.bounded
-          (few_left _ _ _ c.send_owed.ensures.sends.owed (c.loop.invariant.bounded few));
+      turns = answered.turns;
+      free = answered.free;
+      under = answered.under;
+      bounded = answered.bounded;
     }
 
 pub loop-preserved : goal.loop-preserved
 loop-preserved g c =
+    let answered = answered_on g (goal.at.loop-preserved g c).In-Bytes in
     record {
       turns = then_takes g.S.Service.gives _ _ _ _ _ _ _ _ _ _ _
-          (then_round g.S.Service.gives _ _ _ _ _ _ _ _ _ _ _ _ c.loop.invariant.turns
-          c.send_owed.ensures.sends c.answer.ensures.goes) c.in-Bytes.ensures.wants.0
+          answered.turns c.in-Bytes.ensures.wants.0
           c.in-Ok.ensures.bytes.0 c.take_in.ensures;
       free = λ no at. taken_asked _ _ _ c.take_in.ensures ∙ c.in-Bytes.ensures.wants.1;
       under = λ none. on_none _ _
           (taken_asked _ _ _ c.take_in.ensures ∙ c.in-Bytes.ensures.wants.1);
       bounded = λ few. subst (λ zs. length zs ≤ most_owed)
           (sym (taken_owed _ _ _ c.take_in.ensures))
-          (c.answer.ensures.bounded
-          (few_left _ _ _ c.send_owed.ensures.sends.owed (c.loop.invariant.bounded few)));
+          (answered.bounded few);
     }
 
 pub returns-in-Blocked : goal.returns-in-Blocked
-returns-in-Blocked g c = record {
-  goes = then_sends g.S.Service.gives _ _ _ _ _ _ _ _ _ _ c.loop.invariant.turns
-      c.send_owed.ensures.sends;
-  stands = λ empty. blocked_apart (sym c.in-Blocked.is ∙ c.send_owed.ensures.all.1 empty);
-  bounded = λ few. few_left _ _ _ c.send_owed.ensures.sends.owed (c.loop.invariant.bounded few);
-  free = λ no at. c.send_owed.ensures.sends.asked ∙ c.loop.invariant.free no at;
-  outcome = λ no at. room_apart;
-  under = λ none. still_under _ _ _ c.send_owed.ensures.sends.asked (c.loop.invariant.under none);
-}
+returns-in-Blocked g c =
+    let sent = sent_on g (goal.at.returns-in-Blocked g c).After-send_owed in
+    record {
+      goes = sent.turns;
+      stands = λ empty. blocked_apart (sym c.in-Blocked.is ∙ c.send_owed.ensures.all.1 empty);
+      bounded = sent.bounded;
+      free = sent.free;
+      outcome = λ no at. room_apart;
+      under = sent.under;
+    }
 
 pub returns-in-Failed : goal.returns-in-Failed
-returns-in-Failed g c = record {
-  goes = then_sends g.S.Service.gives _ _ _ _ _ _ _ _ _ _ c.loop.invariant.turns
-      c.send_owed.ensures.sends;
-  stands = λ empty. failed_apart (sym c.in-Failed.is ∙ c.send_owed.ensures.all.1 empty);
-  bounded = λ few. few_left _ _ _ c.send_owed.ensures.sends.owed (c.loop.invariant.bounded few);
-  free = λ no at. c.send_owed.ensures.sends.asked ∙ c.loop.invariant.free no at;
-  outcome = λ no at. over_apart _;
-  under = λ none. still_under _ _ _ c.send_owed.ensures.sends.asked (c.loop.invariant.under none);
-}
+returns-in-Failed g c =
+    let sent = sent_on g (goal.at.returns-in-Failed g c).After-send_owed in
+    record {
+      goes = sent.turns;
+      stands = λ empty. failed_apart (sym c.in-Failed.is ∙ c.send_owed.ensures.all.1 empty);
+      bounded = sent.bounded;
+      free = sent.free;
+      outcome = λ no at. over_apart _;
+      under = sent.under;
+    }
 
 pub returns-in-Some-TooLarge : goal.returns-in-Some-TooLarge
-returns-in-Some-TooLarge g c = record {
-  goes = then_sends g.S.Service.gives _ _ _ _ _ _ _ _ _ _ c.loop.invariant.turns
-      c.send_owed.ensures.sends;
-  stands = (
-    sym c.over.ensures ∙ c.in-Some-TooLarge.is ∙ ap Some c.in-Some-TooLarge.field-0-is,
-    c.send_owed.ensures.all.0 c.in-All.is,
-  );
-  bounded = λ few. few_left _ _ _ c.send_owed.ensures.sends.owed (c.loop.invariant.bounded few);
-  free = λ no at. c.send_owed.ensures.sends.asked ∙ c.loop.invariant.free no at;
-  outcome = λ no at. over_apart _;
-  under = λ none. still_under _ _ _ c.send_owed.ensures.sends.asked (c.loop.invariant.under none);
-}
+returns-in-Some-TooLarge g c =
+    let sent = sent_on g (goal.at.returns-in-Some-TooLarge g c).After-send_owed in
+    record {
+      goes = sent.turns;
+      stands = (
+        sym c.over.ensures ∙ c.in-Some-TooLarge.is ∙ ap Some c.in-Some-TooLarge.field-0-is,
+        c.send_owed.ensures.all.0 c.in-All.is,
+      );
+      bounded = sent.bounded;
+      free = sent.free;
+      outcome = λ no at. over_apart _;
+      under = sent.under;
+    }
 
 pub returns-in-Some-NoMemory : goal.returns-in-Some-NoMemory
-returns-in-Some-NoMemory g c = record {
-  goes = then_sends g.S.Service.gives _ _ _ _ _ _ _ _ _ _ c.loop.invariant.turns
-      c.send_owed.ensures.sends;
-  stands = (
-    sym c.over.ensures ∙ c.in-Some-NoMemory.is ∙ ap Some c.in-Some-NoMemory.field-0-is,
-    c.send_owed.ensures.all.0 c.in-All.is,
-  );
-  bounded = λ few. few_left _ _ _ c.send_owed.ensures.sends.owed (c.loop.invariant.bounded few);
-  free = λ no at. c.send_owed.ensures.sends.asked ∙ c.loop.invariant.free no at;
-  outcome = λ no at. over_apart _;
-  under = λ none. still_under _ _ _ c.send_owed.ensures.sends.asked (c.loop.invariant.under none);
-}
+returns-in-Some-NoMemory g c =
+    let sent = sent_on g (goal.at.returns-in-Some-NoMemory g c).After-send_owed in
+    record {
+      goes = sent.turns;
+      stands = (
+        sym c.over.ensures ∙ c.in-Some-NoMemory.is ∙ ap Some c.in-Some-NoMemory.field-0-is,
+        c.send_owed.ensures.all.0 c.in-All.is,
+      );
+      bounded = sent.bounded;
+      free = sent.free;
+      outcome = λ no at. over_apart _;
+      under = sent.under;
+    }
 
 pub returns-in-Outcome : goal.returns-in-Outcome
 returns-in-Outcome g c = record {
@@ -156,13 +189,13 @@ returns-in-Outcome g c = record {
 
 pub returns-in-Ok-eq0 : goal.returns-in-Ok-eq0
 returns-in-Ok-eq0 g c =
+    let answered = answered_on g (goal.at.returns-in-Ok-eq0 g c).In-Bytes in
     let read = rw c.in-Ok-eq0.is at c.read.ensures.bytes in
     let none : take c.in-Ok-eq0.field-0 c.read.new.buf ≡ [] =
     ap (λ k. take k c.read.new.buf) c.in-Ok-eq0.field-0-test in
     record {
       goes = then_ends g.S.Service.gives _ _ _ _ _ _ _ _ _ _
-          (then_round g.S.Service.gives _ _ _ _ _ _ _ _ _ _ _ _ c.loop.invariant.turns
-          c.send_owed.ensures.sends c.answer.ensures.goes) read.0 none;
+          answered.turns read.0 none;
       stands = (
         c.in-Bytes.ensures.wants.0,
         none_owed _ _ _ c.if-not-is_empty.false c.is_empty-in-loop.ensures c.owed-in-loop.ensures,
@@ -171,23 +204,22 @@ returns-in-Ok-eq0 g c =
         read.1 c.in-Ok-eq0.field-0-test (subst (λ n. 0 < n)
             (sym (c.read.auto.buf ∙ c.loop.auto.piece)) c.requires),
       );
-      bounded = λ few. c.answer.ensures.bounded
-          (few_left _ _ _ c.send_owed.ensures.sends.owed (c.loop.invariant.bounded few));
-      free = λ no at. c.in-Bytes.ensures.wants.1;
+      bounded = answered.bounded;
+      free = answered.free;
       outcome = λ no at. over_apart _;
-      under = λ none. on_none _ _ c.in-Bytes.ensures.wants.1;
+      under = answered.under;
     }
 
 pub returns-in-Ok-eq0-2 : goal.returns-in-Ok-eq0-2
 returns-in-Ok-eq0-2 g c =
+    let answered = answered_on g (goal.at.returns-in-Ok-eq0-2 g c).In-Bytes in
     let read = rw c.in-Ok-eq0-2.is at c.read.ensures.bytes in
     let zero = sym c.in-Ok-eq0-2.field-0-is ∙ c.in-Ok-eq0.field-0-test in
     let none : take c.in-Ok-eq0-2.field-0 c.read.new.buf ≡ [] = ap (λ k. take k c.read.new.buf) zero
     in
     record {
       goes = then_ends g.S.Service.gives _ _ _ _ _ _ _ _ _ _
-          (then_round g.S.Service.gives _ _ _ _ _ _ _ _ _ _ _ _ c.loop.invariant.turns
-          c.send_owed.ensures.sends c.answer.ensures.goes) read.0 none;
+          answered.turns read.0 none;
       stands = (
         (
           c.in-Bytes.ensures.wants.0,
@@ -200,48 +232,47 @@ returns-in-Ok-eq0-2 g c =
             c.if-is_between.false),
         read.1 zero (subst (λ n. 0 < n) (sym (c.read.auto.buf ∙ c.loop.auto.piece)) c.requires),
       );
-      bounded = λ few. c.answer.ensures.bounded
-          (few_left _ _ _ c.send_owed.ensures.sends.owed (c.loop.invariant.bounded few));
-      free = λ no at. c.in-Bytes.ensures.wants.1;
+      bounded = answered.bounded;
+      free = answered.free;
       outcome = λ no at. over_apart _;
-      under = λ none. on_none _ _ c.in-Bytes.ensures.wants.1;
+      under = answered.under;
     }
 
 pub returns-in-Err : goal.returns-in-Err
-returns-in-Err g c = record {
-  goes = then_keeps g.S.Service.gives _ _ _ _ _ _ _ _ _
-      (then_round g.S.Service.gives _ _ _ _ _ _ _ _ _ _ _ _ c.loop.invariant.turns
-      c.send_owed.ensures.sends c.answer.ensures.goes) c.in-Err.ensures.bytes;
-  stands = (
-    c.in-Bytes.ensures.wants.0,
-    none_owed _ _ _ c.if-not-is_empty.false c.is_empty-in-loop.ensures c.owed-in-loop.ensures,
-    c.in-Bytes.ensures.wants.1,
-    c.in-Bytes.ensures.wants.2,
-  );
-  bounded = λ few. c.answer.ensures.bounded
-      (few_left _ _ _ c.send_owed.ensures.sends.owed (c.loop.invariant.bounded few));
-  free = λ no at. c.in-Bytes.ensures.wants.1;
-  outcome = λ no at. input_apart;
-  under = λ none. on_none _ _ c.in-Bytes.ensures.wants.1;
-}
+returns-in-Err g c =
+    let answered = answered_on g (goal.at.returns-in-Err g c).In-Bytes in
+    record {
+      goes = then_keeps g.S.Service.gives _ _ _ _ _ _ _ _ _
+          answered.turns c.in-Err.ensures.bytes;
+      stands = (
+        c.in-Bytes.ensures.wants.0,
+        none_owed _ _ _ c.if-not-is_empty.false c.is_empty-in-loop.ensures c.owed-in-loop.ensures,
+        c.in-Bytes.ensures.wants.1,
+        c.in-Bytes.ensures.wants.2,
+      );
+      bounded = answered.bounded;
+      free = answered.free;
+      outcome = λ no at. input_apart;
+      under = answered.under;
+    }
 
 pub returns-in-Err-2 : goal.returns-in-Err-2
-returns-in-Err-2 g c = record {
-  goes = then_keeps g.S.Service.gives _ _ _ _ _ _ _ _ _
-      (then_round g.S.Service.gives _ _ _ _ _ _ _ _ _ _ _ _ c.loop.invariant.turns
-      c.send_owed.ensures.sends c.answer.ensures.goes) c.in-Err-2.ensures.bytes;
-  stands = (
-    c.in-Bytes.ensures.wants.0,
-    none_owed _ _ _ c.if-not-is_empty.false c.is_empty-in-loop.ensures c.owed-in-loop.ensures,
-    c.in-Bytes.ensures.wants.1,
-    c.in-Bytes.ensures.wants.2,
-  );
-  bounded = λ few. c.answer.ensures.bounded
-      (few_left _ _ _ c.send_owed.ensures.sends.owed (c.loop.invariant.bounded few));
-  free = λ no at. c.in-Bytes.ensures.wants.1;
-  outcome = λ no at. over_apart _;
-  under = λ none. on_none _ _ c.in-Bytes.ensures.wants.1;
-}
+returns-in-Err-2 g c =
+    let answered = answered_on g (goal.at.returns-in-Err-2 g c).In-Bytes in
+    record {
+      goes = then_keeps g.S.Service.gives _ _ _ _ _ _ _ _ _
+          answered.turns c.in-Err-2.ensures.bytes;
+      stands = (
+        c.in-Bytes.ensures.wants.0,
+        none_owed _ _ _ c.if-not-is_empty.false c.is_empty-in-loop.ensures c.owed-in-loop.ensures,
+        c.in-Bytes.ensures.wants.1,
+        c.in-Bytes.ensures.wants.2,
+      );
+      bounded = answered.bounded;
+      free = answered.free;
+      outcome = λ no at. over_apart _;
+      under = answered.under;
+    }
 
 pub returns : goal.returns
 returns g c = record {

@@ -1,22 +1,21 @@
-use Rattle.std.proofs.Common.{◌≡◌, ℕ, ◌+◌, length, drop, ap, sym, ◌∙◌, arith}
+use Rattle.std.proofs.Common.{◌≡◌, ℕ, ◌+◌, length, ap, sym, ◌∙◌, arith}
 use Rattle.std.proofs.lemmas.List.{length_push, length-drop}
-use Rattle.std.proofs.lemmas.Option.{slice_get_within}
-use Rattle.snap_service.proofs.Lines.{get_dropped, rest_dropped}
+use Rattle.snap_history.proofs.Taking.{taken}
 use Rattle.snap_service.proofs.shared.Shared.new.Goals as goal
 
 pub new-requires-clause-memory : goal.new-requires-clause-memory
 new-requires-clause-memory g c =
     let ws = c.args.writers.items in
     let k : ℕ = length c.writers.locks.items in
-    let at = get_dropped k ws c.in-Some.writer _ (sym c.writers.invariant.rest ∙ c.in-Some.ensures.steps.0) in
-    (c.requires.each k c.in-Some.writer at).0
+    let next = taken k ws _ _ _ c.writers.invariant.rest c.in-Some.ensures.steps.0 in
+    (c.requires.each k c.in-Some.writer next.at).0
 
 pub new-requires-clause-own : goal.new-requires-clause-own
 new-requires-clause-own g c =
     let ws = c.args.writers.items in
     let k : ℕ = length c.writers.locks.items in
-    let at = get_dropped k ws c.in-Some.writer _ (sym c.writers.invariant.rest ∙ c.in-Some.ensures.steps.0) in
-    let own = (c.requires.each k c.in-Some.writer at).1 in
+    let next = taken k ws _ _ _ c.writers.invariant.rest c.in-Some.ensures.steps.0 in
+    let own = (c.requires.each k c.in-Some.writer next.at).1 in
     let count = c.len-segment.ensures in
     let len = c.writers.locks.ok in
     omega arith
@@ -26,11 +25,11 @@ writers-preserved g c =
     let ws = c.args.writers.items in
     let inv = c.writers.invariant in
     let k : ℕ = length c.writers.locks.items in
-    let head = sym inv.rest ∙ c.in-Some.ensures.steps.0 in
-    let inside = slice_get_within ws k c.in-Some.writer (get_dropped k ws c.in-Some.writer _ head) in
+    let next = taken k ws _ _ _ inv.rest c.in-Some.ensures.steps.0 in
+    let inside = next.inside in
     let on : length c.push.new.self.items ≡ k + 1 = ap length c.in-Ok-push.ensures.items ∙ length_push c.writers.locks.items _ in
     record {
-      rest = rest_dropped k ws c.in-Some.writer _ head ∙ ap (λ (n : ℕ). drop n ws) (sym on);
+      rest = next.left _ on;
       long = (let was = inv.long in let gone = c.in-Some.ensures.steps.1 in let short = ap length c.in-Some.ensures.steps.0 in omega arith);
       within = omega arith;
       room = (let r = c.in-Ok-push.ensures.capacity in let was = inv.room in omega arith);
@@ -49,7 +48,6 @@ unreachable-requires g c =
     let ws = c.args.writers.items in
     let inv = c.writers.invariant in
     let k : ℕ = length c.writers.locks.items in
-    let head = sym inv.rest ∙ c.in-Some.ensures.steps.0 in
-    let inside = slice_get_within ws k c.in-Some.writer (get_dropped k ws c.in-Some.writer _ head) in
+    let inside = (taken k ws _ _ _ inv.rest c.in-Some.ensures.steps.0).inside in
     let full = c.in-Err.ensures.full in
     let count = c.writers.locks.ok.0 in let room = inv.room in omega arith
