@@ -2,7 +2,7 @@
  *
  * ACCEPTS_FAILED names a file that gets one byte for each call that failed. It is opened at the start, since a program that
  * has no descriptor left couldn't open it.
- * ACCEPTS_REFUSE is `FIRST COUNT`: so many calls, from the first of them on, which is counted from 1, fail with EMFILE and do
+ * ACCEPTS_REFUSE is `FIRST COUNT ERRNO`: so many calls, from the first of them on, which is counted from 1, fail so and do
  * nothing.
  */
 #define _GNU_SOURCE
@@ -24,12 +24,14 @@ __attribute__((constructor)) static void begin(void) {
     if (path != NULL) failed = open(path, O_WRONLY | O_CREAT | O_APPEND | O_CLOEXEC, 0666);
 }
 
-static int is_refused(void) {
+/* The error of a call that is refused, or 0. */
+static int refused(void) {
     static int calls;
-    int first = 0, count = 0;
+    int first = 0, count = 0, why = 0;
     const char *which = getenv("ACCEPTS_REFUSE");
     calls++;
-    return which != NULL && sscanf(which, "%d %d", &first, &count) == 2 && first <= calls && calls < first + count;
+    if (which == NULL || sscanf(which, "%d %d %d", &first, &count, &why) != 3) return 0;
+    return first <= calls && calls < first + count ? why : 0;
 }
 
 /* What the call is to give; one that has failed is noted. */
@@ -41,11 +43,13 @@ static int noted(int result) {
 }
 
 int accept4(int listener, struct sockaddr *address, socklen_t *length, int flags) {
-    if (is_refused()) return errno = EMFILE, noted(-1);
+    int why = refused();
+    if (why != 0) return errno = why, noted(-1);
     return noted(REAL(accept4)(listener, address, length, flags));
 }
 
 int accept(int listener, struct sockaddr *address, socklen_t *length) {
-    if (is_refused()) return errno = EMFILE, noted(-1);
+    int why = refused();
+    if (why != 0) return errno = why, noted(-1);
     return noted(REAL(accept)(listener, address, length));
 }

@@ -30,11 +30,14 @@ STORED_ONE = bytes.fromhex("00000009 81 0000000000000001")
 Client = functools.partial(snapd_client.Client, timeout=PATIENCE)
 
 
+EXAMPLES = TOP / "clients" / "c" / "examples"
+
+
 @functools.lru_cache(maxsize=None)
-def compiled(name):
-    """The path of an example in C, compiled once with every warning an error."""
+def compiled(name, folder=EXAMPLES):
+    """The path of a program in C, as a rule of an example, compiled once with every warning an error."""
     path = pathlib.Path(_folder().name) / name
-    source = TOP / "clients" / "c" / "examples" / f"{name}.c"
+    source = folder / f"{name}.c"
     subprocess.run(["gcc", *STRICT, "-I", TOP / "clients" / "c", "-o", path, source], check=True)
     return str(path)
 

@@ -12,7 +12,7 @@ show() {
     eval "$1"
 }
 echo "In a fresh folder, $folder:"
-show "snapd format manifest.snap"
-show "echo 'step 100 checkpoint-100.bin' | snapd put manifest.snap"
-show "snapd get manifest.snap"
-show "snapd check manifest.snap"
+show "snapd format manifest.seg"
+show "echo 'step 100 checkpoint-100.bin' | snapd put manifest.seg"
+show "snapd get manifest.seg"
+show "snapd check manifest.seg"

@@ -1,5 +1,6 @@
 """Compiles the C files that stand between the program and the system, each once."""
 
+import errno
 import functools
 import pathlib
 import shutil
@@ -24,9 +25,9 @@ def library(name):
 class Accepts:
     """What servers that are started with `env` can't accept: so many calls from the first of them on, or what really fails."""
 
-    def __init__(self, folder, first=0, count=0):
+    def __init__(self, folder, first=0, count=0, why=errno.EMFILE):
         self.failed = folder / "failed"
-        self.env = {"LD_PRELOAD": library("accepts"), "ACCEPTS_FAILED": str(self.failed), "ACCEPTS_REFUSE": f"{first} {count}"}
+        self.env = {"LD_PRELOAD": library("accepts"), "ACCEPTS_FAILED": str(self.failed), "ACCEPTS_REFUSE": f"{first} {count} {why}"}
 
     def count(self):
         """How many calls have failed."""

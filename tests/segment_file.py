@@ -120,3 +120,12 @@ answer_of, findings = NOW.answer_of, NOW.findings
 def advice(file):
     """What a command says of a file of the old format's length, behind the line of its refusal."""
     return f"{file}: it has the length of the old format: carry it over with snapd migrate {file} NEW"
+
+
+# What a command on the file F as segment 0 of 1 says behind the line of a refusal.
+DAMAGED = "F: its slots give no answer: see snapd check F"
+FORMATTED = "F: it is formatted already: see snapd check F"
+OF_ANOTHER = "F: it isn't the file of segment 0 of 1: see snapd check F"
+UNFORMATTED = (
+    "F: it was never formatted, or its header is gone: keep a copy first, then snapd format F --index 0 --count 1"
+)

@@ -3,6 +3,7 @@
 import contextlib
 import os
 import pathlib
+import re
 import select
 import socket
 import struct
@@ -14,6 +15,8 @@ from program import Run
 from waiting import PATIENCE, comes_to  # noqa: F401
 
 LOOPBACK = "127.0.0.1:0"
+# A line of the log: when, how much it matters, of what, and what.
+LOG_LINE = re.compile(r"\d{4}-\d\d-\d\dT\d\d:\d\d:\d\d\.\d{3}Z (ERROR|WARN|INFO|DEBUG) (\w+): (.*)")
 
 
 def free_port():
@@ -140,10 +143,12 @@ class Server:
     `report` is what it printed before the line of its address. What it writes on standard error goes to a file.
     """
 
-    def __init__(self, snapd, *files, address=LOOPBACK, scanners=None, connections=None, env=None, descriptors=None):
-        words = [snapd.path, "serve", address, *map(str, files)]
+    def __init__(self, snapd, *files, address=LOOPBACK, scanners=None, connections=None, env=None, descriptors=None,
+                 more=(), before=()):
+        words = [*before, snapd.path, "serve", address, *map(str, files)]
         words += [] if scanners is None else ["--scanners", str(scanners)]
         words += [] if connections is None else ["--connections", str(connections)]
+        words += map(str, more)
         words = words if descriptors is None else limited(descriptors, words)
         self.errors = snapd.file(f"errors-{time.monotonic_ns()}")
         with open(self.errors, "wb") as errors:
@@ -186,6 +191,11 @@ class Server:
     def notes(self):
         """The lines on standard error so far."""
         return self.errors.read_text().splitlines()
+
+    def logged(self, level=None, target=None):
+        """The texts of the lines of its log so far, of this level and target."""
+        found = map(LOG_LINE.fullmatch, self.notes())
+        return [it[3] for it in found if it and level in (None, it[1]) and target in (None, it[2])]
 
     def end(self):
         """How it ended by itself: its status, what it printed behind its address, and its errors."""

@@ -1,12 +1,17 @@
 """The clients in Python and C: the messages that they make and read, and what they say of refusals."""
 
 import ast
+import os
+import pathlib
 import re
 import socket
+import subprocess
+import sys
 
-from clients import TOP, Client, Peer, ask, framed, oracle, raised, refused, says, vectors
+from clients import STORED_ONE, TOP, Client, Peer, ask, framed, oracle, raised, refused, says, vectors
 
 import snapd_client
+from program import Skipped
 from snapd_client import messages
 
 
@@ -86,6 +91,15 @@ def test_replies_that_are_none_are_told_apart(_, __):
                 assert isinstance(raised(client.scan), snapd_client.BadReply)
 
 
+def test_a_number_that_was_not_asked_for_is_a_bad_reply(_, __):
+    with Peer(says(STORED_ONE, 16), says(STORED_ONE, 16)) as peer:
+        assert ask(peer.address, "update", 0, 2, "hi") == (1, "", "bad reply\n")
+        with Client(peer.address) as client:
+            error = raised(lambda: client.update(0, 2, b"hi"))
+            assert isinstance(error, snapd_client.BadReply) and "1" in str(error) and "2" in str(error), error
+            assert client._socket is None
+
+
 def test_the_longest_snapshot_is_read(_, __):
     model = oracle.Model(16)
     for number, segment in enumerate(model.segments):
@@ -99,9 +113,28 @@ def test_the_longest_snapshot_is_read(_, __):
 
 def test_the_python_client_is_of_python_3_8(_, __):
     files = list((TOP / "clients" / "python").rglob("*.py"))
-    assert len(files) == 5
+    assert len(files) == 6
     for file in files:
         ast.parse(file.read_text(), file.name, feature_version=(3, 8))
+
+
+def test_pip_installs_the_python_client_without_a_network_and_leaves_its_folder_as_it_is(snapd, _):
+    folder, room = TOP / "clients" / "python", snapd.folder / "environment"
+    made = subprocess.run([sys.executable, "-m", "venv", room], capture_output=True, text=True)
+    if made.returncode:
+        raise Skipped(f"no virtual environment can be made here: {(made.stdout + made.stderr).strip()[-200:]}")
+    # Neither an index nor a folder of packages of this machine.
+    plain = {name: text for name, text in os.environ.items() if not name.startswith(("PIP_", "PYTHON"))}
+    env = {**plain, "PIP_NO_INDEX": "1"}
+    before = sorted(folder.rglob("*"))
+    run = subprocess.run([room / "bin" / "pip", "install", folder], env=env, cwd=snapd.folder, capture_output=True, text=True)
+    assert run.returncode == 0, run
+    assert sorted(folder.rglob("*")) == before
+    says = "import snapd_client; print(snapd_client.__file__, snapd_client.__version__)"
+    run = subprocess.run([room / "bin" / "python", "-c", says], env=env, cwd=snapd.folder, capture_output=True, text=True)
+    path, version = run.stdout.split()
+    assert pathlib.Path(path).is_relative_to(room) and (pathlib.Path(path).parent / "py.typed").exists()
+    assert f'version = "{version}"' in (folder / "pyproject.toml").read_text()
 
 
 # ---- refusals ----
@@ -145,12 +178,24 @@ def test_a_refusal_keeps_the_connection(_, __):
         assert client._socket is before
 
 
+def test_what_is_no_value_or_number_is_a_type_error_before_a_byte_is_sent(_, __):
+    client = Client("127.0.0.1:1", tries=1)
+    for value in (5, "hi", [104, 105], None, 1.5, object()):
+        error = raised(lambda: client.update(0, 1, value))
+        assert type(error) is TypeError and type(value).__name__ in str(error), error
+    for segment, number in ((0.0, 1), ("0", 1), (None, 1), (0, 1.0), (0, "1"), (0, None)):
+        assert type(raised(lambda: client.update(segment, number, b""))) is TypeError
+    for value in (bytearray(b"hi"), memoryview(b"hi"), memoryview(b"-h-i-")[1::2]):
+        assert messages.update(0, 1, value) == messages.update(0, 1, b"hi")
+
+
 def test_words_that_no_message_can_say(_, __):
     client = Client("127.0.0.1:1", tries=1)
     for call_ in (lambda: client.update(256, 1, b""), lambda: client.update(-1, 1, b""),
                   lambda: client.update(0, -1, b""), lambda: client.update(0, 1 << 64, b""),
                   lambda: client.update(0, 1, b"v" * 65_991), lambda: Client("nowhere"), lambda: Client("a:b"),
-                  lambda: Client("a:1", timeout=0), lambda: Client("a:1", tries=0)):
+                  lambda: Client("a:1", timeout=0), lambda: Client("a:1", tries=0), lambda: Client("a:99999"),
+                  lambda: Client("a:0"), lambda: Client(("a", 65_536)), lambda: Client(("a", "b"))):
         assert isinstance(raised(call_), ValueError)
     assert ask("127.0.0.1:0", "scan")[0] == 2 and ask("localhost:1", "scan")[0] == 2
     assert ask("127.0.0.1:1", "update", 256, 1, "") == (2, "", "bad call\n")

@@ -5,7 +5,7 @@ import subprocess
 import sys
 import threading
 
-from clients import ENVIRONMENT, TOP, Client, ask, begun, ends_right, jobs, kill, raised
+from clients import ENVIRONMENT, TOP, Client, ask, begun, compiled, ends_right, jobs, kill, raised
 from serving import FRESH, LOOPBACK, Server, fresh, segments
 from waiting import NO_END, PATIENCE, gets_on, moment
 
@@ -39,6 +39,71 @@ def test_both_clients_are_refused(snapd, _):
             assert type(error) is getattr(snapd_client, name) and (error.number, error.detail) == (wanted, detail), error
             ended = ask(server.address, "update", segment, number, value.decode())
             assert ended == (3, "", f"refused {wanted} {name} {detail}\n"), ended
+
+
+# A client that was used before processes are forked off: each updates a segment of its own by it.
+FORKED = """
+import multiprocessing, sys
+from snapd_client import Client
+
+client, count = Client(sys.argv[1], timeout=60), int(sys.argv[2])
+client.scan()
+
+def work(segment):
+    for number in range(1, count + 1):
+        stored = client.update(segment, number, b"value")
+        assert stored == number, f"segment {segment}: stored {stored} and not {number}"
+
+workers = [multiprocessing.get_context("fork").Process(target=work, args=(segment,)) for segment in (0, 1)]
+for it in workers:
+    it.start()
+while any(it.is_alive() for it in workers):
+    assert len(client.status()) == 2
+for it in workers:
+    it.join()
+assert [it.exitcode for it in workers] == [0, 0]
+assert client.scan() == ((count, b"value"), (count, b"value"))
+"""
+
+
+def test_processes_that_are_forked_off_have_connections_of_their_own(snapd, _):
+    words = [[sys.executable, "-c", FORKED], [compiled("forks", TOP / "tests")]]
+    for words, of_python in zip(words, (True, False)):
+        with Server(snapd, *fresh(snapd, 2)) as server:
+            address = [server.address] if of_python else server.address.split(":")
+            job = subprocess.run([*words, *address, "300"], env=ENVIRONMENT, capture_output=True, text=True, timeout=2 * PATIENCE)
+            assert (job.returncode, job.stdout, job.stderr) == (0, "", ""), job
+
+
+# A process that is forked off while a thread of the first one is inside a call.
+FORKED_IN_A_CALL = """
+import os, socket, sys, threading
+from snapd_client import Client
+
+ONE = bytes.fromhex("0000000e8201" + "00" * 12)
+listener = socket.create_server(("127.0.0.1", 0))
+listener.settimeout(60)
+client = Client(listener.getsockname(), timeout=60, tries=1)
+call = threading.Thread(target=client.scan)
+call.start()
+first, _ = listener.accept()
+assert len(first.recv(5)) == 5
+child = os.fork()
+if not child:
+    os._exit(len(client.scan()))
+second, _ = listener.accept()
+assert len(second.recv(5)) == 5
+second.sendall(ONE)
+assert os.waitpid(child, 0)[1] == 1 << 8
+first.sendall(ONE)
+call.join()
+"""
+
+
+def test_a_process_that_is_forked_off_waits_for_no_thread_that_it_has_not(snapd, _):
+    job = subprocess.run([sys.executable, "-W", "ignore", "-c", FORKED_IN_A_CALL], env=ENVIRONMENT, capture_output=True, text=True,
+                         timeout=2 * PATIENCE)
+    assert (job.returncode, job.stderr) == (0, ""), job
 
 
 class Restarted:

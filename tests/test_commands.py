@@ -1,11 +1,48 @@
 """The commands on real files: what they print, their statuses, and that a refused command changes nothing."""
 
+import contextlib
+import errno
 import os
 import pathlib
 import subprocess
 
 import segment_file as layout
 from program import Skipped
+from test_serve_disks import Disk
+from waiting import is_read
+
+# What a command says behind the line of a refusal.
+DAMAGED = "F: its slots give no answer: see snapd check F"
+FORMATTED = "F: it is formatted already: see snapd check F"
+
+
+def unformatted(place="--index 0 --count 1", file="F"):
+    format_it = f"snapd format {file} {place}"
+    return f"{file}: it was never formatted, or its header is gone: keep a copy first, then {format_it}"
+
+
+def of_another(index=0, count=1, file="F"):
+    return f"{file}: it isn't the file of segment {index} of {count}: see snapd check {file}"
+
+
+def of_length(length, file="F"):
+    return f"{file}: it has {length} bytes, and a segment file has {layout.LENGTH}"
+
+
+def cut_off(place, file="F"):
+    return f"{file}: it has no byte: a format that was cut off: go on with snapd format {file} {place}"
+
+
+def advised(reason):
+    return f"{reason}: look after its disk, and try again"
+
+
+def failed(reason, file="F"):
+    return f"{file}: {advised(reason)}"
+
+
+# What the system says of a call that fails.
+REASONS = {errno.EIO: "Input/output error (os error 5)", errno.ENOSPC: "No space left on device (os error 28)"}
 
 
 def test_first_run(snapd, _):
@@ -20,7 +57,7 @@ def test_first_run(snapd, _):
         "slot 0 open number 0 length 0\nslot 1 open number 1 length 2\nslot 2 closed\nanswer number 1\n",
     )
     data = snapd.file().read_bytes()
-    snapd("format", "F").refused(12, "AlreadyFormatted")
+    snapd("format", "F").refused(12, "AlreadyFormatted", FORMATTED)
     assert snapd.file().read_bytes() == data
 
 
@@ -40,8 +77,8 @@ def test_longest_value_and_one_more(snapd, _):
     for length in (4_081, 4_096, 1_000_000):
         snapd("put", "F", stdin=b"v" * length).refused(3, "TooLong")
         assert file.read_bytes() == data
-    snapd("get", "F", "--index", 1, "--count", 2).refused(14, "WrongFile")
-    snapd("get", "F", "--count", 2).refused(14, "WrongFile")
+    snapd("get", "F", "--index", 1, "--count", 2).refused(14, "WrongFile", of_another(1, 2))
+    snapd("put", "F", "--count", 2).refused(14, "WrongFile", of_another(0, 2))
     assert file.read_bytes() == data
 
 
@@ -73,7 +110,7 @@ def test_all_places_of_sixteen(snapd, _):
         snapd("format", f"F{index}", *options).gave(0, f"formatted {index} of 16\n")
         snapd("put", f"F{index}", *options, stdin=f"{index}").gave(0, "stored 1\n")
         snapd("get", f"F{index}", *options).gave(0, f"{index}")
-        snapd("get", f"F{index}").refused(14, "WrongFile")
+        snapd("get", f"F{index}").refused(14, "WrongFile", of_another(file=f"F{index}"))
         assert layout.header_of(snapd.file(f"F{index}").read_bytes()) == (index, 16)
 
 
@@ -93,24 +130,34 @@ def test_wrong_lengths(snapd, _):
     for length in (1, 20_479, 20_480, 20_481, 28_671, 28_673):
         data = b"\xa5" * length
         snapd.file().write_bytes(data)
-        more = [layout.advice("F")] if length == layout.OLD.length else []
+        more = layout.advice("F") if length == layout.OLD.length else of_length(length)
         for command in ("format", "put", "get", "check"):
-            snapd(command, "F").refused(14, "WrongFile", *more)
+            snapd(command, "F").refused(14, "WrongFile", more)
         snapd("put", "F", stdin=b"v" * 4_081).refused(3, "TooLong")
         assert snapd.file().read_bytes() == data
+
+
+def test_a_format_that_was_cut_off(snapd, _):
+    """It leaves a file of no byte, and the command that goes on is told."""
     snapd.file().write_bytes(b"")
-    for command in ("put", "get", "check"):
-        snapd(command, "F").refused(14, "WrongFile")
+    for words, place in [
+        (("put", "F"), "--index 0 --count 1"),
+        (("get", "F"), "--index 0 --count 1"),
+        (("get", "F", "--index", 1, "--count", 2), "--index 1 --count 2"),
+        (("check", "F"), "--index I --count N"),
+    ]:
+        snapd(*words).refused(14, "WrongFile", cut_off(place))
         assert snapd.file().read_bytes() == b""
     snapd("format", "F").gave(0, "formatted 0 of 1\n")
     snapd("get", "F").gave(0, b"")
 
 
 def test_unformatted(snapd, _):
+    """A file of the right length may hold something behind a header that is gone, which a format ends."""
     zeros = bytes(layout.LENGTH)
     snapd.file().write_bytes(zeros)
-    snapd("get", "F").refused(11, "Unformatted")
-    snapd("put", "F", stdin="hi").refused(11, "Unformatted")
+    snapd("get", "F").refused(11, "Unformatted", unformatted())
+    snapd("put", "F", "--index", 2, "--count", 3, stdin="hi").refused(11, "Unformatted", unformatted("--index 2 --count 3"))
     snapd("check", "F").gave(3, "header unformatted\n")
     assert snapd.file().read_bytes() == zeros
     snapd("format", "F", "--index", 2, "--count", 3).gave(0, "formatted 2 of 3\n")
@@ -142,11 +189,17 @@ def test_no_permission(snapd, _):
             subprocess.run([snapd.path, "--version"], check=True, stdout=subprocess.DEVNULL, **run)
         except (PermissionError, subprocess.CalledProcessError):
             raise Skipped("another user can't run the program where it lies")
+    snapd("put", "F", stdin="hi").gave(0, "stored 1\n")
     data = file.read_bytes()
-    for mode in (0o444, 0o000):
+    for mode, writers, readers in ((0o444, ("format", "put"), ("get", "check")), (0o000, ("format", "put", "get", "check"), ())):
         os.chmod(file, mode)
-        for command in ("format", "put", "get", "check"):
+        for command in writers:
             snapd(command, "F", stdin="hi", **run).failed_with(1, "F: Permission denied")
+        # What only reads needs no more.
+        for command in readers:
+            run_of = snapd(command, "F", **run)
+            assert run_of.status == 0 and run_of.errors == "", run_of
+            assert command == "check" or run_of.output == b"hi"
     os.chmod(file, 0o600)
     assert file.read_bytes() == data
 
@@ -255,9 +308,65 @@ def test_full_disk(snapd, _):
         raise Skipped(f"no small disk can be mounted: {mounted.stderr.strip()}")
     try:
         (disk / "filler").write_bytes(b"x" * 8_192)
-        snapd("format", "disk/F").refused(13, "DeviceFailed")
+        no_room = failed("write: No space left on device (os error 28)", "disk/F")
+        snapd("format", "disk/F").refused(13, "DeviceFailed", no_room)
         (disk / "filler").unlink()
-        snapd("format", "disk/F").refused(13, "DeviceFailed")
-        snapd("get", "disk/F").refused(11, "Unformatted")
+        snapd("format", "disk/F").refused(13, "DeviceFailed", no_room)
+        snapd("get", "disk/F").refused(11, "Unformatted", unformatted(file="disk/F"))
     finally:
         subprocess.run(["umount", "-l", disk], check=True)
+
+
+def test_the_reason_of_a_failed_call_is_told(snapd, _):
+    """Each kind of call of each command, as the system says it, with the file's name."""
+    disk = Disk(snapd)
+    made = layout.image([(0, b"")])
+    for why, text in REASONS.items():
+        for command, calls, before in [
+            ("format", ("read", "write", "sync"), bytes(layout.LENGTH)),
+            ("put", ("read", "write", "sync"), made),
+            ("get", ("read", "sync"), made),
+            ("check", ("read",), made),
+        ]:
+            for call in calls:
+                snapd.file().write_bytes(before)
+                disk.says(f"F {call} fail {why}")
+                run = snapd(command, "F", stdin="hi", env=disk.env)
+                run.refused(13, "DeviceFailed", failed(f"{call}: {text}"))
+                disk.says()
+                if command == "format":
+                    snapd("format", "F").gave(0, "formatted 0 of 1\n")
+                assert layout.answer_of(snapd.file().read_bytes()) in ((0, b""), (1, b"hi"))
+
+
+@contextlib.contextmanager
+def putting(snapd, value):
+    """A `put` that has its file and has read these bytes of its value. What comes last is its end."""
+    put = subprocess.Popen(
+        [snapd.path, "put", "F"], cwd=snapd.folder, stdin=subprocess.PIPE, stdout=subprocess.PIPE, stderr=subprocess.PIPE
+    )
+    try:
+        put.stdin.write(value)
+        put.stdin.flush()
+        is_read(put.stdin)
+        yield put
+    finally:
+        put.kill()
+        put.wait()
+
+
+def test_a_file_that_goes_away_under_a_put(snapd, _):
+    moved = "sync: its path doesn't name it any more: it was moved, removed or replaced"
+    for how, reason in (("moved", moved), ("cut", "read: failed to fill whole buffer")):
+        file = snapd.file()
+        file.unlink(missing_ok=True)
+        snapd.formatted()
+        with putting(snapd, b"hi") as put:
+            if how == "moved":
+                file.rename(snapd.file("G"))
+            else:
+                os.truncate(file, 0)
+            output, errors = put.communicate()
+            told = f"snapd: refused 13 DeviceFailed\nsnapd: {failed(reason)}\n"
+            assert (put.returncode, output, errors.decode()) == (3, b"", told), (how, errors)
+    assert snapd.file("G").read_bytes() == layout.image([(0, b"")])

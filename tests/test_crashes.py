@@ -119,10 +119,10 @@ def test_every_point_of_a_format(snapd, random):
             snapd.file().write_bytes(data)
             if layout.header_of(data) == "unformatted":
                 assert not is_done
-                snapd("get", "F").refused(11, "Unformatted")
+                snapd("get", "F").refused(11, "Unformatted", layout.UNFORMATTED)
                 snapd("format", "F").gave(0, "formatted 0 of 1\n")
             else:
-                snapd("format", "F").refused(12, "AlreadyFormatted")
+                snapd("format", "F").refused(12, "AlreadyFormatted", layout.FORMATTED)
             snapd("get", "F").gave(0, b"")
             snapd("put", "F", stdin="hi").gave(0, "stored 1\n")
 
@@ -149,6 +149,14 @@ def test_crash_upon_crash(snapd, random):
 STORES = [([(0, b"")], 6), ([(0, b""), (1, b"one")], 7), ([(2, b"two"), (1, b"one")], 7), ([(2, b"two")], 6)]
 
 
+def has_failed(run):
+    """It was refused as 13, and says which call failed and why."""
+    reasons = [f"{call}: Input/output error (os error 5)" for call in ("read", "write", "sync")]
+    reasons += ["read: failed to fill whole buffer", "write: failed to write whole buffer"]
+    told = [f"snapd: refused 13 DeviceFailed\nsnapd: F: {why}: look after its disk, and try again\n" for why in reasons]
+    assert (run.status, run.output) == (3, b"") and run.errors in told, run
+
+
 def calls_of(snapd, before, *words, **more):
     """How many calls a run makes on the file."""
     count = 1
@@ -157,7 +165,7 @@ def calls_of(snapd, before, *words, **more):
         run, _ = recorder.run(snapd, *words, fault=f"{count} fail", **more)
         if run.status == 0:
             return count - 1
-        run.refused(13, "DeviceFailed")
+        has_failed(run)
         count += 1
 
 
@@ -181,7 +189,7 @@ def test_every_call_fails(snapd, _):
                     assert answer == will
                 else:
                     assert kind in ("fail", "none")
-                    run.refused(13, "DeviceFailed")
+                    has_failed(run)
                     assert answer in (was, will), (call, kind, answer)
                 snapd("get", "F").gave(0, answer[1])
         snapd.file().write_bytes(before)

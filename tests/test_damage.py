@@ -15,8 +15,9 @@ def changed(data, *places):
 def is_refused(snapd, data, number, name, lines):
     """`get` and `put` refuse the file, `check` prints these lines, and the file stays as it is."""
     snapd.file().write_bytes(data)
-    snapd("get", "F").refused(number, name)
-    snapd("put", "F", stdin="new").refused(number, name)
+    more = {10: layout.DAMAGED, 11: layout.UNFORMATTED, 14: layout.OF_ANOTHER}[number]
+    snapd("get", "F").refused(number, name, more)
+    snapd("put", "F", stdin="new").refused(number, name, more)
     snapd("check", "F").gave(3, "".join(line + "\n" for line in lines))
     assert layout.findings(data) == "".join(line + "\n" for line in lines)
     assert snapd.file().read_bytes() == data
@@ -129,7 +130,7 @@ def test_headers(snapd, _):
     for place in (((9, b"\2"),), ((8, b"\1"), (9, b"\2"))):
         data = changed(WHOLE, *place)
         snapd.file().write_bytes(data)
-        snapd("get", "F").refused(14, "WrongFile")
+        snapd("get", "F").refused(14, "WrongFile", layout.OF_ANOTHER)
         index, count = layout.header_of(data)
         snapd("check", "F").gave(0, f"header index {index} count {count}\n{THREE}\n{FOUR}\n{SHUT}\nanswer number 4\n")
         snapd("get", "F", "--index", index, "--count", count).gave(0, b"four")
@@ -139,7 +140,7 @@ def test_format_keeps_what_is_formatted(snapd, _):
     """A file whose header gate is open is never formatted, whatever else it holds."""
     for data in (WHOLE, bytes([OPEN]) * LENGTH, changed(bytes(LENGTH), (BLOCK - 1, bytes([OPEN])))):
         snapd.file().write_bytes(data)
-        snapd("format", "F").refused(12, "AlreadyFormatted")
+        snapd("format", "F").refused(12, "AlreadyFormatted", layout.FORMATTED)
         assert snapd.file().read_bytes() == data
 
 
@@ -173,11 +174,11 @@ def test_random_files(snapd, random):
         snapd.file().write_bytes(data)
         answer, head = layout.answer_of(data), layout.header_of(data)
         if head == "unformatted":
-            snapd("get", "F").refused(11, "Unformatted")
+            snapd("get", "F").refused(11, "Unformatted", layout.UNFORMATTED)
         elif head != (0, 1):
-            snapd("get", "F").refused(14, "WrongFile")
+            snapd("get", "F").refused(14, "WrongFile", layout.OF_ANOTHER)
         elif answer is None:
-            snapd("get", "F").refused(10, "Damaged")
+            snapd("get", "F").refused(10, "Damaged", layout.DAMAGED)
         else:
             snapd("get", "F").gave(0, answer[1])
         ends = 0 if answer is not None and not isinstance(head, str) else 3

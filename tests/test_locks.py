@@ -1,7 +1,9 @@
 """One `snapd` on a file at a time: who writes it shuts all others out, and readers shut out who would write."""
 
 import fcntl
+import os
 import subprocess
+import threading
 
 import segment_file as layout
 from waiting import is_read
@@ -102,3 +104,27 @@ def test_put_has_its_file_from_its_beginning(snapd, _):
             put.kill()
             put.wait()
         snapd("get", "F").gave(0, "hi")
+
+
+def test_a_lock_that_ends_late_is_waited_for(snapd, _):
+    """On a network's file system a lock outlives its process for a while."""
+    file = snapd.formatted()
+    for words, printed in ((("put", "F"), "stored 1\n"), (("get", "F"), "hi")):
+        holder = locked(file, fcntl.LOCK_EX)
+        threading.Timer(0.3, holder.close).start()
+        snapd(*words, stdin="hi").gave(0, printed)
+        assert holder.closed
+
+
+def test_one_file_by_two_names(snapd, _):
+    """It isn't another program that has it in use."""
+    file = snapd.formatted()
+    os.link(file, snapd.file("G"))
+    os.symlink(file, snapd.file("H"))
+    for other in ("F", "./F", "G", "H"):
+        told = f"snapd: {other}: it is the same file as F: each file is named once\n"
+        snapd("serve", "127.0.0.1:0", "F", other).gave(1, errors=told)
+        snapd("migrate", "F", other).gave(1, errors=told)
+    snapd.file("E").write_bytes(layout.holding((0, b""), index=0, count=3))
+    told = "snapd: G: it is the same file as F: each file is named once\n"
+    snapd("serve", "127.0.0.1:0", "E", "F", "G").gave(1, errors=told)

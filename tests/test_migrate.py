@@ -11,11 +11,19 @@ import recorder
 import segment_file as layout
 from recorder import SYNC, Write
 from segment_file import BLOCK, NOW, OLD
+from test_commands import REASONS, advised, of_another, unformatted
 from test_crashes import outcomes
+from test_serve_disks import Disk
 from waiting import moment
 
-AS_OLD = "OLD: refused as the old file"
-AS_NEW = "F: refused as the new file"
+OF_OLD = "OLD: refused as the old file: "
+OF_NEW = "F: refused as the new file: "
+# What is said of a file behind the line of its refusal.
+OLD_WRONG = OF_OLD + f"it isn't the file of segment 0 of 1 with the {OLD.length} bytes of the old format"
+OLD_UNFORMATTED = OF_OLD + "it was never formatted, or its header is gone: look for a backup"
+OLD_DAMAGED = OF_OLD + "its slots give no answer: look for a backup"
+NEW_WRONG = OF_NEW + f"it is neither empty nor of the {NOW.length} bytes of a segment file: give another path"
+AS_NEW = OF_NEW + "it is formatted already: see snapd check F"
 
 
 def old_file(snapd, *values, index=0, count=1, name="OLD"):
@@ -92,7 +100,7 @@ def test_old_files_are_told_what_to_do(snapd, _):
     snapd("get", name).refused(14, "WrongFile", layout.advice(name))
     # Another wrong file is no file of the old format.
     snapd.formatted()
-    snapd("get", "F", "--count", 2).refused(14, "WrongFile")
+    snapd("get", "F", "--count", 2).refused(14, "WrongFile", of_another(0, 2))
 
 
 def test_order_of_faults(snapd, _):
@@ -122,23 +130,23 @@ def test_order_of_faults(snapd, _):
         fails(old, None, "nowhere/F").failed_with(1, f"nowhere/F: {missing}")
     for old in (b"x", b"", bytes(OLD.length - 1), bytes(OLD.length + 1), NOW.holding((0, b""))):
         for new in (b"x", bytes(OLD.length), taken, bytes(NOW.length)):
-            fails(old, new).refused(14, "WrongFile", AS_OLD)
+            fails(old, new).refused(14, "WrongFile", OLD_WRONG)
     for old in (bytes(OLD.length), whole, OLD.holding(), OLD.holding((4, b"a"), (7, b"b"))):
         for new in (b"x", bytes(OLD.length), bytes(NOW.length - 1), bytes(NOW.length + 1)):
-            fails(old, new).refused(14, "WrongFile", AS_NEW)
+            fails(old, new).refused(14, "WrongFile", NEW_WRONG)
     for new in (bytes(NOW.length), taken):
-        fails(bytes(OLD.length), new).refused(11, "Unformatted", AS_OLD)
-        fails(NOW.holding((0, b""))[: OLD.length], new).refused(14, "WrongFile", AS_OLD)
-        fails(OLD.holding((0, b""), index=1, count=2), new).refused(14, "WrongFile", AS_OLD)
-        fails(OLD.holding(), new).refused(10, "Damaged", AS_OLD)
-        fails(OLD.holding((4, b"a"), (7, b"b")), new).refused(10, "Damaged", AS_OLD)
-        fails(OLD.image([(3, b"misplaced")]), new).refused(10, "Damaged", AS_OLD)
+        fails(bytes(OLD.length), new).refused(11, "Unformatted", OLD_UNFORMATTED)
+        fails(NOW.holding((0, b""))[: OLD.length], new).refused(14, "WrongFile", OLD_WRONG)
+        fails(OLD.holding((0, b""), index=1, count=2), new).refused(14, "WrongFile", OLD_WRONG)
+        fails(OLD.holding(), new).refused(10, "Damaged", OLD_DAMAGED)
+        fails(OLD.holding((4, b"a"), (7, b"b")), new).refused(10, "Damaged", OLD_DAMAGED)
+        fails(OLD.image([(3, b"misplaced")]), new).refused(10, "Damaged", OLD_DAMAGED)
     fails(whole, taken).refused(12, "AlreadyFormatted", AS_NEW)
     fails(whole, bytes(BLOCK - 1) + b"\xa5" + bytes(NOW.length - BLOCK)).refused(12, "AlreadyFormatted", AS_NEW)
     # The old and the new file turned round.
     snapd.file("OLD").write_bytes(whole)
     snapd.file().write_bytes(taken)
-    snapd("migrate", "F", "OLD").refused(14, "WrongFile", "F: refused as the old file")
+    snapd("migrate", "F", "OLD").refused(14, "WrongFile", OLD_WRONG.replace("OLD:", "F:"))
 
 
 def test_paths_that_fail(snapd, _):
@@ -147,11 +155,11 @@ def test_paths_that_fail(snapd, _):
     snapd("migrate", "folder", "F").failed_with(1, "folder: Is a directory")
     assert not snapd.file().exists()
     snapd("migrate", "OLD", "folder").failed_with(1, "folder: Is a directory")
-    # A file that is to be carried over to itself is in use.
+    # A file isn't carried over to itself.
     data = old.read_bytes()
-    snapd("migrate", "OLD", "OLD").failed_with(1, "OLD: it is in use by another snapd")
+    snapd("migrate", "OLD", "OLD").failed_with(1, "OLD: it is the same file as OLD: each file is named once")
     os.link(old, snapd.file("LINK"))
-    snapd("migrate", "OLD", "LINK").failed_with(1, "LINK: it is in use by another snapd")
+    snapd("migrate", "OLD", "LINK").failed_with(1, "LINK: it is the same file as OLD: each file is named once")
     assert old.read_bytes() == data
 
 
@@ -183,7 +191,7 @@ def test_every_point_of_a_migration(snapd, random):
                 seen.add(head)
                 if head == "unformatted":
                     assert not is_done
-                    snapd("get", "F").refused(11, "Unformatted")
+                    snapd("get", "F").refused(11, "Unformatted", unformatted())
                     snapd("migrate", "OLD", "F").gave(0, printed)
                 else:
                     snapd("migrate", "OLD", "F").refused(12, "AlreadyFormatted", AS_NEW)
@@ -220,7 +228,7 @@ def test_every_call_fails(snapd, _):
     """Each of the nine calls in turn fails, or takes no byte: refused 13. Then the new file is unformatted or whole."""
     old = old_file(snapd, (2, b"two"), (1, b"one"))
     data, done, printed = old.read_bytes(), NOW.holding((2, b"two")), "migrated 0 of 1 number 2\n"
-    for name, number, which in (("OLD", 2, AS_OLD), ("F", 7, AS_NEW)):
+    for name, number, which in (("OLD", 2, OF_OLD), ("F", 7, OF_NEW)):
         for call in range(1, number + 2):
             for kind in ("fail", "none", "short", "interrupt", "kill", "torn"):
                 snapd.file().write_bytes(bytes(NOW.length))
@@ -230,7 +238,9 @@ def test_every_call_fails(snapd, _):
                     run.gave(0, printed)
                 elif run.status == 3:
                     assert kind in ("fail", "none") and call <= number
-                    run.refused(13, "DeviceFailed", which)
+                    reasons = FAULTS if kind == "fail" else CUT_SHORT
+                    told = [which + advised(reason) for reason in reasons]
+                    assert run.errors in [f"snapd: refused 13 DeviceFailed\nsnapd: {line}\n" for line in told], run
                 else:
                     assert run.status == -9 and kind in ("kill", "torn"), run
                 assert name == "F" or not any(isinstance(made, Write) for made in calls), calls
@@ -240,6 +250,27 @@ def test_every_call_fails(snapd, _):
                     snapd("migrate", "OLD", "F").gave(0, printed)
                 assert snapd.file().read_bytes() == done
                 assert old.read_bytes() == data
+
+
+FAULTS = [f"{call}: Input/output error (os error 5)" for call in ("read", "write", "sync")]
+# A call that moves no byte.
+CUT_SHORT = ["read: failed to fill whole buffer", "write: failed to write whole buffer"]
+
+
+def test_the_reason_of_a_failed_call_is_told(snapd, _):
+    """Of each file, as the system says it."""
+    disk = Disk(snapd)
+    old_file(snapd, (2, b"two"), (1, b"one"))
+    for why, text in REASONS.items():
+        for name, of, calls in (("OLD", OF_OLD, ("read", "sync")), ("F", OF_NEW, ("read", "write", "sync"))):
+            for call in calls:
+                snapd.file().write_bytes(bytes(NOW.length))
+                disk.says(f"{name} {call} fail {why}")
+                run = snapd("migrate", "OLD", "F", env=disk.env)
+                run.refused(13, "DeviceFailed", of + advised(f"{call}: {text}"))
+                disk.says()
+        snapd("migrate", "OLD", "F").gave(0, "migrated 0 of 1 number 2\n")
+        snapd.file().unlink()
 
 
 def test_killed_a_hundred_times(snapd, random):

@@ -1,6 +1,6 @@
 """Every listing of docs/RECIPES.md, run as it stands there: on real files, with kills of the jobs and of the server."""
 
-import configparser
+import functools
 import json
 import os
 import pathlib
@@ -12,8 +12,12 @@ import sys
 import threading
 import time
 
-from serving import Server, fresh, stored, update
-from waiting import NO_END, PATIENCE, gets_on, moment, wait_until
+from clients import Client, oracle
+from program import Skipped
+from serving import Server, fresh, segments, stored, update
+from waiting import NO_END, PATIENCE, comes_to, gets_on, moment, wait_until
+
+from snapd_client import Conflict, OutOfStep
 
 TOP = pathlib.Path(__file__).resolve().parent.parent
 RECIPES = (TOP / "docs" / "RECIPES.md").read_text()
@@ -34,20 +38,20 @@ def written(snapd, *names):
         (snapd.folder / name).write_text(LISTINGS[name])
 
 
-def environment(snapd):
-    """With the program, the client and this Python on the paths."""
+def environment(snapd, more):
+    """With the program, the client and this Python on the paths, and with more."""
     (snapd.folder / "bin").mkdir(exist_ok=True)
     for name, path in (("snapd", snapd.path), ("python3", sys.executable)):
         if not (snapd.folder / "bin" / name).exists():
             (snapd.folder / "bin" / name).symlink_to(path)
     return {**os.environ, "PATH": f"{snapd.folder / 'bin'}:{os.environ['PATH']}",
-            "PYTHONPATH": str(TOP / "clients" / "python"), "PYTHONDONTWRITEBYTECODE": "1"}
+            "PYTHONPATH": str(TOP / "clients" / "python"), "PYTHONDONTWRITEBYTECODE": "1", **more}
 
 
-def started(snapd, *words, **more):
+def started(snapd, *words, env=(), **more):
     """A process group of its own, so that it can be killed with all that it started."""
-    return subprocess.Popen(list(map(str, words)), cwd=snapd.folder, env=environment(snapd), text=True, start_new_session=True,
-                            stdin=subprocess.DEVNULL, stdout=subprocess.PIPE, **more)
+    return subprocess.Popen(list(map(str, words)), cwd=snapd.folder, env=environment(snapd, dict(env)), text=True,
+                            start_new_session=True, stdin=subprocess.DEVNULL, stdout=subprocess.PIPE, **more)
 
 
 def killed(process):
@@ -77,7 +81,8 @@ def test_start_formats_once(snapd, _):
     snapd.file("s2.seg").write_bytes(snapd.file("s3.seg").read_bytes()[:-1] + b"\1")
     server = started(snapd, "sh", "start.sh", "127.0.0.1:0", stderr=subprocess.PIPE)
     _, errors = server.communicate(timeout=PATIENCE)
-    assert (server.returncode, errors) == (3, "snapd: refused 12 AlreadyFormatted\n"), (server.returncode, errors)
+    told = "snapd: refused 12 AlreadyFormatted\nsnapd: s2.seg: it is formatted already: see snapd check s2.seg\n"
+    assert (server.returncode, errors) == (3, told), (server.returncode, errors)
 
 
 # ---- the checkpoints ----
@@ -138,22 +143,72 @@ def test_checkpoints_survive_kills_of_all(snapd, rng):
 
 # ---- the board ----
 
+class Board:
+    """A monitor, and all that it has printed so far."""
+
+    def __init__(self, snapd, address, patience):
+        written(snapd, "board.py")
+        self.process = started(snapd, sys.executable, "board.py", address, patience)
+        self.printed, self.wanted = [], []
+        self.listener = threading.Thread(target=self.listen, daemon=True)
+        self.listener.start()
+
+    def listen(self):
+        for line in self.process.stdout:
+            self.printed.append(line)
+
+    def prints(self, *lines):
+        """Waits for these lines of one scan, behind all that came before and nothing else."""
+        self.wanted += [f"{line}\n" for line in (*lines, "")]
+        comes_to(self.wanted, lambda: self.printed[: len(self.wanted)])
+
+    def __enter__(self):
+        return self
+
+    def __exit__(self, *_):
+        self.process.kill()
+        self.process.wait()
+        self.listener.join()
+
+
 def test_board_shows_what_all_said(snapd, _):
-    written(snapd, "board.py")
-    with Server(snapd, *fresh(snapd, 2)) as server:
-        board = started(snapd, sys.executable, "board.py", server.address, 0.5)
-        try:
-            shown = lambda: [board.stdout.readline() for _ in range(3)]  # noqa: E731
-            assert shown() == ["0 0  \n", "1 0  \n", "\n"]
+    files = fresh(snapd, 2)
+    server = Server(snapd, *files)
+    try:
+        with Board(snapd, server.address, 0.5) as board:
+            board.prints("0 0 ", "1 0 ")
+            board.prints("0 0  *", "1 0  *")
+            # One moves and stands still again. The other one doesn't move, and isn't printed.
             server.ask(update(1, 1, b"step 1"), stored(1))
-            while (seen := shown()) == ["0 0  *\n", "1 0  *\n", "\n"]:
-                pass
-            assert seen[1] in ("1 1 step 1 \n",), seen
-            until = time.monotonic() + PATIENCE
-            while shown() != ["0 0  *\n", "1 1 step 1 *\n", "\n"]:
-                assert time.monotonic() < until
-        finally:
-            killed(board)
+            board.prints("1 1 step 1")
+            board.prints("1 1 step 1 *")
+            # The monitor goes on by itself, over a new connection.
+            server.kill()
+            server = Server(snapd, *files, address=server.address)
+            server.ask(update(0, 1, b"\xff"), stored(1))
+            board.prints("0 1 \N{REPLACEMENT CHARACTER}")
+            board.prints("0 1 \N{REPLACEMENT CHARACTER} *")
+        assert board.printed == board.wanted
+    finally:
+        server.kill()
+
+
+def test_board_prints_nothing_while_nothing_changes(snapd, _):
+    """The server in plain Python counts how often it has been asked. Between two groups of lines the monitor looks on."""
+    model = oracle.Model(3)
+    with oracle.Server(model) as server, Client(server.address) as client, Board(snapd, server.address, 0.3) as board:
+        def is_quiet():
+            gets_on(lambda: model.answered, 6)
+            assert board.printed == board.wanted
+
+        board.prints("0 0 ", "1 0 ", "2 0 ")
+        board.prints("0 0  *", "1 0  *", "2 0  *")
+        is_quiet()
+        for number in (1, 2):
+            client.update(1, number, b"step")
+            board.prints(f"1 {number} step")
+            board.prints(f"1 {number} step *")
+            is_quiet()
 
 
 # ---- the lease ----
@@ -232,35 +287,189 @@ def test_lease_has_one_holder_and_growing_tokens(snapd, rng):
     assert max(said) <= number and number - len(said) <= holders.count, (number, said)
 
 
+# What no lease is: bytes, texts, and what JSON says of other jobs.
+NO_LEASES = (
+    b"step 17", b"\xff\xfe\xfd", b"\0", b"17", b"null", b'"holder"', b"[" * 4_080, b'[{"step": 2, "name": "rank0.step2.2"}]', b"{}",
+    b'{"holder": "a"}', b'{"holder": "a", "until": "noon"}', b'{"holder": "a", "until": null}', b'{"holder": "a", "until": 0, "step": 2}',
+)
+
+
+def refuses_to_lease(lease, server, segment, value):
+    """Ends by itself where it meets another job's value, and says so. The words of the command that it names as the remedy."""
+    try:
+        output, errors = lease.communicate(timeout=PATIENCE)
+    finally:
+        killed(lease)
+    assert (lease.returncode, output) == (4, ""), (segment, lease.returncode, output, errors)
+    said, _, command = errors.rpartition(": snapd ")
+    assert said == (
+        f"lease.py: segment {segment} of {server.address} holds {value[:40]!r}, which is no lease: nothing was changed. "
+        "Name another segment; or, if no job needs this value, empty it"
+    ), errors
+    return command.split()
+
+
+def test_lease_leaves_what_is_no_lease(snapd, _):
+    """Whatever another job has stored stays, before there is a lease and while somebody holds it. An emptied segment is free."""
+    written(snapd, "lease.py")
+
+    def begun(segment, seconds):
+        return started(snapd, sys.executable, "lease.py", server.address, segment, seconds, stderr=subprocess.PIPE)
+
+    with Server(snapd, *segments(snapd, *[[(0, b""), (1, value)] for value in NO_LEASES])) as server:
+        for segment, value in enumerate(NO_LEASES):
+            # It waits for an answer for a third of its seconds, and looks again after a quarter.
+            remedy = refuses_to_lease(begun(segment, 3 * PATIENCE), server, segment, value)
+        assert server.scan() == [(1, value) for value in NO_LEASES]
+        assert remedy == ["call", server.address, "update", str(segment), "2", "-"]
+        snapd(*remedy).gave(0, "stored 2\n")
+        holder = begun(segment, 8)
+        try:
+            assert holder.stdout.readline() == "token 3\n"
+            with Client(server.address) as client:
+                wait_until(lambda: stores(client, segment, b"step 18"), "another job's update")
+                number = client.scan()[segment].number
+                while (line := holder.stdout.readline()):
+                    assert line.startswith("token ") and int(line.split()[1]) < number, (line, number)
+                remedy = refuses_to_lease(holder, server, segment, b"step 18")
+                assert remedy[-2:] == [str(number + 1), "-"] and client.scan()[segment] == (number, b"step 18")
+        finally:
+            killed(holder)
+
+
+def stores(client, segment, value):
+    """Whether nobody else stored meanwhile."""
+    try:
+        return client.update(segment, client.scan()[segment].number + 1, value)
+    except (Conflict, OutOfStep):
+        return False
+
+
 # ---- the service ----
 
+UNIT = LISTINGS["snapd.service"]
+
+
+def of_section(section):
+    """What a section of the unit says: of each name its values, in their order."""
+    lines = re.search(rf"^\[{section}\]\n(.*?)(?=^\[|\Z)", UNIT, re.S | re.M)[1].splitlines()
+    values = {}
+    for name, _, value in (line.partition("=") for line in lines if line and not line.startswith("#")):
+        values.setdefault(name, []).append(value)
+    return values
+
+
+SERVICE = of_section("Service")
+(PROGRAM, COMMAND, ADDRESS, *WORDS), = [it.split() for it in SERVICE["ExecStart"]]
+FILES = [word for word in WORDS if word.endswith(".seg")]
+UNIT_ENVIRONMENT = dict(it.split("=", 1) for it in SERVICE["Environment"])
+
+
+def formatted_as_the_unit_wants(snapd):
+    for index, file in enumerate(FILES):
+        snapd.formatted(file, "--index", index, "--count", len(FILES))
+
+
 def test_unit_of_the_system(snapd, _):
-    unit = configparser.ConfigParser(strict=True)
-    unit.optionxform = str
-    unit.read_string(LISTINGS["snapd.service"])
-    service = unit["Service"]
-    assert service["RestartPreventExitStatus"] == "2 3" and service["WorkingDirectory"] == "/var/lib/snapd"
-    program, command, address, *words = service["ExecStart"].split()
-    assert (pathlib.Path(program).name, command, address) == ("snapd", "serve", "127.0.0.1:7070")
-    files = [word for word in words if word.endswith(".seg")]
-    for index, file in enumerate(files):
-        snapd.formatted(file, "--index", index, "--count", len(files))
+    assert (pathlib.Path(PROGRAM).name, COMMAND, ADDRESS) == ("snapd", "serve", "127.0.0.1:7070")
+    assert SERVICE["WorkingDirectory"] == ["/var/lib/snapd"] and SERVICE["StateDirectory"] == ["snapd"]
+    assert UNIT_ENVIRONMENT == {"GLIBC_TUNABLES": "glibc.malloc.hugetlb=1", "MALLOC_ARENA_MAX": "1"}
+    # It goes on trying what may come right by itself: here the files aren't there yet.
+    assert of_section("Unit")["StartLimitIntervalSec"] == ["0"] and SERVICE["Restart"] == ["always"]
+    gives_up = [int(it) for it in SERVICE["RestartPreventExitStatus"][0].split()]
+    assert gives_up == [2, 3]
+    serve = lambda *words: snapd("serve", "127.0.0.1:0", *words, env=UNIT_ENVIRONMENT)  # noqa: E731
+    assert serve(*WORDS).status == 1
+    formatted_as_the_unit_wants(snapd)
+    assert serve("--scanners").status == 2 and serve(*reversed(FILES)).status == 3
     # One connection, so that it ends.
-    server = started(snapd, snapd.path, "serve", "127.0.0.1:0", *words, "--connections", 1, stderr=subprocess.DEVNULL)
+    with Server(snapd, *WORDS, connections=1, env=UNIT_ENVIRONMENT) as server:
+        wanted = "".join(f"segment {index} number 0 value -\n" for index in range(len(FILES)))
+        snapd("call", server.address, "scan").gave(0, wanted)
+        assert server.end().status == 0
+
+
+# What the unit doesn't let the server do. The tool below rates more of them than these.
+LIMITS = {
+    "User": ["snapd"], "NoNewPrivileges": ["yes"], "CapabilityBoundingSet": [""], "ProtectSystem": ["strict"], "ProtectHome": ["yes"],
+    "PrivateTmp": ["yes"], "PrivateDevices": ["yes"], "MemoryDenyWriteExecute": ["yes"], "RestrictNamespaces": ["yes"],
+    "RestrictAddressFamilies": ["AF_INET AF_INET6"], "SystemCallArchitectures": ["native"],
+    "SystemCallFilter": ["@system-service", "~@privileged @resources"], "UMask": ["0077"],
+}
+# Of 10, which is a service without a limit.
+EXPOSURE = 4.0
+
+
+def analyzed(snapd, unit, *words):
+    """What `systemd-analyze` says of a unit, in which it finds the program."""
+    path = snapd.folder / "snapd.service"
+    path.write_text(unit.replace(PROGRAM, snapd.path))
+    run = subprocess.run(["systemd-analyze", *words, path.resolve()], capture_output=True, text=True, timeout=PATIENCE)
+    assert "snapd.service:" not in run.stderr, run.stderr
+    return run
+
+
+def test_unit_is_as_narrow_as_it_says(snapd, _):
+    assert {name: SERVICE.get(name) for name in LIMITS} == LIMITS
+    if shutil.which("systemd-analyze") is None:
+        return
+    # The user needn't be there.
+    analyzed(snapd, UNIT.replace("User=snapd\n", ""), "verify")
+    # Releases before 250 rate no unit that isn't loaded.
+    if "--offline" not in subprocess.run(["systemd-analyze", "--help"], capture_output=True, text=True).stdout:
+        return
+    run = analyzed(snapd, UNIT, "security", "--offline=true", f"--threshold={10 * EXPOSURE:.0f}")
+    rated = re.search(r"Overall exposure level for snapd\.service: (\d+\.\d+) ", run.stdout)
+    assert run.returncode == 0 and rated and float(rated[1]) < EXPOSURE, (run.returncode, run.stdout[-400:], run.stderr)
+
+
+@functools.cache
+def calls_in(name):
+    """The system calls that a word of a filter stands for."""
+    if not name.startswith("@"):
+        return {name}
+    run = subprocess.run(["systemd-analyze", "syscall-filter", name], capture_output=True, text=True, check=True)
+    words = [line.strip() for line in run.stdout.splitlines()[1:]]
+    return calls_of_all(word for word in words if word and not word.startswith("#"))
+
+
+def calls_of_all(names):
+    return set().union(*map(calls_in, names))
+
+
+def test_unit_leaves_the_server_what_it_needs(snapd, _):
+    """The calls of a start, of scans, updates and connections are among those that the unit leaves it."""
+    if shutil.which("strace") is None or shutil.which("systemd-analyze") is None:
+        raise Skipped("strace or systemd-analyze isn't installed")
+    allowed, taken = SERVICE["SystemCallFilter"]
+    assert taken.startswith("~")
+    left = calls_of_all(allowed.split()) - calls_of_all(taken[1:].split())
+    assert {"openat", "pwrite64", "fdatasync", "accept4"} <= left and not {"chown", "setuid", "mount", "reboot"} & left
+    formatted_as_the_unit_wants(snapd)
+    log = snapd.file("calls")
+    traced = ["strace", "-f", "-qq", "-o", log.name]
+    server = started(snapd, *traced, snapd.path, "serve", "127.0.0.1:0", *WORDS, "--connections", 3, stderr=subprocess.PIPE,
+                     env=UNIT_ENVIRONMENT)
     try:
         while not (line := server.stdout.readline()).startswith("listening "):
-            assert line
-        snapd("call", line.split()[1], "scan").gave(
-            0, "".join(f"segment {index} number 0 value -\n" for index in range(len(files)))
-        )
-        assert server.wait(timeout=PATIENCE) == 0
+            if not line:
+                raise Skipped(f"strace can't trace here: {server.stderr.read().strip()}")
+        address = line.split()[1]
+        snapd("call", address, "update", 0, 1, "6869").gave(0, "stored 1\n")
+        snapd("call", address, "scan").gave(0, "segment 0 number 1 value 6869\n" + "".join(
+            f"segment {index} number 0 value -\n" for index in range(1, len(FILES))))
+        snapd("call", address, "status")
+        output, errors = server.communicate(timeout=PATIENCE)
+        assert (server.returncode, output) == (0, "served 3\n"), (server.returncode, output, errors)
     finally:
         killed(server)
-    if shutil.which("systemd-analyze"):
-        path = snapd.folder / "snapd.service"
-        path.write_text(LISTINGS["snapd.service"].replace(program, snapd.path).replace("User=snapd\n", ""))
-        run = subprocess.run(["systemd-analyze", "verify", path], capture_output=True, text=True)
-        assert "snapd.service" not in run.stderr, run.stderr
+    calls = re.findall(r"^\d+ +(\w+)\((.*)$", log.read_text(), re.M)
+    assert {"pwrite64", "fdatasync", "accept4"} <= {name for name, _ in calls}
+    assert {name for name, _ in calls} - left == set()
+    families = {words.split(",")[0] for name, words in calls if name in ("socket", "socketpair")}
+    assert families <= set(SERVICE["RestrictAddressFamilies"][0].split()), families
+    for name, words in calls:
+        assert name not in ("mmap", "mprotect") or not ("PROT_WRITE" in words and "PROT_EXEC" in words), (name, words)
 
 
 # ---- the refusals ----

@@ -54,7 +54,7 @@ def test_no_connection_is_served(snapd, _):
 
 
 def test_as_many_connections_as_were_asked_for(snapd, _):
-    with Server(snapd, *two(snapd), connections=3) as server:
+    with Server(snapd, *two(snapd), connections=3, more=("--log", "debug")) as server:
         for number in (2, 3):
             server.ask(update(0, number, b"x"), stored(number))
         server.ask(STATUS, standings((3, False), (0, False)))
@@ -90,7 +90,7 @@ def test_address_in_use(snapd, _):
 
 def test_addresses_that_the_system_does_not_take(snapd, _):
     files = two(snapd)
-    for address in ("nowhere", "127.0.0.1", "127.0.0.1:65536", "127.0.0.1:", ":", "", "256.0.0.1:0", "192.0.2.1:0"):
+    for address in ("127.0.0.1:65536", "127.0.0.1:port", "nowhere.invalid:0", "256.0.0.1:0", "192.0.2.1:0"):
         run = snapd("serve", address, *files)
         assert (run.status, run.output.decode()) == (1, REPORT), (address, run)
         assert run.errors.startswith(f"snapd: {address}: can't listen there: "), (address, run)
@@ -116,8 +116,8 @@ def file_faults(snapd):
         ("folder", 1, ["folder: Is a directory (os error 21)"]),
         ("damaged", 3, ["refused 10 Damaged", "damaged: it doesn't hold a segment's number: see snapd check damaged"]),
         ("unformatted", 3, ["refused 11 Unformatted",
-                            "unformatted: format it first: snapd format unformatted --index 1 --count 3"]),
-        *[(name, 3, ["refused 14 WrongFile", f"{name}: it isn't the file of segment 1 of 3: see snapd check {name}"])
+                            "unformatted: it was never formatted, or its header is gone: keep a copy first, then snapd format unformatted --index 1 --count 3"]),
+        *[(name, 3, ["refused 14 WrongFile", f"{name}: it isn't the file of segment 1 of 3, or has the old format: see snapd check {name}"])
           for name in ("empty", "short", "old", "another")],
     ]
 
@@ -175,7 +175,7 @@ def test_file_in_use(snapd, _):
     with Server(snapd, *files) as server:
         assert server.scan() == [(1, b"hi"), (1, b"ho")]
     # One file can't be two segments.
-    snapd("serve", "127.0.0.1:0", "S0", "S0").gave(1, errors=in_use)
+    snapd("serve", "127.0.0.1:0", "S0", "S0").gave(1, errors="snapd: S0: it is the same file as S0: each file is named once\n")
 
 
 def test_a_stop_by_any_signal_keeps_all(snapd, _):
@@ -252,7 +252,7 @@ def test_words_of_call(snapd, _):
 # ---- calls ----
 
 def test_what_call_prints(snapd, _):
-    with Server(snapd, *two(snapd)) as server:
+    with Server(snapd, *two(snapd), more=("--log", "debug")) as server:
         call = lambda *words: snapd("call", server.address, *words)  # noqa: E731
         call("update", 0, 2, "C0ffee").gave(0, "stored 2\n")
         call("update", 0, 2, "c0FFEE").gave(0, "stored 2\n")
@@ -269,7 +269,7 @@ def test_what_call_prints(snapd, _):
             (("update", 0, 0, "-"), "5 OutOfStep 2"), (("update", 0, 2**64 - 1, "-"), "5 OutOfStep 2"),
         ]:
             call(*words).gave(3, errors=f"snapd: refused {text}\n")
-        comes_to(15, lambda: len(server.notes()))
+        comes_to(15, lambda: len(server.logged("DEBUG", "connection")))
 
 
 def test_nobody_listens(snapd, _):
@@ -398,7 +398,7 @@ def test_it_serves_on_where_standard_error_is_full(snapd, _):
 
 def test_each_end_is_noted_with_its_peer(snapd, _):
     """One line each on standard error: the peer's address, and how its connection ended."""
-    with Server(snapd, *two(snapd), connections=4) as server:
+    with Server(snapd, *two(snapd), connections=4, more=("--log", "debug")) as server:
         wanted = {}
 
         def ends(how, sent, replies, ending):
@@ -416,8 +416,7 @@ def test_each_end_is_noted_with_its_peer(snapd, _):
         run = server.end()
         assert (run.status, run.output) == (0, b"served 4\n"), run
         found = {}
-        for line in run.errors.splitlines():
-            note = re.fullmatch(r"snapd: (127\.0\.0\.1:\d+) (.+)", line)
-            assert note, line
-            found[note[1]] = note[2]
+        for text in server.logged("DEBUG", "connection"):
+            peer, _, how = text.partition(" ")
+            found[peer] = how
         assert found == wanted, run.errors

@@ -89,7 +89,7 @@ def test_a_start_on_a_failing_disk(snapd, _):
     for call in ("sync", "read"):
         disk.says(f"S1 {call} fail {errno.EIO}")
         run = snapd("serve", "127.0.0.1:0", *files, env=disk.env)
-        run.refused(13, "DeviceFailed", "S1: it couldn't be synced and read: look after its disk, and start again")
+        run.refused(13, "DeviceFailed", f"S1: {call}: Input/output error (os error 5): look after its disk, and start again")
     disk.says()
     with Server(snapd, *files, env=disk.env) as server:
         assert server.scan() == [(1, b"hi")] * 3
@@ -210,6 +210,9 @@ def test_the_file_system_is_read_only(snapd, _):
         files = segments(snapd, TWO, TWO, folder="small")
         subprocess.run(["mount", "-o", "remount,ro", place], check=True)
         snapd("serve", "127.0.0.1:0", *files).gave(1, errors="snapd: small/S0: Read-only file system (os error 30)\n")
+        # What only reads goes on.
+        snapd("get", "small/S0", "--index", 0, "--count", 2).gave(0, "hi")
+        assert snapd("check", "small/S0").status == 0
         subprocess.run(["mount", "-o", "remount,rw", place], check=True)
         with Server(snapd, *files) as server:
             server.ask(update(0, 2), stored(2))
@@ -228,8 +231,8 @@ def test_a_file_is_damaged_while_it_serves(snapd, _):
     """It serves on what it knows. A restart refuses the file by name and leaves the others alone."""
     damages = [
         (layout.gate_at(0) + 7, b"\1", 3, 10, "Damaged", "it doesn't hold a segment's number: see snapd check S0"),
-        (layout.HEADER_GATE, b"\0", 3, 11, "Unformatted", "format it first: snapd format S0 --index 0 --count 2"),
-        (9, b"\7", 0, 14, "WrongFile", "it isn't the file of segment 0 of 2: see snapd check S0"),
+        (layout.HEADER_GATE, b"\0", 3, 11, "Unformatted", "it was never formatted, or its header is gone: keep a copy first, then snapd format S0 --index 0 --count 2"),
+        (9, b"\7", 0, 14, "WrongFile", "it isn't the file of segment 0 of 2, or has the old format: see snapd check S0"),
     ]
     for at, data, checked, number, name, advice in damages:
         files = segments(snapd, TWO, FRESH)
@@ -260,7 +263,36 @@ def test_a_file_is_gone_while_it_serves(snapd, _):
         if how == "removed":
             run.gave(1, errors="snapd: S0: No such file or directory (os error 2)\n")
         else:
-            run.refused(14, "WrongFile", "S0: it isn't the file of segment 0 of 2: see snapd check S0")
+            run.refused(14, "WrongFile", "S0: it isn't the file of segment 0 of 2, or has the old format: see snapd check S0")
         segments(snapd, FRESH, [(1, b"on")])
         with Server(snapd, *files) as server:
             assert server.scan() == [(0, b""), (1, b"on")]
+
+
+def test_a_file_that_is_moved_takes_no_update(snapd, _):
+    """What would be stored where nobody finds it again is refused. Once the old file is back, a restart goes on from what was
+    acknowledged."""
+    for how in ("removed", "renamed", "replaced", "replaced by a copy"):
+        files = segments(snapd, TWO, TWO)
+        path, aside = snapd.file("S0"), snapd.file("aside")
+        with Server(snapd, *files) as server:
+            server.ask(update(0, 2, b"new"), stored(2))
+            if how == "removed":
+                os.link(path, aside)
+                path.unlink()
+            elif how == "replaced":
+                os.link(path, aside)
+                backup = snapd.file("backup")
+                backup.write_bytes(layout.holding(*TWO, index=0, count=2))
+                os.replace(backup, path)
+            else:
+                path.rename(aside)
+                if how == "replaced by a copy":
+                    path.write_bytes(aside.read_bytes())
+            server.ask(update(0, 3, b"lost") + update(0, 3, b"lost"), refused(13, 2) + refused(6, 2))
+            server.ask(SCAN + STATUS, snapshot((2, b"new"), (1, b"hi")) + standings((2, True), (1, False)))
+            server.ask(update(1, 2, b"on"), stored(2))
+        os.replace(aside, path)
+        with Server(snapd, *files) as server:
+            assert server.scan()[0] in ((2, b"new"), (3, b"lost")) and server.scan()[1] == (2, b"on"), how
+            server.ask(update(0, 3, b"lost"), stored(3))

@@ -7,9 +7,8 @@ import selectors
 import socket
 import time
 
-from preload import Accepts
 from program import Skipped
-from serving import FRESH, LOOPBACK, MALFORMED, OVER_THE_LIMIT, SCAN, STATUS, TOO_LARGE, Server, entries_of, frame, fresh
+from serving import FRESH, MALFORMED, OVER_THE_LIMIT, SCAN, STATUS, TOO_LARGE, Server, entries_of, frame, fresh
 from serving import received, refused, reply, reset, segments, snapshot, standings, stored, to_its_end, update
 from clients import vectors
 from waiting import PATIENCE, comes_to
@@ -118,13 +117,13 @@ def test_random_bytes(snapd, rng):
 
 def test_half_open_connections(snapd, _):
     """A peer that writes no more still gets its replies, whole frames and cut ones; one that vanishes harms nobody."""
-    with Server(snapd, *fresh(snapd, 1), scanners=1) as server:
+    with Server(snapd, *fresh(snapd, 1), scanners=1, more=("--log", "debug")) as server:
         for number, rest in enumerate((b"", b"\0", SCAN[:-1], update(0, 9, b"cut off")[:-1]), start=1):
             with server.connect() as stream:
                 stream.sendall(update(0, number, b"x") + SCAN + rest)
                 stream.shutdown(socket.SHUT_WR)
                 assert to_its_end(stream) == stored(number) + snapshot((number, b"x"))
-        comes_to(4, lambda: len(server.notes()))
+        comes_to(4, lambda: len(server.logged("DEBUG", "connection")))
         # The note of an end comes before its socket is closed.
         comes_to(0, server.connections)
         before = server.descriptors()
@@ -289,22 +288,3 @@ def all_at_once(server, count):
         stream.setblocking(False)
         stream.connect_ex(server.place)
     return streams
-
-
-def test_no_room_for_a_connection(snapd, _):
-    """Where the system gives no more open files the others go on; after sixteen faults in a row no more are taken."""
-    accepts = Accepts(snapd.folder)
-    with Server(snapd, *fresh(snapd, 1), scanners=2, descriptors=40, env=accepts.env) as server:
-        streams = [server.connect() for _ in range(60)]
-        try:
-            streams[0].sendall(SCAN)
-            assert received(streams[0], len(snapshot((0, b"")))) == snapshot((0, b""))
-            comes_to(16, accepts.count)
-            streams[1].sendall(update(0, 1))
-            assert received(streams[1], 13) == stored(1)
-        finally:
-            for stream in streams:
-                stream.close()
-        run = server.end()
-        assert run.status == 1 and run.output == b"", run
-        assert f"snapd: {LOOPBACK}: 16 connections in a row couldn't be accepted\n" in run.errors, run

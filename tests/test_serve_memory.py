@@ -41,19 +41,25 @@ def started(snapd, count, scanners=1, **more):
     return server
 
 
+# The system says no more of a thread that it has no memory for than of one too many.
+NO_THREAD = "the system refused a thread: allow more of them, or give --scanners a smaller number\n"
+
+
 def test_each_allocation_of_a_start_is_refused(snapd, _):
-    """It serves, or says that memory was wanting and nothing else. The files stay as they are."""
+    """It serves, or says that memory was wanting, or a thread, and nothing else. The files stay as they are."""
     words = ("serve", LOOPBACK, *segments(snapd, FRESH, [(0, b""), (1, b"hi")]), "--connections", 0)
     before = [snapd.file(name).read_bytes() for name in ("S0", "S1")]
     env, counted = {"LD_PRELOAD": library("allocations")}, snapd.file("count")
     snapd(*words, env={**env, "ALLOCATIONS_COUNT": str(counted)})
-    refusals = 0
+    refusals = threads = 0
     for number in range(1, int(counted.read_text()) + 1):
         run = snapd(*words, env={**env, "ALLOCATIONS_REFUSE": str(number)})
         wanted = (0, "") if b"served 0" in run.output else (3, "snapd: refused 8 NoMemory\n")
-        assert (run.status, run.errors) == wanted, (number, run)
+        is_thread = run.status == 1 and run.errors in (f"snapd: {NO_THREAD}", f"snapd: {LOOPBACK}: {NO_THREAD}")
+        assert (run.status, run.errors) == wanted or is_thread, (number, run)
         refusals += run.status == 3
-    assert refusals > 100, refusals
+        threads += is_thread
+    assert refusals > 100 and threads < 10, (refusals, threads)
     assert before == [snapd.file(name).read_bytes() for name in ("S0", "S1")]
 
 

@@ -1,6 +1,8 @@
 """The server's loop over real sockets, with nothing behind it: `try_crates server` answers an update by its number once a store
 has rested over it, and everything else at once by 0. The end-to-end tests want it built (`make programs`)."""
 
+import contextlib
+import errno
 import os
 import pathlib
 import select
@@ -237,39 +239,70 @@ def test_random_bytes(_, rng):
         assert trial.end()[2] == "served 101"
 
 
-def test_a_short_want_of_descriptors_passes(program, _):
-    """Fifteen faults in a row, and the connections that came meanwhile are served."""
-    accepts = Accepts(program.folder, first=2, count=15)
+def test_want_of_descriptors_passes(program, _):
+    """However long it lasts, it ends nothing: the connections that came meanwhile are served."""
+    accepts = Accepts(program.folder, first=2, count=40)
     with Trial(2, env=accepts.env) as trial, trial.connect() as first:
         streams = [trial.connect() for _ in range(3)]
         for stream in [first, *streams]:
             stream.sendall(SCAN)
             assert received(stream, 13) == SCANNED
             stream.close()
-        assert accepts.count() == 15
+        assert accepts.count() == 40
+
+
+def test_callers_that_are_gone_are_no_faults(program, _):
+    accepts = Accepts(program.folder, first=2, count=40, why=errno.ECONNABORTED)
+    with Trial(2, env=accepts.env) as trial:
+        for _ in range(2):
+            trial.ask(SCAN, SCANNED)
+        assert accepts.count() == 40
+
+
+def test_fifteen_faults_in_a_row_end_nothing(program, _):
+    accepts = Accepts(program.folder, first=2, count=15, why=errno.EINVAL)
+    with Trial(2, 0, 2, env=accepts.env) as trial:
+        with trial.connect() as first:
+            comes_to(15, accepts.count)
+            first.sendall(SCAN)
+            assert received(first, 13) == SCANNED
+        trial.ask(SCAN, SCANNED)
+        assert trial.end()[2] == "served 2"
 
 
 def test_a_sixteenth_fault_in_a_row_ends_it(program, _):
-    accepts = Accepts(program.folder, first=2, count=16)
-    with Trial(2, env=accepts.env) as trial:
-        with trial.connect() as first:
-            comes_to(16, accepts.count)
-            first.sendall(SCAN)
-            assert received(first, 13) == SCANNED
-        assert trial.end()[1:] == ("entered 1, left 1", "16 connections in a row couldn't be accepted")
+    """Callers are refused then, who has nothing under way is let go of, and who began a request may end it."""
+    accepts = Accepts(program.folder, first=3, count=16, why=errno.EINVAL)
+    with Trial(1, env=accepts.env) as trial, trial.connect() as begun:
+        begun.sendall(SCAN + SCAN[:-1])
+        assert received(begun, 13) == SCANNED
+        # The faults begin behind the second connection.
+        with trial.connect() as quiet:
+            assert to_its_end(quiet) == b""
+        with contextlib.suppress(ConnectionRefusedError):
+            trial.connect()
+            raise AssertionError("it listens yet")
+        begun.sendall(SCAN[-1:])
+        assert to_its_end(begun) == SCANNED
+        ends, _, last = trial.end()
+        assert last == "16 connections in a row couldn't be accepted"
+        assert [how for _, how in ends] == ["Stopped", "Stopped"], ends
 
 
-def test_sixteen_faults_of_accept_in_a_row(program, _):
-    """Where there really are no descriptors any more."""
+def test_no_descriptor_is_left(program, _):
+    """Who calls then waits in the system's queue, and is served as soon as another one has ended."""
     accepts = Accepts(program.folder)
-    with Trial(2, 0, None, 30, accepts.env) as trial:
+    with Trial(2, 0, 40, 30, accepts.env) as trial:
         streams = [trial.connect() for _ in range(40)]
+        for stream in streams:
+            stream.sendall(SCAN)
+        comes_to(True, lambda: accepts.count() > 16)
+        # Those that were accepted are served meanwhile.
+        assert received(streams[0], 13) == SCANNED
         streams[0].sendall(SCAN)
         assert received(streams[0], 13) == SCANNED
-        comes_to(16, accepts.count)
-        # Those that are there are still served.
-        streams[1].sendall(SCAN)
-        assert received(streams[1], 13) == SCANNED
         for stream in streams:
+            if stream is not streams[0]:
+                assert received(stream, 13) == SCANNED
             stream.close()
-        assert trial.end()[1:] == ("entered 2, left 2", "16 connections in a row couldn't be accepted")
+        assert trial.end()[2] == "served 40"

@@ -34,7 +34,10 @@ def calls_of(snapd, *words, stdin=b""):
             on_file.append(("open" + opened[str(result)],))
             continue
         number = words_of_call.split(",")[0]
-        if number in opened:
+        path = re.search(r'AT_FDCWD, "(F|OLD)"', words_of_call) if name == "statx" else None
+        if path is not None:
+            on_file.append(("look at the name" + names[path[1]],))
+        elif number in opened:
             numbers = [int(word) for word in re.findall(r", (\d+)(?=,|$)", words_of_call)] if name.startswith("p") else []
             on_file.append((name + opened[number], *numbers[-2:][::-1]))
             if name == "close":
@@ -45,19 +48,23 @@ def calls_of(snapd, *words, stdin=b""):
 
 
 OPENED = [("open",), ("flock",), ("statx",)]
+# What only reads looks first whether it is a file, since a pipe would let it wait.
+READ = [("look at the name",), *OPENED]
+# A sync, and then whether the path still names the file.
+SYNCED = [("fdatasync",), ("look at the name",)]
 NAMED = [("open of the folder",), ("fsync of the folder",), ("close of the folder",)]
-RECOVERED = [("fdatasync",), ("pread64", 0, 28_672)]
+RECOVERED = [*SYNCED, ("pread64", 0, 28_672)]
 # Of a file that is taken for a new segment: whether it is formatted, and the calls that format it.
-LOOKED_AT = [("fdatasync",), ("pread64", 0, 4_096)]
-FILLED = [("pwrite64", 0, 4_095), ("pwrite64", 4_096, 24_576), ("fdatasync",), ("pwrite64", 4_095, 1), ("fdatasync",)]
+LOOKED_AT = [*SYNCED, ("pread64", 0, 4_096)]
+FILLED = [("pwrite64", 0, 4_095), ("pwrite64", 4_096, 24_576), *SYNCED, ("pwrite64", 4_095, 1), *SYNCED]
 
 
 def store_calls(number):
     """Two syncs, whatever the number: the gate of the number before the last one is closed with the body's."""
     slot, spare = number % 3, (number + 1) % 3
     closing = [("pwrite64", layout.gate_at(spare), 1)] if number > 1 else []
-    writing = [("pwrite64", layout.body_at(slot), 4_096), ("fdatasync",)]
-    return closing + writing + [("pwrite64", layout.gate_at(slot), 1), ("fdatasync",)]
+    writing = [("pwrite64", layout.body_at(slot), 4_096), *SYNCED]
+    return closing + writing + [("pwrite64", layout.gate_at(slot), 1), *SYNCED]
 
 
 def test_calls_of_each_command(snapd, _):
@@ -69,15 +76,15 @@ def test_calls_of_each_command(snapd, _):
     for number in (1, 2, 3, 4):
         on_file, on_streams = calls_of(snapd, "put", "F", stdin=b"hi")
         assert on_file == OPENED + RECOVERED + store_calls(number) + [("close",)], on_file
-        assert len(store_calls(number)) == (4 if number == 1 else 5)
+        assert len(store_calls(number)) == (6 if number == 1 else 7)
         assert on_streams == [("read", 0, 2), ("read", 0, 0), ("write", 1, len("stored 1\n"))], on_streams
 
     on_file, on_streams = calls_of(snapd, "get", "F")
-    assert on_file == OPENED + RECOVERED + [("close",)], on_file
+    assert on_file == READ + RECOVERED + [("close",)], on_file
     assert on_streams == [("write", 1, 2)], on_streams
 
     on_file, on_streams = calls_of(snapd, "check", "F")
-    assert on_file == OPENED + [("pread64", 0, 28_672), ("close",)], on_file
+    assert on_file == READ + [("pread64", 0, 28_672), ("close",)], on_file
     assert [call[:2] for call in on_streams] == [("write", 1)], on_streams
 
 
@@ -89,18 +96,19 @@ def test_calls_of_a_migration(snapd, _):
     """Two on the old file, none of which writes, and seven on the new one."""
     snapd.file("OLD").write_bytes(layout.OLD.holding((0, b""), (1, b"hi")))
     on_file, on_streams = calls_of(snapd, "migrate", "OLD", "F")
-    taken = of_old("open", "flock", "statx") + OPENED + NAMED + [("ftruncate",)]
-    read = of_old("fdatasync") + [("pread64 of the old file", 0, 20_480)]
+    opened = of_old("look at the name", "open", "flock", "statx") + OPENED
+    taken = opened + NAMED + [("ftruncate",)]
+    read = of_old("fdatasync", "look at the name") + [("pread64 of the old file", 0, 20_480)]
     ends = on_file[-2:]
     assert on_file[:-2] == taken + read + LOOKED_AT + FILLED, on_file
     assert sorted(ends) == [("close",), *of_old("close")], on_file
     assert on_streams == [("write", 1, len("migrated 0 of 1 number 1\n"))], on_streams
     # Where the new file is formatted already, nothing is written, and where a length is wrong, nothing is looked at.
     on_file, _ = calls_of(snapd, "migrate", "OLD", "F")
-    assert on_file[:-2] == of_old("open", "flock", "statx") + OPENED + read + LOOKED_AT, on_file
+    assert on_file[:-2] == opened + read + LOOKED_AT, on_file
     snapd.file("new").write_bytes(bytes(layout.LENGTH))
     on_file, _ = calls_of(snapd, "migrate", "F", "new")
-    assert on_file == OPENED + [("close",)], on_file
+    assert on_file == READ + [("close",)], on_file
 
 
 def test_refused_calls_make_none(snapd, _):

@@ -16,7 +16,7 @@
  *
  * A call connects where no connection stands. One whose connection fails, ends or says nothing for the timeout is tried
  * again on a new connection, with the same bytes: an update under one number is stored once, however often it comes.
- * One thread at a time uses a client. It never raises SIGPIPE.
+ * One thread at a time uses a client; a process that is forked off makes a connection of its own. It never raises SIGPIPE.
  */
 #ifndef SNAPD_H
 #define SNAPD_H
@@ -31,6 +31,7 @@
 #include <stdint.h>
 #include <string.h>
 #include <sys/socket.h>
+#include <sys/types.h>
 #include <time.h>
 #include <unistd.h>
 
@@ -106,8 +107,9 @@ typedef struct {
     socklen_t address_length;
     int timeout; /* milliseconds, for one try */
     int tries;
-    /* the connection, or -1 */
+    /* the connection, or -1, and the process that made it */
     int connection;
+    pid_t process;
     /* of the last call: a snapd_refusal and its detail; the system's error */
     int refusal;
     uint64_t detail;
@@ -145,6 +147,7 @@ static inline snapd_result snapd_open(snapd_client *client, const char *host, in
     client->timeout = timeout;
     client->tries = tries;
     client->connection = -1;
+    client->process = getpid();
     client->refusal = client->error = 0;
     client->detail = 0;
     if (port < 1 || port > 65535 || timeout < 1 || tries < 1)
@@ -216,6 +219,7 @@ static inline snapd_result snapd_connect(snapd_client *client, int64_t end)
     socklen_t size = sizeof error;
     snapd_result result;
     client->connection = socket(client->address.ss_family, SOCK_STREAM, 0);
+    client->process = getpid();
     if (client->connection < 0 || fcntl(client->connection, F_SETFL, O_NONBLOCK) < 0)
         return snapd_failed(client);
     fcntl(client->connection, F_SETFD, FD_CLOEXEC);
@@ -233,10 +237,13 @@ static inline snapd_result snapd_connect(snapd_client *client, int64_t end)
     return error ? SNAPD_NOT_ANSWERED : SNAPD_OK;
 }
 
-/* The connection that stands, or a new one where none does or the server has ended it. Bytes that nobody asked for are no
+/* The connection that stands, or a new one where none does, the server has ended it, or another process made it, from which
+ * this one was forked: two processes on one connection would take each other's replies. Bytes that nobody asked for are no
  * answer to what will be asked. */
 static inline snapd_result snapd_connected(snapd_client *client, int64_t end)
 {
+    if (client->process != getpid())
+        snapd_close(client);
     if (client->connection >= 0) {
         unsigned char byte;
         ssize_t held = recv(client->connection, &byte, 1, MSG_PEEK);
@@ -373,8 +380,9 @@ static inline int snapd_is_count(unsigned count)
     return count >= 1 && count <= SNAPD_MAX_SEGMENTS;
 }
 
-/* Stores a value as this number of a segment. *stored is the number once it is on the server's disk. The number is the
- * segment's plus one; the segment's own number with its own value is answered again, so an update may be repeated. */
+/* Stores a value as this number of a segment. *stored is the number once it is on the server's disk, and 0 where it isn't
+ * said to be. The number is the segment's plus one; the segment's own number with its own value is answered again, so an
+ * update may be repeated. An answer that names another number is SNAPD_BAD_REPLY. */
 static inline snapd_result snapd_update(snapd_client *client, unsigned segment, uint64_t number, const void *value,
                                         size_t length, uint64_t *stored)
 {
@@ -394,9 +402,9 @@ static inline snapd_result snapd_update(snapd_client *client, unsigned segment, 
     result = snapd_ask(client, &request, &came);
     if (result != SNAPD_OK)
         return result;
-    if (came != 9 || client->frame[0] != 0x81 || !snapd_is_number(snapd_get(client->frame + 1, 8)))
+    if (came != 9 || client->frame[0] != 0x81 || !snapd_is_number(number) || snapd_get(client->frame + 1, 8) != number)
         return snapd_other(client, came);
-    *stored = snapd_get(client->frame + 1, 8);
+    *stored = number;
     return SNAPD_OK;
 }
 

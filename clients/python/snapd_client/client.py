@@ -1,19 +1,22 @@
 """One connection to a server, made again where it breaks."""
 
+import os
 import socket
 import threading
 import time
+import weakref
 from types import TracebackType
 from typing import Optional, Tuple, Type, TypeVar, Union
 
 from . import messages
 from .errors import BadReply, NotAnswered, Refused, TimedOut
-from .messages import Entry, Snapshot, Standing, Standings, Stored
+from .messages import Bytes, Entry, Snapshot, Standing, Standings, Stored
 
 Address = Union[str, Tuple[str, int]]
 Wanted = TypeVar("Wanted", Stored, Snapshot, Standings)
 
 PIECE = 65_536
+MAX_PORT = 65_535
 
 
 class _Gone(Exception):
@@ -21,15 +24,32 @@ class _Gone(Exception):
 
 
 def _split(address: Address) -> Tuple[str, int]:
-    if not isinstance(address, str):
+    if isinstance(address, str):
+        host, colon, port = address.rpartition(":")
+        if not colon or not (port.isascii() and port.isdigit()):
+            raise ValueError(f"an address is HOST:PORT, not {address!r}")
+        if host.startswith("[") and host.endswith("]"):
+            host = host[1:-1]
+    else:
         host, port = address
-        return host, int(port)
-    host, colon, port = address.rpartition(":")
-    if not colon or not port.isdigit():
-        raise ValueError(f"an address is HOST:PORT, not {address!r}")
-    if host.startswith("[") and host.endswith("]"):
-        host = host[1:-1]
-    return host, int(port)
+    number = int(port)
+    if not 1 <= number <= MAX_PORT:
+        raise ValueError(f"a port is 1 to {MAX_PORT}, not {number}")
+    return host, number
+
+
+# The clients of this process, which a process that is forked off has inherited.
+_clients: "weakref.WeakSet[Client]" = weakref.WeakSet()
+
+
+def _begin_anew() -> None:
+    for client in list(_clients):
+        client._begin_anew()
+
+
+# Two processes on one connection would take each other's replies.
+if hasattr(os, "register_at_fork"):
+    os.register_at_fork(after_in_child=_begin_anew)
 
 
 class Client:
@@ -39,7 +59,8 @@ class Client:
     a new one, up to `tries` connections in all, with a pause of `pause` seconds in between that doubles each time. It
     sends the same bytes each time: an update under one number is stored once, however often it comes.
 
-    Calls may come from several threads; they wait for each other.
+    Calls may come from several threads; they wait for each other. A process that is forked off makes a connection of its
+    own at its first call, also where it was forked during another thread's call.
     """
 
     def __init__(self, address: Address, *, timeout: float = 5.0, tries: int = 3, pause: float = 0.1) -> None:
@@ -53,14 +74,16 @@ class Client:
         self._lock = threading.Lock()
         self._socket: Optional[socket.socket] = None
         self._frames = messages.Frames()
+        _clients.add(self)
 
-    def update(self, segment: int, number: int, value: bytes) -> int:
+    def update(self, segment: int, number: int, value: Bytes) -> int:
         """Stores `value` as this number of a segment, and returns the number once it is on the server's disk.
 
         The number is the segment's plus one. The segment's own number with its own value is answered again, so an
-        update may be repeated. Every `Refused` says what to do. `ValueError` where no message can say it.
+        update may be repeated. Every `Refused` says what to do. Before a byte is sent comes `TypeError` where the value
+        isn't bytes-like or a number isn't an integer, and `ValueError` where no message can say it.
         """
-        return self._ask(messages.update(segment, number, bytes(value)), Stored).number
+        return self._ask(messages.update(segment, number, value), Stored, number).number
 
     def scan(self) -> Tuple[Entry, ...]:
         """Number and value of every segment, all of one moment between the call and its return."""
@@ -86,12 +109,19 @@ class Client:
     ) -> None:
         self.close()
 
-    def _ask(self, frame: bytes, wanted: Type[Wanted]) -> Wanted:
+    def _begin_anew(self) -> None:
+        """Lets go of what a forked process has inherited: a thread that isn't here may have been in a call."""
+        self._lock = threading.Lock()
+        self._drop()
+
+    def _ask(self, frame: bytes, wanted: Type[Wanted], number: Optional[int] = None) -> Wanted:
         with self._lock:
             try:
                 message = messages.reply(self._exchange(frame))
                 if not isinstance(message, (wanted, Refused)):
                     raise BadReply("the reply answers another request")
+                if isinstance(message, Stored) and message.number != number:
+                    raise BadReply(f"the reply says that number {message.number} is stored, and asked was {number}")
             except BaseException:
                 # Whatever ended the call, an answer may still come: this connection isn't asked again.
                 self._drop()

@@ -1,5 +1,6 @@
 """Requests to bytes, and bytes to replies: docs/FORMATS.md, "Frames and messages"."""
 
+import operator
 import struct
 from typing import List, NamedTuple, Tuple, Union
 
@@ -42,6 +43,7 @@ class Standings(NamedTuple):
 
 
 Reply = Union[Stored, Snapshot, Standings, Refused]
+Bytes = Union[bytes, bytearray, memoryview]
 
 
 def frame(payload: bytes) -> bytes:
@@ -49,8 +51,17 @@ def frame(payload: bytes) -> bytes:
     return struct.pack(">I", len(payload)) + payload
 
 
-def update(segment: int, number: int, value: bytes) -> bytes:
-    """The frame that asks to store a value. `ValueError` where no frame can say it."""
+def _bytes(value: Bytes) -> bytes:
+    """The bytes of a value. `bytes` itself would make zeros of a number, and take a list."""
+    try:
+        return memoryview(value).tobytes()
+    except TypeError:
+        raise TypeError(f"a value is bytes-like, not {type(value).__name__}") from None
+
+
+def update(segment: int, number: int, value: Bytes) -> bytes:
+    """The frame that asks to store a value. `TypeError` where a word is of another kind, `ValueError` where no frame can say it."""
+    segment, number, value = operator.index(segment), operator.index(number), _bytes(value)
     if not 0 <= segment <= 255:
         raise ValueError(f"a segment is 0 to 255, not {segment}")
     if not 0 <= number < 1 << 64:
@@ -168,4 +179,4 @@ class Frames:
         return payload
 
 
-__all__: List[str] = ["Entry", "Standing", "Frames", "Reply", "frame", "reply", "scan", "status", "update"]
+__all__: List[str] = ["Bytes", "Entry", "Standing", "Frames", "Reply", "frame", "reply", "scan", "status", "update"]

@@ -1,5 +1,5 @@
 -- How a call ends.
-use Rattle.std.specs.Prelude.{◌≡◌, ◌⊎◌, ℕ, List, Option, None, Result, Ok, Err, true}
+use Rattle.std.specs.Prelude.{◌≡◌, ◌⊎◌, ℕ, List, Option, None, Result, Ok, Err, true, if◌then◌else◌}
 use Rattle.std.specs.Io.KnownBytes.{Appends, Keeps}
 use Rattle.snap_client.specs.declared.fault.ClientFault.{ClientFault}
 use Rattle.snap_client.specs.declared.fault.ClientFault.TheVariants.{NoMemory}
@@ -7,10 +7,14 @@ use Rattle.snap_disk.specs.declared.refusal.Refusal.{Refusal}
 use Rattle.snap_disk.specs.declared.refusal.Refusal.TheVariants as refusal
 use Rattle.snap_frame.specs.declared.reply.Reply.{Reply}
 use Rattle.snap_frame.specs.declared.reply.Reply.TheVariants.{Refused}
+use Rattle.snap_frame.specs.declared.reply.Reply.TheVariants as reply
+use Rattle.snap_order.specs.declared.order.Question.{Question}
+use Rattle.snap_order.specs.declared.order.Question.TheVariants.{Health}
+use Rattle.snap_order.specs.declared.status.Status.{Status}
 use Rattle.snap_order.specs.declared.status.Ended.{Ended}
 use Rattle.snap_order.specs.declared.status.Status.TheVariants as status
 use Rattle.snap_stream.specs.Streams.{AppendsBeginning, Complains, refused_line}
-use Rattle.snap_ask.specs.Text.{detailed_line, reply_text}
+use Rattle.snap_ask.specs.Text.{answer_text, detailed_line, is_any_fenced}
 
 -- it ends as refused, and standard error got a beginning of this line, and all of it where that is
 -- told
@@ -29,10 +33,16 @@ abbrev pub IsRefused : Refusal → (detail : ℕ) → Ended → (errs errs' : Op
 IsRefused why detail ended errs errs' = SaysRefused (detailed_line why detail) ended errs errs'
     ⊎ WantsMemory ended errs errs'
 
--- the text was printed, and nothing else was said
-pub record IsPrinted (text : List ℕ) (ended : Ended) (out out' errs errs' : Option (List ℕ))
-    : Type 0 where
-  pub status : ended.status ≡ status.Done
+-- how a call ends whose answer was printed: as refused where it asked for a fence and there is one
+abbrev pub answer_status : Question → Reply → Status
+answer_status Health (reply.Status statuses) =
+    if is_any_fenced statuses.items then status.Refused else status.Done
+answer_status question reply = status.Done
+
+-- the text was printed, nothing else was said, and it ends so
+pub record IsPrinted (how : Status) (text : List ℕ) (ended : Ended)
+    (out out' errs errs' : Option (List ℕ)) : Type 0 where
+  pub status : ended.status ≡ how
   pub told : ended.is_told ≡ true
   pub whole : Appends out out' text
   pub silent : Keeps errs errs'
@@ -45,8 +55,8 @@ pub record IsCutShort (text : List ℕ) (ended : Ended) (out out' errs errs' : O
   pub said : Complains None ended.is_told errs errs'
 
 -- the text was printed, or cut short, or memory was wanting before the first byte
-abbrev pub Prints : List ℕ → Ended → (out out' errs errs' : Option (List ℕ)) → Type 0
-Prints text ended out out' errs errs' = IsPrinted text ended out out' errs errs'
+abbrev pub Prints : (how : Status) → List ℕ → Ended → (out out' errs errs' : Option (List ℕ)) → Type 0
+Prints how text ended out out' errs errs' = IsPrinted how text ended out out' errs errs'
     ⊎ (IsCutShort text ended out out' errs errs' ⊎ (WantsMemory ended errs errs' × Keeps out out'))
 
 -- there is no answer, which one line says
@@ -54,13 +64,15 @@ pub record GivesUp (ended : Ended) (errs errs' : Option (List ℕ)) : Type 0 whe
   pub status : ended.status ≡ status.Failed
   pub said : Complains None ended.is_told errs errs'
 
--- How a call ends that is answered so: `out` and `out'` are what standard output held before and
+-- How a call ends that asked this and is answered so: `out` and `out'` are what standard output held before and
 -- after, `errs` and `errs'` what standard error did.
-abbrev pub EndsAsked : Result Reply ClientFault → Ended → (out out' errs errs' : Option (List ℕ))
-    → Type 0
-EndsAsked (Ok (Refused why detail)) ended out out' errs errs' =
+abbrev pub EndsAsked : Question → Result Reply ClientFault → Ended
+    → (out out' errs errs' : Option (List ℕ)) → Type 0
+EndsAsked question (Ok (Refused why detail)) ended out out' errs errs' =
     IsRefused why detail ended errs errs' × Keeps out out'
-EndsAsked (Ok reply) ended out out' errs errs' =
-    Prints (reply_text reply) ended out out' errs errs'
-EndsAsked (Err NoMemory) ended out out' errs errs' = WantsMemory ended errs errs' × Keeps out out'
-EndsAsked (Err fault) ended out out' errs errs' = GivesUp ended errs errs' × Keeps out out'
+EndsAsked question (Ok reply) ended out out' errs errs' = Prints (answer_status question reply)
+    (answer_text question reply) ended out out' errs errs'
+EndsAsked question (Err NoMemory) ended out out' errs errs' =
+    WantsMemory ended errs errs' × Keeps out out'
+EndsAsked question (Err fault) ended out out' errs errs' =
+    GivesUp ended errs errs' × Keeps out out'

@@ -1,5 +1,6 @@
 -- What is printed of a reply (docs/FORMATS.md).
-use Rattle.std.specs.Prelude.{ℕ, ◌+◌, Bool, true, false, List, [], ◌∷◌, ◌++◌, codes}
+use Rattle.std.specs.Prelude.{ℕ, ◌+◌, Bool, true, false, List, [], ◌∷◌, ◌++◌, codes, if◌then◌else◌}
+use Rattle.std.specs.List.{list_any}
 use Rattle.std.specs.Fmt.{decimal}
 use Rattle.snap_disk.specs.Refusal.{refusal_text}
 use Rattle.snap_disk.specs.declared.refusal.Refusal.{Refusal}
@@ -9,6 +10,8 @@ use Rattle.snap_frame.specs.declared.reply.Reply.TheVariants.{Stored, Snapshot, 
 use Rattle.snap_frame.specs.declared.entries.SegmentValue.{SegmentValue}
 use Rattle.snap_frame.specs.declared.entries.SegmentStatus.{SegmentStatus}
 use Rattle.snap_hex.specs.Text.{hex_text}
+use Rattle.snap_order.specs.declared.order.Question.{Question}
+use Rattle.snap_order.specs.declared.order.Question.TheVariants.{Health}
 
 -- the lines of these, the first of which is number i
 abbrev pub lines_from : {X : Type 0} → (ℕ → X → List ℕ) → ℕ → List X → List ℕ
@@ -34,12 +37,29 @@ fence_text false = codes "0"
 abbrev pub status_line : ℕ → SegmentStatus → List ℕ
 status_line i s = line (segment_text i s.number ++ (codes " fenced " ++ fence_text s.is_fenced))
 
+-- for a segment that is fenced, which one it is
+abbrev pub fence_line : ℕ → SegmentStatus → List ℕ
+fence_line i s = if s.is_fenced then line (codes "fenced " ++ decimal i) else []
+
+abbrev pub is_any_fenced : List SegmentStatus → Bool
+is_any_fenced statuses = list_any (λ s. s.is_fenced) statuses
+
+-- the fenced segments, or that there is none
+abbrev pub health_text : List SegmentStatus → List ℕ
+health_text statuses =
+    if is_any_fenced statuses then lines_from fence_line 0 statuses else line (codes "healthy")
+
 -- what standard output gets of a reply
 abbrev pub reply_text : Reply → List ℕ
 reply_text (Stored number) = stored_line number
 reply_text (Snapshot values) = lines_from value_line 0 values.items
 reply_text (Status statuses) = lines_from status_line 0 statuses.items
 reply_text (Refused why detail) = []
+
+-- What standard output gets of the answer to what was asked. No reply of another kind answers it.
+abbrev pub answer_text : Question → Reply → List ℕ
+answer_text Health (Status statuses) = health_text statuses.items
+answer_text question reply = reply_text reply
 
 -- what standard error gets of a server's refusal
 abbrev pub detailed_line : Refusal → ℕ → List ℕ

@@ -1,24 +1,25 @@
 //! The order `call`, done.
-ghost use Rattle.std.specs.Prelude.{Result};
+ghost use Rattle.std.specs.Prelude.{◌≡◌, Result, if◌then◌else◌};
 ghost use Rattle.snap_client.specs.Again.{TriesUpTo};
 ghost use Rattle.snap_client.specs.declared.fault.ClientFault.{ClientFault};
 ghost use Rattle.snap_frame.specs.declared.reply.Reply.{Reply};
-ghost use Rattle.snap_order.specs.Order.{IsCallable};
+ghost use Rattle.snap_order.specs.Order.{IsCallable, request_of};
+ghost use Rattle.snap_order.specs.declared.status.Status.TheVariants as status;
 ghost use Rattle.snap_ask.specs.Asking.{EndsAsked, GivesUp, IsRefused, Prints, SaysRefused};
-ghost use Rattle.snap_ask.specs.Asking.{WantsMemory};
-ghost use Rattle.snap_ask.specs.Text.{reply_text};
+ghost use Rattle.snap_ask.specs.Asking.{WantsMemory, answer_status};
+ghost use Rattle.snap_ask.specs.Text.{answer_text};
 
-use crate::print::text_of;
+use crate::print::{answer_of, is_any_fenced};
 use snap_client::{ClientFault, call_again};
 use snap_disk::Refusal;
-use snap_frame::Reply;
-use snap_order::{Calling, Ended, Status};
+use snap_frame::{Reply, Request};
+use snap_order::{Calling, Ended, Question, Status};
 use snap_stream::{complain, complain_of_refusal, write_whole};
 use std::alloc::Global;
 use std::io::{Read, Write};
 
-/// Sends the order's request to a server, prints its reply on `writer`, and says how the program
-/// ends. `connect` gives a reader and a writer, or `None` where no connection can be made; it is
+/// Asks a server what the order says, prints the answer on `writer`, and says how the program
+/// ends: of a server's health as [`Status::Refused`] where a segment is fenced. `connect` gives a reader and a writer, or `None` where no connection can be made; it is
 /// called once at least and as often as the order has tries at most, and only again where the same
 /// request may be answered on another connection.
 ///
@@ -38,30 +39,75 @@ pub fn ask<R: Read + Drop, C: Write + Drop, F: FnMut() -> Option<(R, C)>, W: Wri
 
     // The request was sent on up to so many connections, and the end is that of the answer.
     ensures { (answer : Result Reply ClientFault)
-        × TriesUpTo order.now.tries F.step R.remaining C.contents order.now.request connect.old
-        answer connect.new
-        × EndsAsked answer result (W.contents writer.old) (W.contents writer.new)
+        × TriesUpTo order.now.tries F.step R.remaining C.contents
+        (request_of order.now.question) connect.old answer connect.new
+        × EndsAsked order.now.question answer result (W.contents writer.old) (W.contents writer.new)
         (E.contents errors.old) (E.contents errors.new) }
 {
-    match call_again(alloc, connect, &order.request, order.tries) {
+    match answer_from(alloc, order, connect) {
         Ok(Reply::Refused { why, detail }) => refuse(alloc, why, detail, errors),
-        Ok(reply) => print(alloc, &reply, writer, errors),
+        Ok(reply) => print(alloc, &order.question, &reply, writer, errors),
         Err(ClientFault::NoMemory) => stop(errors),
         Err(fault) => give_up(alloc, order.address, fault, errors),
     }
 }
 
-/// Prints a reply that isn't a refusal.
-fn print<W: Write, E: Write>(alloc: Global, reply: &Reply, writer: &mut W, errors: &mut E) -> Ended
-    ensures { Prints (reply_text reply.now) result (W.contents writer.old)
-        (W.contents writer.new) (E.contents errors.old) (E.contents errors.new) }
+/// The server's answer to what the order asks: of its health to a request for its status.
+fn answer_from<R: Read + Drop, C: Write + Drop, F: FnMut() -> Option<(R, C)>>(
+    alloc: Global,
+    order: &Calling<'_>,
+    connect: &mut F,
+) -> Result<Reply, ClientFault>
+    requires limits { IsCallable order.now }
+    requires callable { F.IsAlwaysCallable connect.old }
+    ensures { TriesUpTo order.now.tries F.step R.remaining C.contents
+        (request_of order.now.question) connect.old result connect.new }
 {
-    let Ok(text) = text_of(alloc, reply) else {
+    match &order.question {
+        Question::Request(request) => call_again(alloc, connect, request, order.tries),
+        Question::Health => call_again(alloc, connect, &Request::Status, order.tries),
+    }
+}
+
+/// How a call ends whose answer was printed.
+fn status_of(question: &Question, reply: &Reply) -> Status
+    ensures { result ≡ answer_status question.now reply.now }
+{
+    match (question, reply) {
+        (Question::Health, Reply::Status(statuses)) => fence_status(is_any_fenced(statuses)),
+        _ => Status::Done,
+    }
+}
+
+/// How a call ends that asked whether a segment is fenced.
+fn fence_status(is_fenced: bool) -> Status
+    ensures { result ≡ if is_fenced then status.Refused else status.Done }
+{
+    if is_fenced {
+        Status::Refused
+    } else {
+        Status::Done
+    }
+}
+
+/// Prints a reply that isn't a refusal.
+fn print<W: Write, E: Write>(
+    alloc: Global,
+    question: &Question,
+    reply: &Reply,
+    writer: &mut W,
+    errors: &mut E,
+) -> Ended
+    ensures { Prints (answer_status question.now reply.now) (answer_text question.now reply.now)
+        result (W.contents writer.old) (W.contents writer.new)
+        (E.contents errors.old) (E.contents errors.new) }
+{
+    let Ok(text) = answer_of(alloc, question, reply) else {
         return stop(errors);
     };
     let Err(error) = write_whole(writer, text.as_slice()) else {
         return Ended {
-            status: Status::Done,
+            status: status_of(question, reply),
             is_told: true,
         };
     };

@@ -1,15 +1,51 @@
 //! The text of replies.
 ghost use Rattle.std.specs.Prelude.{◌≡◌, ◌++◌, IfOk, OnOk};
+ghost use Rattle.snap_ask.specs.Text.{answer_text, fence_line, health_text, is_any_fenced};
 ghost use Rattle.snap_ask.specs.Text.{lines_from, reply_text, segment_text, status_line};
 ghost use Rattle.snap_ask.specs.Text.{stored_line, value_line};
 
 use itoa::Buffer;
 use snap_frame::{Reply, SegmentStatus, SegmentValue};
 use snap_hex::put_hex;
+use snap_order::Question;
 use std::alloc::{AllocError, Global};
 
+/// The lines of the answer to what was asked.
+pub(crate) fn answer_of(
+    alloc: Global,
+    question: &Question,
+    reply: &Reply,
+) -> Result<Vec<u8>, AllocError>
+    ensures { IfOk result (λ text. text.items ≡ answer_text question.now reply.now) }
+{
+    match (question, reply) {
+        (Question::Health, Reply::Status(statuses)) => health_of(alloc, statuses),
+        _ => text_of(alloc, reply),
+    }
+}
+
+/// The lines of a server's health.
+fn health_of(alloc: Global, statuses: &[SegmentStatus]) -> Result<Vec<u8>, AllocError>
+    ensures { IfOk result (λ text. text.items ≡ health_text statuses.now) }
+{
+    let mut out = Vec::new(alloc);
+    if is_any_fenced(statuses) {
+        put_fences(&mut out, statuses)?;
+    } else {
+        out.extend_from_slice(b"healthy\n")?;
+    }
+    Ok(out)
+}
+
+/// Whether one of the segments is fenced.
+pub(crate) fn is_any_fenced(statuses: &[SegmentStatus]) -> bool
+    ensures { result ≡ is_any_fenced statuses.now }
+{
+    statuses.iter().any(|status| status.is_fenced)
+}
+
 /// The lines of a reply. A refusal has none.
-pub(crate) fn text_of(alloc: Global, reply: &Reply) -> Result<Vec<u8>, AllocError>
+fn text_of(alloc: Global, reply: &Reply) -> Result<Vec<u8>, AllocError>
     ensures { IfOk result (λ text. text.items ≡ reply_text reply.now) }
 {
     let mut out = Vec::new(alloc);
@@ -52,6 +88,30 @@ fn put_statuses(out: &mut Vec<u8>, statuses: &[SegmentStatus]) -> Result<(), All
         put_status(out, index, status)?;
     }
     Ok(())
+}
+
+/// Appends a line for each segment that is fenced.
+fn put_fences(out: &mut Vec<u8>, statuses: &[SegmentStatus]) -> Result<(), AllocError>
+    ensures { OnOk result (out.new.items
+        ≡ out.old.items ++ lines_from fence_line 0 statuses.now) }
+{
+    for (index, status) in statuses.iter().enumerate() {
+        put_fence(out, index, status)?;
+    }
+    Ok(())
+}
+
+/// Appends the line of one segment, where it is fenced.
+fn put_fence(out: &mut Vec<u8>, index: usize, status: &SegmentStatus) -> Result<(), AllocError>
+    ensures { OnOk result (out.new.items ≡ out.old.items ++ fence_line index status.now) }
+{
+    if !status.is_fenced {
+        return Ok(());
+    }
+    let mut digits = Buffer::new();
+    out.extend_from_slice(b"fenced ")?;
+    out.extend_from_slice(digits.format(index).as_bytes())?;
+    out.extend_from_slice(b"\n")
 }
 
 /// Appends the line of one segment's value.

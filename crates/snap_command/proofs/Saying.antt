@@ -1,5 +1,6 @@
--- What a refusal says of its file.
-use Rattle.std.proofs.Common.{◌≡◌, ◌≢◌, ◌++◌, ℕ, List, sym, subst, refl, Bool, Option}
+-- What stands behind the line of a refusal.
+use Rattle.std.proofs.Common.{◌≡◌, ◌++◌, ℕ, List, [], refl, Bool, Option, Some, None, IfSome, String, Global, string_bytes}
+use Rattle.snap_disk.specs.declared.refusal.Refusal.{Refusal}
 use Rattle.snap_disk.specs.declared.refusal.Refusal.TheVariants.{
   Malformed,
   NoSegment,
@@ -19,44 +20,110 @@ use Rattle.snap_disk.specs.declared.refusal.Refusal.TheVariants.{
   NotNow,
   Worn,
 }
-use Rattle.snap_stream.specs.Streams.{SaysLines, refused_line}
+use Rattle.snap_stream.specs.Streams.{NamesFile, file_line}
 use Rattle.snap_old_slot.specs.declared.layout.TheConstants.{OLD_FILE_LEN}
-use Rattle.snap_command.specs.Failure.{Says, SaysOf, advice_line}
+use Rattle.snap_command.specs.Failure.{IsBehind, Says, SaysOf, failed_text, old_text}
+use Rattle.snap_command.specs.Migrating.{IsBehindRole}
 use Rattle.snap_command.specs.declared.failure.Failure.{Failure}
 use Rattle.snap_command.specs.declared.failure.Failure.TheVariants.{Refused, Input, Output, Unsaid}
 
--- of a wrong file with the length of the old format: the line of its refusal, and the other one
-pub says_of_old : (failure : Failure) → failure ≡ Refused WrongFile → (file : List ℕ) (len : ℕ)
-    → len ≡ OLD_FILE_LEN → (is_told : Bool) (old new : Option (List ℕ))
-    → SaysLines (refused_line WrongFile ++ advice_line file) is_told old new
-    → SaysOf failure file len is_told old new
-says_of_old failure is file len same is_told old new says =
-    subst (λ (x : Failure). SaysOf x file len is_told old new) (sym is)
-    ((λ _. says), (λ other. absurd (other same)))
+-- the line that was made is one with this property, or none was
+abbrev pub IsMade : (P : List ℕ → Type 0) → Option (String Global) → Type 0
+IsMade P made = (line : List ℕ) × P line × IfSome made (λ m. string_bytes m ≡ line)
 
--- of any other failure what it says in any case
-pub says_of_other : (failure : Failure) (file : List ℕ) (len : ℕ)
-    → (failure ≡ Refused WrongFile → len ≢ OLD_FILE_LEN) → (is_told : Bool)
+-- a line of a file, with a role behind its name
+pub names : (file role : List ℕ) (made : Option (String Global))
+    → IfSome made (λ m. (text : List ℕ) × (string_bytes m ≡ file_line file (role ++ text)))
+    → IsMade (λ line. (text : List ℕ) × (line ≡ file_line file (role ++ text))) made
+names file role (Some m) is = (string_bytes m, is, refl)
+names file role None is = (file_line file (role ++ []), ([], refl), tt)
+
+-- the line of a device that failed
+pub failed : (may_give : Option (List ℕ) → Type 0) (file role : List ℕ) (made : Option (String Global))
+    → ((said : Option (List ℕ)) × may_give said × IfSome made (λ m.
+    string_bytes m ≡ file_line file (role ++ failed_text said)))
+    → IsMade (λ line. (said : Option (List ℕ)) × may_give said
+    × (line ≡ file_line file (role ++ failed_text said))) made
+failed may_give file role made is = (
+  file_line file (role ++ failed_text is.0),
+  (is.0, is.1, refl),
+  is.2,
+)
+
+-- the line of a file of the old format
+pub old : (file : List ℕ) (len : ℕ) (made : Option (String Global))
+    → IfSome made (λ m. string_bytes m ≡ file_line file (old_text file))
+    → IsMade (λ line. NamesFile file line
+    × (len ≡ OLD_FILE_LEN → line ≡ file_line file (old_text file))) made
+old file len made is = (
+  file_line file (old_text file),
+  ((old_text file, refl), λ _. refl),
+  is,
+)
+
+-- the line of another wrong file
+pub wrong : (file : List ℕ) (len : ℕ) (made : Option (String Global)) → (len ≡ OLD_FILE_LEN → ⊥)
+    → IfSome made (λ m. NamesFile file (string_bytes m))
+    → IsMade (λ line. NamesFile file line
+    × (len ≡ OLD_FILE_LEN → line ≡ file_line file (old_text file))) made
+wrong file len made other is =
+    let line = names file [] made is in (
+      line.0,
+      (line.1, λ same. absurd (other same)),
+      line.2,
+    )
+
+-- nothing stands behind a refusal that isn't of the file
+pub nothing : (may_give : Option (List ℕ) → Type 0) (file : List ℕ) (len : ℕ) (why : Refusal)
+    → (why ≡ DeviceFailed → ⊥) → (why ≡ WrongFile → ⊥) → (why ≡ Unformatted → ⊥)
+    → (why ≡ Damaged → ⊥) → (why ≡ AlreadyFormatted → ⊥) → IsBehind may_give file len why []
+nothing may_give file len Malformed a b c d e = refl
+nothing may_give file len NoSegment a b c d e = refl
+nothing may_give file len TooLong a b c d e = refl
+nothing may_give file len Conflict a b c d e = refl
+nothing may_give file len OutOfStep a b c d e = refl
+nothing may_give file len Fenced a b c d e = refl
+nothing may_give file len Full a b c d e = refl
+nothing may_give file len NoMemory a b c d e = refl
+nothing may_give file len Exhausted a b c d e = refl
+nothing may_give file len Damaged a b c d e = absurd (d refl)
+nothing may_give file len Unformatted a b c d e = absurd (c refl)
+nothing may_give file len AlreadyFormatted a b c d e = absurd (e refl)
+nothing may_give file len DeviceFailed a b c d e = absurd (a refl)
+nothing may_give file len WrongFile a b c d e = absurd (b refl)
+nothing may_give file len TooLarge a b c d e = refl
+nothing may_give file len NotNow a b c d e = refl
+nothing may_give file len Worn a b c d e = refl
+
+-- a line with its file's role, of any refusal but that of a device that failed
+pub role_behind : (role : List ℕ) (may_give : Option (List ℕ) → Type 0) (file : List ℕ)
+    (why : Refusal) (made : Option (String Global)) → (why ≡ DeviceFailed → ⊥)
+    → IsMade (λ line. (text : List ℕ) × (line ≡ file_line file (role ++ text))) made
+    → IsMade (IsBehindRole role may_give file why) made
+role_behind role may_give file Malformed made other is = is
+role_behind role may_give file NoSegment made other is = is
+role_behind role may_give file TooLong made other is = is
+role_behind role may_give file Conflict made other is = is
+role_behind role may_give file OutOfStep made other is = is
+role_behind role may_give file Fenced made other is = is
+role_behind role may_give file Full made other is = is
+role_behind role may_give file NoMemory made other is = is
+role_behind role may_give file Exhausted made other is = is
+role_behind role may_give file Damaged made other is = is
+role_behind role may_give file Unformatted made other is = is
+role_behind role may_give file AlreadyFormatted made other is = is
+role_behind role may_give file DeviceFailed made other is = absurd (other refl)
+role_behind role may_give file WrongFile made other is = is
+role_behind role may_give file TooLarge made other is = is
+role_behind role may_give file NotNow made other is = is
+role_behind role may_give file Worn made other is = is
+
+-- a failure that is no refusal says the same of any file
+pub says_of_other : (failure : Failure) (may_give : Option (List ℕ) → Type 0) (file : List ℕ)
+    (len : ℕ) → ((why : Refusal) → failure ≡ Refused why → ⊥) → (is_told : Bool)
     (old new : Option (List ℕ)) → Says failure is_told old new
-    → SaysOf failure file len is_told old new
-says_of_other (Refused WrongFile) file len other is_told old new says =
-    ((λ same. absurd (other refl same)), (λ _. says))
-says_of_other (Refused Malformed) file len other is_told old new says = says
-says_of_other (Refused NoSegment) file len other is_told old new says = says
-says_of_other (Refused TooLong) file len other is_told old new says = says
-says_of_other (Refused Conflict) file len other is_told old new says = says
-says_of_other (Refused OutOfStep) file len other is_told old new says = says
-says_of_other (Refused Fenced) file len other is_told old new says = says
-says_of_other (Refused Full) file len other is_told old new says = says
-says_of_other (Refused NoMemory) file len other is_told old new says = says
-says_of_other (Refused Exhausted) file len other is_told old new says = says
-says_of_other (Refused Damaged) file len other is_told old new says = says
-says_of_other (Refused Unformatted) file len other is_told old new says = says
-says_of_other (Refused AlreadyFormatted) file len other is_told old new says = says
-says_of_other (Refused DeviceFailed) file len other is_told old new says = says
-says_of_other (Refused TooLarge) file len other is_told old new says = says
-says_of_other (Refused NotNow) file len other is_told old new says = says
-says_of_other (Refused Worn) file len other is_told old new says = says
-says_of_other (Input error) file len other is_told old new says = says
-says_of_other (Output error) file len other is_told old new says = says
-says_of_other (Unsaid number error) file len other is_told old new says = says
+    → SaysOf failure may_give file len is_told old new
+says_of_other (Refused why) may_give file len other is_told old new says = absurd (other why refl)
+says_of_other (Input error) may_give file len other is_told old new says = says
+says_of_other (Output error) may_give file len other is_told old new says = says
+says_of_other (Unsaid number error) may_give file len other is_told old new says = says

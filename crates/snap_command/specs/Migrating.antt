@@ -28,12 +28,13 @@ use Rattle.snap_old_slot.specs.Old.{OldHead, OldHolds}
 use Rattle.snap_old_slot.specs.Reading.{IsNoOldOpening}
 use Rattle.snap_segment.specs.Migration.{CountsFault}
 use Rattle.snap_segment.specs.declared.migration.Which.TheVariants.{Old, New}
-use Rattle.snap_stream.specs.Streams.{AppendsBeginning, SaysLines, refused_line}
+use Rattle.snap_stream.specs.Streams.{AppendsBeginning, SaysLines, file_line, refused_line}
 use Rattle.snap_order.specs.declared.order.Migration.{Migration}
 use Rattle.snap_order.specs.declared.status.Status.{Status}
 use Rattle.snap_order.specs.declared.status.Status.TheVariants as status
-use Rattle.snap_command.specs.Failure.{Says, status_of}
+use Rattle.snap_command.specs.Failure.{Says, failed_text, status_of}
 use Rattle.snap_command.specs.declared.failure.Failure.TheVariants.{Output, Refused}
+use Rattle.snap_command.specs.declared.migrating.TheConstants.{AS_NEW, AS_OLD}
 use Rattle.snap_command.specs.declared.migrating.MigrationFailure.{MigrationFailure}
 use Rattle.snap_command.specs.declared.migrating.MigrationFailure.TheVariants.{OfFile, Other}
 
@@ -57,26 +58,33 @@ migrated_beginning i n = codes "migrated "
 abbrev pub migrated_line : ℕ → ℕ → ℕ → List ℕ
 migrated_line i n k = migrated_beginning i n ++ (decimal k ++ codes "\n")
 
--- the line behind the refusal of each file
-abbrev pub as_old_line : (file : List ℕ) → List ℕ
-as_old_line file = codes "snapd: " ++ (file ++ codes ": refused as the old file\n")
-
-abbrev pub as_new_line : (file : List ℕ) → List ℕ
-as_new_line file = codes "snapd: " ++ (file ++ codes ": refused as the new file\n")
+-- What stands behind the line of a refusal of one of the files: a line that names it, says which of
+-- the two it is, and then what to do. `may_give` says what the system may have said of its device.
+abbrev pub IsBehindRole : (role : List ℕ) (may_give : Option (List ℕ) → Type 0) (file : List ℕ)
+    → Refusal → List ℕ → Type 0
+IsBehindRole role may_give file refusal.DeviceFailed more =
+    (said : Option (List ℕ)) × may_give said × (more ≡ file_line file (role ++ failed_text said))
+IsBehindRole role may_give file why more =
+    (text : List ℕ) × (more ≡ file_line file (role ++ text))
 
 -- what standard error got: nothing where the migration didn't end early
-abbrev pub SaysMigration : MigrationFailure → Migration → (is_told : Bool)
-    (old new : Option (List ℕ)) → Type 0
-SaysMigration (OfFile Old why) order is_told old new =
-    SaysLines (refused_line why ++ as_old_line order.old.now) is_told old new
-SaysMigration (OfFile New why) order is_told old new =
-    SaysLines (refused_line why ++ as_new_line order.new.now) is_told old new
-SaysMigration (Other failure) order is_told old new = Says failure is_told old new
+abbrev pub SaysMigration : MigrationFailure → (old_may_give new_may_give : Option (List ℕ) → Type 0)
+    → Migration → (is_told : Bool) (old new : Option (List ℕ)) → Type 0
+SaysMigration (OfFile Old why) old_may_give new_may_give order is_told old new =
+    (more : List ℕ) × IsBehindRole AS_OLD.now old_may_give order.old.now why more
+    × SaysLines (refused_line why ++ more) is_told old new
+SaysMigration (OfFile New why) old_may_give new_may_give order is_told old new =
+    (more : List ℕ) × IsBehindRole AS_NEW.now new_may_give order.new.now why more
+    × SaysLines (refused_line why ++ more) is_told old new
+SaysMigration (Other failure) old_may_give new_may_give order is_told old new =
+    Says failure is_told old new
 
-abbrev pub MigrationSays : Migration → MigrationEnd → (is_told : Bool) (old new : Option (List ℕ))
-    → Type 0
-MigrationSays order (Ok s) is_told old new = (is_told ≡ true) × Keeps old new
-MigrationSays order (Err failure) is_told old new = SaysMigration failure order is_told old new
+abbrev pub MigrationSays : (old_may_give new_may_give : Option (List ℕ) → Type 0) → Migration
+    → MigrationEnd → (is_told : Bool) (old new : Option (List ℕ)) → Type 0
+MigrationSays old_may_give new_may_give order (Ok s) is_told old new =
+    (is_told ≡ true) × Keeps old new
+MigrationSays old_may_give new_may_give order (Err failure) is_told old new =
+    SaysMigration failure old_may_give new_may_give order is_told old new
 
 -- a failure count grows by one exactly where the end is that that device failed
 abbrev pub CountsMigration : MigrationEnd → (before after new_before new_after : ℕ) → Type 0

@@ -20,21 +20,23 @@ use snap_disk::{Disk, Refusal};
 use snap_history::MAX_VALUE_LEN;
 use snap_order::{Ended, FileOrder, Status};
 use snap_segment::{Segment, check, format};
-use snap_stream::{read_up_to, write_whole};
+use snap_stream::{Cause, read_up_to, write_whole};
 use std::alloc::Global;
 use std::io::{Read, Write};
 
 /// Does the order on its device, and says how the program ends. What the command prints goes to
 /// `writer`, and why it ended early to `errors`, as one line that begins `snapd: `; behind the
-/// refusal of a file that has the length of the old format, one more says what to do with it.
+/// refusal of a file one more names it and says what to do. `cause` knows what the system said of
+/// the device, where it failed.
 ///
 /// Faults are found in this order: `put` reads its value first and refuses one that is too long
 /// before it looks at the device, then the device's faults come as the segment meets them, and a
 /// writer that fails comes last. So a `put` whose text can't be written has stored its value.
-pub fn act<D: Disk, R: Read, W: Write, E: Write>(
+pub fn act<D: Disk, C: Cause, R: Read, W: Write, E: Write>(
     alloc: Global,
     order: &FileOrder<'_>,
     disk: D,
+    cause: &C,
     reader: &mut R,
     writer: &mut W,
     errors: &mut E,
@@ -46,8 +48,8 @@ pub fn act<D: Disk, R: Read, W: Write, E: Write>(
     // The status is that of an end which says what happened, what standard error got, and where
     // the device is as it was.
     ensures ends { (end : End) × (result.1.status ≡ status_at end)
-        × EndSays (file_of order.now) (length (D.device disk).bytes) end result.1.is_told
-        (E.contents errors.old) (E.contents errors.new)
+        × EndSays (C.may_give cause.now) (file_of order.now) (length (D.device disk).bytes) end
+        result.1.is_told (E.contents errors.old) (E.contents errors.new)
         × CountsEnd end (D.failure_count disk) (D.failure_count result.0)
         × OrderKeeps order.now (result.0 ≡ disk) (D.is_honest result.0 → LeavesOnly D.clock
         D.might_have_left disk result.0 (MayLeave (D.device disk))) end
@@ -68,7 +70,7 @@ pub fn act<D: Disk, R: Read, W: Write, E: Write>(
             let is_told = true;
             (disk, Ended { status, is_told })
         }
-        Err(failure) => (disk, failure.report_of(alloc, order.file(), len, errors)),
+        Err(failure) => (disk, failure.report_of(alloc, order, len, cause, errors)),
     }
 }
 

@@ -1,11 +1,12 @@
 //! Why a command did not do what was asked.
-ghost use Rattle.std.specs.Prelude.{◌≡◌, IfSome, string_bytes};
-ghost use Rattle.snap_command.specs.Failure.{Says, SaysOf, advice_line, status_of};
+ghost use Rattle.std.specs.Prelude.{◌≡◌};
+ghost use Rattle.snap_order.specs.Order.{file_of};
+ghost use Rattle.snap_command.specs.Failure.{Says, SaysOf, status_of};
 
+use crate::behind::line_behind;
 use snap_disk::Refusal;
-use snap_order::{Ended, Status};
-use snap_segment::OLD_FILE_LEN;
-use snap_stream::{complain, complain_of_refusal, complain_twice};
+use snap_order::{Ended, FileOrder, Status};
+use snap_stream::{Cause, complain, complain_of_refusal, complain_twice};
 use std::alloc::Global;
 use std::io::{self, Write};
 use thiserror::Error;
@@ -57,30 +58,31 @@ impl Failure {
         }
     }
 
-    /// The same of a command on this file, which has so many bytes. Behind the line of a `WrongFile`
-    /// of a file that has the length of the old format, one more line says what to do with it.
-    pub fn report_of<E: Write>(&self, alloc: Global, file: &str, len: u64, errors: &mut E) -> Ended
+    /// The same of a command on the order's file, which has so many bytes. Behind the line of a
+    /// refusal of the file (10 to 14) one more line names the file and says what to do, and of a
+    /// device that failed what the system said. Where there is no memory for it, the first line
+    /// stands alone, and that isn't told.
+    pub fn report_of<C: Cause, E: Write>(
+        &self,
+        alloc: Global,
+        order: &FileOrder<'_>,
+        len: u64,
+        cause: &C,
+        errors: &mut E,
+    ) -> Ended
         ensures status { result.status ≡ status_of self.now }
-        ensures says { SaysOf self.now file.now len result.is_told (E.contents errors.old)
-            (E.contents errors.new) }
+        ensures says { SaysOf self.now (C.may_give cause.now) (file_of order.now) len
+            result.is_told (E.contents errors.old) (E.contents errors.new) }
     {
         match self {
-            Failure::Refused(Refusal::WrongFile) if len == OLD_FILE_LEN => Ended {
-                status: Status::Refused,
-                is_told: complain_twice(errors, Refusal::WrongFile, advice(alloc, file)),
-            },
+            Failure::Refused(why) => {
+                let more = line_behind(alloc, order, len, *why, cause);
+                Ended {
+                    status: Status::Refused,
+                    is_told: complain_twice(errors, *why, more),
+                }
+            }
             _ => self.report(alloc, errors),
         }
-    }
-}
-
-/// What to do with a file of the old format.
-fn advice(alloc: Global, file: &str) -> Option<String>
-    ensures { IfSome result (λ line. string_bytes line ≡ advice_line file.now) }
-{
-    let known = "it has the length of the old format: carry it over with snapd migrate";
-    match format!(in alloc; "snapd: {file}: {known} {file} NEW\n") {
-        Ok(line) => Some(line),
-        Err(_) => None,
     }
 }

@@ -7,9 +7,11 @@
 #![tactic(auto)]
 
 mod acting;
+mod behind;
 mod failure;
 mod migrating;
+mod remedy;
 
 pub use acting::act;
 pub use failure::Failure;
-pub use migrating::{MigrationFailure, act_pair};
+pub use migrating::{Causes, MigrationFailure, act_pair};

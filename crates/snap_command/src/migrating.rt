@@ -2,7 +2,7 @@
 //!
 //! `specs/Migrating.antt` says what each end means for both devices and for what was printed.
 ghost use Rattle.std.specs.Prelude.{◌≡◌, ◌≢◌, ◌<◌, ◌≤◌, ◌+◌, ◌-◌, ◌^◌, ◌++◌, length, IfOk, IsOk};
-ghost use Rattle.std.specs.Prelude.{codes, IfSome};
+ghost use Rattle.std.specs.Prelude.{codes};
 ghost use Rattle.std.specs.Fmt.{decimal};
 ghost use Rattle.std.specs.Prelude.{string_bytes, string_capacity, string_len};
 ghost use Rattle.snap_disk.specs.Device.{Device, LeavesOnly, MayLeave};
@@ -12,18 +12,25 @@ ghost use Rattle.snap_old_slot.specs.declared.layout.TheConstants.{OLD_FILE_LEN}
 ghost use Rattle.snap_order.specs.Order.{IsPlace};
 ghost use Rattle.snap_command.specs.Migrating.{CountsMigration, EndsMigration, MigrationEnd};
 ghost use Rattle.snap_command.specs.Migrating.{MigrationKeeps, MigrationLeaves, MigrationReads};
-ghost use Rattle.snap_command.specs.Migrating.{MigrationSays, SaysMigration, as_new_line};
-ghost use Rattle.snap_command.specs.Migrating.{as_old_line, migrated_beginning, migration_status};
-ghost use Rattle.snap_command.specs.Migrating.{migration_status_of};
+ghost use Rattle.snap_command.specs.Migrating.{MigrationSays, SaysMigration, migrated_beginning};
+ghost use Rattle.snap_command.specs.Migrating.{migration_status, migration_status_of};
 
 use crate::Failure;
+use crate::behind::line_behind_role;
+use crate::remedy::{of_new, of_old};
 use itoa::Buffer;
 use snap_disk::{Disk, Refusal};
 use snap_order::{Ended, Migration, Status};
 use snap_segment::{Which, migrate};
-use snap_stream::{complain_twice, write_whole};
+use snap_stream::{Cause, complain_twice, write_whole};
 use std::alloc::{AllocError, Global};
 use std::io::Write;
+
+/// What stands behind the name of the old file, where it was refused.
+const AS_OLD: &str = "refused as the old file: ";
+
+/// The same of the new one.
+const AS_NEW: &str = "refused as the new file: ";
 
 /// Why a migration ended early.
 #[derive(Debug, Drop)]
@@ -34,20 +41,42 @@ pub enum MigrationFailure {
     Other(Failure),
 }
 
+/// What the system said of each file's device, where it failed.
+#[derive(Drop)]
+pub struct Causes<'a, C> {
+    pub old: &'a C,
+    pub new: &'a C,
+}
+
 impl MigrationFailure {
-    /// Says on standard error why the migration ended. Behind the line of a refused file, a second
-    /// one names the file.
-    pub fn report<E: Write>(&self, alloc: Global, order: &Migration<'_>, errors: &mut E) -> Ended
+    /// Says on standard error why the migration ended. Behind the line of a refused file a second
+    /// one names the file and says what to do, and of a device that failed what the system said.
+    pub fn report<C: Cause, E: Write>(
+        &self,
+        alloc: Global,
+        order: &Migration<'_>,
+        causes: &Causes<'_, C>,
+        errors: &mut E,
+    ) -> Ended
         ensures status { result.status ≡ migration_status_of self.now }
-        ensures says { SaysMigration self.now order.now result.is_told (E.contents errors.old)
+        ensures says { SaysMigration self.now (C.may_give causes.now.old.now)
+            (C.may_give causes.now.new.now) order.now result.is_told (E.contents errors.old)
             (E.contents errors.new) }
     {
         match self {
             MigrationFailure::OfFile { which, why } => Ended {
                 status: Status::Refused,
                 is_told: match which {
-                    Which::Old => complain_twice(errors, *why, as_old(alloc, order.old)),
-                    Which::New => complain_twice(errors, *why, as_new(alloc, order.new)),
+                    Which::Old => {
+                        let (role, text) = (AS_OLD, of_old(alloc, order, *why));
+                        let more = line_behind_role(alloc, order.old, role, *why, causes.old, text);
+                        complain_twice(errors, *why, more)
+                    }
+                    Which::New => {
+                        let (role, text) = (AS_NEW, of_new(alloc, order, *why));
+                        let more = line_behind_role(alloc, order.new, role, *why, causes.new, text);
+                        complain_twice(errors, *why, more)
+                    }
                 },
             },
             MigrationFailure::Other(failure) => failure.report(alloc, errors),
@@ -55,38 +84,20 @@ impl MigrationFailure {
     }
 }
 
-/// The line that names the old file behind its refusal.
-fn as_old(alloc: Global, file: &str) -> Option<String>
-    ensures { IfSome result (λ line. string_bytes line ≡ as_old_line file.now) }
-{
-    match format!(in alloc; "snapd: {file}: refused as the old file\n") {
-        Ok(line) => Some(line),
-        Err(_) => None,
-    }
-}
-
-/// The line that names the new file behind its refusal.
-fn as_new(alloc: Global, file: &str) -> Option<String>
-    ensures { IfSome result (λ line. string_bytes line ≡ as_new_line file.now) }
-{
-    match format!(in alloc; "snapd: {file}: refused as the new file\n") {
-        Ok(line) => Some(line),
-        Err(_) => None,
-    }
-}
-
 /// Carries the old file over to the new one, and says how the program ends. `migrated I of N number
 /// K` goes to `writer` once the new file holds number K and its value for good. Why it ended early
-/// goes to `errors`: the line of a refusal, and behind it one that names the refused file; or one
-/// line that begins `snapd: `.
+/// goes to `errors`: the line of a refusal, and behind it one that names the refused file and says
+/// what to do; or one line that begins `snapd: `. `causes` know what the system said of each file's
+/// device, where it failed.
 ///
 /// Faults are found in this order: want of memory, then what the files meet (both lengths, the old
 /// file's contents, whether the new one is formatted), and a writer that fails comes last.
-pub fn act_pair<O: Disk, N: Disk, W: Write, E: Write>(
+pub fn act_pair<O: Disk, N: Disk, C: Cause, W: Write, E: Write>(
     alloc: Global,
     order: &Migration<'_>,
     old: O,
     new: N,
+    causes: &Causes<'_, C>,
     writer: &mut W,
     errors: &mut E,
 ) -> (O, N, Ended)
@@ -99,8 +110,8 @@ pub fn act_pair<O: Disk, N: Disk, W: Write, E: Write>(
     // The status is that of an end which says what happened, what standard error got, and which of
     // the devices are as they were.
     ensures ends { (end : MigrationEnd) × (result.2.status ≡ migration_status end)
-        × MigrationSays order.now end result.2.is_told (E.contents errors.old)
-        (E.contents errors.new)
+        × MigrationSays (C.may_give causes.now.old.now) (C.may_give causes.now.new.now) order.now
+        end result.2.is_told (E.contents errors.old) (E.contents errors.new)
         × CountsMigration end (O.failure_count old) (O.failure_count result.0)
         (N.failure_count new) (N.failure_count result.1)
         × MigrationReads end (O.is_honest result.0
@@ -131,7 +142,7 @@ pub fn act_pair<O: Disk, N: Disk, W: Write, E: Write>(
             let is_told = true;
             (old, new, Ended { status, is_told })
         }
-        Err(failure) => (old, new, failure.report(alloc, order, errors)),
+        Err(failure) => (old, new, failure.report(alloc, order, causes, errors)),
     }
 }
 

@@ -69,6 +69,20 @@ impl<R: Wait + Copy, M: Memory, D: Disk + Drop> Outcome<R, M, D> {
         standing_of(&self.lent.writer)
     }
 
+    /// What the writer told: the segment's number, or why it refused the update.
+    pub fn told(&self) -> Result<u64, Refusal>
+        ensures { result ≡ self.now.told }
+    {
+        self.told
+    }
+
+    /// The number of the update.
+    pub fn number(&self) -> u64
+        ensures { result ≡ self.now.job.number }
+    {
+        self.job.number
+    }
+
     /// Whether it is the outcome of this update of this segment.
     pub fn is_of(&self, segment: usize, number: u64, value: &[u8]) -> bool
         ensures yes { result ≡ true → (own_of self.now.writer.seat ≡ segment)

@@ -5,13 +5,13 @@ use Rattle.snap_devices.specs.CallLog.{device_after}
 use Rattle.snap_devices.specs.declared.file.FileDisk.{FileDisk}
 
 -- what it held at first and after each call
-abbrev pub file_held : FileDisk → List (List ℕ)
+abbrev pub file_held : {R : Type 0} → FileDisk R → List (List ℕ)
 file_held disk = map (λ bytes. bytes.items) disk.held.items
 
-abbrev pub file_device : FileDisk → Device
+abbrev pub file_device : {R : Type 0} → FileDisk R → Device
 file_device disk = device_after disk.len (file_held disk) disk.calls.items
 
 -- No call was made, and so none failed, and each place may be open.
-pub record IsUncalled (disk : FileDisk) : Type 0 where
+pub record IsUncalled {R : Type 0} (disk : FileDisk R) : Type 0 where
   pub log : disk.calls.items ≡ []
   pub failures : disk.failures ≡ 0

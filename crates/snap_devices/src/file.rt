@@ -8,18 +8,45 @@ use snap_disk::{DeviceFault, Disk};
 use snap_slot::FILE_LEN;
 use std::fs::{self, OpenOptions, TryLockError};
 use std::io::{self, ErrorKind};
-use std::os::unix::fs::FileExt;
+use std::os::unix::fs::{FileExt, MetadataExt};
 use std::path::Path;
-use std::rt::Files;
+use std::rt::{Clock, Files};
+use std::sync::OnceLock;
+use std::thread;
+use std::time::Duration;
 use thiserror::Error;
 
-/// How a device shares its file with other processes that take a lock too.
+/// How many times a lock that another process has is tried again, and the rest before each: a second
+/// in all. On a network's file system a lock outlives its process for some milliseconds.
+const LOCK_RESTS: u32 = 50;
+
+const LOCK_REST_MILLIS: u64 = 20;
+
+/// How a device shares its file with other processes that take a lock too, and whether it may
+/// write it.
 #[derive(Clone, Copy, Debug, PartialEq, Eq)]
 pub enum Lock {
     /// Nobody else has a lock: for what writes the file.
     Exclusive,
-    /// Nobody else has an exclusive one: for what only reads it.
+    /// Nobody else has an exclusive one: for what only reads it, and may only read it.
     Shared,
+}
+
+/// Which file of the system it is, whatever names it has: the number of the device that it is on,
+/// and its own number there.
+#[derive(Clone, Copy, Debug, PartialEq, Eq)]
+pub struct FileId {
+    device: u64,
+    inode: u64,
+}
+
+impl FileId {
+    fn of(found: &fs::Metadata) -> FileId {
+        FileId {
+            device: found.dev(),
+            inode: found.ino(),
+        }
+    }
 }
 
 /// Why a file could not be taken as a device. Nothing of it was changed, save that
@@ -29,9 +56,9 @@ pub enum FileFault {
     /// The system's own reason.
     #[error("{0}")]
     System(io::Error),
-    /// Another process has a lock on it that keeps this one out.
+    /// Another process has a lock on this file that keeps this one out, and kept it for a second.
     #[error("it is in use by another snapd")]
-    InUse,
+    InUse(FileId),
     /// Its length is neither 0 nor that of a segment file.
     #[error("it has {len} bytes, and a segment file has {want}", want = FILE_LEN)]
     WrongFile { len: u64 },
@@ -47,44 +74,77 @@ impl From<io::Error> for FileFault {
     }
 }
 
+/// A kind of call of an open file.
+#[derive(Clone, Copy, Debug, PartialEq, Eq, Error)]
+pub enum CallKind {
+    #[error("read")]
+    Read,
+    #[error("write")]
+    Write,
+    #[error("sync")]
+    Sync,
+}
+
+/// Why a call of an open file failed, and which.
+#[derive(Debug, Drop, Error)]
+pub enum CallFault {
+    /// The system's own reason.
+    #[error("{call}: {reason}")]
+    System { call: CallKind, reason: io::Error },
+    /// The path that it was opened by names another file now, or none. What is written goes to a
+    /// file that nobody finds again. Only a sync finds that.
+    #[error("sync: its path doesn't name it any more: it was moved, removed or replaced")]
+    Moved,
+}
+
 /// An open and locked file, with its length when it was opened.
 ///
 /// The lock is the system's own, on the whole file (`flock`). It binds only those who ask for it,
 /// and ends with the device, or with the process, however that ends.
 ///
-/// Each method makes the call of the system that it is named for, and then notes it. It is honest
+/// Each method makes the call of the system that it is named for, and then notes it. A sync also
+/// asks whether the path still names the file, and fails where it doesn't. It is honest
 /// where every noted call did what the model of [`Disk`] says, after a sync that failed too, and
 /// nobody else writes the file. At first every place may be open, which is the weakest assumption:
 /// only a sync that succeeds closes them.
+///
+/// Why a call failed is told to nobody, unless [`FileDisk::telling`] says to whom.
 #[derive(Drop)]
-pub struct FileDisk {
+pub struct FileDisk<'p, R> {
+    rt: &'p R,
+    path: &'p str,
     file: fs::File,
+    id: FileId,
     len: u64,
     failures: u64,
+    /// Gets why the first call that fails did.
+    told: Option<&'p OnceLock<CallFault>>,
     /// The newest first.
     calls: Log<Call>,
     /// What the file held at first and after each call. No contract says that.
     held: Log<Log<u8>>,
 }
 
-impl FileDisk {
+impl<'p, R: Files<File = fs::File> + Clock> FileDisk<'p, R> {
     /// The file at this path, of any length, which is not changed. A lock that keeps this one out
-    /// is `InUse`, and any other fault is the system's own, on a file system without locks too:
-    /// without its lock a file isn't safe to use.
+    /// for a second is `InUse`, and any other fault is the system's own, on a file system without
+    /// locks too: without its lock a file isn't safe to use.
+    ///
+    /// With a shared lock a file is opened for reading alone. So it may be on a file system that
+    /// takes no writes, and belong to somebody who lets others only read it: the system locks and
+    /// syncs such a file as any other, and a write of it fails. What is no file is opened to be
+    /// written too: a folder refuses that, and a pipe would let a reader wait for a writer.
     ///
     /// The lock comes before the length, which the holder of an exclusive one may yet change.
-    pub fn open<R: Files<File = fs::File>>(
-        rt: &R,
-        path: &str,
-        lock: Lock,
-    ) -> Result<FileDisk, FileFault>
+    pub fn open(rt: &'p R, path: &'p str, lock: Lock) -> Result<FileDisk<'p, R>, FileFault>
         ensures uncalled { IfOk result IsUncalled }
         ensures any_length { IfErr result (λ fault. (len : ℕ) → fault ≢ FileFault.WrongFile len) }
     {
-        let file = OpenOptions::new().read(true).write(true).open(rt, path)?;
-        let file = take_lock(file, lock)?;
-        let len = file.metadata()?.len();
-        Ok(FileDisk::of(file, len))
+        let writes = lock == Lock::Exclusive || !fs::metadata(rt, path)?.is_file();
+        let file = OpenOptions::new().read(true).write(writes).open(rt, path)?;
+        let file = take_lock(rt, file, lock)?;
+        let found = file.metadata()?;
+        Ok(FileDisk::of(rt, path, file, FileId::of(&found), found.len()))
     }
 
     /// The file at this path, for a new segment, with an exclusive lock: one that isn't there or
@@ -97,7 +157,7 @@ impl FileDisk {
     /// `create` syncs the folder again. Of two that make the file at once one has the lock and
     /// does this, and the other is refused. Where the file is reached through a symbolic link, it
     /// is the link's folder that is synced.
-    pub fn create<R: Files<File = fs::File>>(rt: &R, path: &str) -> Result<FileDisk, FileFault>
+    pub fn create(rt: &'p R, path: &'p str) -> Result<FileDisk<'p, R>, FileFault>
         ensures uncalled { IfOk result IsUncalled }
         ensures size { IfOk result (λ disk. length (file_device disk).bytes ≡ FILE_LEN) }
         ensures wrong_file { IfErr result (λ fault. (len : ℕ) → fault ≡ FileFault.WrongFile len
@@ -108,35 +168,96 @@ impl FileDisk {
             .write(true)
             .create(true)
             .open(rt, path)?;
-        let file = take_lock(file, Lock::Exclusive)?;
-        let len = file.metadata()?.len();
+        let file = take_lock(rt, file, Lock::Exclusive)?;
+        let found = file.metadata()?;
+        let len = found.len();
         if len == 0 {
             sync_folder_of(rt, path)?;
             file.set_len(FILE_LEN)?;
         } else if len != FILE_LEN {
             return Err(FileFault::WrongFile { len });
         }
-        Ok(FileDisk::of(file, FILE_LEN))
+        Ok(FileDisk::of(rt, path, file, FileId::of(&found), FILE_LEN))
+    }
+
+    /// Which file it is.
+    pub fn id(&self) -> FileId {
+        self.id
+    }
+
+    /// The same device, which tells `to` why a call of it failed: the first one that does, since
+    /// what comes behind it may be its consequence. Where `to` has a fault already it keeps that.
+    pub fn telling(mut self, to: &'p OnceLock<CallFault>) -> FileDisk<'p, R>
+        ensures uncalled { IsUncalled self.entry → IsUncalled result }
+        ensures size { length (file_device result).bytes
+            ≡ length (file_device self.entry).bytes }
+    {
+        self.told = Some(to);
+        self
     }
 
     /// A device on which no call was made.
     #[tactic(auto, using(crate::proofs::Logged::length_fit))]
-    fn of(file: fs::File, len: u64) -> FileDisk
+    fn of(rt: &'p R, path: &'p str, file: fs::File, id: FileId, len: u64) -> FileDisk<'p, R>
         ensures uncalled { IsUncalled result }
         ensures size { length (file_device result).bytes ≡ len }
     {
         FileDisk {
+            rt,
+            path,
             file,
+            id,
             len,
             failures: 0,
+            told: None,
             calls: Log::new(),
             held: Log::unknown(),
         }
     }
+
+    /// Syncs, and asks whether the path still names this file.
+    fn sync_named(&self) -> Result<(), CallFault> {
+        self.file.sync_data().map_err(fault_of_sync)?;
+        match fs::metadata(self.rt, self.path) {
+            Ok(named) if FileId::of(&named) == self.id => Ok(()),
+            Err(reason) if reason.kind() != ErrorKind::NotFound => Err(fault_of_sync(reason)),
+            _ => Err(CallFault::Moved),
+        }
+    }
 }
 
-/// The file with this lock. It doesn't wait for one that another process has.
-fn take_lock(file: fs::File, lock: Lock) -> Result<fs::File, FileFault>
+fn fault_of_sync(reason: io::Error) -> CallFault {
+    CallFault::System {
+        call: CallKind::Sync,
+        reason,
+    }
+}
+
+/// Tells why a call failed, where that is to be told and nothing was before.
+fn tell(told: Option<&OnceLock<CallFault>>, fault: CallFault) {
+    if let Some(told) = told {
+        let _ = told.try_set(fault);
+    }
+}
+
+/// The file with this lock, for which it waits a second at most.
+fn take_lock<R: Clock>(rt: &R, file: fs::File, lock: Lock) -> Result<fs::File, FileFault>
+    ensures { IfErr result (λ fault. (len : ℕ) → fault ≢ FileFault.WrongFile len) }
+{
+    for _ in 0..LOCK_RESTS {
+        if try_lock(&file, lock)? {
+            return Ok(file);
+        }
+        thread::sleep(rt, Duration::from_millis(LOCK_REST_MILLIS));
+    }
+    if try_lock(&file, lock)? {
+        return Ok(file);
+    }
+    Err(FileFault::InUse(FileId::of(&file.metadata()?)))
+}
+
+/// Takes this lock, where no other process has one that keeps it out.
+fn try_lock(file: &fs::File, lock: Lock) -> Result<bool, FileFault>
     ensures { IfErr result (λ fault. (len : ℕ) → fault ≢ FileFault.WrongFile len) }
 {
     let taken = match lock {
@@ -144,8 +265,8 @@ fn take_lock(file: fs::File, lock: Lock) -> Result<fs::File, FileFault>
         Lock::Shared => file.try_lock_shared(),
     };
     match taken {
-        Ok(()) => Ok(file),
-        Err(TryLockError::WouldBlock) => Err(FileFault::InUse),
+        Ok(()) => Ok(true),
+        Err(TryLockError::WouldBlock) => Ok(false),
         Err(TryLockError::Error(reason)) => Err(FileFault::System(reason)),
     }
 }
@@ -180,7 +301,7 @@ fn is_not_allowed(kind: ErrorKind) -> bool {
 }
 
 #[tactic(auto, using(crate::proofs::Logged::noted))]
-impl Disk for FileDisk {
+impl<R: Files<File = fs::File> + Clock> Disk for FileDisk<'_, R> {
     ghost device = { file_device };
 
     ghost failure_count = { λ f. f.failures };
@@ -205,42 +326,56 @@ impl Disk for FileDisk {
     }
 
     fn read_at(&mut self, at: u64, buf: &mut [u8]) -> Result<(), DeviceFault> {
-        if self.file.read_exact_at(buf, at).is_ok() {
-            self.calls = self.calls.and(&[Call::Gave {
-                at,
-                bytes: Log::new().and(buf),
-            }]);
-            Ok(())
-        } else {
-            self.calls = self.calls.and(&[Call::ReadFailed]);
-            self.failures += 1;
-            Err(DeviceFault)
+        match self.file.read_exact_at(buf, at) {
+            Ok(()) => {
+                self.calls = self.calls.and(&[Call::Gave {
+                    at,
+                    bytes: Log::new().and(buf),
+                }]);
+                Ok(())
+            }
+            Err(reason) => {
+                self.calls = self.calls.and(&[Call::ReadFailed]);
+                let call = CallKind::Read;
+                tell(self.told, CallFault::System { call, reason });
+                self.failures += 1;
+                Err(DeviceFault)
+            }
         }
     }
 
     fn write_at(&mut self, at: u64, bytes: &[u8]) -> Result<(), DeviceFault> {
-        if self.file.write_all_at(bytes, at).is_ok() {
-            self.calls = self.calls.and(&[Call::Wrote {
-                at,
-                bytes: Log::new().and(bytes),
-            }]);
-            Ok(())
-        } else {
-            let count = bytes.len() as u64;
-            self.calls = self.calls.and(&[Call::WriteFailed { at, count }]);
-            self.failures += 1;
-            Err(DeviceFault)
+        match self.file.write_all_at(bytes, at) {
+            Ok(()) => {
+                self.calls = self.calls.and(&[Call::Wrote {
+                    at,
+                    bytes: Log::new().and(bytes),
+                }]);
+                Ok(())
+            }
+            Err(reason) => {
+                let count = bytes.len() as u64;
+                self.calls = self.calls.and(&[Call::WriteFailed { at, count }]);
+                let call = CallKind::Write;
+                tell(self.told, CallFault::System { call, reason });
+                self.failures += 1;
+                Err(DeviceFault)
+            }
         }
     }
 
     fn sync(&mut self) -> Result<(), DeviceFault> {
-        if self.file.sync_data().is_ok() {
-            self.calls = self.calls.and(&[Call::Synced]);
-            Ok(())
-        } else {
-            self.calls = self.calls.and(&[Call::SyncFailed]);
-            self.failures += 1;
-            Err(DeviceFault)
+        match self.sync_named() {
+            Ok(()) => {
+                self.calls = self.calls.and(&[Call::Synced]);
+                Ok(())
+            }
+            Err(fault) => {
+                self.calls = self.calls.and(&[Call::SyncFailed]);
+                tell(self.told, fault);
+                self.failures += 1;
+                Err(DeviceFault)
+            }
         }
     }
 }

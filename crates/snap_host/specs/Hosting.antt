@@ -29,7 +29,13 @@ use Rattle.snap_disk.specs.declared.refusal.Refusal.{Refusal}
 use Rattle.snap_disk.specs.declared.refusal.Refusal.TheVariants as refusal
 use Rattle.snap_history.specs.Pairs.{Pairs}
 use Rattle.snap_segment.specs.Segment.{SegmentState}
-use Rattle.snap_stream.specs.Streams.{AppendsBeginning, Complains, SaysLines, refused_line}
+use Rattle.snap_stream.specs.Streams.{
+  AppendsBeginning,
+  Complains,
+  SaysLines,
+  file_line,
+  refused_line,
+}
 use Rattle.snap_order.specs.declared.status.Status.{Status}
 use Rattle.snap_order.specs.declared.status.Status.TheVariants as status
 use Rattle.snap_restart.specs.Opened.{IsOpened, IsStopped, recovered}
@@ -153,10 +159,6 @@ ListenFails bound refused out out' NoMemory = (a : SocketAddr) × bound a × Kee
 ListenFails bound refused out out' failure = ⊥
 
 -- ---- standard error
-
--- a line that names a file
-abbrev pub file_line : (file text : List ℕ) → List ℕ
-file_line file text = codes "snapd: " ++ (file ++ (codes ": " ++ (text ++ codes "\n")))
 
 -- of a refusal at this segment, what stands behind the refusal's line: a line that names its file,
 -- save for want of memory

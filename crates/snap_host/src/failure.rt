@@ -1,11 +1,12 @@
 //! Why a server did not serve.
 ghost use Rattle.std.specs.Prelude.{◌≡◌, IfSome, string_bytes};
-ghost use Rattle.snap_host.specs.Hosting.{IsRemedy, SaysFailure, file_line, status_of};
+ghost use Rattle.snap_host.specs.Hosting.{IsRemedy, SaysFailure, status_of};
+ghost use Rattle.snap_stream.specs.Streams.{file_line};
 
 use snap_disk::Refusal;
 use snap_order::{Ended, Serving, Status};
 use snap_server::ServerFault;
-use snap_stream::{complain, complain_of_refusal, complain_twice};
+use snap_stream::{Cause, complain, complain_of_refusal, complain_twice};
 use std::alloc::Global;
 use std::io::{self, Write};
 
@@ -14,7 +15,7 @@ use std::io::{self, Write};
 pub enum HostFailure {
     /// The file of this segment was refused, or there was no memory at it.
     Refused { segment: usize, why: Refusal },
-    /// No memory, or no thread.
+    /// No memory.
     NoMemory,
     /// The address couldn't be bound.
     Address(io::Error),
@@ -27,7 +28,14 @@ pub enum HostFailure {
 impl HostFailure {
     /// Says on standard error why the server ended, as one line that begins `snapd: `. Behind the
     /// line of a file's refusal one more names the file and says what to do.
-    pub fn report<E: Write>(&self, alloc: Global, order: &Serving<'_>, errors: &mut E) -> Ended
+    /// `causes` has what the system said of each segment's device.
+    pub fn report<C: Cause, E: Write>(
+        &self,
+        alloc: Global,
+        order: &Serving<'_>,
+        causes: &[C],
+        errors: &mut E,
+    ) -> Ended
         ensures status { result.status ≡ status_of self.now }
         ensures says { SaysFailure (λ file. file.now) order.now.files.items self.now
             result.is_told (E.contents errors.old) (E.contents errors.new) }
@@ -35,7 +43,7 @@ impl HostFailure {
         let address = order.address;
         match self {
             HostFailure::Refused { segment, why } => {
-                let more = remedy_line(alloc, &order.files, *segment, *why);
+                let more = remedy_line(alloc, &order.files, causes, *segment, *why);
                 Ended {
                     status: Status::Refused,
                     is_told: complain_twice(errors, *why, more),
@@ -75,7 +83,13 @@ fn failed(is_told: bool) -> Ended
 
 /// The line behind that of a refusal at this segment, or none for want of memory. It is empty where
 /// the refusal is want of memory.
-fn remedy_line(alloc: Global, files: &Vec<&str>, segment: usize, why: Refusal) -> Option<String>
+fn remedy_line<C: Cause>(
+    alloc: Global,
+    files: &Vec<&str>,
+    causes: &[C],
+    segment: usize,
+    why: Refusal,
+) -> Option<String>
     ensures { IfSome result (λ more.
         IsRemedy (λ file. file.now) files.now.items segment why (string_bytes more)) }
 {
@@ -85,8 +99,14 @@ fn remedy_line(alloc: Global, files: &Vec<&str>, segment: usize, why: Refusal) -
     if why == Refusal::NoMemory {
         return Some(String::new(alloc));
     }
-    let remedy = remedy_of(alloc, *file, segment, files.len(), why)?;
+    let cause = cause_of(alloc, causes, segment);
+    let remedy = remedy_of(alloc, *file, segment, files.len(), why, cause)?;
     line_of(alloc, *file, &remedy)
+}
+
+/// What the system said of this segment's device.
+fn cause_of<C: Cause>(alloc: Global, causes: &[C], segment: usize) -> Option<String> {
+    causes.get(segment)?.text(alloc)
 }
 
 /// A line that names a file.
@@ -107,16 +127,20 @@ fn remedy_of(
     segment: usize,
     count: usize,
     why: Refusal,
+    cause: Option<String>,
 ) -> Option<String> {
-    let text = match why {
-        Refusal::Unformatted => format!(in alloc;
-            "format it first: snapd format {file} --index {segment} --count {count}"
+    let text = match (why, cause) {
+        (Refusal::Unformatted, _) => format!(in alloc;
+            "it was never formatted, or its header is gone: keep a copy first, then snapd format {file} --index {segment} --count {count}"
         ),
-        Refusal::WrongFile => format!(in alloc;
-            "it isn't the file of segment {segment} of {count}: see snapd check {file}"
+        (Refusal::WrongFile, _) => format!(in alloc;
+            "it isn't the file of segment {segment} of {count}, or has the old format: see snapd check {file}"
         ),
-        Refusal::DeviceFailed => format!(in alloc;
-            "it couldn't be synced and read: look after its disk, and start again"
+        (Refusal::DeviceFailed, Some(cause)) => format!(in alloc;
+            "{cause}: look after its disk, and start again"
+        ),
+        (Refusal::DeviceFailed, None) => format!(in alloc;
+            "a call of its device failed: look after its disk, and start again"
         ),
         _ => format!(in alloc; "it doesn't hold a segment's number: see snapd check {file}"),
     };

@@ -24,27 +24,41 @@ ghost use Rattle.snap_host.specs.Hosting.{listening_line, served_line, status_at
 use crate::bind::Bind;
 use crate::failure::HostFailure;
 use crate::stores::serve_store;
+use crate::watch::Watch;
 use snap_disk::Disk;
 use snap_order::{Ended, Serving, Status};
 use snap_restart::{Report, Store, open_all};
-use snap_server::{Gate, ServerFault};
-use snap_stream::write_whole;
+use snap_server::{Gate, Limits, Note, ServerFault};
+use snap_stream::{Cause, write_whole};
 use std::alloc::Global;
 use std::io::{self, Write};
 use std::net::Net;
 use std::rt::Clock;
 use std::sync::Wait;
 use std::thread::Threads;
+use std::time::Duration;
+
+/// The rest after a fault of the listener, in milliseconds: with the longer ones behind further faults
+/// accepting ends after three minutes.
+const FAULT_REST: u64 = 20;
 
 /// What a server meets at its edge.
 #[derive(Clone, Copy)]
-pub struct Edge<'a, B, G, N> {
+pub struct Edge<'a, B, G, N, H, C> {
     /// Binds the address.
     pub bind: &'a B,
     /// Is told of each request before it is answered and after.
     pub gate: &'a G,
-    /// Is told of each connection that has ended.
+    /// Is told of each connection that has ended, and of the accepting.
     pub note: &'a N,
+    /// Is told of updates that weren't stored.
+    pub watch: H,
+    /// What the system said of each segment's device when a call of it failed.
+    pub causes: &'a [C],
+    /// How many connections may be open at once.
+    pub clients: usize,
+    /// How long a connection may say nothing; without end where none is given.
+    pub idle: Option<Duration>,
 }
 
 /// Serves the order's segments, one device for each of its files in order, and says how the program
@@ -58,12 +72,12 @@ pub struct Edge<'a, B, G, N> {
 ///
 /// Why it ended early goes to `errors`, as one line that begins `snapd: `; behind the line of a
 /// file's refusal one more names the file and says what to do.
-pub fn host<X, D, B, G, N, W, E>(
+pub fn host<X, D, B, G, N, H, C, W, E>(
     rt: &X,
     alloc: Global,
     order: &Serving<'_>,
     devices: Vec<D>,
-    edge: Edge<'_, B, G, N>,
+    edge: Edge<'_, B, G, N, H, C>,
     writer: &mut W,
     errors: &mut E,
 ) -> Ended
@@ -73,7 +87,9 @@ where
     B: Bind,
     B::Listener: Drop,
     G: Gate + Sync,
-    N: Fn(&snap_server::Ended) + Sync,
+    N: Fn(&Note) + Sync,
+    H: Watch + Copy + Send + Drop,
+    C: Cause,
     W: Write,
     E: Write,
     requires order { IsServable order.now }
@@ -92,22 +108,23 @@ where
         ((l : B.Listener) × B.Listener.refuses l) order.now.connections
         (W.contents writer.old) (W.contents writer.new) end }
 {
+    let causes = edge.causes;
     match open_and_serve(rt, alloc, order, devices, edge, writer) {
         Ok(_) => Ended {
             status: Status::Done,
             is_told: true,
         },
-        Err(failure) => failure.report(alloc, order, errors),
+        Err(failure) => failure.report(alloc, order, causes, errors),
     }
 }
 
 /// Opens, reports, listens, serves, and says how many connections were served.
-fn open_and_serve<X, D, B, G, N, W>(
+fn open_and_serve<X, D, B, G, N, H, C, W>(
     rt: &X,
     alloc: Global,
     order: &Serving<'_>,
     devices: Vec<D>,
-    edge: Edge<'_, B, G, N>,
+    edge: Edge<'_, B, G, N, H, C>,
     writer: &mut W,
 ) -> Result<u64, HostFailure>
 where
@@ -116,7 +133,9 @@ where
     B: Bind,
     B::Listener: Drop,
     G: Gate + Sync,
-    N: Fn(&snap_server::Ended) + Sync,
+    N: Fn(&Note) + Sync,
+    H: Watch + Copy + Send + Drop,
+    C: Cause,
     W: Write,
     requires order { IsServable order.now }
     requires devices { length devices.items ≡ length order.now.files.items }
@@ -140,13 +159,13 @@ where
 
 /// Reports, listens, serves, and says how many connections were served.
 #[tactic(auto, using(crate::proofs::Printing::report_failed))]
-fn serve_opened<X, D, B, G, N, W>(
+fn serve_opened<X, D, B, G, N, H, C, W>(
     rt: &X,
     alloc: Global,
     order: &Serving<'_>,
     store: Store<D>,
     report: &Report,
-    edge: Edge<'_, B, G, N>,
+    edge: Edge<'_, B, G, N, H, C>,
     writer: &mut W,
 ) -> Result<u64, HostFailure>
 where
@@ -155,7 +174,9 @@ where
     B: Bind,
     B::Listener: Drop,
     G: Gate + Sync,
-    N: Fn(&snap_server::Ended) + Sync,
+    N: Fn(&Note) + Sync,
+    H: Watch + Copy + Send + Drop,
+    C: Cause,
     W: Write,
     requires back { AreBack store.writers.items store.scanners.items }
     requires note { N.IsAlwaysCallable edge.note.now }
@@ -172,9 +193,21 @@ where
         Ok(listener) => listener,
         Err(failure) => return Err(failure),
     };
-    let Edge { gate, note, .. } = edge;
-    let connections = order.connections;
-    match serve_store(rt, alloc, store, &listener, connections, gate, note) {
+    let Edge {
+        gate,
+        note,
+        watch,
+        clients,
+        idle,
+        ..
+    } = edge;
+    let limits = Limits {
+        connections: order.connections,
+        clients,
+        fault_rest: Duration::from_millis(FAULT_REST),
+        idle,
+    };
+    match serve_store(rt, alloc, store, &listener, limits, gate, note, watch) {
         Ok(served) => match print_served(alloc, served, writer) {
             Ok(()) => Ok(served),
             Err(failure) => Err(failure),

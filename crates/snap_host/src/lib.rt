@@ -11,8 +11,10 @@ mod failure;
 mod hosting;
 mod notes;
 mod stores;
+mod watch;
 
 pub use bind::{Bind, Network};
 pub use failure::HostFailure;
 pub use hosting::{Edge, host};
-pub use notes::{Notes, write_notes};
+pub use notes::log_note;
+pub use watch::{NoWatch, Watch};

@@ -6,11 +6,12 @@ ghost use Rattle.snap_service.specs.Memory.{AreWriters, IsOf};
 ghost use Rattle.snap_restart.specs.Closed.{AreBack};
 ghost use Rattle.snap_host.specs.Scanners.{AreScanners};
 
+use crate::watch::Watch;
 use snap_desk::{Desk, Outcome, StoreThread, Told, Window};
-use snap_disk::Disk;
+use snap_disk::{Disk, Refusal};
 use snap_memory::{Scanner, Snapshot};
 use snap_restart::Store;
-use snap_server::{Background, Done, Ended, Gate, Listen, ServerFault, run};
+use snap_server::{Background, Done, Gate, Limits, Listen, Note, ServerFault, run};
 use snap_service::{Memory, WriterOf, name_writers};
 use snap_writer::Writer;
 use std::alloc::{AllocError, Global};
@@ -23,11 +24,14 @@ use std::thread::Threads;
 
 /// A segment's store in a thread of the server.
 #[derive(Drop)]
-struct Storing<R: Wait + Copy, M: Memory, D: Disk + Drop> {
+struct Storing<R: Wait + Copy, M: Memory, D: Disk + Drop, H: Drop> {
     store: StoreThread<R, M, D>,
+    segment: usize,
+    watch: H,
 }
 
-impl<R: Wait + Copy, M: Memory, D: Disk + Drop> Background for Storing<R, M, D> {
+impl<R: Wait + Copy, M: Memory, D: Disk + Drop, H: Watch + Drop> Background
+    for Storing<R, M, D, H> {
     type Outcome = Outcome<R, M, D>;
 
     fn next_done(&mut self) -> Option<Done<Outcome<R, M, D>>> {
@@ -36,6 +40,9 @@ impl<R: Wait + Copy, M: Memory, D: Disk + Drop> Background for Storing<R, M, D> 
             key,
             outcome,
         } = self.store.next()?;
+        if outcome.told() == Err(Refusal::DeviceFailed) {
+            self.watch.unstored(self.segment, outcome.number());
+        }
         Some(Done {
             worker,
             key,
@@ -45,35 +52,42 @@ impl<R: Wait + Copy, M: Memory, D: Disk + Drop> Background for Storing<R, M, D> 
 }
 
 /// A store for each writer, and their windows in the same order.
-fn open_stores<R: Wait + Copy, M: Memory, D: Disk + Drop>(
+fn open_stores<R: Wait + Copy, M: Memory, D: Disk + Drop, H: Watch + Copy + Drop>(
     rt: R,
     alloc: Global,
     writers: Vec<WriterOf<M, D>>,
-) -> Result<(Vec<Storing<R, M, D>>, Vec<Window>), AllocError>
+    watch: H,
+) -> Result<(Vec<Storing<R, M, D, H>>, Vec<Window>), AllocError>
     ensures stores { IfOk result (λ r. length r.0.items ≡ length writers.items) }
     ensures windows { IfOk result (λ r. length r.1.items ≡ length writers.items) }
 {
     let mut stores = Vec::new(alloc);
     let mut windows = Vec::new(alloc);
     'writers: for writer in writers {
-        add_store(rt, alloc, writer, &mut stores, &mut windows)?;
+        add_store(rt, alloc, writer, watch, &mut stores, &mut windows)?;
     }
     Ok((stores, windows))
 }
 
 /// Adds a store for this writer, and its window.
-fn add_store<R: Wait + Copy, M: Memory, D: Disk + Drop>(
+fn add_store<R: Wait + Copy, M: Memory, D: Disk + Drop, H: Watch + Copy + Drop>(
     rt: R,
     alloc: Global,
     writer: WriterOf<M, D>,
-    stores: &mut Vec<Storing<R, M, D>>,
+    watch: H,
+    stores: &mut Vec<Storing<R, M, D, H>>,
     windows: &mut Vec<Window>,
 ) -> Result<(), AllocError>
     ensures stores { OnOk result (length stores.new.items ≡ length stores.old.items + 1) }
     ensures windows { OnOk result (length windows.new.items ≡ length windows.old.items + 1) }
 {
+    let segment = writer.segment();
     let (store, window) = StoreThread::new(rt, alloc, writer)?;
-    stores.push(Storing { store })?;
+    stores.push(Storing {
+        store,
+        segment,
+        watch,
+    })?;
     windows.push(window)?;
     Ok(())
 }
@@ -111,14 +125,42 @@ fn open_desk<R: Wait + Copy + Clock, M: Memory, D: Disk + Drop>(
     Ok(Desk::new(rt, alloc, worker, own, scanner, snapshot))
 }
 
-/// Serves the memory of these writers and scanners, as [`run`] does.
-fn serve_memory<M, X, D, L, G, N>(
-    rt: &X,
+/// The desks and stores of a server over the memory of these writers and scanners.
+fn open_parts<M, X, D, H>(
+    rt: X,
     alloc: Global,
     writers: Vec<Writer<D>>,
     scanners: Vec<Scanner>,
+    watch: H,
+) -> Result<(Vec<Desk<X, M, D>>, Vec<Storing<X, M, D, H>>), ServerFault>
+where
+    M: Memory,
+    X: Wait + Clock + Copy,
+    D: Disk + Drop,
+    H: Watch + Copy + Drop,
+    requires writers { AreWriters M.table M.plan writers.items }
+    requires scanners { AreScanners M.table M.plan scanners.items }
+    ensures { IfErr result (λ fault. fault ≡ ServerFault.NoMemory) }
+{
+    let Ok(writers) = name_writers::<M, D>(alloc, writers) else {
+        return Err(ServerFault::NoMemory);
+    };
+    let Ok((stores, windows)) = open_stores(rt, alloc, writers, watch) else {
+        return Err(ServerFault::NoMemory);
+    };
+    let Ok(desks) = open_desks::<X, M, D>(rt, alloc, windows, scanners) else {
+        return Err(ServerFault::NoMemory);
+    };
+    Ok((desks, stores))
+}
+
+/// Serves by these desks and stores, as [`run`] does.
+fn serve_parts<M, X, D, L, G, N, H>(
+    rt: &X,
+    alloc: Global,
+    parts: (Vec<Desk<X, M, D>>, Vec<Storing<X, M, D, H>>),
     listener: &L,
-    connections: Option<u64>,
+    limits: Limits,
     gate: &G,
     note: &N,
 ) -> Result<u64, ServerFault>
@@ -128,60 +170,77 @@ where
     D: Disk + Send + Drop,
     L: Listen,
     G: Gate + Sync,
-    N: Fn(&Ended) + Sync,
-    requires writers { AreWriters M.table M.plan writers.items }
-    requires scanners { AreScanners M.table M.plan scanners.items }
+    N: Fn(&Note) + Sync,
+    H: Watch + Send + Drop,
     requires note { N.IsAlwaysCallable note.now }
-    ensures asked { IfOk result (λ k. connections ≡ Some k) }
+    ensures asked { IfOk result (λ k. limits.connections ≡ Some k) }
     ensures deaf { IfErr result (λ fault.
         fault ≡ ServerFault.AcceptFailed → L.refuses listener.now) }
 {
-    let Ok(writers) = name_writers::<M, D>(alloc, writers) else {
-        return Err(ServerFault::NoMemory);
-    };
-    let Ok((stores, windows)) = open_stores(*rt, alloc, writers) else {
-        return Err(ServerFault::NoMemory);
-    };
-    let Ok(desks) = open_desks::<X, M, D>(*rt, alloc, windows, scanners) else {
-        return Err(ServerFault::NoMemory);
-    };
-    run(rt, alloc, listener, desks, stores, connections, gate, note)
+    let (desks, stores) = parts;
+    run(rt, alloc, listener, desks, stores, limits, gate, note)
+}
+
+/// Serves the memory of these writers and scanners, as [`run`] does.
+fn serve_memory<M, X, D, L, G, N, H>(
+    rt: &X,
+    alloc: Global,
+    writers: Vec<Writer<D>>,
+    scanners: Vec<Scanner>,
+    listener: &L,
+    limits: Limits,
+    gate: &G,
+    note: &N,
+    watch: H,
+) -> Result<u64, ServerFault>
+where
+    M: Memory + Send,
+    X: Threads + Wait + Clock + Net + Sync + Send + Copy,
+    D: Disk + Send + Drop,
+    L: Listen,
+    G: Gate + Sync,
+    N: Fn(&Note) + Sync,
+    H: Watch + Copy + Send + Drop,
+    requires writers { AreWriters M.table M.plan writers.items }
+    requires scanners { AreScanners M.table M.plan scanners.items }
+    requires note { N.IsAlwaysCallable note.now }
+    ensures asked { IfOk result (λ k. limits.connections ≡ Some k) }
+    ensures deaf { IfErr result (λ fault.
+        fault ≡ ServerFault.AcceptFailed → L.refuses listener.now) }
+{
+    let parts = open_parts::<M, X, D, H>(*rt, alloc, writers, scanners, watch)?;
+    serve_parts(rt, alloc, parts, listener, limits, gate, note)
 }
 
 /// Serves this store, as [`run`] does: a worker for each scanner, and a thread that stores for each
 /// writer.
-pub(crate) fn serve_store<X, D, L, G, N>(
+pub(crate) fn serve_store<X, D, L, G, N, H>(
     rt: &X,
     alloc: Global,
     store: Store<D>,
     listener: &L,
-    connections: Option<u64>,
+    limits: Limits,
     gate: &G,
     note: &N,
+    watch: H,
 ) -> Result<u64, ServerFault>
 where
     X: Threads + Wait + Clock + Net + Sync + Send + Copy,
     D: Disk + Send + Drop,
     L: Listen,
     G: Gate + Sync,
-    N: Fn(&Ended) + Sync,
+    N: Fn(&Note) + Sync,
+    H: Watch + Copy + Send + Drop,
     requires back { AreBack store.writers.items store.scanners.items }
     requires note { N.IsAlwaysCallable note.now }
-    ensures asked { IfOk result (λ k. connections ≡ Some k) }
+    ensures asked { IfOk result (λ k. limits.connections ≡ Some k) }
     ensures deaf { IfErr result (λ fault.
         fault ≡ ServerFault.AcceptFailed → L.refuses listener.now) }
 {
     let mut store = store;
     let writers = mem::replace(&mut store.writers, Vec::new(alloc));
     let scanners = mem::replace(&mut store.scanners, Vec::new(alloc));
-    serve_memory::<Brand, X, D, L, G, N>(
-        rt,
-        alloc,
-        writers,
-        scanners,
-        listener,
-        connections,
-        gate,
-        note,
+    serve_memory::<Brand, X, D, L, G, N, H>(
+        rt, alloc, writers, scanners, listener, limits, gate, note, watch,
     )
 }

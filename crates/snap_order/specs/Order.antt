@@ -1,15 +1,19 @@
 -- What holds of an order.
-use Rattle.std.specs.Prelude.{ℕ, ◌<◌, ◌≤◌, List, length}
+use Rattle.std.specs.Prelude.{ℕ, ◌<◌, ◌≤◌, List, length, IfSome}
 use Rattle.snap_history.specs.declared.limits.TheConstants.{MAX_COUNT}
 use Rattle.snap_history.specs.declared.limits.TheConstants.{MAX_SCANNERS}
 use Rattle.snap_frame.specs.Messages.{max_payload, payload}
+use Rattle.snap_frame.specs.declared.request.Request.{Request}
+use Rattle.snap_frame.specs.declared.request.Request.TheVariants as request
 use Rattle.snap_client.specs.declared.again.TheConstants.{MAX_TRIES}
 use Rattle.snap_order.specs.declared.order.Order.{Order}
 use Rattle.snap_order.specs.declared.order.Order.TheVariants as order
 use Rattle.snap_order.specs.declared.order.FileOrder.{FileOrder}
-use Rattle.snap_order.specs.declared.order.Migration.{Migration}
 use Rattle.snap_order.specs.declared.order.Serving.{Serving}
 use Rattle.snap_order.specs.declared.order.Calling.{Calling}
+use Rattle.snap_order.specs.declared.order.Question.{Question}
+use Rattle.snap_order.specs.declared.order.Question.TheVariants as question
+use Rattle.snap_order.specs.declared.order.TheConstants.{MAX_CLIENTS, MAX_IDLE}
 use Rattle.snap_order.specs.declared.order.FileOrder.TheVariants.{Format, Put, Get, Check}
 
 -- there are 1 to 16 segments, and this is one of them
@@ -23,16 +27,28 @@ IsFileWithinLimits (Put file index count) = IsPlace index count
 IsFileWithinLimits (Get file index count) = IsPlace index count
 IsFileWithinLimits (Check file) = Unit {0}
 
--- there are files and scanners, and no more than a server may have
+-- it is 1 to this many
+abbrev pub IsOneTo : ℕ → ℕ → Type 0
+IsOneTo most n = (1 ≤ n) × (n ≤ most)
+
+-- there are files and scanners, and no more than a server may have; the limits that are given are
+-- within theirs
 pub record IsServable (s : Serving) : Type 0 where
   pub files : 1 ≤ length s.files.items
   pub few_files : length s.files.items ≤ MAX_COUNT
   pub scanners : 1 ≤ s.scanners
   pub few_scanners : s.scanners ≤ MAX_SCANNERS
+  pub clients : IfSome s.clients (IsOneTo MAX_CLIENTS)
+  pub idle : IfSome s.idle (IsOneTo MAX_IDLE)
+
+-- the request that is sent for it
+abbrev pub request_of : Question → Request
+request_of (question.Request r) = r
+request_of question.Health = request.Status
 
 -- its request fits a frame, and it is tried once or more
 pub record IsCallable (c : Calling) : Type 0 where
-  pub fits : length (payload c.request) ≤ max_payload
+  pub fits : length (payload (request_of c.question)) ≤ max_payload
   pub tries : 1 ≤ c.tries
   pub few_tries : c.tries ≤ MAX_TRIES
 

@@ -4,5 +4,7 @@
 mod order;
 mod status;
 
-pub use order::{Calling, FileOrder, Migration, Order, Serving};
+pub use order::{
+    Calling, FileOrder, Level, MAX_CLIENTS, MAX_IDLE, Migration, Order, Question, Serving,
+};
 pub use status::{Ended, Status};

@@ -2,6 +2,13 @@
 
 use snap_frame::Request;
 
+/// The most connections that a server can be told to have open at once.
+pub const MAX_CLIENTS: u32 = 1_000_000;
+
+/// The longest that a server can be told to wait for a connection that says nothing, in seconds: 365
+/// days.
+pub const MAX_IDLE: u32 = 31_536_000;
+
 /// What the words of the program ask for.
 #[derive(Debug, PartialEq, Eq, Drop)]
 pub enum Order<'a> {
@@ -53,17 +60,49 @@ pub struct Serving<'a> {
     pub scanners: u8,
     /// After how many connections it ends; `None` where it doesn't.
     pub connections: Option<u64>,
+    /// The most connections that are open at once: 1 to [`MAX_CLIENTS`]. `None` where it is as many
+    /// as the process may open.
+    pub clients: Option<u32>,
+    /// After how many seconds a connection is let go of that said nothing, and for which no request
+    /// is under way: 1 to [`MAX_IDLE`]. `None` where none is.
+    pub idle: Option<u32>,
+    /// Which lines are written on standard error.
+    pub log: Level,
 }
 
-/// Sends one request to a server, and prints its reply.
+/// How much a line of the log matters. A log at one of these levels has the lines of that level and
+/// of those above it here.
+#[derive(Clone, Copy, Debug, PartialEq, Eq)]
+pub enum Level {
+    /// Somebody has to act.
+    Error,
+    /// Somebody should look.
+    Warn,
+    /// What an operator wants to know of a server that is well.
+    Info,
+    /// What helps to find a fault.
+    Debug,
+}
+
+/// Asks a server, and prints its answer.
 #[derive(Debug, PartialEq, Eq, Drop)]
 pub struct Calling<'a> {
     /// Where the server listens, as text for the system, which may not take it.
     pub address: &'a str,
-    /// Fits a frame: an update's value has at most [`snap_frame::MAX_UPDATE_VALUE`] bytes.
-    pub request: Request,
-    /// The most connections that are made for the request: 1 to [`snap_client::MAX_TRIES`].
+    /// What is asked.
+    pub question: Question,
+    /// The most connections that are made for it: 1 to [`snap_client::MAX_TRIES`].
     pub tries: u8,
+}
+
+/// What a call asks of its server, and so how the answer is told.
+#[derive(Debug, PartialEq, Eq, Drop)]
+pub enum Question {
+    /// This request, whose reply is printed. It fits a frame: an update's value has at most
+    /// [`snap_frame::MAX_UPDATE_VALUE`] bytes.
+    Request(Request),
+    /// Whether a segment is fenced, by a request for the status. The answer is the exit status too.
+    Health,
 }
 
 impl<'a> FileOrder<'a> {

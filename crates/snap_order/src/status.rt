@@ -10,7 +10,7 @@ pub enum Status {
     Failed,
     /// The words or a script's line can't be read, or numbers are outside their limits.
     Misused,
-    /// It was refused by number, or the findings end without an answer.
+    /// It was refused by number, the findings end without an answer, or a segment is fenced.
     Refused,
 }
 

@@ -1,38 +1,19 @@
 //! The thread that accepts for all workers.
-ghost use Rattle.std.specs.Prelude.{◌≡◌, ◌⊎◌, ◌+◌, IfOk, IfErr, IfNone, OnOk, OnErr, IsOk, Some, true, false, min, length};
+ghost use Rattle.std.specs.Prelude.{◌≡◌, ◌⊎◌, ◌+◌, IfOk, IfErr, OnOk, OnErr, IsOk, Some, true, false, min, length};
 ghost use Rattle.snap_server.specs.Dealing.{turn_of};
 
-use crate::door::{Door, Mail};
+use crate::door::Door;
 use crate::fault::ServerFault;
+use crate::intake::Intake;
 use crate::listen::{Arrival, Listen};
+use crate::note::Note;
 use std::rt::Clock;
 use std::sync::Wait;
-use std::thread;
-use std::time::Duration;
-
-/// How many faults in a row end accepting.
-const MAX_FAULTS: u32 = 16;
-
-/// How long accepting rests after a fault, in milliseconds, so that a short want of descriptors
-/// passes.
-const REST: u64 = 20;
-
-/// The next connection, or `None` after 16 faults in a row.
-fn next_arrival<X: Clock, L: Listen>(rt: &X, listener: &L) -> Option<Arrival>
-    ensures deaf { IfNone result (L.refuses listener.now) }
-{
-    for _ in 0..MAX_FAULTS {
-        if let Ok(arrival) = listener.accept() {
-            return Some(arrival);
-        }
-        thread::sleep(rt, Duration::from_millis(REST));
-    }
-    None
-}
 
 /// Deals connections to the workers, in turn.
 #[derive(Drop)]
 pub struct Dealer<'a, O: Drop> {
+    intake: Intake<'a>,
     doors: &'a [Door<O>],
     /// The place of the worker that is next, or one behind the last.
     next: usize,
@@ -41,13 +22,15 @@ pub struct Dealer<'a, O: Drop> {
 }
 
 impl<'a, O: Drop> Dealer<'a, O> {
-    /// Deals to the workers behind these doors, from the first one on; none was dealt yet.
-    pub fn new(doors: &'a [Door<O>]) -> Dealer<'a, O>
+    /// Deals what comes in to the workers behind these doors, from the first one on; none was dealt
+    /// yet.
+    pub fn new(intake: Intake<'a>, doors: &'a [Door<O>]) -> Dealer<'a, O>
         ensures doors { result.doors ≡ doors.entry }
         ensures first { result.next ≡ 0 }
         ensures none { result.dealt ≡ 0 }
     {
         Dealer {
+            intake,
             doors,
             next: 0,
             dealt: 0,
@@ -69,7 +52,7 @@ impl<'a, O: Drop> Dealer<'a, O> {
             return false;
         };
         self.next += 1;
-        if !door.post(rt, Mail::Arrival(arrival)) {
+        if !door.hand(rt, arrival) {
             return false;
         }
         self.dealt = self.dealt.saturating_add(1);
@@ -77,11 +60,13 @@ impl<'a, O: Drop> Dealer<'a, O> {
     }
 
     /// Accepts one connection and deals it.
-    fn accept_one<X: Wait + Clock, L: Listen>(
+    fn accept_one<X: Wait + Clock, L: Listen, N: Fn(&Note)>(
         &mut self,
         rt: &X,
         listener: &L,
+        note: &N,
     ) -> Result<(), ServerFault>
+        requires { N.IsAlwaysCallable note.now }
         ensures counted { OnOk result
             (self.new.dealt ≡ min (self.old.dealt + 1) 18446744073709551615) }
         ensures refused { OnErr result (self.new.dealt ≡ self.old.dealt) }
@@ -90,7 +75,7 @@ impl<'a, O: Drop> Dealer<'a, O> {
         ensures deaf { IfErr result (λ fault.
             fault ≡ ServerFault.AcceptFailed → L.refuses listener.now) }
     {
-        let Some(arrival) = next_arrival(rt, listener) else {
+        let Some(arrival) = self.intake.next(rt, listener, note) else {
             return Err(ServerFault::AcceptFailed);
         };
         if self.deal(rt, arrival) {
@@ -101,13 +86,15 @@ impl<'a, O: Drop> Dealer<'a, O> {
     }
 
     /// Accepts so many connections and deals them.
-    fn accept_so_many<X: Wait + Clock, L: Listen>(
+    fn accept_so_many<X: Wait + Clock, L: Listen, N: Fn(&Note)>(
         &mut self,
         rt: &X,
         listener: &L,
         most: u64,
+        note: &N,
     ) -> Result<(), ServerFault>
-        requires { self.old.dealt ≡ 0 }
+        requires none { self.old.dealt ≡ 0 }
+        requires note { N.IsAlwaysCallable note.now }
         ensures dealt { OnOk result (self.new.dealt ≡ most) }
         ensures none { most ≡ 0 → IsOk result }
         ensures faults { IfErr result (λ fault.
@@ -116,20 +103,22 @@ impl<'a, O: Drop> Dealer<'a, O> {
             fault ≡ ServerFault.AcceptFailed → L.refuses listener.now) }
     {
         for _ in 0..most {
-            self.accept_one(rt, listener)?;
+            self.accept_one(rt, listener, note)?;
         }
         Ok(())
     }
 
     /// Accepts so many connections, or without end, and deals them to the workers in turn. The
     /// faults: 16 in a row of the listener, and a worker that has ended.
-    pub fn accept_all<X: Wait + Clock, L: Listen>(
+    pub fn accept_all<X: Wait + Clock, L: Listen, N: Fn(&Note)>(
         &mut self,
         rt: &X,
         listener: &L,
         connections: Option<u64>,
+        note: &N,
     ) -> Result<u64, ServerFault>
-        requires { self.old.dealt ≡ 0 }
+        requires none { self.old.dealt ≡ 0 }
+        requires note { N.IsAlwaysCallable note.now }
         ensures asked { IfOk result (λ k. connections ≡ Some k) }
         ensures dealt { IfOk result (λ k. self.new.dealt ≡ k) }
         ensures none { connections ≡ Some 0 → IsOk result }
@@ -139,11 +128,11 @@ impl<'a, O: Drop> Dealer<'a, O> {
             fault ≡ ServerFault.AcceptFailed → L.refuses listener.now) }
     {
         if let Some(most) = connections {
-            self.accept_so_many(rt, listener, most)?;
+            self.accept_so_many(rt, listener, most, note)?;
             return Ok(most);
         }
         for _ in rt.forever() {
-            self.accept_one(rt, listener)?;
+            self.accept_one(rt, listener, note)?;
         }
         unreachable!()
     }

@@ -1,16 +1,31 @@
 //! One connection of a worker.
-ghost use Rattle.std.specs.Prelude.{◌≡◌, ◌↔◌, ◌≤◌, ◌<◌, None, OnSome, length, true, false};
+ghost use Rattle.std.specs.Prelude.{◌≡◌, ◌↔◌, ◌≤◌, ◌<◌, None, OnSome, IfSome, IsSome, length, true, false};
 ghost use Rattle.snap_session.specs.Talk.{Stays, start, most_owed};
-ghost use Rattle.snap_session.specs.Turns.{Turns, StandsAt, EndsAt};
+ghost use Rattle.snap_session.specs.Turns.{Turns, StandsAt};
 ghost use Rattle.snap_server.specs.Listing.{enlisted};
+ghost use Rattle.snap_server.specs.Standing.{MayEnd};
 
 use crate::listen::Arrival;
-use mio::net::TcpStream;
+use crate::silence::{Look, Silence};
+use crate::socket::Socket;
 use mio::{Interest, Registry, Token};
 use snap_session::{End, Service, Session, Turn, proceed};
 use std::alloc::Global;
 use std::io;
-use std::net::{Shutdown, SocketAddr};
+use std::net::SocketAddr;
+
+/// How a connection ended.
+#[derive(Clone, Copy, Debug, PartialEq, Eq, Drop)]
+pub enum Ending {
+    /// Its session ended so.
+    Session(End),
+    /// The system told that its peer is gone, while a request of it was under way.
+    Lost,
+    /// It said nothing for as long as it might, with no request under way.
+    Silent,
+    /// The server stops, and nothing of it was under way.
+    Stopped,
+}
 
 /// A connection that has ended.
 #[derive(Clone, Copy, Debug, PartialEq, Eq, Drop)]
@@ -18,7 +33,7 @@ pub struct Ended {
     /// The address at its other end.
     pub peer: SocketAddr,
     /// How it ended.
-    pub end: End,
+    pub how: Ending,
 }
 
 /// Where a connection stands between its turns.
@@ -35,10 +50,12 @@ pub enum Stage {
 /// A socket that doesn't wait, and its session.
 #[derive(Drop)]
 pub struct Connection {
-    stream: TcpStream,
+    socket: Socket,
     peer: SocketAddr,
     session: Session,
     stage: Stage,
+    /// How many looks in a row have found it silent.
+    looks: u32,
 }
 
 impl Connection {
@@ -50,10 +67,11 @@ impl Connection {
     {
         let Arrival { stream, peer } = arrival;
         Connection {
-            stream,
+            socket: Socket::new(stream),
             peer,
             session: Session::new(alloc),
             stage: Stage::Idle,
+            looks: 0,
         }
     }
 
@@ -64,7 +82,7 @@ impl Connection {
         ensures stage { self.new.stage ≡ self.old.stage }
     {
         let interest = Interest::READABLE | Interest::WRITABLE;
-        registry.register(&mut self.stream, token, interest)
+        self.socket.register(registry, token, interest)
     }
 
     /// Notes that it is on the list of those that get a turn, unless it has ended. Whether it has
@@ -99,8 +117,9 @@ impl Connection {
         ensures peer { self.new.peer ≡ self.old.peer }
         ensures stage { self.new.stage ≡ self.old.stage }
     {
-        let mut reader = &self.stream;
-        let mut writer = &self.stream;
+        self.looks = 0;
+        let mut reader = &self.socket;
+        let mut writer = &self.socket;
         proceed(
             &mut self.session,
             &mut reader,
@@ -130,19 +149,58 @@ impl Connection {
         !self.is_over()
     }
 
-    /// It has ended so. Its socket's writing side is shut down in order, so that the peer reads
-    /// all that was written before the end.
-    pub fn end(&mut self, end: End) -> Ended
-        requires { EndsAt end self.old.session None }
-        ensures over { self.new ≡ record self.old { stage = Stage.Over } }
+    /// Looks at it between its turns: how it ends, if it may stay no longer. One that waits for an
+    /// outcome stays, save where its peer is gone, and so does one that is on the list.
+    pub fn look(&mut self, why: &Look) -> Option<Ending>
+        ensures may { IfSome result (λ how. MayEnd how self.new.session) }
+        ensures idle { IsSome result → self.new.stage ≡ Stage.Idle }
+        ensures session { self.new.session ≡ self.old.session }
+        ensures peer { self.new.peer ≡ self.old.peer }
+        ensures stage { self.new.stage ≡ self.old.stage }
+    {
+        let Stage::Idle = self.stage else {
+            return None;
+        };
+        match why {
+            Look::Lost if self.is_free() => None,
+            Look::Lost => Some(Ending::Lost),
+            Look::Silence(_) if !self.is_free() => None,
+            Look::Silence(silence) => self.count_silent(silence),
+        }
+    }
+
+    /// Counts a look that finds it silent with no request under way.
+    fn count_silent(&mut self, silence: &Silence) -> Option<Ending>
+        requires { self.old.session.asked ≡ None }
+        ensures may { IfSome result (λ how. MayEnd how self.new.session) }
+        ensures session { self.new.session ≡ self.old.session }
+        ensures peer { self.new.peer ≡ self.old.peer }
+        ensures stage { self.new.stage ≡ self.old.stage }
+    {
+        if silence.stops && self.session.is_between() && self.session.owed().is_empty() {
+            return Some(Ending::Stopped);
+        }
+        if self.looks >= silence.looks {
+            return Some(Ending::Silent);
+        }
+        self.looks += 1;
+        None
+    }
+
+    /// It has ended so, and its descriptor is given back, also where an outcome is still to come under
+    /// its key. The socket's writing side is shut down in order, so that the peer reads all that was
+    /// written before the end.
+    pub fn end(&mut self, how: Ending) -> Ended
+        requires { MayEnd how self.old.session }
+        ensures over { self.new ≡ record self.old { stage = Stage.Over; socket = self.new.socket } }
         ensures peer { result.peer ≡ self.old.peer }
-        ensures end { result.end ≡ end }
+        ensures how { result.how ≡ how }
     {
         self.stage = Stage::Over;
-        let _ = self.stream.shutdown(Shutdown::Write);
+        self.socket.close();
         Ended {
             peer: self.peer,
-            end,
+            how,
         }
     }
 

@@ -1,8 +1,9 @@
 //! What comes to a worker from other threads.
 
 use crate::listen::Arrival;
-use crossbeam_channel::{SendError, Sender};
+use crossbeam_channel::{Receiver, SendError, Sender, unbounded};
 use mio::Waker;
+use std::alloc::{AllocError, Global};
 use std::rt::Clock;
 use std::sync::Wait;
 use std::thread;
@@ -11,43 +12,72 @@ use std::time::Duration;
 /// How long to rest where no memory is left for mail, in milliseconds.
 const REST: u64 = 5;
 
-/// What comes to a worker.
+/// What comes to a worker beside connections.
 #[derive(Drop)]
 pub enum Mail<O: Drop> {
-    /// A connection that it is to serve.
-    Arrival(Arrival),
     /// The request that the connection of this key handed over is done.
     Done { key: usize, outcome: O },
     /// No more connections will come.
     Close,
+    /// None will come, and those that are there are let go of between their requests.
+    Stop,
 }
 
-/// Where mail for a worker is put. A wake is lost once its waker is dropped, so a door outlives
-/// its worker.
+/// Where connections and mail for a worker are put, apart, so that no outcome waits behind those that
+/// arrive. A wake is lost once its waker is dropped, so a door outlives its worker.
 #[derive(Drop)]
 pub struct Door<O: Drop> {
-    to: Sender<Mail<O>>,
+    arrivals: Sender<Arrival>,
+    mail: Sender<Mail<O>>,
     waker: Waker,
 }
 
+/// The inner side of a door.
+#[derive(Drop)]
+pub struct Inbox<O: Drop> {
+    pub arrivals: Receiver<Arrival>,
+    pub mail: Receiver<Mail<O>>,
+}
+
 impl<O: Drop> Door<O> {
-    pub fn new(to: Sender<Mail<O>>, waker: Waker) -> Door<O> {
-        Door { to, waker }
+    /// A door with its inner side.
+    pub fn new(alloc: Global, waker: Waker) -> Result<(Door<O>, Inbox<O>), AllocError> {
+        let (arrivals, arrived) = unbounded(alloc)?;
+        let (mail, came) = unbounded(alloc)?;
+        let door = Door {
+            arrivals,
+            mail,
+            waker,
+        };
+        let inbox = Inbox {
+            arrivals: arrived,
+            mail: came,
+        };
+        Ok((door, inbox))
     }
 
-    /// Sends mail and wakes the worker. Where no memory is left it rests and tries again, so that no
-    /// mail is lost: a request whose outcome were dropped would never be answered. `false` where
-    /// the worker has ended.
-    pub fn post<X: Wait + Clock>(&self, rt: &X, mail: Mail<O>) -> bool {
-        let mut mail = mail;
-        for _ in rt.forever() {
-            mail = match self.to.send(rt, mail) {
-                Ok(()) => return self.waker.wake().is_ok(),
-                Err(SendError::Disconnected(_)) => return false,
-                Err(SendError::OutOfMemory(back)) => back,
-            };
-            thread::sleep(rt, Duration::from_millis(REST));
-        }
-        unreachable!()
+    /// Hands a connection over and wakes the worker; `false` where it has ended.
+    pub fn hand<X: Wait + Clock>(&self, rt: &X, arrival: Arrival) -> bool {
+        sent(rt, &self.arrivals, arrival) && self.waker.wake().is_ok()
     }
+
+    /// Sends mail and wakes the worker; `false` where it has ended.
+    pub fn post<X: Wait + Clock>(&self, rt: &X, mail: Mail<O>) -> bool {
+        sent(rt, &self.mail, mail) && self.waker.wake().is_ok()
+    }
+}
+
+/// Sends it. Where no memory is left it rests and tries again, so that nothing is lost: a request
+/// whose outcome were dropped would never be answered. `false` where nobody receives any more.
+fn sent<X: Wait + Clock, T: Drop>(rt: &X, to: &Sender<T>, what: T) -> bool {
+    let mut what = what;
+    for _ in rt.forever() {
+        what = match to.send(rt, what) {
+            Ok(()) => return true,
+            Err(SendError::Disconnected(_)) => return false,
+            Err(SendError::OutOfMemory(back)) => back,
+        };
+        thread::sleep(rt, Duration::from_millis(REST));
+    }
+    unreachable!()
 }

@@ -11,7 +11,10 @@ pub enum ServerFault {
     /// The system refused what a worker waits by, at its beginning or later.
     #[error("the system refused to watch the connections of a worker")]
     PollFailed,
-    /// A growth of memory was refused, or a thread.
-    #[error("no memory for the server, or no thread")]
+    /// The system refused a thread.
+    #[error("the system refused a thread: allow more of them, or give --scanners a smaller number")]
+    NoThread,
+    /// A growth of memory was refused.
+    #[error("no memory for the server")]
     NoMemory,
 }

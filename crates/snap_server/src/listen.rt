@@ -1,9 +1,11 @@
 //! Where connections come from.
-ghost use Rattle.std.specs.Prelude.{IfErr};
+ghost use Rattle.std.specs.Prelude.{◌≡◌, IfErr};
 
+use libc::net;
 use mio::net::TcpStream;
 use std::io;
 use std::net::{Net, SocketAddr, TcpListener};
+use std::os::fd::AsRawFd;
 
 /// A connection that was accepted.
 #[derive(Drop)]
@@ -14,17 +16,42 @@ pub struct Arrival {
     pub peer: SocketAddr,
 }
 
+/// Why no connection was given.
+#[derive(Clone, Copy, Debug, PartialEq, Eq, Drop)]
+pub enum Unaccepted {
+    /// The system has no descriptor, or no memory, for one more socket. Who calls waits in its queue,
+    /// and nothing is wrong with the listener.
+    NoRoom,
+    /// One that called was gone before it was taken.
+    Gone,
+    /// The listener has failed.
+    Failed,
+}
+
 /// Gives connections, one after another.
 pub trait Listen {
-    /// Whether it may refuse a connection.
+    /// Whether it may fail.
     ghost refuses: { Self → Type 0 };
 
     /// Waits for the next connection. After an error it may be called again.
-    fn accept(&self) -> io::Result<Arrival>
-        ensures refuses { IfErr result (λ _. Self.refuses self.now) };
+    fn accept(&self) -> Result<Arrival, Unaccepted>
+        ensures refuses { IfErr result (λ why. why ≡ Unaccepted.Failed → Self.refuses self.now) };
+
+    /// Takes no more connections: who calls is refused, and waits for nothing.
+    fn close(&self);
 }
 
-/// Connections over TCP, with no delay of small writes.
+/// The system's errors that say that it has no descriptor or no memory for a socket: Linux's ENFILE,
+/// EMFILE, ENOMEM and ENOBUFS.
+const NO_ROOM: [i32; 4] = [23, 24, 12, 105];
+
+/// Those that are of one caller: that a filter keeps it out, a signal that came meanwhile, and what
+/// the network told of it. Linux's EPERM, EINTR, ENONET, EPROTO, ENOPROTOOPT, EOPNOTSUPP, ENETDOWN,
+/// ENETUNREACH, ECONNABORTED, EHOSTDOWN and EHOSTUNREACH.
+const GONE: [i32; 11] = [1, 4, 64, 71, 92, 95, 100, 101, 103, 112, 113];
+
+/// Connections over TCP, with no delay of small writes. Of a peer that is silent the system finds out
+/// within two minutes whether it is still there.
 #[derive(Drop)]
 pub struct Tcp {
     listener: TcpListener,
@@ -37,6 +64,7 @@ impl Tcp {
     pub fn bind(net: &impl Net, address: SocketAddr) -> io::Result<Tcp> {
         let listener = TcpListener::from(mio::net::TcpListener::bind(net, address)?);
         listener.set_nonblocking(false)?;
+        ask_silent_peers(&listener);
         Ok(Tcp { listener })
     }
 
@@ -47,14 +75,78 @@ impl Tcp {
 }
 
 impl Listen for Tcp {
-    /// The system may refuse at any time.
+    /// The system may fail at any time.
     ghost refuses = { λ _. Unit {0} };
 
-    fn accept(&self) -> io::Result<Arrival> {
-        let (stream, peer) = self.listener.accept()?;
-        stream.set_nodelay(true)?;
-        stream.set_nonblocking(true)?;
+    fn accept(&self) -> Result<Arrival, Unaccepted> {
+        let (stream, peer) = match self.listener.accept() {
+            Ok(accepted) => accepted,
+            Err(error) => return Err(why_not(&error)),
+        };
+        // It fails where who called is gone.
+        if stream.set_nodelay(true).is_err() || stream.set_nonblocking(true).is_err() {
+            return Err(Unaccepted::Gone);
+        }
         let stream = TcpStream::from_std(stream);
         Ok(Arrival { stream, peer })
+    }
+
+    /// Its descriptor stays open, and is no listener's any more.
+    fn close(&self) {
+        net::shutdown(self.listener.as_raw_fd(), net::SHUT_RDWR);
+    }
+}
+
+/// How long a peer is silent before it is asked whether it is there, and the rest between two
+/// questions, in seconds; and how many go without an answer before it is given up.
+const SILENCE: u8 = 60;
+
+const QUESTION_REST: u8 = 10;
+
+const QUESTIONS: u8 = 6;
+
+/// Has the system ask silent peers whether they are there. What is accepted has that from its
+/// listener. Where the system refuses it, a peer that is gone is found at the next write.
+fn ask_silent_peers(listener: &TcpListener) {
+    let listener = listener.as_raw_fd();
+    unsafe {
+        net::setsockopt(listener, net::SOL_SOCKET, net::SO_KEEPALIVE, &option(1), 4);
+        net::setsockopt(
+            listener,
+            net::IPPROTO_TCP,
+            net::TCP_KEEPIDLE,
+            &option(SILENCE),
+            4,
+        );
+        net::setsockopt(
+            listener,
+            net::IPPROTO_TCP,
+            net::TCP_KEEPINTVL,
+            &option(QUESTION_REST),
+            4,
+        );
+        net::setsockopt(
+            listener,
+            net::IPPROTO_TCP,
+            net::TCP_KEEPCNT,
+            &option(QUESTIONS),
+            4,
+        );
+    }
+}
+
+/// A number as an option's value: the four bytes of an `int`.
+fn option(number: u8) -> [u8; 16] {
+    let mut value = [0; 16];
+    value[..4].copy_from_slice(&u32::from(number).to_ne_bytes());
+    value
+}
+
+/// What an error of the system says of a listener.
+fn why_not(error: &io::Error) -> Unaccepted {
+    match error.raw_os_error() {
+        Some(code) if NO_ROOM.contains(&code) => Unaccepted::NoRoom,
+        Some(code) if GONE.contains(&code) => Unaccepted::Gone,
+        _ => Unaccepted::Failed,
     }
 }

@@ -4,11 +4,14 @@ ghost use Rattle.std.specs.Thread.{IsSync, IsSend};
 
 use crate::accepting::Dealer;
 use crate::background::{Background, Done};
-use crate::connection::Ended;
 use crate::door::{Door, Mail};
 use crate::fault::ServerFault;
 use crate::gate::{Gate, Gated};
+use crate::intake::Intake;
 use crate::listen::Listen;
+use crate::note::Note;
+use crate::room::Room;
+use crate::silence::Silence;
 use crate::worker::Worker;
 use snap_session::Service;
 use std::alloc::Global;
@@ -18,6 +21,22 @@ use std::sync::Wait;
 use std::sync::atomic::{AtomicBool, Ordering};
 use std::thread;
 use std::thread::{Scope, Threads};
+use std::time::Duration;
+
+/// How much a server takes in.
+#[derive(Clone, Copy, Debug)]
+pub struct Limits {
+    /// How many connections it serves in all; without end where none is given.
+    pub connections: Option<u64>,
+    /// How many of them may be open at once.
+    pub clients: usize,
+    /// The rest after a fault of the listener, before the next try. It grows with each fault in a
+    /// row, ten thousand times in all.
+    pub fault_rest: Duration,
+    /// How long a connection may say nothing with no request under way; without end where none is
+    /// given. One that says nothing for longer is let go of within a quarter of that time.
+    pub idle: Option<Duration>,
+}
 
 /// Tells the workers what is done, until no more will be.
 fn tell_all<X: Wait + Clock, B: Background + Drop>(
@@ -63,6 +82,7 @@ fn open_workers<X: Net, S: Service + Drop>(
     net: &X,
     alloc: Global,
     services: Vec<S>,
+    idle: Option<Duration>,
 ) -> Result<(Vec<Worker<S>>, Vec<Door<S::Outcome>>), ServerFault>
 where
     S::Outcome: Drop,
@@ -74,7 +94,7 @@ where
     let mut workers = Vec::new(alloc);
     let mut doors = Vec::new(alloc);
     'services: for service in services {
-        let (worker, door) = Worker::new(net, alloc, service)?;
+        let (worker, door) = Worker::new(net, alloc, service, idle.map(Silence::of))?;
         if workers.push(worker).is_err() || doors.push(door).is_err() {
             return Err(ServerFault::NoMemory);
         }
@@ -96,7 +116,7 @@ fn run_threads<X, L, S, B, N>(
     workers: Vec<Worker<S>>,
     doors: &[Door<S::Outcome>],
     backgrounds: Vec<B>,
-    connections: Option<u64>,
+    limits: Limits,
     failed: &AtomicBool,
     note: &N,
 ) -> Result<u64, ServerFault>
@@ -106,18 +126,20 @@ where
     S: Service + Send + Drop,
     S::Outcome: Send + Drop,
     B: Background<Outcome = S::Outcome> + Send + Drop,
-    N: Fn(&Ended) + Sync,
+    N: Fn(&Note) + Sync,
     requires { N.IsAlwaysCallable note.now }
-    ensures asked { IfOk result (λ k. connections ≡ Some k) }
+    ensures asked { IfOk result (λ k. limits.connections ≡ Some k) }
     ensures deaf { IfErr result (λ fault.
         fault ≡ ServerFault.AcceptFailed → L.refuses listener.now) }
 {
+    let room = Room::new(limits.clients);
+    let room = &room;
     thread::scope(
         thread::scope_env(),
         rt,
         |scope| -> Result<u64, ServerFault>
             requires { IsSync X.row × IsSync N.row × IsSend S.row × N.IsAlwaysCallable note.now }
-            ensures asked { IfOk result (λ k. connections ≡ Some k) }
+            ensures asked { IfOk result (λ k. limits.connections ≡ Some k) }
             ensures deaf { IfErr result (λ fault.
                 fault ≡ ServerFault.AcceptFailed → L.refuses listener.entry.now) }
         {
@@ -135,19 +157,29 @@ where
                     requires { IsSync X.row × IsSync N.row × IsSend S.row × N.IsAlwaysCallable note.now }
                 {
                     let mut worker = worker;
-                    if worker.work(rt, note).is_err() {
+                    if worker.work(rt, room, note).is_err() {
                         failed.store(true, Ordering::SeqCst);
                     }
                 };
                 is_whole &= starts(scope, served);
             }
             let accepted = if is_whole {
-                Dealer::new(doors).accept_all(rt, listener, connections)
+                let intake = Intake::new(room, limits.fault_rest);
+                Dealer::new(intake, doors).accept_all(rt, listener, limits.connections, note)
             } else {
-                Err(ServerFault::NoMemory)
+                Err(ServerFault::NoThread)
             };
+            // Who still calls is refused, and waits for nothing.
+            listener.close();
             for door in doors {
-                door.post(rt, Mail::Close);
+                door.post(
+                    rt,
+                    if accepted.is_ok() {
+                        Mail::Close
+                    } else {
+                        Mail::Stop
+                    },
+                );
             }
             accepted
         },
@@ -155,25 +187,29 @@ where
 }
 
 /// Serves the connections that the listener gives, dealt in turn to one worker for each service,
-/// until so many have come and ended, and answers their number; without end where none is given.
+/// until as many have come and ended as the limits say, and answers their number. No more are open
+/// at once than the limits say: who calls then waits in the listener's queue.
 ///
 /// Each background works in a thread of its own, and has ended once the services are gone. The
-/// gate's `enter` comes before a request is answered and its `leave` after. Each connection that
-/// has ended is handed to `note`, on its worker's thread.
+/// gate's `enter` comes before a request is answered and its `leave` after. `note` is told of each
+/// connection that has ended, on its worker's thread, and of the accepting: that there is no room,
+/// and again, and that it has ended.
 ///
-/// After a fault no more connections are accepted, and those that are there were served to their
-/// end. [`NoMemory`](ServerFault::NoMemory): a growth of `run` itself was refused, or a thread; a
-/// connection that finds no room is closed, and is no fault. 16 faults of the listener in a row are
-/// [`AcceptFailed`](ServerFault::AcceptFailed). [`PollFailed`](ServerFault::PollFailed): the system
-/// didn't let a worker wait: its connections are closed, with no note, and accepting ends with the
-/// next one that is dealt to it.
+/// The listener is closed once no more connections are accepted. After a fault those that are there
+/// were let go of: each once it had nothing under way, or was silent within a request for five
+/// seconds. [`NoMemory`](ServerFault::NoMemory): a growth of `run` itself was refused; a connection
+/// that finds no memory is closed, and is no fault. [`NoThread`](ServerFault::NoThread): the system
+/// refused a thread, and none was accepted. 16 faults of the listener in a row are
+/// [`AcceptFailed`](ServerFault::AcceptFailed); want of descriptors or of memory for a socket is
+/// none. [`PollFailed`](ServerFault::PollFailed): the system didn't let a worker wait: its connections
+/// are closed, with no note, and accepting ends with the next one that is dealt to it.
 pub fn run<X, L, S, B, G, N>(
     rt: &X,
     alloc: Global,
     listener: &L,
     services: Vec<S>,
     backgrounds: Vec<B>,
-    connections: Option<u64>,
+    limits: Limits,
     gate: &G,
     note: &N,
 ) -> Result<u64, ServerFault>
@@ -184,14 +220,14 @@ where
     S::Outcome: Send + Drop,
     B: Background<Outcome = S::Outcome> + Send + Drop,
     G: Gate + Sync,
-    N: Fn(&Ended) + Sync,
+    N: Fn(&Note) + Sync,
     requires { N.IsAlwaysCallable note.now }
-    ensures asked { IfOk result (λ k. connections ≡ Some k) }
+    ensures asked { IfOk result (λ k. limits.connections ≡ Some k) }
     ensures deaf { IfErr result (λ fault.
         fault ≡ ServerFault.AcceptFailed → L.refuses listener.now) }
 {
     let services = gate_all(alloc, services, gate)?;
-    let (workers, doors) = open_workers(rt, alloc, services)?;
+    let (workers, doors) = open_workers(rt, alloc, services, limits.idle)?;
     let failed = AtomicBool::new(false);
     let served = run_threads(
         rt,
@@ -199,7 +235,7 @@ where
         workers,
         doors.as_slice(),
         backgrounds,
-        connections,
+        limits,
         &failed,
         note,
     );

@@ -5,13 +5,13 @@ ghost use Rattle.std.specs.VecDeque.{deque_len, deque_capacity};
 ghost use Rattle.std.specs.List.{Contains};
 ghost use Rattle.slab.specs.Slab.{get, slab_len, SameValues};
 ghost use Rattle.snap_session.specs.Talk.{Talk, Moves, start};
-ghost use Rattle.snap_session.specs.Turns.{EndsAt};
 ghost use Rattle.snap_server.specs.Sharing.{AreSessions, IsTurn};
 ghost use Rattle.snap_server.specs.Listing.{Lists, enlisted, KeepsOthers};
 ghost use Rattle.snap_server.specs.Standing.{Waits, HasEnded};
 
-use crate::connection::{Connection, Ended, Stage};
+use crate::connection::{Connection, Ended, Ending, Stage};
 use crate::listen::Arrival;
+use crate::silence::Look;
 use mio::{Registry, Token};
 use slab::Slab;
 use snap_session::{Service, Turn};
@@ -51,6 +51,11 @@ impl<S: Service + Drop> Sessions<S> {
         ensures { result ≡ true ↔ slab_len self.now.connections ≡ 0 }
     {
         self.connections.is_empty()
+    }
+
+    /// The keys of all connections are below this.
+    pub fn places(&self) -> usize {
+        self.connections.capacity()
     }
 
     /// How many get a turn.
@@ -153,8 +158,27 @@ impl<S: Service + Drop> Sessions<S> {
                 None
             }
             Turn::NeedsInput | Turn::NeedsRoom | Turn::NeedsOutcome => None,
-            Turn::Over(end) => Some(connection.end(end)),
+            Turn::Over(end) => Some(connection.end(Ending::Session(end))),
         }
+    }
+
+    /// Looks at a connection between its turns: what it ends with, if it may stay no longer.
+    pub fn look(&mut self, key: usize, why: &Look) -> Option<Ended>
+        ensures service { self.new.service ≡ self.old.service }
+        ensures ended { IfSome result (λ ended. (c : Connection)
+            × (get self.new.connections key ≡ Some c) × HasEnded c ended) }
+        ensures session { (c : Connection) → (d : Connection)
+            → get self.old.connections key ≡ Some c → get self.new.connections key ≡ Some d
+            → d.session ≡ c.session }
+        ensures stays { IfNone result ((c : Connection) → (d : Connection)
+            → get self.old.connections key ≡ Some c → get self.new.connections key ≡ Some d
+            → d.stage ≡ c.stage) }
+        ensures others { KeepsOthers key self.old.connections self.new.connections }
+        ensures count { slab_len self.new.connections ≡ slab_len self.old.connections }
+    {
+        let connection = self.connections.get_mut(key)?;
+        let how = connection.look(why)?;
+        Some(connection.end(how))
     }
 
     /// Lets a connection go that has ended, unless an outcome is still to come under its key.

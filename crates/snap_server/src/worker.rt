@@ -3,19 +3,22 @@ ghost use Rattle.std.specs.Prelude.{◌≡◌, ◌≢◌, ◌<◌, length, OnOk,
 ghost use Rattle.slab.specs.Slab.{slab_len};
 ghost use Rattle.snap_session.specs.Talk.{Moves};
 
-use crate::connection::{Connection, Ended};
-use crate::door::{Door, Mail};
+use crate::connection::{Connection, Ended, Ending};
+use crate::door::{Door, Inbox, Mail};
 use crate::fault::ServerFault;
 use crate::listen::Arrival;
+use crate::note::Note;
+use crate::room::Room;
 use crate::sessions::Sessions;
-use crossbeam_channel::Receiver;
+use crate::silence::{Look, Silence};
 use mio::{Events, Poll, Token, Waker};
 use snap_patience::Patience;
 use snap_session::{End, Service};
 use std::alloc::Global;
 use std::net::Net;
+use std::rt::Clock;
 use std::sync::Wait;
-use std::time::Duration;
+use std::time::{Duration, Instant};
 use std::{io, thread};
 
 /// The token of the waker. Connections have their keys as tokens.
@@ -42,12 +45,18 @@ where
     /// What the last wait told. Taken at the beginning, so that a worker that serves needs no memory
     /// of its own.
     events: Events,
-    inbox: Receiver<Mail<S::Outcome>>,
+    inbox: Inbox<S::Outcome>,
     /// Whether there may be mail in the inbox.
     has_mail: bool,
+    /// Whether there may be connections in the inbox.
+    has_arrivals: bool,
     sessions: Sessions<S>,
     is_open: bool,
     patience: Patience,
+    /// How long its connections may say nothing; without end where none is given.
+    silence: Option<Silence>,
+    /// When it last looked for those that do.
+    looked: Option<Instant>,
 }
 
 /// What is told of a call that failed.
@@ -60,29 +69,74 @@ fn fault_of(error: io::Error) -> ServerFault
     }
 }
 
-/// Lists the connections that are ready. Whether there is mail.
-fn list_ready<S: Service + Drop>(sessions: &mut Sessions<S>, events: &Events) -> bool
+/// Lists the connections that are ready, and lets those go whose peers are gone. Whether there is mail.
+fn list_ready<S: Service + Drop, N: Fn(&Note)>(
+    sessions: &mut Sessions<S>,
+    events: &Events,
+    room: &Room,
+    note: &N,
+) -> bool
+    requires { N.IsAlwaysCallable note.now }
     ensures service { sessions.new.service ≡ sessions.old.service }
 {
     let mut has_mail = false;
     for event in events {
         match event.token() {
             INBOX => has_mail = true,
-            Token(key) => sessions.list(key),
+            Token(key) => {
+                if event.is_error() {
+                    look_at(sessions, key, &Look::Lost, room, note);
+                }
+                sessions.list(key);
+            }
         }
     }
     has_mail
+}
+
+/// Looks at a connection that has no turn, and lets it go if it may stay no longer.
+fn look_at<S: Service + Drop, N: Fn(&Note)>(
+    sessions: &mut Sessions<S>,
+    key: usize,
+    why: &Look,
+    room: &Room,
+    note: &N,
+)
+    requires { N.IsAlwaysCallable note.now }
+    ensures service { sessions.new.service ≡ sessions.old.service }
+{
+    if let Some(ended) = sessions.look(key, why) {
+        let_go(sessions, key, ended, room, note);
+    }
+}
+
+/// Lets a connection go that has ended so.
+fn let_go<S: Service + Drop, N: Fn(&Note)>(
+    sessions: &mut Sessions<S>,
+    key: usize,
+    ended: Ended,
+    room: &Room,
+    note: &N,
+)
+    requires { N.IsAlwaysCallable note.now }
+    ensures service { sessions.new.service ≡ sessions.old.service }
+{
+    room.leave();
+    note(&Note::Ended(ended));
+    sessions.let_go(key);
 }
 
 impl<S: Service + Drop> Worker<S>
 where
     S::Outcome: Drop,
 {
-    /// A worker with no connection, and where its mail is put.
+    /// A worker with no connection, and where its mail is put. Its connections may be silent for as
+    /// long as this says, or for ever.
     pub fn new(
         net: &impl Net,
         alloc: Global,
         service: S,
+        silence: Option<Silence>,
     ) -> Result<(Worker<S>, Door<S::Outcome>), ServerFault>
         ensures service { IfOk result (λ made. made.0.sessions.service ≡ service) }
         ensures none { IfOk result (λ made. slab_len made.0.sessions.connections ≡ 0) }
@@ -94,7 +148,7 @@ where
         let Ok(events) = Events::with_capacity(alloc, MAX_EVENTS) else {
             return Err(ServerFault::NoMemory);
         };
-        let Ok((to, inbox)) = crossbeam_channel::unbounded(alloc) else {
+        let Ok((door, inbox)) = Door::new(alloc, waker) else {
             return Err(ServerFault::NoMemory);
         };
         let worker = Worker {
@@ -103,45 +157,76 @@ where
             events,
             inbox,
             has_mail: false,
+            has_arrivals: false,
             sessions: Sessions::new(alloc, service),
             is_open: true,
             patience: Patience::new(),
+            silence,
+            looked: None,
         };
-        Ok((worker, Door::new(to, waker)))
+        Ok((worker, door))
     }
 
-    /// Takes one piece of the mail that waits. The next one is taken behind the turns, so that who
+    /// Takes one piece of the mail, where some waits. The next one is taken behind the turns, so that who
     /// asks meanwhile isn't kept waiting for the replies of all outcomes that came at once.
-    fn read_mail<X: Wait, N: Fn(&Ended)>(&mut self, rt: &X, note: &N)
-        requires { N.IsAlwaysCallable note.now }
+    fn read_mail<X: Wait>(&mut self, rt: &X)
         ensures moves { Moves S.gives self.old.sessions.service self.new.sessions.service }
     {
-        match self.inbox.try_recv(rt) {
-            Ok(Mail::Arrival(arrival)) => self.welcome(arrival, note),
+        if !self.has_mail {
+            return;
+        }
+        match self.inbox.mail.try_recv(rt) {
             Ok(Mail::Done { key, outcome }) => self.sessions.tell(key, outcome),
-            Ok(Mail::Close) => self.is_open = false,
+            Ok(Mail::Close) => self.close(),
+            Ok(Mail::Stop) => {
+                self.silence = Some(Silence::last());
+                self.close();
+            }
             Err(_) => self.has_mail = false,
         }
     }
 
+    /// No more connections will come than those that wait.
+    fn close(&mut self)
+        ensures sessions { self.new.sessions ≡ self.old.sessions }
+        ensures closed { self.new.is_open ≡ false }
+    {
+        self.is_open = false;
+        // All connections were handed over before.
+        self.has_arrivals = true;
+    }
+
+    /// Takes one connection, where some wait.
+    fn take_arrival<X: Wait, N: Fn(&Note)>(&mut self, rt: &X, room: &Room, note: &N)
+        requires { N.IsAlwaysCallable note.now }
+        ensures service { self.new.sessions.service ≡ self.old.sessions.service }
+    {
+        if !self.has_arrivals {
+            return;
+        }
+        match self.inbox.arrivals.try_recv(rt) {
+            Ok(arrival) => self.welcome(arrival, room, note),
+            Err(_) => self.has_arrivals = false,
+        }
+    }
+
     /// Takes a connection in. One that finds no room is closed, and the others go on.
-    fn welcome<N: Fn(&Ended)>(&mut self, arrival: Arrival, note: &N)
+    fn welcome<N: Fn(&Note)>(&mut self, arrival: Arrival, room: &Room, note: &N)
         requires { N.IsAlwaysCallable note.now }
         ensures service { self.new.sessions.service ≡ self.old.sessions.service }
     {
         let peer = arrival.peer;
         let registry = self.poll.registry();
         if !self.sessions.adopt(self.alloc, registry, arrival) {
-            note(&Ended {
-                peer,
-                end: End::NoMemory,
-            });
+            room.leave();
+            let how = Ending::Session(End::NoMemory);
+            note(&Note::Ended(Ended { peer, how }));
         }
     }
 
     /// Gives the first of the list its turn.
-    fn serve_next<N: Fn(&Ended)>(&mut self, piece: &mut [u8], note: &N)
-        requires room { 0 < length piece.old }
+    fn serve_next<N: Fn(&Note)>(&mut self, piece: &mut [u8], room: &Room, note: &N)
+        requires place { 0 < length piece.old }
         requires note { N.IsAlwaysCallable note.now }
         ensures piece { length piece.new ≡ length piece.old }
         ensures moves { Moves S.gives self.old.sessions.service self.new.sessions.service }
@@ -150,8 +235,7 @@ where
             return;
         };
         if let Some(ended) = self.sessions.turn(key, piece) {
-            note(&ended);
-            self.sessions.let_go(key);
+            let_go(&mut self.sessions, key, ended, room, note);
         }
     }
 
@@ -165,12 +249,13 @@ where
             .map_err(|_| ServerFault::PollFailed)
     }
 
-    /// Waits until something is ready: not at all while some are on the list, or mail is left.
+    /// Waits until something is ready, or it is time to look for silent connections: not at all while
+    /// some are on the list, or mail is left.
     fn wait(&mut self) -> Result<(), ServerFault>
         ensures sessions { self.new.sessions ≡ self.old.sessions }
         ensures fault { IfErr result (λ fault. fault ≡ ServerFault.PollFailed) }
     {
-        if self.has_mail || self.sessions.turns() != 0 {
+        if self.has_mail || self.has_arrivals || self.sessions.turns() != 0 {
             return self.wait_for(Some(Duration::ZERO));
         }
         if self.patience.may_look() {
@@ -183,23 +268,66 @@ where
             }
             self.patience.rest();
         }
-        self.wait_for(None)
-    }
-
-    /// Lists the connections that are ready, and takes a piece of the mail.
-    fn take_events<X: Wait, N: Fn(&Ended)>(&mut self, rt: &X, note: &N)
-        requires { N.IsAlwaysCallable note.now }
-        ensures moves { Moves S.gives self.old.sessions.service self.new.sessions.service }
-    {
-        self.has_mail |= list_ready(&mut self.sessions, &self.events);
-        if self.has_mail {
-            self.read_mail(rt, note);
+        match self.silence {
+            Some(silence) => self.wait_for(Some(silence.rest)),
+            None => self.wait_for(None),
         }
     }
 
-    /// Serves until no more connections will come and none is left. It fails only where the system
+    /// Looks for connections that say nothing, where it is time.
+    fn look_around<X: Clock, N: Fn(&Note)>(&mut self, rt: &X, room: &Room, note: &N)
+        requires { N.IsAlwaysCallable note.now }
+        ensures service { self.new.sessions.service ≡ self.old.sessions.service }
+    {
+        let Some(silence) = self.silence else {
+            return;
+        };
+        if !self.is_due(rt, silence.rest) {
+            return;
+        }
+        let why = Look::Silence(silence);
+        for key in 0..self.sessions.places() {
+            look_at(&mut self.sessions, key, &why, room, note);
+        }
+    }
+
+    /// Whether this rest has passed since it last was due.
+    fn is_due<X: Clock>(&mut self, rt: &X, rest: Duration) -> bool
+        ensures sessions { self.new.sessions ≡ self.old.sessions }
+    {
+        let Ok(now) = Instant::now(rt) else {
+            return false;
+        };
+        if let Some(looked) = self.looked {
+            if now.duration_since(looked) < rest {
+                return false;
+            }
+        }
+        self.looked = Some(now);
+        true
+    }
+
+    /// Lists the connections that are ready, and takes a piece of the mail and one that arrived.
+    fn take_events<X: Wait, N: Fn(&Note)>(&mut self, rt: &X, room: &Room, note: &N)
+        requires { N.IsAlwaysCallable note.now }
+        ensures moves { Moves S.gives self.old.sessions.service self.new.sessions.service }
+    {
+        let is_woken = list_ready(&mut self.sessions, &self.events, room, note);
+        self.has_mail |= is_woken;
+        self.has_arrivals |= is_woken;
+        self.read_mail(rt);
+        self.take_arrival(rt, room, note);
+    }
+
+    /// Serves until no more connections will come and none is left, or until it stops and has let go of
+    /// all. It fails only where the system
     /// refuses to watch, never for want of memory.
-    pub fn work<X: Wait, N: Fn(&Ended)>(&mut self, rt: &X, note: &N) -> Result<(), ServerFault>
+    pub fn work<X: Wait + Clock, N: Fn(&Note)>(
+        &mut self,
+        rt: &X,
+        room: &Room,
+        note: &N,
+    ) -> Result<(), ServerFault>
         requires { N.IsAlwaysCallable note.now }
         ensures closed { OnOk result (self.new.is_open ≡ false) }
         ensures served { OnOk result (slab_len self.new.sessions.connections ≡ 0) }
@@ -208,13 +336,14 @@ where
     {
         let mut piece = [0u8; PIECE];
         for _ in rt.forever() {
-            if !self.is_open && self.sessions.is_empty() {
+            if !self.is_open && !self.has_arrivals && self.sessions.is_empty() {
                 return Ok(());
             }
             self.wait()?;
-            self.take_events(rt, note);
+            self.take_events(rt, room, note);
+            self.look_around(rt, room, note);
             'turns: for _ in 0..self.sessions.turns() {
-                self.serve_next(&mut piece, note);
+                self.serve_next(&mut piece, room, note);
             }
         }
         unreachable!()

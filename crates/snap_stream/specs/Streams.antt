@@ -14,7 +14,11 @@ use Rattle.std.specs.Prelude.{
   IfSome,
   codes,
   take,
+  string_bytes,
+  String,
 }
+use Rattle.std.specs.Global.{Global}
+use Rattle.std.specs.Option.{option_map}
 use Rattle.std.specs.Fmt.Cut.{EndsInDots}
 use Rattle.std.specs.Io.KnownBytes.{Appends}
 use Rattle.snap_disk.specs.Refusal.{refusal_text}
@@ -45,6 +49,18 @@ refused_line why = codes "snapd: refused " ++ (refusal_text why ++ codes "\n")
 -- the line of a text
 abbrev pub complaint_line : List ℕ → List ℕ
 complaint_line text = codes "snapd: " ++ (text ++ codes "\n")
+
+-- the line of a text about a file
+abbrev pub file_line : (file text : List ℕ) → List ℕ
+file_line file text = codes "snapd: " ++ (file ++ (codes ": " ++ (text ++ codes "\n")))
+
+-- a line that names the file, with some text behind its name
+abbrev pub NamesFile : (file : List ℕ) → List ℕ → Type 0
+NamesFile file line = (text : List ℕ) × (line ≡ file_line file text)
+
+-- the text that is there
+abbrev pub text_of : Option (String Global) → Option (List ℕ)
+text_of text = option_map (λ t. string_bytes t) text
 
 -- the text is the one that is known, where one is
 abbrev pub IsText : (known : Option (List ℕ)) (text : List ℕ) → Type 0

@@ -47,7 +47,7 @@ use Rattle.snap_words.specs.Faults.{
   IsParseFault,
   IsRequest,
 }
-use Rattle.snap_words.specs.Numbers.{IsNumberOf}
+use Rattle.snap_words.specs.Numbers.{IsLargeNumberOf, IsNumberOf}
 use Rattle.snap_words.specs.Orders.{IsCommand, IsPair}
 use Rattle.snap_words.specs.Words.{HasCommand, all_values, word_of, words_of}
 use Rattle.snap_words.specs.declared.fault.WordFault.{WordFault}
@@ -59,6 +59,9 @@ use Rattle.snap_words.specs.declared.fault.WordFault.TheVariants.{
   Files,
   Scanners,
   Connections,
+  Clients,
+  Idle,
+  Level,
   Tries,
   Request,
   Number,
@@ -165,6 +168,13 @@ pub number_is : {words : List Text} {name : Text} {found : Found} → HasCommand
     → IsNumberOf (word_of words what) n
 number_is its what n is = subst (λ (o : Option Text). IsNumberOf o n) (word_is its what) is
 
+-- the same of a number that may be left out
+pub large_number_is : {words : List Text} {name : Text} {found : Found}
+    → HasCommand words name found → (what : Text) (n : Option ℕ)
+    → IsLargeNumberOf (first_value found what) n → IsLargeNumberOf (word_of words what) n
+large_number_is its what n is =
+    subst (λ (o : Option Text). IsLargeNumberOf o n) (word_is its what) is
+
 -- a word that the command takes, and that isn't there
 pub missing : {words : List Text} {name : Text} {found : Found} → HasCommand words name found
     → (what : Text) → HasWord name what → word_of words what ≡ None → IsMissing words what
@@ -198,6 +208,9 @@ parse_fault words error (Index i n) is kind = absurd is
 parse_fault words error (Files n) is kind = absurd is
 parse_fault words error (Scanners n) is kind = absurd is
 parse_fault words error Connections is kind = absurd is
+parse_fault words error Clients is kind = absurd is
+parse_fault words error Idle is kind = absurd is
+parse_fault words error Level is kind = absurd is
 parse_fault words error (Tries n) is kind = absurd is
 parse_fault words error (Request r) is kind = absurd is
 parse_fault words error (Number what) is kind = absurd is
@@ -216,6 +229,9 @@ parse_later error (Index i n) is wanting = tt
 parse_later error (Files n) is wanting = tt
 parse_later error (Scanners n) is wanting = tt
 parse_later error Connections is wanting = tt
+parse_later error Clients is wanting = tt
+parse_later error Idle is wanting = tt
+parse_later error Level is wanting = tt
 parse_later error (Tries n) is wanting = tt
 parse_later error (Request r) is wanting = tt
 parse_later error (Number what) is wanting = tt

@@ -20,13 +20,17 @@ use Rattle.snap_words.specs.Faults.{
   IsCallingFault,
   IsFaultOf,
   IsFilesFault,
+  IsLimitsFault,
   IsMigrationFault,
   IsMissing,
   IsPathFault,
   IsServingFault,
 }
 use Rattle.snap_words.specs.Numbers.{
+  IsClientsFault,
   IsConnectionsFault,
+  IsIdleFault,
+  IsLevelFault,
   IsNoLargeNumber,
   IsNoNumber,
   IsNumberFault,
@@ -46,6 +50,9 @@ use Rattle.snap_words.specs.declared.fault.WordFault.TheVariants.{
   Files,
   Scanners,
   Connections,
+  Clients,
+  Idle,
+  Level,
   Tries,
   Request,
   Number,
@@ -70,6 +77,9 @@ number_fault words of name same gone (Index i n) is = absurd is
 number_fault words of name same gone (Files n) is = absurd is
 number_fault words of name same gone (Scanners n) is = absurd is
 number_fault words of name same gone Connections is = absurd is
+number_fault words of name same gone Clients is = absurd is
+number_fault words of name same gone Idle is = absurd is
+number_fault words of name same gone Level is = absurd is
 number_fault words of name same gone (Tries n) is = absurd is
 number_fault words of name same gone (Request r) is = absurd is
 number_fault words of name same gone (Number what) is =
@@ -113,6 +123,9 @@ place_fault words of same gone (Words e) is = either_number words of same gone (
 place_fault words of same gone (Files n) is = either_number words of same gone (Files n) is
 place_fault words of same gone (Scanners n) is = either_number words of same gone (Scanners n) is
 place_fault words of same gone Connections is = either_number words of same gone Connections is
+place_fault words of same gone Clients is = either_number words of same gone Clients is
+place_fault words of same gone Idle is = either_number words of same gone Idle is
+place_fault words of same gone Level is = either_number words of same gone Level is
 place_fault words of same gone (Tries n) is = either_number words of same gone (Tries n) is
 place_fault words of same gone (Request r) is = either_number words of same gone (Request r) is
 place_fault words of same gone (Number what) is = either_number words of same gone (Number what) is
@@ -134,6 +147,9 @@ scanners_fault words of same gone (Files n) is = absurd is
 scanners_fault words of same gone (Scanners n) is =
     (subst (λ (o : Option Text). IsNumberOf o n) same is.0, is.1)
 scanners_fault words of same gone Connections is = absurd is
+scanners_fault words of same gone Clients is = absurd is
+scanners_fault words of same gone Idle is = absurd is
+scanners_fault words of same gone Level is = absurd is
 scanners_fault words of same gone (Tries n) is = absurd is
 scanners_fault words of same gone (Request r) is = absurd is
 scanners_fault words of same gone (Number what) is =
@@ -156,6 +172,9 @@ tries_fault words of same gone (Index i n) is = absurd is
 tries_fault words of same gone (Files n) is = absurd is
 tries_fault words of same gone (Scanners n) is = absurd is
 tries_fault words of same gone Connections is = absurd is
+tries_fault words of same gone Clients is = absurd is
+tries_fault words of same gone Idle is = absurd is
+tries_fault words of same gone Level is = absurd is
 tries_fault words of same gone (Tries n) is =
     (subst (λ (o : Option Text). IsNumberOf o n) same is.0, is.1)
 tries_fault words of same gone (Request r) is = absurd is
@@ -179,6 +198,9 @@ path_fault words of path same gone (Index i n) is = absurd is
 path_fault words of path same gone (Files n) is = absurd is
 path_fault words of path same gone (Scanners n) is = absurd is
 path_fault words of path same gone Connections is = absurd is
+path_fault words of path same gone Clients is = absurd is
+path_fault words of path same gone Idle is = absurd is
+path_fault words of path same gone Level is = absurd is
 path_fault words of path same gone (Tries n) is = absurd is
 path_fault words of path same gone (Request r) is = absurd is
 path_fault words of path same gone (Number what) is = absurd is
@@ -215,6 +237,9 @@ connections_fault words word same (Index i n) is = absurd is
 connections_fault words word same (Files n) is = absurd is
 connections_fault words word same (Scanners n) is = absurd is
 connections_fault words word same Connections is = subst IsNoLargeNumber same is
+connections_fault words word same Clients is = absurd is
+connections_fault words word same Idle is = absurd is
+connections_fault words word same Level is = absurd is
 connections_fault words word same (Tries n) is = absurd is
 connections_fault words word same (Request r) is = absurd is
 connections_fault words word same (Number what) is = absurd is
@@ -222,6 +247,42 @@ connections_fault words word same (Missing what) is = absurd is
 connections_fault words word same NoCommand is = absurd is
 connections_fault words word same NotText is = absurd is
 connections_fault words word same Memory is = absurd is
+
+no_limit : ⊥ ⊎ (⊥ ⊎ ⊥) → ⊥
+no_limit (inl is) = is
+no_limit (inr (inl is)) = is
+no_limit (inr (inr is)) = is
+
+-- a fault of what a server is to let in and to log
+limits_fault : (words : List Text) (of : Text → Option Text)
+    → ((what : Text) → of what ≡ word_of words what) → (why : WordFault)
+    → IsLimitsFault of why → IsFaultOf words why
+limits_fault words of same Clients (inl is) =
+    subst (λ (o : Option Text). IsClientsFault o Clients) (same (codes "clients-max")) is
+limits_fault words of same Clients (inr (inl is)) = absurd is
+limits_fault words of same Clients (inr (inr is)) = absurd is
+limits_fault words of same Idle (inl is) = absurd is
+limits_fault words of same Idle (inr (inl is)) =
+    subst (λ (o : Option Text). IsIdleFault o Idle) (same (codes "idle")) is
+limits_fault words of same Idle (inr (inr is)) = absurd is
+limits_fault words of same Level (inl is) = absurd is
+limits_fault words of same Level (inr (inl is)) = absurd is
+limits_fault words of same Level (inr (inr is)) =
+    subst (λ (o : Option Text). IsLevelFault o Level) (same (codes "log")) is
+limits_fault words of same (Help e) is = absurd (no_limit is)
+limits_fault words of same (Words e) is = absurd (no_limit is)
+limits_fault words of same (Count n) is = absurd (no_limit is)
+limits_fault words of same (Index i n) is = absurd (no_limit is)
+limits_fault words of same (Files n) is = absurd (no_limit is)
+limits_fault words of same (Scanners n) is = absurd (no_limit is)
+limits_fault words of same Connections is = absurd (no_limit is)
+limits_fault words of same (Tries n) is = absurd (no_limit is)
+limits_fault words of same (Request r) is = absurd (no_limit is)
+limits_fault words of same (Number what) is = absurd (no_limit is)
+limits_fault words of same (Missing what) is = absurd (no_limit is)
+limits_fault words of same NoCommand is = absurd (no_limit is)
+limits_fault words of same NotText is = absurd (no_limit is)
+limits_fault words of same Memory is = absurd (no_limit is)
 
 -- a fault of the files
 files_fault : (words files : List Text) → files ≡ words_of words (codes "files")
@@ -234,6 +295,9 @@ files_fault words files same (Files n) is =
     subst (λ (fs : List Text). IsFilesFault fs (Files n)) same is
 files_fault words files same (Scanners n) is = absurd is
 files_fault words files same Connections is = absurd is
+files_fault words files same Clients is = absurd is
+files_fault words files same Idle is = absurd is
+files_fault words files same Level is = absurd is
 files_fault words files same (Tries n) is = absurd is
 files_fault words files same (Request r) is = absurd is
 files_fault words files same (Number what) is = absurd is
@@ -252,6 +316,9 @@ request_fault words asked same (Index i n) is = absurd is
 request_fault words asked same (Files n) is = absurd is
 request_fault words asked same (Scanners n) is = absurd is
 request_fault words asked same Connections is = absurd is
+request_fault words asked same Clients is = absurd is
+request_fault words asked same Idle is = absurd is
+request_fault words asked same Level is = absurd is
 request_fault words asked same (Tries n) is = absurd is
 request_fault words asked same (Request r) is =
     subst (λ (ws : List Text). IsNoRequest ws r) same is
@@ -275,8 +342,10 @@ serving_fault words of all same same_all gone why (inr (inl is)) =
     files_fault words (all (codes "files")) (same_all (codes "files")) why is
 serving_fault words of all same same_all gone why (inr (inr (inl is))) =
     scanners_fault words of (same (codes "scanners")) (λ what its. gone what (inr its)) why is
-serving_fault words of all same same_all gone why (inr (inr (inr is))) =
+serving_fault words of all same same_all gone why (inr (inr (inr (inl is)))) =
     connections_fault words (of (codes "connections")) (same (codes "connections")) why is
+serving_fault words of all same same_all gone why (inr (inr (inr (inr is)))) =
+    limits_fault words of same why is
 
 -- a fault of a call's words, by the words of the command
 calling_fault : (words : List Text) (of : Text → Option Text) (all : Text → List Text)

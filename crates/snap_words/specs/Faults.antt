@@ -24,10 +24,14 @@ use Rattle.snap_order.specs.declared.order.Order.{Order}
 use Rattle.snap_order.specs.declared.order.Order.TheVariants as order
 use Rattle.snap_order.specs.declared.order.FileOrder.{FileOrder}
 use Rattle.snap_order.specs.declared.order.FileOrder.TheVariants.{Format, Put, Get, Check}
+use Rattle.snap_order.specs.declared.order.Serving.{Serving}
 use Rattle.snap_words.specs.Grammar.{grammar_of}
 use Rattle.snap_words.specs.Numbers.{
+  IsClientsFault,
   IsConnectionsFault,
+  IsIdleFault,
   IsLargeNumberOf,
+  IsLevelFault,
   IsNoNumber,
   IsNumberOf,
   IsPlaceFault,
@@ -56,11 +60,16 @@ IsFilesFault files (fault.Files n) = (length files ≡ n) × ((n ≡ 0) ⊎ (MAX
 IsFilesFault files fault.Memory = Unit {0}
 IsFilesFault files why = ⊥
 
+-- what is wrong with the words for what a server is to let in and to log
+abbrev pub IsLimitsFault : (of : Text → Option Text) → WordFault → Type 0
+IsLimitsFault of why = IsClientsFault (of (codes "clients-max")) why
+    ⊎ (IsIdleFault (of (codes "idle")) why ⊎ IsLevelFault (of (codes "log")) why)
+
 -- what is wrong with the words of a server
 abbrev pub IsServingFault : (of : Text → Option Text) (all : Text → List Text) → WordFault → Type 0
 IsServingFault of all why = IsPathFault (of (codes "address")) (codes "address") why
     ⊎ (IsFilesFault (all (codes "files")) why ⊎ (IsScannersFault (of (codes "scanners")) why
-    ⊎ IsConnectionsFault (of (codes "connections")) why))
+    ⊎ (IsConnectionsFault (of (codes "connections")) why ⊎ IsLimitsFault of why)))
 
 -- what is wrong with the words of a call
 abbrev pub IsCallingFault : (of : Text → Option Text) (all : Text → List Text) → WordFault → Type 0
@@ -125,6 +134,10 @@ IsFaultOf words (fault.Scanners n) =
     IsScannersFault (word_of words (codes "scanners")) (fault.Scanners n)
 IsFaultOf words fault.Connections =
     IsConnectionsFault (word_of words (codes "connections")) fault.Connections
+IsFaultOf words fault.Clients =
+    IsClientsFault (word_of words (codes "clients-max")) fault.Clients
+IsFaultOf words fault.Idle = IsIdleFault (word_of words (codes "idle")) fault.Idle
+IsFaultOf words fault.Level = IsLevelFault (word_of words (codes "log")) fault.Level
 IsFaultOf words (fault.Tries n) = IsTriesFault (word_of words (codes "tries")) (fault.Tries n)
 IsFaultOf words (fault.Request why) = IsNoRequest (words_of words (codes "request")) why
 IsFaultOf words (fault.Number name) = IsNoNumber (word_of words name.now)
@@ -143,6 +156,9 @@ IsLaterFault (fault.Index index count) = Unit {0}
 IsLaterFault (fault.Files count) = Unit {0}
 IsLaterFault (fault.Scanners scanners) = Unit {0}
 IsLaterFault fault.Connections = Unit {0}
+IsLaterFault fault.Clients = Unit {0}
+IsLaterFault fault.Idle = Unit {0}
+IsLaterFault fault.Level = Unit {0}
 IsLaterFault (fault.Tries tries) = Unit {0}
 IsLaterFault (fault.Request why) = Unit {0}
 IsLaterFault (fault.Number what) = Unit {0}
@@ -161,11 +177,17 @@ AreFileNumbersOf words (Get file i n) = IsNumberOf (word_of words (codes "index"
     × IsNumberOf (word_of words (codes "count")) n
 AreFileNumbersOf words (Check file) = Unit {0}
 
+-- the numbers of a server are those of their words
+pub record AreServingNumbersOf (words : List Text) (s : Serving) : Type 0 where
+  pub scanners : IsNumberOf (word_of words (codes "scanners")) s.scanners
+  pub connections : IsLargeNumberOf (word_of words (codes "connections")) s.connections
+  pub clients : IsLargeNumberOf (word_of words (codes "clients-max")) s.clients
+  pub idle : IsLargeNumberOf (word_of words (codes "idle")) s.idle
+
 abbrev pub AreNumbersOf : List Text → Order → Type 0
 AreNumbersOf words (order.File o) = AreFileNumbersOf words o
 AreNumbersOf words (order.Migrate m) = IsNumberOf (word_of words (codes "index")) m.index
     × IsNumberOf (word_of words (codes "count")) m.count
-AreNumbersOf words (order.Serve s) = IsNumberOf (word_of words (codes "scanners")) s.scanners
-    × IsLargeNumberOf (word_of words (codes "connections")) s.connections
+AreNumbersOf words (order.Serve s) = AreServingNumbersOf words s
 AreNumbersOf words (order.Call c) = IsNumberOf (word_of words (codes "tries")) c.tries
 AreNumbersOf words order.Script = Unit {0}

@@ -42,6 +42,14 @@ large_number_rule name = record (new_rule name) {
   parser = Some (parser.Unsigned 0 18446744073709551615);
 }
 
+-- an option that takes a word
+abbrev pub choice_rule : Text → Text → Rule
+choice_rule name default = record (new_rule name) {
+  long = Some name;
+  value_names = 1;
+  defaults = default ∷ [];
+}
+
 abbrev pub filed : App → App
 filed app = with_rule app (word_rule (codes "file"))
 
@@ -57,11 +65,17 @@ paired app = placed (with_rule (with_rule app (word_rule (codes "old"))) (word_r
 abbrev pub addressed : App → App
 addressed app = with_rule app (word_rule (codes "address"))
 
+-- with what a server is to let in and to log
+abbrev pub limited : App → App
+limited app = with_rule
+    (with_rule (with_rule app (large_number_rule (codes "clients-max")))
+    (large_number_rule (codes "idle"))) (choice_rule (codes "log") (codes "info"))
+
 -- with an address, files, and the numbers of a server
 abbrev pub served : App → App
-served app = with_rule
+served app = limited (with_rule
     (with_rule (with_rule (addressed app) (words_rule (codes "files")))
-    (number_rule (codes "scanners") (codes "4"))) (large_number_rule (codes "connections"))
+    (number_rule (codes "scanners") (codes "4"))) (large_number_rule (codes "connections")))
 
 -- with an address, the words of a request, and the number of tries
 abbrev pub called : App → App

@@ -1,6 +1,7 @@
 -- The numbers among the words of a command, and what is wrong with them.
 use Rattle.std.specs.Prelude.{
   ◌≡◌,
+  ◌≢◌,
   ◌⊎◌,
   ℕ,
   ◌<◌,
@@ -16,6 +17,10 @@ use Rattle.clap.specs.Words.{Text}
 use Rattle.snap_history.specs.declared.limits.TheConstants.{MAX_COUNT}
 use Rattle.snap_history.specs.declared.limits.TheConstants.{MAX_SCANNERS}
 use Rattle.snap_client.specs.declared.again.TheConstants.{MAX_TRIES}
+use Rattle.snap_order.specs.Order.{IsOneTo}
+use Rattle.snap_order.specs.declared.order.Level.{Level}
+use Rattle.snap_order.specs.declared.order.Level.TheVariants as level
+use Rattle.snap_order.specs.declared.order.TheConstants.{MAX_CLIENTS, MAX_IDLE}
 use Rattle.snap_words.specs.declared.fault.WordFault.{WordFault}
 use Rattle.snap_words.specs.declared.fault.WordFault.TheVariants as fault
 
@@ -39,6 +44,13 @@ IsNoNumber word = IsNoNumberBelow (2 ^ 8) word
 -- of 64 bits
 abbrev pub IsNoLargeNumber : Option Text → Type 0
 IsNoLargeNumber word = IsNoNumberBelow (2 ^ 64) word
+
+-- the word is no decimal number from 1 to this one
+abbrev pub IsNoNumberTo : ℕ → Option Text → Type 0
+IsNoNumberTo most None = ⊥
+IsNoNumberTo most (Some word) =
+    IsNumeral 10 (without_leading_plus word)
+    × IsOneTo most (digits_value 10 (without_leading_plus word)) → ⊥
 
 -- there is no word and no number, or the word's number
 abbrev pub IsLargeNumberOf : Option Text → Option ℕ → Type 0
@@ -74,3 +86,28 @@ IsTriesFault word why = IsNumberFault word (codes "tries") why
 abbrev pub IsConnectionsFault : Option Text → WordFault → Type 0
 IsConnectionsFault word fault.Connections = IsNoLargeNumber word
 IsConnectionsFault word why = ⊥
+
+-- what is wrong with this word for the most connections at once
+abbrev pub IsClientsFault : Option Text → WordFault → Type 0
+IsClientsFault word fault.Clients = IsNoNumberTo MAX_CLIENTS word
+IsClientsFault word why = ⊥
+
+-- what is wrong with this word for the seconds that a connection may say nothing
+abbrev pub IsIdleFault : Option Text → WordFault → Type 0
+IsIdleFault word fault.Idle = IsNoNumberTo MAX_IDLE word
+IsIdleFault word why = ⊥
+
+abbrev pub level_word : Level → Text
+level_word level.Error = codes "error"
+level_word level.Warn = codes "warn"
+level_word level.Info = codes "info"
+level_word level.Debug = codes "debug"
+
+-- the word is this level's
+abbrev pub IsLevelOf : Option Text → Level → Type 0
+IsLevelOf word l = word ≡ Some (level_word l)
+
+-- what is wrong with this word for a level of the log: it is none's
+abbrev pub IsLevelFault : Option Text → WordFault → Type 0
+IsLevelFault word fault.Level = (l : Level) → word ≢ Some (level_word l)
+IsLevelFault word why = ⊥

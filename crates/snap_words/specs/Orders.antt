@@ -8,7 +8,8 @@ use Rattle.snap_order.specs.declared.order.FileOrder.TheVariants.{Format, Put, G
 use Rattle.snap_order.specs.declared.order.Serving.{Serving}
 use Rattle.snap_order.specs.declared.order.Calling.{Calling}
 use Rattle.snap_words.specs.Grammar.{grammar_of}
-use Rattle.snap_words.specs.Requests.{IsRequestOf}
+use Rattle.snap_words.specs.Numbers.{IsLevelOf}
+use Rattle.snap_words.specs.Requests.{IsQuestionOf}
 use Rattle.snap_words.specs.Words.{word_of, words_of}
 
 -- the command's name and the words of its rules
@@ -41,17 +42,18 @@ IsFileAskedBy words (Get file index count) =
 IsFileAskedBy words (Check file) =
     IsCommand (subcommand_of grammar_of words) (codes "check") file.now
 
--- the words are those of a server at this address, with these files
+-- the words are those of a server at this address, with these files, and with this level of its log
 pub record IsServerOf (words : List Text) (s : Serving) : Type 0 where
   pub command : IsNamed words (codes "serve")
   pub address : word_of words (codes "address") ≡ Some s.address.now
   pub files : words_of words (codes "files") ≡ map (λ f. f.now) s.files.items
+  pub log : IsLevelOf (word_of words (codes "log")) s.log
 
 -- the words are those of a call of the server at this address, with this request
 pub record IsCallOf (words : List Text) (c : Calling) : Type 0 where
   pub command : IsNamed words (codes "call")
   pub address : word_of words (codes "address") ≡ Some c.address.now
-  pub request : IsRequestOf (words_of words (codes "request")) c.request
+  pub request : IsQuestionOf (words_of words (codes "request")) c.question
 
 abbrev pub IsAskedBy : List Text → Order → Type 0
 IsAskedBy words (order.File o) = IsFileAskedBy words o

@@ -16,6 +16,8 @@ use Rattle.snap_frame.specs.declared.request.Request.{Request}
 use Rattle.snap_frame.specs.declared.request.Request.TheVariants.{Update, Scan, Status}
 use Rattle.snap_frame.specs.declared.request.TheConstants.{MAX_UPDATE_VALUE}
 use Rattle.snap_hex.specs.Text.{IsHex}
+use Rattle.snap_order.specs.declared.order.Question.{Question}
+use Rattle.snap_order.specs.declared.order.Question.TheVariants as question
 use Rattle.snap_words.specs.Numbers.{IsNoLargeNumber, IsNoNumber, IsNumberOf}
 use Rattle.snap_words.specs.declared.fault.RequestFault.{RequestFault}
 use Rattle.snap_words.specs.declared.fault.RequestFault.TheVariants as fault
@@ -40,6 +42,11 @@ IsRequestOf words (Update i k bytes) =
 IsRequestOf words Scan = words ≡ codes "scan" ∷ []
 IsRequestOf words Status = words ≡ codes "status" ∷ []
 
+-- what the words ask of a server
+abbrev pub IsQuestionOf : List Text → Question → Type 0
+IsQuestionOf words (question.Request r) = IsRequestOf words r
+IsQuestionOf words question.Health = words ≡ codes "health" ∷ []
+
 -- what is wrong with the words of an update
 abbrev pub IsNoUpdate : (segment number value : Text) → RequestFault → Type 0
 IsNoUpdate segment number value fault.Segment = IsNoNumber (Some segment)
@@ -52,7 +59,7 @@ IsNoUpdate segment number value fault.Form = ⊥
 -- why the words are no request: they are of no form, or an update's that is wrong
 abbrev pub IsNoRequest : List Text → RequestFault → Type 0
 IsNoRequest words fault.Form = (words ≢ codes "scan" ∷ []) × (words ≢ codes "status" ∷ [])
-    × ((i k v : Text) → words ≢ codes "update" ∷ i ∷ k ∷ v ∷ [])
+    × (words ≢ codes "health" ∷ []) × ((i k v : Text) → words ≢ codes "update" ∷ i ∷ k ∷ v ∷ [])
 IsNoRequest words why = OfUpdate words (λ segment number value. IsNoUpdate segment number value why)
 
 -- the same, or memory was wanting

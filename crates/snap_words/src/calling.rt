@@ -4,12 +4,12 @@ ghost use Rattle.clap.specs.Words.{first_value, found_of};
 ghost use Rattle.snap_order.specs.Order.{IsCallable};
 ghost use Rattle.snap_words.specs.Faults.{IsCallingFault};
 ghost use Rattle.snap_words.specs.Numbers.{IsNumberOf};
-ghost use Rattle.snap_words.specs.Requests.{IsRequestOf};
+ghost use Rattle.snap_words.specs.Requests.{IsQuestionOf};
 ghost use Rattle.snap_words.specs.Words.{all_values};
 
 use crate::WordFault;
 use crate::numbers::tries_of;
-use crate::request::request_of;
+use crate::request::question_of;
 use clap::ArgMatches;
 use snap_order::Calling;
 use std::alloc::Global;
@@ -20,7 +20,7 @@ pub(crate) fn calling<'a>(alloc: Global, matches: &ArgMatches<'a>) -> Result<Cal
     ensures address { IfOk result
         (λ c. Some c.address.now ≡ first_value (found_of matches.now) (codes "address")) }
     ensures request { IfOk result
-        (λ c. IsRequestOf (all_values (found_of matches.now) (codes "request")) c.request) }
+        (λ c. IsQuestionOf (all_values (found_of matches.now) (codes "request")) c.question) }
     ensures tries { IfOk result
         (λ c. IsNumberOf (first_value (found_of matches.now) (codes "tries")) c.tries) }
     ensures fault { IfErr result (IsCallingFault (first_value (found_of matches.now))
@@ -30,10 +30,10 @@ pub(crate) fn calling<'a>(alloc: Global, matches: &ArgMatches<'a>) -> Result<Cal
         return Err(WordFault::Missing { what: "address" });
     };
     let tries = tries_of(matches)?;
-    let request = request_of(alloc, matches)?;
+    let question = question_of(alloc, matches)?;
     Ok(Calling {
         address,
-        request,
+        question,
         tries,
     })
 }

@@ -1,5 +1,6 @@
 //! Why words are no order.
 use snap_frame::MAX_UPDATE_VALUE;
+use snap_order::{MAX_CLIENTS, MAX_IDLE};
 use std::alloc::AllocError;
 use thiserror::Error;
 
@@ -10,7 +11,7 @@ const MORE: &str = "\n\nFor more information, try '--help'.";
 #[derive(Clone, Copy, Debug, PartialEq, Eq, Error)]
 pub enum RequestFault {
     /// They are of no request's form.
-    #[error("the request is not `update I NUMBER HEX`, `scan` or `status`")]
+    #[error("the request is not `update I NUMBER HEX`, `scan`, `status` or `health`")]
     Form,
     /// An update's segment is no number from 0 to 255.
     #[error("the update's segment is not a number from 0 to 255")]
@@ -51,6 +52,15 @@ pub enum WordFault {
     /// The word for a server's connections is no number of 64 bits.
     #[error("error: the number of connections is not from 0 to {max}{more}", max = u64::MAX, more = MORE)]
     Connections,
+    /// The word for the most connections at once is no number that a server may have.
+    #[error("error: the most clients are not from 1 to {max}{more}", max = MAX_CLIENTS, more = MORE)]
+    Clients,
+    /// The word for how long a connection may be idle is no number that a server may have.
+    #[error("error: the idle seconds are not from 1 to {max}{more}", max = MAX_IDLE, more = MORE)]
+    Idle,
+    /// The word for the log is none of its levels.
+    #[error("error: the log is not `error`, `warn`, `info` or `debug`{more}", more = MORE)]
+    Level,
     /// The tries are none, or more than there may be.
     #[error("error: the number of tries {tries} is not from 1 to 10{more}", more = MORE)]
     Tries { tries: u8 },

@@ -4,8 +4,9 @@ ghost use Rattle.clap.specs.Words.{App, Rule, app_of, new_app, rule_of, with_rul
 ghost use Rattle.clap.specs.Words.{with_subcommand};
 ghost use Rattle.clap.specs.declared.builder.Command.TheViews.{out-Command};
 ghost use Rattle.snap_words.specs.Grammar.{IsCommandOf, addressed, called, filed, grammar_of};
-ghost use Rattle.snap_words.specs.Grammar.{large_number_rule, number_rule, paired, placed};
-ghost use Rattle.snap_words.specs.Grammar.{program_of, served, versioned, word_rule, words_rule};
+ghost use Rattle.snap_words.specs.Grammar.{choice_rule, large_number_rule, limited, number_rule};
+ghost use Rattle.snap_words.specs.Grammar.{paired, placed, program_of, served, versioned};
+ghost use Rattle.snap_words.specs.Grammar.{word_rule, words_rule};
 
 use crate::help::{
     CALL_HELP, CHECK_HELP, FORMAT_HELP, GET_HELP, MIGRATE_HELP, PROGRAM_HELP, PUT_HELP,
@@ -112,7 +113,7 @@ fn serve_command<'a>(alloc: Global) -> Result<Command<'a>, AllocError>
     let command = addressed_command(alloc, "serve", about, SERVE_HELP);
     let help = "The files, in order of segment: 1 to 16";
     let command = with_arg(command, required_words(alloc, "files", "FILE", help));
-    with_service(alloc, command)
+    with_limits(alloc, with_service(alloc, command))
 }
 
 fn call_command<'a>(alloc: Global) -> Result<Command<'a>, AllocError>
@@ -120,7 +121,7 @@ fn call_command<'a>(alloc: Global) -> Result<Command<'a>, AllocError>
 {
     let about = "Ask a server, and print its reply";
     let command = addressed_command(alloc, "call", about, CALL_HELP);
-    let help = "The request: update I NUMBER HEX, scan or status";
+    let help = "The request: update I NUMBER HEX, scan, status or health";
     let command = with_arg(command, required_words(alloc, "request", "WORD", help));
     let help = "The most connections that are made, 1 to 10";
     with_arg(command, number_option(alloc, "tries", "1", "T", help))
@@ -181,7 +182,7 @@ fn addressed_command<'a>(
 ) -> Result<Command<'a>, AllocError>
     ensures { IfOk result (IsCommandOf (addressed (new_app name.entry.now))) }
 {
-    let help = "Where the server listens, as 127.0.0.1:7878";
+    let help = "Where the server listens, as 127.0.0.1:7070";
     let address = required_word(alloc, "address", "ADDR", help);
     described_command(alloc, name, about, more).arg(address)
 }
@@ -202,6 +203,22 @@ fn with_service<'a>(
         command,
         large_number_option(alloc, "connections", "K", help),
     )
+}
+
+/// The command with what a server is to let in and to log, where it was made.
+fn with_limits<'a>(
+    alloc: Global,
+    made: Result<Command<'a>, AllocError>,
+) -> Result<Command<'a>, AllocError>
+    ensures { (words : App) → IfOk made.entry (IsCommandOf words)
+        → IfOk result (IsCommandOf (limited words)) }
+{
+    let help = "The most connections that are open at once, 1 to 1000000";
+    let command = with_arg(made, large_number_option(alloc, "clients-max", "N", help));
+    let help = "Let go of a connection that said nothing for so long, 1 to 31536000";
+    let command = with_arg(command, large_number_option(alloc, "idle", "SECONDS", help));
+    let help = "The least level of a line on standard error: error, warn, info or debug";
+    with_arg(command, choice_option(alloc, "log", "info", "LEVEL", help))
 }
 
 /// The command with the place of a segment, where it was made.
@@ -246,6 +263,24 @@ fn large_number_option<'a>(alloc: Global, name: &'a str, shown: &'a str, help: &
     Arg::new(alloc, name)
         .long(name)
         .value_parser(value_parser!(u64))
+        .value_name(shown)
+        .help(help)
+}
+
+/// An option for one of some words, with its default.
+fn choice_option<'a>(
+    alloc: Global,
+    name: &'a str,
+    default: &'a str,
+    shown: &'a str,
+    help: &'a str,
+) -> Arg<'a>
+    ensures rule { rule_of result ≡ choice_rule name.entry.now default.entry.now }
+    ensures local { result.global ≡ false }
+{
+    Arg::new(alloc, name)
+        .long(name)
+        .default_value(default)
         .value_name(shown)
         .help(help)
 }

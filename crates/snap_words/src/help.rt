@@ -2,9 +2,9 @@
 
 pub(crate) const PROGRAM_HELP: &str = "\
 Example:
-  snapd format manifest.snap
-  echo 'step 100' | snapd put manifest.snap
-  snapd get manifest.snap
+  snapd format manifest.seg
+  echo 'step 100' | snapd put manifest.seg
+  snapd get manifest.seg
 
 Many values for many readers: see `snapd serve --help` and `snapd call --help`.
 
@@ -20,25 +20,25 @@ that was never formatted. Prints `formatted I of N`. A file that is formatted ke
 it is refused as 12 AlreadyFormatted.
 
 Example:
-  snapd format manifest.snap";
+  snapd format manifest.seg";
 
 pub(crate) const PUT_HELP: &str = "\
 Reads at most 4,080 bytes; a longer value is refused as 3 TooLong, and nothing is changed.
 Prints `stored K` once the value is on the disk for good, where K is its number.
 
 Example:
-  echo 'step 100' | snapd put manifest.snap";
+  echo 'step 100' | snapd put manifest.seg";
 
 pub(crate) const GET_HELP: &str = "\
 Example:
-  snapd get manifest.snap > manifest";
+  snapd get manifest.seg > manifest";
 
 pub(crate) const CHECK_HELP: &str = "\
 Prints the header, the three slots, and `answer number K` or `answer none`. Ends with status 3
 where there is no answer.
 
 Example:
-  snapd check manifest.snap";
+  snapd check manifest.seg";
 
 pub(crate) const MIGRATE_HELP: &str = "\
 OLD is a file of the old format, 20,480 bytes that begin `SNAPSEG1`; it is only read. NEW is made
@@ -48,7 +48,7 @@ Cut off before, it can be run again: NEW is then unformatted, or refused as
 12 AlreadyFormatted because it holds the value already.
 
 Example:
-  snapd migrate manifest.snap manifest.new && mv manifest.new manifest.snap";
+  snapd migrate manifest.seg manifest.new && mv manifest.new manifest.seg";
 
 pub(crate) const SERVE_HELP: &str = "\
 Each FILE is one segment, made before by `snapd format FILE --index I --count N`, where I counts
@@ -61,12 +61,13 @@ port 0. From then on it answers `snapd call` and other clients, and says of each
 ends how it ended, as one line on standard error. It runs until it is killed, or until K
 connections have ended; then it prints `served K`.
 
-Any number of clients may be connected. A scanner answers one request after the other, so as many
-requests are answered at the same moment as there are scanners. A store that waits for its disk
-holds up no scanner.
+As many clients may be connected as the process may open files, less some fifty, or N of them:
+then callers wait. A scanner answers one request after the other, so as many requests are answered
+at the same moment as there are scanners. A store that waits for its disk holds up no scanner.
 
 There is no login: who reaches ADDR may read and write all segments. Use 127.0.0.1 or ::1, and a
-tunnel from elsewhere.
+tunnel from elsewhere. An ADDR that stands for all of the machine's, as 0.0.0.0:7070, is served with
+a warning.
 
 Killing it is a proper stop, with any signal and at any time: what was acknowledged or shown is in
 the files, and the next start gives it back.
@@ -78,15 +79,16 @@ Exit status:
   3  a file was refused, or memory is wanting; the number and the name are on standard error
 
 Example:
-  snapd format a.snap --index 0 --count 2
-  snapd format b.snap --index 1 --count 2
-  snapd serve 127.0.0.1:7878 a.snap b.snap";
+  snapd format s0.seg --index 0 --count 2
+  snapd format s1.seg --index 1 --count 2
+  snapd serve 127.0.0.1:7070 s0.seg s1.seg";
 
 pub(crate) const CALL_HELP: &str = "\
 Requests:
   update I NUMBER HEX  store HEX as value NUMBER of segment I; prints `stored NUMBER`
   scan                 all values at one moment; prints `segment I number K value HEX` for each
   status               prints `segment I number K fenced 0`, or `fenced 1`, for each segment
+  health               prints `healthy`; or `fenced I` for each fenced segment, with status 3
 
 I is 0 to 255. NUMBER is one more than the segment's number, or that number and its value again:
 a repeat is answered as stored. HEX is two hexadecimal digits for each byte, and `-` for no byte.
@@ -99,11 +101,13 @@ Exit status:
   0  done
   1  no connection gave an answer, or standard output failed; an update may have been stored
   2  the words can't be read
-  3  refused, with `snapd: refused CODE NAME DETAIL` on standard error, or memory is wanting
+  3  refused, with `snapd: refused CODE NAME DETAIL` on standard error, or memory is wanting; or
+     `health` found a fenced segment
 
 Examples:
-  snapd call 127.0.0.1:7878 update 0 1 6869
-  snapd call 127.0.0.1:7878 scan --tries 3";
+  snapd call 127.0.0.1:7070 update 0 1 6869
+  snapd call 127.0.0.1:7070 scan --tries 3
+  snapd call 127.0.0.1:7070 health";
 
 pub(crate) const SCRIPT_HELP: &str = "\
 A script is lines of words, which single spaces part. Empty lines are skipped. The first other

@@ -2,9 +2,10 @@
 //!
 //! [`order`] answers what they ask for, or why they ask for nothing of the kind. The words are read
 //! by `clap`; `specs/Grammar.antt` has the grammar, and says which order or fault goes with which
-//! words.
+//! words. [`lack_of`] and [`is_everywhere`] look at the text of an address.
 #![tactic(auto)]
 
+mod address;
 mod calling;
 mod fault;
 mod grammar;
@@ -14,5 +15,6 @@ mod request;
 mod serving;
 mod words;
 
+pub use address::{Lack, is_everywhere, lack_of};
 pub use fault::{RequestFault, WordFault};
 pub use words::order;

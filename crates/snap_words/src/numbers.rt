@@ -1,10 +1,12 @@
 //! The numbers among the words of a command, within their limits.
-ghost use Rattle.std.specs.Prelude.{◌≤◌, IfErr, IfOk, codes};
+ghost use Rattle.std.specs.Prelude.{◌≤◌, IfErr, IfOk, IfSome, MatchOption, Some, codes};
 ghost use Rattle.clap.specs.Words.{first_value, found_of};
 ghost use Rattle.snap_client.specs.declared.again.TheConstants.{MAX_TRIES};
 ghost use Rattle.snap_history.specs.declared.limits.TheConstants.{MAX_SCANNERS};
-ghost use Rattle.snap_order.specs.Order.{IsPlace};
-ghost use Rattle.snap_words.specs.Numbers.{IsConnectionsFault, IsLargeNumberOf, IsNumberFault};
+ghost use Rattle.snap_order.specs.Order.{IsOneTo, IsPlace};
+ghost use Rattle.snap_order.specs.declared.order.TheConstants.{MAX_CLIENTS, MAX_IDLE};
+ghost use Rattle.snap_words.specs.Numbers.{IsClientsFault, IsConnectionsFault, IsIdleFault};
+ghost use Rattle.snap_words.specs.Numbers.{IsLargeNumberOf, IsNoNumberTo, IsNumberFault};
 ghost use Rattle.snap_words.specs.Numbers.{IsNumberOf, IsPlaceFault, IsScannersFault};
 ghost use Rattle.snap_words.specs.Numbers.{IsTriesFault};
 
@@ -12,6 +14,7 @@ use crate::WordFault;
 use clap::ArgMatches;
 use snap_client::MAX_TRIES;
 use snap_history::{MAX_COUNT, MAX_SCANNERS};
+use snap_order::{MAX_CLIENTS, MAX_IDLE};
 
 /// The place of a file's segment, within the limits.
 pub(crate) fn place(matches: &ArgMatches<'_>) -> Result<(u8, u8), WordFault>
@@ -95,5 +98,50 @@ pub(crate) fn connections_of(matches: &ArgMatches<'_>) -> Result<Option<u64>, Wo
     match word.parse::<u64>() {
         Ok(number) => Ok(Some(number)),
         Err(_) => Err(WordFault::Connections),
+    }
+}
+
+/// The most connections that a server is to have open at once, where that is said.
+pub(crate) fn clients_of(matches: &ArgMatches<'_>) -> Result<Option<u32>, WordFault>
+    ensures limits { IfOk result (λ most. IfSome most (IsOneTo MAX_CLIENTS)) }
+    ensures number { IfOk result
+        (IsLargeNumberOf (first_value (found_of matches.now) (codes "clients-max"))) }
+    ensures fault { IfErr result
+        (IsClientsFault (first_value (found_of matches.now) (codes "clients-max"))) }
+{
+    let Some(word) = matches.get_str("clients-max") else {
+        return Ok(None);
+    };
+    match number_to(word, MAX_CLIENTS) {
+        Some(number) => Ok(Some(number)),
+        None => Err(WordFault::Clients),
+    }
+}
+
+/// For how many seconds a connection may say nothing, where that is said.
+pub(crate) fn idle_of(matches: &ArgMatches<'_>) -> Result<Option<u32>, WordFault>
+    ensures limits { IfOk result (λ most. IfSome most (IsOneTo MAX_IDLE)) }
+    ensures number { IfOk result
+        (IsLargeNumberOf (first_value (found_of matches.now) (codes "idle"))) }
+    ensures fault { IfErr result
+        (IsIdleFault (first_value (found_of matches.now) (codes "idle"))) }
+{
+    let Some(word) = matches.get_str("idle") else {
+        return Ok(None);
+    };
+    match number_to(word, MAX_IDLE) {
+        Some(number) => Ok(Some(number)),
+        None => Err(WordFault::Idle),
+    }
+}
+
+/// The number that the word is, where that is 1 to `most`.
+fn number_to(word: &str, most: u32) -> Option<u32>
+    ensures { MatchOption result (IsNoNumberTo most (Some word.now))
+        (λ n. IsNumberOf (Some word.now) n × IsOneTo most n) }
+{
+    match word.parse::<u32>() {
+        Ok(number) if 1 <= number && number <= most => Some(number),
+        _ => None,
     }
 }

@@ -2,7 +2,8 @@
 ghost use Rattle.std.specs.Prelude.{◌≤◌, IfErr, IfOk, codes, length, map};
 ghost use Rattle.clap.specs.Words.{found_of};
 ghost use Rattle.snap_frame.specs.Messages.{max_payload, payload};
-ghost use Rattle.snap_words.specs.Requests.{IsRequestFault, IsRequestOf, IsUpdateFault};
+ghost use Rattle.snap_order.specs.Order.{request_of};
+ghost use Rattle.snap_words.specs.Requests.{IsQuestionOf, IsRequestFault, IsUpdateFault};
 ghost use Rattle.snap_words.specs.Requests.{IsUpdateOf};
 ghost use Rattle.snap_words.specs.Words.{all_values};
 
@@ -12,36 +13,41 @@ use bytes::Bytes;
 use clap::ArgMatches;
 use snap_frame::{MAX_UPDATE_VALUE, Request};
 use snap_hex::read_hex;
+use snap_order::Question;
 use std::alloc::Global;
 
-/// What is asked of a server, which fits a frame.
-pub(crate) fn request_of(alloc: Global, matches: &ArgMatches<'_>) -> Result<Request, WordFault>
-    ensures request { IfOk result
-        (IsRequestOf (all_values (found_of matches.now) (codes "request"))) }
-    ensures fits { IfOk result (λ r. length (payload r) ≤ max_payload) }
+/// What is asked of a server, whose request fits a frame.
+pub(crate) fn question_of(alloc: Global, matches: &ArgMatches<'_>) -> Result<Question, WordFault>
+    ensures question { IfOk result
+        (IsQuestionOf (all_values (found_of matches.now) (codes "request"))) }
+    ensures fits { IfOk result (λ q. length (payload (request_of q)) ≤ max_payload) }
     ensures fault { IfErr result
         (IsRequestFault (all_values (found_of matches.now) (codes "request"))) }
 {
     match matches.get_strs("request") {
-        Some(words) => request(alloc, words),
+        Some(words) => question(alloc, words),
         None => Err(WordFault::Request(RequestFault::Form)),
     }
 }
 
-/// The request that the words are.
-fn request(alloc: Global, words: &[&str]) -> Result<Request, WordFault>
-    ensures request { IfOk result (IsRequestOf (map (λ w. w.now) words.now)) }
-    ensures fits { IfOk result (λ r. length (payload r) ≤ max_payload) }
+/// What the words ask.
+fn question(alloc: Global, words: &[&str]) -> Result<Question, WordFault>
+    ensures question { IfOk result (IsQuestionOf (map (λ w. w.now) words.now)) }
+    ensures fits { IfOk result (λ q. length (payload (request_of q)) ≤ max_payload) }
     ensures fault { IfErr result (IsRequestFault (map (λ w. w.now) words.now)) }
 {
     if words.len() == 1 && is(words[0], "scan") {
-        return Ok(Request::Scan);
+        return Ok(Question::Request(Request::Scan));
     }
     if words.len() == 1 && is(words[0], "status") {
-        return Ok(Request::Status);
+        return Ok(Question::Request(Request::Status));
+    }
+    if words.len() == 1 && is(words[0], "health") {
+        return Ok(Question::Health);
     }
     if words.len() == 4 && is(words[0], "update") {
-        return update(alloc, words[1], words[2], words[3]);
+        let update = update(alloc, words[1], words[2], words[3])?;
+        return Ok(Question::Request(update));
     }
     Err(WordFault::Request(RequestFault::Form))
 }

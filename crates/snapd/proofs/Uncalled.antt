@@ -4,7 +4,7 @@ use Rattle.std.proofs.lemmas.List.Elements.{All-weaker}
 use Rattle.snap_devices.specs.FileDisk.{IsUncalled}
 use Rattle.snap_devices.specs.declared.file.FileDisk.{FileDisk}
 
-pub headroom : (files : List FileDisk) → All IsUncalled files
+pub headroom : {R : Type 0} (files : List (FileDisk R)) → All IsUncalled files
     → All (λ d. d.failures < 2 ^ 64 - 1) files
 headroom files are = All-weaker IsUncalled (λ d. d.failures < 2 ^ 64 - 1)
     (λ d is. let P : ℕ → Type 0 = λ n. n < 2 ^ 64 - 1 in subst P (sym is.failures) (lit< tt))

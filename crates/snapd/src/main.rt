@@ -11,18 +11,24 @@ ghost use Rattle.snap_order.specs.Order.{IsServable, IsWithinLimits};
 mod calling;
 mod opening;
 mod serving;
+mod store_log;
 
 use calling::call;
-use opening::{PairFault, check_streams, open_file, open_pair};
+use opening::{
+    FirstFault, PairFault, check_streams, first_faults, open_file, open_pair, too_short_files,
+    writes,
+};
 use serving::{FilesFault, open_files, serve};
-use snap_command::{Failure, MigrationFailure, act, act_pair};
+use snap_command::{Causes, Failure, MigrationFailure, act, act_pair};
 use snap_devices::FileFault;
 use snap_disk::Refusal;
+use snap_log::Destination;
 use snap_order::{Calling, FileOrder, Migration, Order, Serving, Status};
 use snap_script::play;
+use snap_server::ServerFault;
+use snap_slot::FILE_LEN;
 use snap_stream::complain;
-use snap_words::{WordFault, order};
-use std::alloc::AllocError;
+use snap_words::{WordFault, lack_of, order};
 use std::env;
 use std::io::{BufWriter, ErrorKind};
 use std::net::Net;
@@ -89,19 +95,20 @@ fn explain(rt: &HostRuntime, fault: &WordFault) -> Status {
 }
 
 /// Opens the order's file, and does the order.
-fn run(rt: &HostRuntime, order: &FileOrder<'_>) -> Status
+fn run<'a>(rt: &'a HostRuntime, order: &FileOrder<'a>) -> Status
     requires { IsFileWithinLimits order.now }
 {
-    if !are_streams_open(rt) {
+    if !are_streams_open(rt) || (writes(order) && !may_write(rt)) {
         return Status::Failed;
     }
-    let disk = match open_file(rt, order) {
+    let told = FirstFault::new();
+    let disk = match open_file(rt, order, order.file(), &told) {
         Ok(disk) => disk,
         Err(FileFault::WrongFile { len }) => {
             let refused = Failure::Refused(Refusal::WrongFile);
             let mut errors = rt.stderr();
             return refused
-                .report_of(rt.alloc(), order.file(), len, &mut errors)
+                .report_of(rt.alloc(), order, len, &told, &mut errors)
                 .status;
         }
         Err(fault) => return fail_at(rt, order.file(), &fault),
@@ -110,6 +117,7 @@ fn run(rt: &HostRuntime, order: &FileOrder<'_>) -> Status
         rt.alloc(),
         order,
         disk,
+        &told,
         &mut rt.stdin(),
         &mut rt.stdout(),
         &mut rt.stderr(),
@@ -118,26 +126,40 @@ fn run(rt: &HostRuntime, order: &FileOrder<'_>) -> Status
 }
 
 /// Opens both files of the migration, and carries the old one over.
-fn run_migration(rt: &HostRuntime, order: &Migration<'_>) -> Status
+fn run_migration<'a>(rt: &'a HostRuntime, order: &Migration<'a>) -> Status
     requires { IsPlace order.now.index order.now.count }
 {
-    if !are_streams_open(rt) {
+    if !are_streams_open(rt) || !may_write(rt) {
         return Status::Failed;
     }
-    let (old, new) = match open_pair(rt, order) {
+    let told_old = FirstFault::new();
+    let told_new = FirstFault::new();
+    let old_path = order.old;
+    let new_path = order.new;
+    let pair = open_pair(rt, old_path, new_path, &told_old, &told_new);
+    let causes = Causes {
+        old: &told_old,
+        new: &told_new,
+    };
+    let (old, new) = match pair {
         Ok(pair) => pair,
         Err(PairFault::Path { file, fault }) => return fail_at(rt, file, &fault),
         Err(PairFault::WrongFile(which)) => {
             let why = Refusal::WrongFile;
             let refused = MigrationFailure::OfFile { which, why };
-            return refused.report(rt.alloc(), order, &mut rt.stderr()).status;
+            let mut errors = rt.stderr();
+            return refused
+                .report(rt.alloc(), order, &causes, &mut errors)
+                .status;
         }
+        Err(PairFault::SameFile) => return fail_twice(rt, order.old, order.new),
     };
     let (_old, _new, ended) = act_pair(
         rt.alloc(),
         order,
         old,
         new,
+        &causes,
         &mut rt.stdout(),
         &mut rt.stderr(),
     );
@@ -146,19 +168,23 @@ fn run_migration(rt: &HostRuntime, order: &Migration<'_>) -> Status
 
 /// Opens the order's files, and serves them: `threads` is the runtime as what may wait, start
 /// threads and open sockets.
-fn run_server<X: Threads + Wait + Clock + Net + Sync + Send + Copy>(
+fn run_server<'a, X: Threads + Wait + Clock + Net + Sync + Send + Copy>(
     threads: &X,
-    rt: &HostRuntime,
-    order: &Serving<'_>,
+    rt: &'a HostRuntime,
+    order: &Serving<'a>,
 ) -> Status
     requires { IsServable order.now }
 {
-    if !are_streams_open(rt) {
+    if !are_streams_open(rt) || !is_address(rt, order.address) || !may_write(rt) {
         return Status::Failed;
     }
-    let devices = match open_files(rt, rt.alloc(), order) {
+    let Ok(told) = first_faults(rt.alloc(), order.files.len()) else {
+        return stop(rt, &Failure::Refused(Refusal::NoMemory));
+    };
+    let devices = match open_files(rt, rt.alloc(), &order.files, &told) {
         Ok(devices) => devices,
         Err(FilesFault::Path { file, fault }) => return fail_at(rt, file, &fault),
+        Err(FilesFault::SameFile { first, second }) => return fail_twice(rt, first, second),
         Err(FilesFault::NoMemory) => return stop(rt, &Failure::Refused(Refusal::NoMemory)),
     };
     let served = serve(
@@ -166,13 +192,19 @@ fn run_server<X: Threads + Wait + Clock + Net + Sync + Send + Copy>(
         rt.alloc(),
         order,
         devices,
+        &told,
+        Destination::of_standard_error(rt, rt.alloc()),
         &mut rt.stdout(),
         &mut rt.stderr(),
         rt.stderr(),
     );
     match served {
         Ok(ended) => ended.status,
-        Err(AllocError) => stop(rt, &Failure::Refused(Refusal::NoMemory)),
+        Err(ServerFault::NoMemory) => stop(rt, &Failure::Refused(Refusal::NoMemory)),
+        Err(fault) => {
+            let _ = complain(rt.alloc(), &mut rt.stderr(), &fault);
+            Status::Failed
+        }
     }
 }
 
@@ -180,7 +212,7 @@ fn run_server<X: Threads + Wait + Clock + Net + Sync + Send + Copy>(
 fn run_call(rt: &HostRuntime, order: &Calling<'_>) -> Status
     requires { IsCallable order.now }
 {
-    if !are_streams_open(rt) {
+    if !are_streams_open(rt) || !is_address(rt, order.address) {
         return Status::Failed;
     }
     call(rt, rt.alloc(), order, &mut rt.stdout(), &mut rt.stderr())
@@ -197,12 +229,48 @@ fn are_streams_open(rt: &HostRuntime) -> bool {
     }
 }
 
+/// The process may write files as long as a segment's. Says what is in the way.
+fn may_write(rt: &HostRuntime) -> bool {
+    match too_short_files() {
+        None => true,
+        Some(most) => {
+            let line = format_args!(
+                "files may have {most} bytes here, and a segment file has {FILE_LEN}: raise the limit (ulimit -f)"
+            );
+            let _ = complain(rt.alloc(), &mut rt.stderr(), &line);
+            false
+        }
+    }
+}
+
+/// The address has a host and a port. Says which one is missing.
+fn is_address(rt: &HostRuntime, address: &str) -> bool {
+    match lack_of(address) {
+        None => true,
+        Some(lack) => {
+            let line = format_args!("{address}: {lack}");
+            let _ = complain(rt.alloc(), &mut rt.stderr(), &line);
+            false
+        }
+    }
+}
+
 /// Says why the file at this path could not be taken.
 fn fail_at(rt: &HostRuntime, file: &str, fault: &FileFault) -> Status {
     let _ = complain(
         rt.alloc(),
         &mut rt.stderr(),
         &format_args!("{file}: {fault}"),
+    );
+    Status::Failed
+}
+
+/// Says that two paths of one command name one file.
+fn fail_twice(rt: &HostRuntime, first: &str, second: &str) -> Status {
+    let _ = complain(
+        rt.alloc(),
+        &mut rt.stderr(),
+        &format_args!("{second}: it is the same file as {first}: each file is named once"),
     );
     Status::Failed
 }

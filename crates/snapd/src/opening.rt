@@ -1,32 +1,87 @@
 //! The files of an order, as the system gives them.
-ghost use Rattle.std.specs.Prelude.{IfOk};
+ghost use Rattle.std.specs.Prelude.{◌≡◌, length, IfOk};
 ghost use Rattle.snap_devices.specs.FileDisk.{IsUncalled};
 
-use snap_devices::{FileDisk, FileFault, Lock};
+use snap_devices::{CallFault, FileDisk, FileFault, Lock};
 use snap_disk::Disk;
-use snap_order::{FileOrder, Migration};
+use snap_order::FileOrder;
 use snap_segment::{OLD_FILE_LEN, Which};
+use snap_slot::FILE_LEN;
+use snap_stream::Cause;
+use std::alloc::{AllocError, Global};
 use std::fs::File;
 use std::io;
 use std::os::fd::AsFd;
-use std::rt::Files;
+use std::rt::{Clock, Files};
+use std::sync::OnceLock;
 use thiserror::Error;
 
-/// The order's file as a device: `format` makes the file where it isn't there, and the other
-/// commands take it as it is. What writes the file has it alone.
-pub fn open_file<R: Files<File = File>>(
-    rt: &R,
-    order: &FileOrder<'_>,
-) -> Result<FileDisk, FileFault>
-    ensures { IfOk result IsUncalled }
-{
-    match order {
-        FileOrder::Format { file, .. } => FileDisk::create(rt, file),
-        FileOrder::Put { file, .. } => FileDisk::open(rt, file, Lock::Exclusive),
-        FileOrder::Get { file, .. } | FileOrder::Check { file } => {
-            FileDisk::open(rt, file, Lock::Shared)
+/// Why the first call of an open file that failed did. It outlives the file's device, which tells
+/// it.
+#[derive(Drop)]
+pub struct FirstFault {
+    fault: OnceLock<CallFault>,
+}
+
+impl FirstFault {
+    /// No call has failed.
+    pub fn new() -> FirstFault {
+        FirstFault {
+            fault: OnceLock::new(),
         }
     }
+
+    /// What the file's device tells.
+    pub fn place(&self) -> &OnceLock<CallFault> {
+        &self.fault
+    }
+}
+
+impl Cause for FirstFault {
+    // What another thread or the system put there, no contract knows.
+    ghost may_give = { λ _ _. Unit {0} };
+
+    fn text(&self, alloc: Global) -> Option<String> {
+        match self.fault.get()?.to_string(alloc) {
+            Ok(text) => Some(text),
+            Err(_) => None,
+        }
+    }
+}
+
+/// A place for each of so many files.
+pub fn first_faults(alloc: Global, count: usize) -> Result<Vec<FirstFault>, AllocError>
+    ensures { IfOk result (λ told. length told.items ≡ count) }
+{
+    let mut told = Vec::with_capacity(alloc, count)?;
+    for _ in 0..count {
+        told.push(FirstFault::new())?;
+    }
+    Ok(told)
+}
+
+/// The order's file as a device: `format` makes the file where it isn't there, and the other
+/// commands take it as it is. What writes the file has it alone. `file` is the order's path, and
+/// `told` gets why a call of the file fails.
+pub fn open_file<'a, R: Files<File = File> + Clock>(
+    rt: &'a R,
+    order: &FileOrder<'_>,
+    file: &'a str,
+    told: &'a FirstFault,
+) -> Result<FileDisk<'a, R>, FileFault>
+    ensures { IfOk result IsUncalled }
+{
+    let disk = match *order {
+        FileOrder::Format { .. } => FileDisk::create(rt, file)?,
+        FileOrder::Put { .. } => FileDisk::open(rt, file, Lock::Exclusive)?,
+        FileOrder::Get { .. } | FileOrder::Check { .. } => FileDisk::open(rt, file, Lock::Shared)?,
+    };
+    Ok(disk.telling(told.place()))
+}
+
+/// Whether the order writes its file.
+pub fn writes(order: &FileOrder<'_>) -> bool {
+    matches!(order, FileOrder::Format { .. } | FileOrder::Put { .. })
 }
 
 /// Why the files of a migration could not be taken.
@@ -36,30 +91,53 @@ pub enum PairFault<'a> {
     Path { file: &'a str, fault: FileFault },
     /// This file is refused for its length.
     WrongFile(Which),
+    /// Both paths name one file.
+    SameFile,
 }
 
 /// The files of a migration as devices: the old one, which others may read meanwhile, and then the
 /// new one, which is made where it isn't there. Where both have a wrong length, the old one counts.
-pub fn open_pair<'a, R: Files<File = File>>(
-    rt: &R,
-    order: &Migration<'a>,
-) -> Result<(FileDisk, FileDisk), PairFault<'a>>
+/// `told_old` and `told_new` get why a call of each fails.
+pub fn open_pair<'a, R: Files<File = File> + Clock>(
+    rt: &'a R,
+    old: &'a str,
+    new: &'a str,
+    told_old: &'a FirstFault,
+    told_new: &'a FirstFault,
+) -> Result<(FileDisk<'a, R>, FileDisk<'a, R>), PairFault<'a>>
     ensures { IfOk result (λ pair. IsUncalled pair.0 × IsUncalled pair.1) }
 {
-    let file = order.old;
+    let file = old;
     let old = match FileDisk::open(rt, file, Lock::Shared) {
-        Ok(old) => old,
+        Ok(old) => old.telling(told_old.place()),
         Err(fault) => return Err(PairFault::Path { file, fault }),
     };
-    let file = order.new;
+    let file = new;
     match FileDisk::create(rt, file) {
-        Ok(new) => Ok((old, new)),
+        Ok(new) => Ok((old, new.telling(told_new.place()))),
         Err(FileFault::WrongFile { .. }) if old.len() != OLD_FILE_LEN => {
             Err(PairFault::WrongFile(Which::Old))
         }
         Err(FileFault::WrongFile { .. }) => Err(PairFault::WrongFile(Which::New)),
+        Err(FileFault::InUse(id)) if id == old.id() => Err(PairFault::SameFile),
         Err(fault) => Err(PairFault::Path { file, fault }),
     }
+}
+
+/// The number by which Linux knows the limit on the length of files that a process writes.
+const FILE_LENGTHS: i32 = 1;
+
+/// The most bytes that a file may have which this process writes, where that is less than a segment
+/// file has. The system ends a process that goes beyond it, with all its segments.
+pub fn too_short_files() -> Option<u64> {
+    let mut limit = libc::types::rlimit {
+        rlim_cur: 0,
+        rlim_max: 0,
+    };
+    if libc::getrlimit(FILE_LENGTHS, &mut limit) == 0 && limit.rlim_cur < FILE_LEN {
+        return Some(limit.rlim_cur);
+    }
+    None
 }
 
 /// A standard stream that isn't open, with the system's reason.

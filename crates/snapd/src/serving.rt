@@ -4,66 +4,124 @@ ghost use Rattle.std.specs.Thread.{IsSync};
 ghost use Rattle.snap_devices.specs.FileDisk.{IsUncalled};
 ghost use Rattle.snap_order.specs.Order.{IsServable};
 
+use crate::opening::FirstFault;
+use crate::store_log::StoreLog;
+use log::{LevelFilter, warn};
 use snap_devices::{FileDisk, FileFault, Lock};
-use snap_host::{Edge, Network, Notes, host, write_notes};
+use snap_host::{Edge, Network, host, log_note};
+use snap_log::{Destination, Lines, write_lines};
 use snap_order::{Ended, Serving};
-use snap_server::NoGate;
-use std::alloc::{AllocError, Global};
+use snap_server::{NoGate, Note, ServerFault};
+use snap_words::is_everywhere;
+use std::alloc::Global;
 use std::fs::File;
 use std::io::Write;
 use std::net::Net;
 use std::rt::{Clock, Files};
 use std::sync::Wait;
 use std::thread::{self, Threads};
+use std::time::Duration;
 
 /// Why the files of a server could not be taken.
 #[derive(Debug, Drop)]
 pub enum FilesFault<'a> {
     /// The file at this path could not be taken as a device.
     Path { file: &'a str, fault: FileFault },
+    /// These paths name one file.
+    SameFile { first: &'a str, second: &'a str },
     /// There was no memory for their list.
     NoMemory,
 }
 
-/// The order's files as devices, in order, each with an exclusive lock.
-pub fn open_files<'a, R: Files<File = File>>(
-    rt: &R,
+/// The order's files as devices, in order, each with an exclusive lock. `told` gets for each of them why
+/// a call of it fails.
+pub fn open_files<'a, 'f, R: Files<File = File> + Clock>(
+    rt: &'f R,
     alloc: Global,
-    order: &Serving<'a>,
-) -> Result<Vec<FileDisk>, FilesFault<'a>>
-    ensures count { IfOk result (λ devices.
-        length devices.items ≡ length order.now.files.items) }
+    files: &'f Vec<&'a str>,
+    told: &'f Vec<FirstFault>,
+) -> Result<Vec<FileDisk<'f, R>>, FilesFault<'a>>
+    ensures count { IfOk result (λ devices. length devices.items ≡ length files.now.items) }
     ensures uncalled { IfOk result (λ devices. All IsUncalled devices.items) }
 {
-    let Ok(mut devices) = Vec::with_capacity(alloc, order.files.len()) else {
+    let Ok(mut devices) = Vec::with_capacity(alloc, files.len()) else {
         return Err(FilesFault::NoMemory);
     };
-    'files: for file in &order.files {
+    'files: for file in files {
         let file = *file;
         match FileDisk::open(rt, file, Lock::Exclusive) {
             Ok(disk) => {
+                let disk = told_to(disk, told.get(devices.len()));
                 if devices.push(disk).is_err() {
                     return Err(FilesFault::NoMemory);
                 }
             }
-            Err(fault) => return Err(FilesFault::Path { file, fault }),
+            Err(fault) => return Err(fault_at(files, &devices, file, fault)),
         }
     }
     Ok(devices)
 }
 
-/// Serves these devices, and writes a line on standard error for each connection that has ended,
-/// in a thread of its own. An error is that there was no memory for it, or no thread: nothing was
-/// done.
+/// The same device, which tells why a call of it fails where there is a place for that.
+fn told_to<'f, R: Files<File = File> + Clock>(
+    disk: FileDisk<'f, R>,
+    told: Option<&'f FirstFault>,
+) -> FileDisk<'f, R>
+    ensures uncalled { IsUncalled disk.entry → IsUncalled result }
+{
+    match told {
+        Some(told) => disk.telling(told.place()),
+        None => disk,
+    }
+}
+
+/// Why the file at this path could not be taken, behind those that were: where one of them keeps it
+/// out, that they are one.
+fn fault_at<'a, R: Files<File = File> + Clock>(
+    files: &[&'a str],
+    devices: &[FileDisk<'_, R>],
+    second: &'a str,
+    fault: FileFault,
+) -> FilesFault<'a> {
+    if let FileFault::InUse(id) = &fault {
+        for (first, device) in files.iter().zip(devices) {
+            if device.id() == *id {
+                return FilesFault::SameFile {
+                    first: *first,
+                    second,
+                };
+            }
+        }
+    }
+    FilesFault::Path {
+        file: second,
+        fault,
+    }
+}
+
+/// How much is logged.
+fn filter_of(level: snap_order::Level) -> LevelFilter {
+    match level {
+        snap_order::Level::Error => LevelFilter::Error,
+        snap_order::Level::Warn => LevelFilter::Warn,
+        snap_order::Level::Info => LevelFilter::Info,
+        snap_order::Level::Debug => LevelFilter::Debug,
+    }
+}
+
+/// Serves these devices, and logs on standard error what is noticed meanwhile, by a thread of its own.
+/// An error is that there was no memory for the log, or no thread: nothing was done.
 pub fn serve<X, W, E>(
     rt: &X,
     alloc: Global,
     order: &Serving<'_>,
-    devices: Vec<FileDisk>,
+    devices: Vec<FileDisk<'_, HostRuntime>>,
+    told: &Vec<FirstFault>,
+    destination: Destination,
     writer: &mut W,
     errors: &mut E,
-    mut noted: E,
-) -> Result<Ended, AllocError>
+    mut logged: E,
+) -> Result<Ended, ServerFault>
 where
     X: Threads + Wait + Clock + Net + Sync + Send + Copy,
     W: Write,
@@ -72,11 +130,14 @@ where
     requires devices { length devices.items ≡ length order.now.files.items }
     requires uncalled { All IsUncalled devices.items }
 {
-    let (notes, written) = Notes::new(rt, alloc)?;
+    let level = filter_of(order.log);
+    let Ok((log, waiting)) = Lines::new(rt, alloc, level, destination) else {
+        return Err(ServerFault::NoMemory);
+    };
     thread::scope(
         thread::scope_env(),
         rt,
-        |scope| -> Result<Ended, AllocError>
+        |scope| -> Result<Ended, ServerFault>
             requires { IsSync X.row × IsServable order.now
                 × (length devices.items ≡ length order.now.files.items)
                 × All IsUncalled devices.items }
@@ -84,27 +145,51 @@ where
             let writing = move ||
                 requires { IsSync X.row }
             {
-                write_notes(rt, alloc, &written, &mut noted);
+                write_lines(rt, &waiting, &mut logged);
             };
             if scope.spawn(writing).is_err() {
-                return Err(AllocError);
+                return Err(ServerFault::NoThread);
             }
-            let ended = host_noted(rt, alloc, order, devices, &notes, writer, errors);
-            // The thread that writes notes ends once no more can come.
-            drop(notes);
+            let ended = host_logged(rt, alloc, order, devices, told, &log, writer, errors);
+            // The thread that writes the lines ends once no more can come.
+            drop(log);
             Ok(ended)
         },
     )
 }
 
-/// Serves these devices, and hands a note over for each connection that has ended.
+/// How many descriptors a server has beside its files, two for each worker and its connections: the
+/// standard streams, its listener, and what libraries open for a moment.
+const OTHERS: u64 = 16;
+
+/// How many connections may be open at once: what the process may open, less what it needs itself, and
+/// no more than the order says. So no connection is ever accepted that the system has no descriptor
+/// for.
+fn most_clients(order: &Serving<'_>) -> usize {
+    let asked = order.clients.map_or(usize::MAX, |clients| clients as usize);
+    let mut limit = libc::types::rlimit {
+        rlim_cur: 0,
+        rlim_max: 0,
+    };
+    if libc::getrlimit(libc::RLIMIT_NOFILE, &mut limit) != 0 {
+        return asked;
+    }
+    let needed = OTHERS
+        .saturating_add(order.files.len() as u64)
+        .saturating_add(u64::from(order.scanners).saturating_mul(2));
+    let left = limit.rlim_cur.saturating_sub(needed).max(1);
+    usize::try_from(left).unwrap_or(usize::MAX).min(asked)
+}
+
+/// Serves these devices, and logs what is noticed meanwhile.
 #[tactic(auto, using(crate::proofs::Uncalled::headroom))]
-fn host_noted<X, W, E>(
+fn host_logged<X, W, E>(
     rt: &X,
     alloc: Global,
     order: &Serving<'_>,
-    devices: Vec<FileDisk>,
-    notes: &Notes<'_, X>,
+    devices: Vec<FileDisk<'_, HostRuntime>>,
+    told: &Vec<FirstFault>,
+    log: &Lines<'_, X>,
     writer: &mut W,
     errors: &mut E,
 ) -> Ended
@@ -116,11 +201,22 @@ where
     requires devices { length devices.items ≡ length order.now.files.items }
     requires uncalled { All IsUncalled devices.items }
 {
-    let note = |ended: &snap_server::Ended| notes.note(ended);
+    if is_everywhere(order.address) {
+        warn!(log; target: "accept",
+            "{}: whoever reaches this machine may read and update each segment", order.address
+        );
+    }
+    let note = |told: &Note| log_note(log, told);
     let edge = Edge {
         bind: &Network::new(rt),
         gate: &NoGate,
         note: &note,
+        watch: StoreLog::new(log, &order.files, told),
+        causes: told,
+        clients: most_clients(order),
+        idle: order
+            .idle
+            .map(|seconds| Duration::from_secs(u64::from(seconds))),
     };
     host(rt, alloc, order, devices, edge, writer, errors)
 }

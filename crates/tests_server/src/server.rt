@@ -4,12 +4,13 @@ mod course;
 mod faults;
 mod floods;
 mod meeting;
+mod partings;
 mod shop;
 mod talks;
 
 use course::Course;
 use shop::{Shop, Store};
-use snap_server::{Ended, Gate, Listen, ServerFault, Tcp, run};
+use snap_server::{Gate, Limits, Listen, Note, ServerFault, Tcp, run};
 use std::alloc::{AllocError, Global};
 use std::io;
 use std::io::{Read, Write};
@@ -17,6 +18,7 @@ use std::net::{Ipv4Addr, Net, Shutdown, SocketAddr, TcpStream};
 use std::rt::Clock;
 use std::sync::Wait;
 use std::thread::Threads;
+use std::time::Duration;
 
 /// So many services, and the store to which they hand updates over.
 fn shops<'a, R: Wait>(
@@ -41,12 +43,22 @@ fn shops<'a, R: Wait>(
     Ok((shops, stores))
 }
 
+/// So many connections in all, as many at once as come, and no rest after a fault.
+fn limits(connections: Option<u64>) -> Limits {
+    Limits {
+        connections,
+        clients: 1_000,
+        fault_rest: Duration::ZERO,
+        idle: None,
+    }
+}
+
 /// Runs a server with so many workers and one store behind a gate.
 fn serve_behind<R: Threads + Wait + Clock + Net + AllocGlobal + Sync, L: Listen, G: Gate + Sync>(
     rt: &R,
     listener: &L,
     workers: usize,
-    connections: Option<u64>,
+    limits: Limits,
     course: &Course,
     gate: &G,
 ) -> Result<u64, ServerFault> {
@@ -54,8 +66,8 @@ fn serve_behind<R: Threads + Wait + Clock + Net + AllocGlobal + Sync, L: Listen,
     let Ok((shops, stores)) = shops(rt, alloc, workers, course) else {
         return Err(ServerFault::NoMemory);
     };
-    let note = |ended: &Ended| course.note(ended);
-    run(rt, alloc, listener, shops, stores, connections, gate, &note)
+    let note = |note: &Note| course.note(note);
+    run(rt, alloc, listener, shops, stores, limits, gate, &note)
 }
 
 /// The same, with the course as its gate.
@@ -66,7 +78,7 @@ fn serve<R: Threads + Wait + Clock + Net + AllocGlobal + Sync, L: Listen>(
     connections: Option<u64>,
     course: &Course,
 ) -> Result<u64, ServerFault> {
-    serve_behind(rt, listener, workers, connections, course, course)
+    serve_behind(rt, listener, workers, limits(connections), course, course)
 }
 
 /// A listener at a port that the system picks, and its address.

@@ -1,12 +1,13 @@
 //! What a call prints and says, and how it ends, for each reply and each fault.
 ghost use Rattle.std.specs.Prelude.{◌≤◌, length};
 ghost use Rattle.snap_frame.specs.Messages.{max_payload, payload};
+ghost use Rattle.snap_order.specs.Order.{request_of};
 
 use bytes::Bytes;
 use snap_ask::ask;
 use snap_client::MAX_TRIES;
 use snap_frame::Request;
-use snap_order::{Calling, Status};
+use snap_order::{Calling, Question, Status};
 use snap_stream::TestStream;
 use std::alloc::{AllocError, Global};
 use std::process::Abort;
@@ -28,6 +29,15 @@ const SNAPSHOT: &[u8] = &[
 const STATUS: &[u8] = &[
     0, 0, 0, 20, 0x83, 2, 0, 0, 0, 0, 0, 0, 0, 1, 0, 0, 0, 0, 0, 0, 0, 0, 12, 1,
 ];
+
+/// The same of three segments, of which the first and the last are fenced.
+const FENCED: &[u8] = &[
+    0, 0, 0, 29, 0x83, 3, 0, 0, 0, 0, 0, 0, 0, 0, 1, 0, 0, 0, 0, 0, 0, 0, 1, 0, 0, 0, 0, 0, 0, 0,
+    0, 12, 1,
+];
+
+/// The same of one segment, which isn't fenced.
+const SOUND: &[u8] = &[0, 0, 0, 11, 0x83, 1, 0, 0, 0, 0, 0, 0, 0, 1, 0];
 
 /// Refused as a conflict, with detail 258.
 const CONFLICT: &[u8] = &[0, 0, 0, 10, 0xE0, 4, 0, 0, 0, 0, 0, 0, 1, 2];
@@ -51,19 +61,21 @@ enum Asked {
     Update,
     Scan,
     Status,
+    Health,
 }
 
-fn request_of(asked: Asked) -> Request
-    ensures { length (payload result) ≤ max_payload }
+fn question_of(asked: Asked) -> Question
+    ensures { length (payload (request_of result)) ≤ max_payload }
 {
     match asked {
-        Asked::Update => Request::Update {
+        Asked::Update => Question::Request(Request::Update {
             segment: 0,
             number: 1,
             value: Bytes::from_static(b"hi"),
-        },
-        Asked::Scan => Request::Scan,
-        Asked::Status => Request::Status,
+        }),
+        Asked::Scan => Question::Request(Request::Scan),
+        Asked::Status => Question::Request(Request::Status),
+        Asked::Health => Question::Health,
     }
 }
 
@@ -120,7 +132,7 @@ fn ends(alloc: Global, case: &Case<'_>) -> Result<bool, AllocError> {
     };
     let order = Calling {
         address: "host:7",
-        request: request_of(case.asked),
+        question: question_of(case.asked),
         tries: case.tries.clamp(1, MAX_TRIES),
     };
     let mut out = stream(alloc, b"", case.room)?;
@@ -159,6 +171,70 @@ fn replies_are_printed(rt: HostRuntime) -> Result<(), Fail> {
         ..UPDATE
     };
     Ok(all_end(&rt, &[UPDATE, scan, status])?)
+}
+
+/// A fence is told by its line and by the status.
+#[test]
+fn fences_are_told(rt: HostRuntime) -> Result<(), Fail> {
+    let sound = Case {
+        asked: Asked::Health,
+        links: &[Some((SOUND, WHOLE))],
+        printed: "healthy\n",
+        ..UPDATE
+    };
+    let second = Case {
+        asked: Asked::Health,
+        links: &[None, Some((STATUS, WHOLE))],
+        tries: 2,
+        status: Status::Refused,
+        printed: "fenced 1\n",
+        ..UPDATE
+    };
+    let two = Case {
+        asked: Asked::Health,
+        links: &[Some((FENCED, WHOLE))],
+        status: Status::Refused,
+        printed: "fenced 0\nfenced 2\n",
+        ..UPDATE
+    };
+    all_end(&rt, &[sound])?;
+    all_end(&rt, &[second])?;
+    Ok(all_end(&rt, &[two])?)
+}
+
+/// Health is asked by a request for the status: no other reply answers it, and a refusal and an
+/// output that fails are told as for a status.
+#[test]
+fn health_fails_as_a_status(rt: HostRuntime) -> Result<(), Fail> {
+    let refused = Case {
+        asked: Asked::Health,
+        links: &[Some((CONFLICT, WHOLE))],
+        status: Status::Refused,
+        printed: "",
+        said: "snapd: refused 4 Conflict 258\n",
+        ..UPDATE
+    };
+    let other = Case {
+        asked: Asked::Health,
+        links: &[Some((STORED, WHOLE))],
+        status: Status::Failed,
+        printed: "",
+        said: "snapd: host:7: what came isn't an answer to the request: is a snapd at the other \
+end?: check the address\n",
+        ..UPDATE
+    };
+    let cut = Case {
+        asked: Asked::Health,
+        links: &[Some((FENCED, WHOLE))],
+        room: 9,
+        status: Status::Failed,
+        printed: "fenced 0\n",
+        said: "snapd: standard output: the test's fault\n",
+        ..UPDATE
+    };
+    all_end(&rt, &[refused])?;
+    all_end(&rt, &[other])?;
+    Ok(all_end(&rt, &[cut])?)
 }
 
 /// A refusal is said with its detail, and isn't tried again.

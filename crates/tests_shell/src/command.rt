@@ -4,13 +4,14 @@ ghost use Rattle.snap_order.specs.Order.{IsFileWithinLimits};
 
 mod migrations;
 
-use snap_command::act;
+use snap_command::{Failure, act};
 use snap_devices::{FaultPlan, MemDisk};
-use snap_disk::{Disk, Fill};
+use snap_disk::{Disk, Fill, Refusal};
 use snap_order::{FileOrder, Status};
 use snap_segment::OLD_FILE_LEN;
 use snap_slot::FILE_LEN;
-use snap_stream::TestStream;
+use snap_stream::{Cause, TestStream, Unknown};
+use std::alloc::Global;
 use std::io::{Read, Write};
 use std::process::Abort;
 use std::test::Fail;
@@ -19,7 +20,21 @@ pub(crate) const LEN: usize = FILE_LEN as usize;
 
 pub(crate) const OLD_LEN: usize = OLD_FILE_LEN as usize;
 
-const WRONG: &str = "snapd: refused 14 WrongFile\n";
+const TOO_SHORT: &str = "\
+snapd: refused 14 WrongFile
+snapd: F: it has 28671 bytes, and a segment file has 28672
+";
+
+const OF_ANOTHER_SEGMENT: &str = "\
+snapd: refused 14 WrongFile
+snapd: F: it isn't the file of segment 1 of 2: see snapd check F
+";
+
+const UNFORMATTED: &str = "\
+snapd: refused 11 Unformatted
+snapd: F: it was never formatted, or its header is gone: keep a copy first, \
+then snapd format F --index 0 --count 1
+";
 
 const WRONG_AND_OLD: &str = "\
 snapd: refused 14 WrongFile
@@ -64,12 +79,25 @@ fn order_of(command: Command) -> FileOrder<'static>
     }
 }
 
+/// Says the same of each device that failed.
+#[derive(Clone, Copy)]
+pub(crate) struct Said(pub &'static str);
+
+impl Cause for Said {
+    ghost may_give = { λ _ _. Unit {0} };
+
+    fn text(&self, alloc: Global) -> Option<String> {
+        String::from_str(alloc, self.0).ok()
+    }
+}
+
 /// Does the command on this device, and gives the device back, the status and what standard error
 /// got.
-fn run<R: Read, W: Write>(
+fn run<C: Cause, R: Read, W: Write>(
     rt: &(impl Abort + AllocGlobal),
     command: Command,
     disk: MemDisk,
+    cause: &C,
     reader: &mut R,
     writer: &mut W,
 ) -> Result<(MemDisk, Status, Vec<u8>), Fail> {
@@ -77,7 +105,7 @@ fn run<R: Read, W: Write>(
     assert!(rt; failures < 1000);
     let order = order_of(command);
     let mut errors = Vec::new(rt.alloc());
-    let (disk, ended) = act(rt.alloc(), &order, disk, reader, writer, &mut errors);
+    let (disk, ended) = act(rt.alloc(), &order, disk, cause, reader, writer, &mut errors);
     assert!(rt; ended.is_told);
     Ok((disk, ended.status, errors))
 }
@@ -121,7 +149,7 @@ pub(crate) fn does(
 ) -> Result<MemDisk, Fail> {
     let mut input = input;
     let mut output = Vec::new(rt.alloc());
-    let (disk, status, errors) = run(rt, command, disk, &mut input, &mut output)?;
+    let (disk, status, errors) = run(rt, command, disk, &Unknown, &mut input, &mut output)?;
     assert!(rt; status == end.status, "the status");
     says(rt, &output, end.output);
     says(rt, &errors, end.why.as_bytes());
@@ -146,7 +174,12 @@ fn with_hi(rt: &(impl Abort + AllocGlobal)) -> Result<MemDisk, Fail> {
 #[test]
 fn formats_once(rt: HostRuntime) -> Result<(), Fail> {
     let disk = does(&rt, Command::Get, formatted(&rt)?, b"", done(b""))?;
-    let end = refused("snapd: refused 12 AlreadyFormatted\n");
+    let end = refused(
+        "\
+snapd: refused 12 AlreadyFormatted
+snapd: F: it is formatted already: see snapd check F
+",
+    );
     let disk = does(&rt, Command::Format, disk, b"", end)?;
     let disk = does(&rt, Command::Put, disk, b"hi", done(b"stored 1\n"))?;
     does(&rt, Command::Get, disk, b"", done(b"hi"))?;
@@ -172,7 +205,13 @@ fn longest_value_and_one_more(rt: HostRuntime) -> Result<(), Fail> {
         "too long a value makes no device call"
     );
     let disk = does(&rt, Command::Get, disk, b"", done(longest))?;
-    does(&rt, Command::GetOther, disk, b"", refused(WRONG))?;
+    does(
+        &rt,
+        Command::GetOther,
+        disk,
+        b"",
+        refused(OF_ANOTHER_SEGMENT),
+    )?;
     Ok(())
 }
 
@@ -198,12 +237,29 @@ answer number 1
 #[test]
 fn refusals_have_numbers_and_names(rt: HostRuntime) -> Result<(), Fail> {
     for command in [Command::Put, Command::Get] {
-        let end = refused("snapd: refused 11 Unformatted\n");
-        does(&rt, command, blank(&rt)?, b"hi", end)?;
+        does(&rt, command, blank(&rt)?, b"hi", refused(UNFORMATTED))?;
     }
     for command in [Command::Format, Command::Put, Command::Get, Command::Check] {
-        is_wrong_file(&rt, command, LEN - 1, WRONG)?;
+        is_wrong_file(&rt, command, LEN - 1, TOO_SHORT)?;
         is_wrong_file(&rt, command, OLD_LEN, WRONG_AND_OLD)?;
+    }
+    Ok(())
+}
+
+#[test]
+fn a_file_of_no_byte_is_a_format_that_was_cut_off(rt: HostRuntime) -> Result<(), Fail> {
+    for (command, place) in [
+        (Command::Put, "--index 0 --count 1"),
+        (Command::Get, "--index 0 --count 1"),
+        (Command::GetOther, "--index 1 --count 2"),
+        (Command::Check, "--index I --count N"),
+    ] {
+        let first = "snapd: refused 14 WrongFile\n";
+        let cut = "it has no byte: a format that was cut off";
+        let why = format!(in rt.alloc();
+            "{first}snapd: F: {cut}: go on with snapd format F {place}\n"
+        )?;
+        is_wrong_file(&rt, command, 0, why.as_str())?;
     }
     Ok(())
 }
@@ -238,8 +294,30 @@ fn fails_at(rt: &(impl Abort + AllocGlobal), command: Command, call: u64) -> Res
     let mut plan = FaultPlan::new(rt.alloc());
     plan.fail_after(disk.calls().saturating_add(call), Fill::Keep);
     disk.set_plan(plan);
-    let end = refused("snapd: refused 13 DeviceFailed\n");
-    does(rt, command, disk, b"yo", end)?;
+    let mut input: &[u8] = b"yo";
+    let mut output = Vec::new(rt.alloc());
+    let cause = Said("write: No space left on device (os error 28)");
+    let (_, status, errors) = run(rt, command, disk, &cause, &mut input, &mut output)?;
+    assert!(rt; status == Status::Refused && output.is_empty());
+    let why = b"\
+snapd: refused 13 DeviceFailed
+snapd: F: write: No space left on device (os error 28): look after its disk, and try again
+";
+    says(rt, &errors, why);
+    Ok(())
+}
+
+#[test]
+fn a_device_fails_and_nobody_says_why(rt: HostRuntime) -> Result<(), Fail> {
+    let mut disk = with_hi(&rt)?;
+    let mut plan = FaultPlan::new(rt.alloc());
+    plan.fail_after(disk.calls(), Fill::Keep);
+    disk.set_plan(plan);
+    let why = "\
+snapd: refused 13 DeviceFailed
+snapd: F: a call of its device failed: look after its disk, and try again
+";
+    does(&rt, Command::Get, disk, b"", refused(why))?;
     Ok(())
 }
 
@@ -257,7 +335,7 @@ fn is_not_read(rt: &(impl Abort + AllocGlobal), passes: usize) -> Result<(), Fai
     let calls = disk.calls();
     let mut reader = failing(Vec::from_slice(rt.alloc(), b"value")?, passes);
     let mut writer = Vec::new(rt.alloc());
-    let (disk, status, errors) = run(rt, Command::Put, disk, &mut reader, &mut writer)?;
+    let (disk, status, errors) = run(rt, Command::Put, disk, &Unknown, &mut reader, &mut writer)?;
     assert!(rt; status == Status::Failed);
     says(rt, &errors, b"snapd: standard input: the test's fault\n");
     says(rt, &writer, b"");
@@ -293,7 +371,7 @@ fn is_not_written(
     let disk = with_hi(rt)?;
     let mut writer = failing(Vec::new(rt.alloc()), printed.len());
     let mut reader: &[u8] = b"yo";
-    let (disk, status, errors) = run(rt, command, disk, &mut reader, &mut writer)?;
+    let (disk, status, errors) = run(rt, command, disk, &Unknown, &mut reader, &mut writer)?;
     assert!(rt; status == Status::Failed);
     says(rt, &errors, why.as_bytes());
     says(rt, &writer.bytes, printed);
@@ -307,7 +385,7 @@ fn want_of_memory_changes_nothing(rt: HostRuntime) -> Result<(), Fail> {
     let disk = with_hi(&rt)?;
     let mut output = Vec::new(rt.alloc());
     let mut input: &[u8] = b"yo";
-    let (disk, status, errors) = run(&rt, Command::Put, disk, &mut input, &mut output)?;
+    let (disk, status, errors) = run(&rt, Command::Put, disk, &Unknown, &mut input, &mut output)?;
     let is_refused = status == Status::Refused;
     let (printed, why, now) = if is_refused {
         ("", "snapd: refused 8 NoMemory\n", "hi")
@@ -320,10 +398,30 @@ fn want_of_memory_changes_nothing(rt: HostRuntime) -> Result<(), Fail> {
     Ok(())
 }
 
+/// With ample memory both lines of a refusal come. Where `rt try --test --fail-alloc N` refuses an
+/// allocation of the second, the first stands alone, and that isn't told.
+#[test]
+fn want_of_memory_leaves_the_first_line(rt: HostRuntime) -> Result<(), Fail> {
+    let order = order_of(Command::Get);
+    let mut errors = failing(Vec::with_capacity(rt.alloc(), 200)?, 200);
+    errors.step = 200;
+    let why = Failure::Refused(Refusal::Unformatted);
+    let ended = why.report_of(rt.alloc(), &order, FILE_LEN, &Unknown, &mut errors);
+    assert!(rt; ended.status == Status::Refused);
+    let told = if ended.is_told {
+        UNFORMATTED
+    } else {
+        "snapd: refused 11 Unformatted\n"
+    };
+    says(&rt, &errors.bytes, told.as_bytes());
+    Ok(())
+}
+
 /// A writer of errors that fails leaves the status as it is, and is told apart.
 #[test]
 fn errors_that_cannot_be_written(rt: HostRuntime) -> Result<(), Fail> {
-    for passes in [0, 9, 29, 30] {
+    let whole = UNFORMATTED.len();
+    for passes in [0, 9, 29, 30, 31, whole - 1, whole] {
         is_told(&rt, passes)?;
     }
     Ok(())
@@ -331,8 +429,7 @@ fn errors_that_cannot_be_written(rt: HostRuntime) -> Result<(), Fail> {
 
 /// Standard error fails once so many bytes have passed.
 fn is_told(rt: &(impl Abort + AllocGlobal), passes: usize) -> Result<(), Fail> {
-    let line = "snapd: refused 11 Unformatted\n";
-    assert!(rt; passes <= line.len());
+    assert!(rt; passes <= UNFORMATTED.len());
     let disk = blank(rt)?;
     assert!(rt; disk.failures() < 1000);
     let order = order_of(Command::Get);
@@ -343,12 +440,13 @@ fn is_told(rt: &(impl Abort + AllocGlobal), passes: usize) -> Result<(), Fail> {
         rt.alloc(),
         &order,
         disk,
+        &Unknown,
         &mut reader,
         &mut output,
         &mut errors,
     );
     assert!(rt; ended.status == Status::Refused);
-    assert!(rt; ended.is_told == (passes == line.len()));
-    says(rt, &errors.bytes, &line.as_bytes()[..passes]);
+    assert!(rt; ended.is_told == (passes == UNFORMATTED.len()));
+    says(rt, &errors.bytes, &UNFORMATTED.as_bytes()[..passes]);
     Ok(())
 }

@@ -1,4 +1,5 @@
 //! What no clause says: defaults, and the texts of faults and of help.
+mod address;
 mod server;
 
 use snap_order::{FileOrder, Migration, Order};

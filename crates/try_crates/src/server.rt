@@ -11,7 +11,7 @@ mod tally;
 
 use crossbeam_channel::{Receiver, Sender};
 use desk::open;
-use snap_server::{Ended, ServerFault, Tcp, run};
+use snap_server::{Ended, Ending, Limits, Note, ServerFault, Tcp, run};
 use std::alloc::Global;
 use std::io;
 use std::net::{Ipv4Addr, Net, SocketAddr};
@@ -81,19 +81,18 @@ where
     X: Threads + Wait + Clock + Net + Sync,
 {
     let (desks, stores) = open(host, alloc, plan.workers, plan.delay)?;
-    let note = |ended: &Ended| {
-        let _ = to.send(host, *ended);
+    let note = |note: &Note| {
+        if let Note::Ended(ended) = note {
+            let _ = to.send(host, *ended);
+        }
     };
-    Ok(run(
-        host,
-        alloc,
-        tcp,
-        desks,
-        stores,
-        plan.connections,
-        tally,
-        &note,
-    ))
+    let limits = Limits {
+        connections: plan.connections,
+        clients: usize::MAX,
+        fault_rest: Duration::ZERO,
+        idle: None,
+    };
+    Ok(run(host, alloc, tcp, desks, stores, limits, tally, &note))
 }
 
 /// Prints how each connection ended.
@@ -102,7 +101,10 @@ fn print_ends<X: Wait>(host: &X, rt: &HostRuntime, notes: &Receiver<Ended>) -> i
         let Ok(ended) = notes.try_recv(host) else {
             break;
         };
-        println!(rt; "{} {:?}", ended.peer, ended.end)?;
+        match ended.how {
+            Ending::Session(end) => println!(rt; "{} {end:?}", ended.peer)?,
+            how => println!(rt; "{} {how:?}", ended.peer)?,
+        }
     }
     Ok(())
 }

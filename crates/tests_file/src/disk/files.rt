@@ -1,14 +1,16 @@
 //! What no clause says of real files: the happy path of each call, locks, and the folder of a new
 //! file.
 use crate::checks::{are, prints};
-use snap_devices::{FileDisk, FileFault, Lock};
+use snap_devices::{CallFault, FileDisk, FileFault, Lock};
 use snap_disk::{DeviceFault, Disk};
 use snap_slot::FILE_LEN;
 use std::alloc::{AllocError, Allocator};
 use std::fs::{self, OpenOptions};
 use std::process::Abort;
-use std::rt::Files;
+use std::rt::{Clock, Files};
+use std::sync::OnceLock;
 use std::test::Fail;
+use std::time::Duration;
 use std::{env, io, process};
 
 /// A path in the temporary folder for this run alone.
@@ -26,9 +28,9 @@ fn cut(host: &HostRuntime, path: &str, len: u64) -> io::Result<fs::File> {
 }
 
 /// The file is not taken, for this reason.
-fn is_refused(
+fn is_refused<R>(
     rt: &(impl Abort + AllocGlobal),
-    taken: Result<FileDisk, FileFault>,
+    taken: Result<FileDisk<'_, R>, FileFault>,
     why: &str,
 ) -> Result<(), AllocError> {
     let Err(fault) = taken else {
@@ -38,14 +40,14 @@ fn is_refused(
 }
 
 /// Writes these bytes, which fit into a segment file.
-fn writes(rt: &impl Abort, disk: &mut FileDisk, at: u64, bytes: &[u8]) {
+fn writes(rt: &impl Abort, disk: &mut FileDisk<'_, HostRuntime>, at: u64, bytes: &[u8]) {
     assert!(rt; disk.len() == FILE_LEN && disk.failures() < 9);
     assert!(rt; at < FILE_LEN && bytes.len() <= 2 && at + (bytes.len() as u64) <= FILE_LEN);
     assert!(rt; disk.write_at(at, bytes).is_ok());
 }
 
 /// The three bytes from there on.
-fn gives(rt: &impl Abort, disk: &mut FileDisk, at: u64, want: [u8; 3]) {
+fn gives(rt: &impl Abort, disk: &mut FileDisk<'_, HostRuntime>, at: u64, want: [u8; 3]) {
     assert!(rt; disk.len() == FILE_LEN && disk.failures() < 9 && at <= FILE_LEN - 3);
     let mut buf = [1; 3];
     assert!(rt; disk.read_at(at, &mut buf).is_ok());
@@ -81,7 +83,7 @@ fn ends_early(
     rt: &impl Abort,
     host: &HostRuntime,
     path: &str,
-    disk: &mut FileDisk,
+    disk: &mut FileDisk<'_, HostRuntime>,
 ) -> Result<(), Fail> {
     cut(host, path, FILE_LEN - 1)?;
     assert!(rt; disk.len() == FILE_LEN && disk.failures() == 0);
@@ -223,6 +225,16 @@ impl Files for FolderFault<'_> {
     }
 }
 
+impl Clock for FolderFault<'_> {
+    fn monotonic(&self) -> io::Result<Duration> {
+        self.host.monotonic()
+    }
+
+    fn since_1970(&self) -> io::Result<Duration> {
+        self.host.since_1970()
+    }
+}
+
 /// Where the folder fails, so does the making of the file, which stays without a byte.
 fn is_not_made(
     rt: &(impl Abort + AllocGlobal),
@@ -298,6 +310,100 @@ fn the_folder_of_a_new_file(rt: HostRuntime) -> Result<(), Fail> {
     is_made(&rt, &rt, file, 5)?;
     is_made_all_the_same(&rt, &rt, file)?;
     fs::remove_file(&rt, file)?;
+    Ok(())
+}
+
+/// It can't be synced.
+fn is_unsynced(rt: &impl Abort, disk: &mut FileDisk<'_, HostRuntime>) {
+    let failures = disk.failures();
+    assert!(rt; failures < 9);
+    assert!(rt; disk.sync() == Err(DeviceFault));
+    assert!(rt; disk.failures() == failures + 1);
+}
+
+/// Why the first call that failed did.
+fn says(
+    rt: &(impl Abort + AllocGlobal),
+    told: &OnceLock<CallFault>,
+    why: &str,
+) -> Result<(), AllocError> {
+    match told.get() {
+        Some(fault) => prints(rt, fault, why),
+        None => panic!(rt; "no call has failed"),
+    }
+}
+
+const MOVED: &str = "sync: its path doesn't name it any more: it was moved, removed or replaced";
+
+#[test]
+fn a_file_that_is_moved(rt: HostRuntime) -> Result<(), Fail> {
+    let (path, away) = (temporary(&rt, "named")?, temporary(&rt, "away")?);
+    let told = OnceLock::new();
+    let mut disk = FileDisk::create(&rt, path.as_str())?.telling(&told);
+    assert!(rt; disk.failures() < 9 && disk.len() == FILE_LEN);
+    disk.sync()?;
+    assert!(rt; told.get().is_none());
+    rt.rename(path.as_str(), away.as_str())?;
+    is_unsynced(&rt, &mut disk);
+    says(&rt, &told, MOVED)?;
+    // Another one in its place is no better.
+    OpenOptions::new()
+        .write(true)
+        .create(true)
+        .open(&rt, path.as_str())?;
+    is_unsynced(&rt, &mut disk);
+    rt.rename(away.as_str(), path.as_str())?;
+    assert!(rt; disk.failures() < 9 && disk.sync().is_ok(), "it is back");
+    fs::remove_file(&rt, path.as_str())?;
+    is_unsynced(&rt, &mut disk);
+    Ok(())
+}
+
+/// What comes behind the first fault may be its consequence.
+#[test]
+fn the_first_fault_is_told(rt: HostRuntime) -> Result<(), Fail> {
+    let path = temporary(&rt, "first-fault")?;
+    let told = OnceLock::new();
+    let mut disk = FileDisk::create(&rt, path.as_str())?.telling(&told);
+    cut(&rt, path.as_str(), 0)?;
+    let mut buf = [0; 1];
+    assert!(rt; disk.len() == FILE_LEN && disk.failures() == 0);
+    assert!(rt; disk.read_at(0, &mut buf) == Err(DeviceFault));
+    says(&rt, &told, CUT)?;
+    fs::remove_file(&rt, path.as_str())?;
+    is_unsynced(&rt, &mut disk);
+    says(&rt, &told, CUT)?;
+    Ok(())
+}
+
+const CUT: &str = "read: failed to fill whole buffer";
+
+#[test]
+fn a_file_with_two_names(rt: HostRuntime) -> Result<(), Fail> {
+    let (path, other) = (temporary(&rt, "first")?, temporary(&rt, "second")?);
+    let disk = FileDisk::create(&rt, path.as_str())?;
+    rt.hard_link(path.as_str(), other.as_str())?;
+    let Err(FileFault::InUse(id)) = FileDisk::create(&rt, other.as_str()) else {
+        panic!(rt; "taken twice")
+    };
+    assert!(rt; id == disk.id());
+    fs::remove_file(&rt, path.as_str())?;
+    fs::remove_file(&rt, other.as_str())?;
+    Ok(())
+}
+
+#[test]
+fn a_reader_only_reads(rt: HostRuntime) -> Result<(), Fail> {
+    let path = temporary(&rt, "read")?;
+    FileDisk::create(&rt, path.as_str())?;
+    let told = OnceLock::new();
+    let mut disk = FileDisk::open(&rt, path.as_str(), Lock::Shared)?.telling(&told);
+    assert!(rt; disk.len() == FILE_LEN && disk.failures() == 0);
+    disk.sync()?;
+    assert!(rt; disk.len() == FILE_LEN && disk.failures() == 0);
+    assert!(rt; disk.write_at(0, b"x") == Err(DeviceFault));
+    says(&rt, &told, "write: Bad file descriptor (os error 9)")?;
+    fs::remove_file(&rt, path.as_str())?;
     Ok(())
 }
 

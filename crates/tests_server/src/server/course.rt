@@ -1,6 +1,6 @@
 //! What a server does, as its gate, its service and its notes tell it.
 
-use snap_server::{Ended, Gate};
+use snap_server::{Ended, Ending, Gate, Note};
 use snap_session::End;
 use std::sync::atomic::{AtomicU64, Ordering};
 
@@ -35,8 +35,13 @@ pub(crate) struct Course {
     truncated: AtomicU64,
     too_large: AtomicU64,
     failed: AtomicU64,
+    silent: AtomicU64,
+    stopped: AtomicU64,
     /// The port of the peer that ended last.
     port: AtomicU64,
+    full: AtomicU64,
+    room: AtomicU64,
+    deaf: AtomicU64,
 }
 
 /// How many connections ended how, and the port of the last one's peer.
@@ -59,7 +64,12 @@ impl Course {
             truncated: AtomicU64::new(0),
             too_large: AtomicU64::new(0),
             failed: AtomicU64::new(0),
+            silent: AtomicU64::new(0),
+            stopped: AtomicU64::new(0),
             port: AtomicU64::new(0),
+            full: AtomicU64::new(0),
+            room: AtomicU64::new(0),
+            deaf: AtomicU64::new(0),
         }
     }
 
@@ -70,17 +80,52 @@ impl Course {
         }
     }
 
+    /// What the server tells.
+    pub(crate) fn note(&self, note: &Note) {
+        match note {
+            Note::Ended(ended) => self.count_end(ended),
+            Note::Full { .. } => {
+                self.full.fetch_add(1, Ordering::SeqCst);
+            }
+            Note::Room => {
+                self.room.fetch_add(1, Ordering::SeqCst);
+            }
+            Note::Deaf => {
+                self.deaf.fetch_add(1, Ordering::SeqCst);
+            }
+        }
+    }
+
+    /// How often it told that there is no room, that there is again, and that it accepts no more.
+    pub(crate) fn told(&self) -> (u64, u64, u64) {
+        (
+            self.full.load(Ordering::SeqCst),
+            self.room.load(Ordering::SeqCst),
+            self.deaf.load(Ordering::SeqCst),
+        )
+    }
+
     /// A connection has ended.
-    pub(crate) fn note(&self, ended: &Ended) {
-        let count = match ended.end {
-            End::Closed => &self.closed,
-            End::Truncated => &self.truncated,
-            End::TooLarge => &self.too_large,
-            End::ReadFailed | End::WriteFailed | End::NoMemory => &self.failed,
+    fn count_end(&self, ended: &Ended) {
+        let count = match ended.how {
+            Ending::Session(End::Closed) => &self.closed,
+            Ending::Session(End::Truncated) => &self.truncated,
+            Ending::Session(End::TooLarge) => &self.too_large,
+            Ending::Session(_) | Ending::Lost => &self.failed,
+            Ending::Silent => &self.silent,
+            Ending::Stopped => &self.stopped,
         };
         count.fetch_add(1, Ordering::SeqCst);
         self.port
             .store(u64::from(ended.peer.port()), Ordering::SeqCst);
+    }
+
+    /// How many connections were let go of that were silent, and how many since the server stopped.
+    pub(crate) fn let_go(&self) -> (u64, u64) {
+        (
+            self.silent.load(Ordering::SeqCst),
+            self.stopped.load(Ordering::SeqCst),
+        )
     }
 
     /// How many requests have left the gate, and how many steps were wrong.

@@ -1,7 +1,7 @@
 //! A gate that two workers have to pass together.
 
 use super::course::Course;
-use super::{listen, send, serve_behind};
+use super::{limits, listen, send, serve_behind};
 use crate::frames::SCAN;
 use snap_server::Gate;
 use std::sync::atomic::{AtomicU64, Ordering};
@@ -42,7 +42,7 @@ fn two_workers_answer_at_once(rt: HostRuntime) -> Result<(), Fail> {
         entered: AtomicU64::new(0),
         met: AtomicU64::new(0),
     };
-    assert!(rt; serve_behind(&rt, &tcp, 2, Some(2), &Course::new(), &meeting) == Ok(2));
+    assert!(rt; serve_behind(&rt, &tcp, 2, limits(Some(2)), &Course::new(), &meeting) == Ok(2));
     assert!(rt; meeting.met.load(Ordering::SeqCst) == 2);
     drop(first);
     drop(second);

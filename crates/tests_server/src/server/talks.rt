@@ -101,7 +101,6 @@ fn noted<R: Threads + Wait + Clock + Net + AllocGlobal + Sync>(
 
 #[test]
 fn notes_each_end(rt: HostRuntime) -> Result<(), Fail> {
-    let (tcp, address) = listen(&rt)?;
     let none = Course::new().ends();
     for (bytes, wanted) in [
         (SCAN, Ends { closed: 1, ..none }),
@@ -120,6 +119,7 @@ fn notes_each_end(rt: HostRuntime) -> Result<(), Fail> {
             },
         ),
     ] {
+        let (tcp, address) = listen(&rt)?;
         let stream = send(&rt, address, bytes)?;
         assert!(rt; noted(&rt, &tcp, &stream)? == wanted, "{bytes:?}");
     }

@@ -1,6 +1,6 @@
 //! Migrations over devices in memory.
-use super::{Command, LEN, OLD_LEN, does, done, failing, says};
-use snap_command::act_pair;
+use super::{Command, LEN, OLD_LEN, Said, does, done, failing, says};
+use snap_command::{Causes, act_pair};
 use snap_devices::{FaultPlan, MemDisk};
 use snap_disk::{Disk, Fill};
 use snap_order::{Migration, Status};
@@ -8,7 +8,10 @@ use std::io::Write;
 use std::process::Abort;
 use std::test::Fail;
 
-const AS_NEW: &str = "snapd: refused 12 AlreadyFormatted\nsnapd: G: refused as the new file\n";
+const AS_NEW: &str = "\
+snapd: refused 12 AlreadyFormatted
+snapd: G: refused as the new file: it is formatted already: see snapd check G
+";
 
 const LINE: &str = "migrated 0 of 1 number 1\n";
 
@@ -59,8 +62,12 @@ fn carried<W: Write>(
         index: 0,
         count: 1,
     };
+    let causes = Causes {
+        old: &Said("read: Input/output error (os error 5)"),
+        new: &Said("sync: No space left on device (os error 28)"),
+    };
     let mut errors = Vec::new(rt.alloc());
-    let (old, new, ended) = act_pair(rt.alloc(), &order, old, new, writer, &mut errors);
+    let (old, new, ended) = act_pair(rt.alloc(), &order, old, new, &causes, writer, &mut errors);
     assert!(rt; ended.is_told);
     Ok(Outcome {
         old,
@@ -125,7 +132,11 @@ fn crashes(rt: &(impl Abort + AllocGlobal), fill: u8, again: Option<&str>) -> Re
     // The eighth of nine calls is the sixth on the new file, and the ninth fails.
     plan.fail_after(6, Fill::Keep);
     new.set_plan(plan);
-    let why = "snapd: refused 13 DeviceFailed\nsnapd: G: refused as the new file\n";
+    let why = "\
+snapd: refused 13 DeviceFailed
+snapd: G: refused as the new file: sync: No space left on device (os error 28): \
+look after its disk, and try again
+";
     let (old, mut new) = carries(rt, old_file(rt)?, new, Some(why))?;
     new.set_plan(FaultPlan::new(rt.alloc()));
     new.crash(&Fill::All(fill));
@@ -136,9 +147,21 @@ fn crashes(rt: &(impl Abort + AllocGlobal), fill: u8, again: Option<&str>) -> Re
 
 #[test]
 fn refusals_name_their_file(rt: HostRuntime) -> Result<(), Fail> {
-    let as_old = "snapd: refused 14 WrongFile\nsnapd: F: refused as the old file\n";
-    let as_new = "snapd: refused 14 WrongFile\nsnapd: G: refused as the new file\n";
-    let closed = "snapd: refused 11 Unformatted\nsnapd: F: refused as the old file\n";
+    let as_old = "\
+snapd: refused 14 WrongFile
+snapd: F: refused as the old file: it isn't the file of segment 0 of 1 with the 20480 bytes \
+of the old format
+";
+    let as_new = "\
+snapd: refused 14 WrongFile
+snapd: G: refused as the new file: it is neither empty nor of the 28672 bytes of a segment file: \
+give another path
+";
+    let closed = "\
+snapd: refused 11 Unformatted
+snapd: F: refused as the old file: it was never formatted, or its header is gone: \
+look for a backup
+";
     for (old, new, why) in [
         (LEN, OLD_LEN, as_old),
         (OLD_LEN, OLD_LEN, as_new),
@@ -146,6 +169,25 @@ fn refusals_name_their_file(rt: HostRuntime) -> Result<(), Fail> {
     ] {
         let old = blank(&rt, old)?;
         let (_, new) = carries(&rt, old, blank(&rt, new)?, Some(why))?;
+        assert!(rt; new.calls() == 0);
+    }
+    Ok(())
+}
+
+/// The old file's device fails at each of its two calls.
+#[test]
+fn the_old_device_fails(rt: HostRuntime) -> Result<(), Fail> {
+    let why = "\
+snapd: refused 13 DeviceFailed
+snapd: F: refused as the old file: read: Input/output error (os error 5): \
+look after its disk, and try again
+";
+    for call in 0..2 {
+        let mut old = old_file(&rt)?;
+        let mut plan = FaultPlan::new(rt.alloc());
+        plan.fail_after(old.calls().saturating_add(call), Fill::Keep);
+        old.set_plan(plan);
+        let (_, new) = carries(&rt, old, blank(&rt, LEN)?, Some(why))?;
         assert!(rt; new.calls() == 0);
     }
     Ok(())

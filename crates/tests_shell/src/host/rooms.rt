@@ -2,11 +2,12 @@
 
 use snap_devices::{Held, MemDisk};
 use snap_disk::Disk;
-use snap_host::{Bind, Edge, host};
-use snap_order::{Serving, Status};
+use snap_host::{Bind, Edge, NoWatch, host};
+use snap_order::{Level, Serving, Status};
 use snap_segment::format;
-use snap_server::{Arrival, Ended, Gate, Listen, Tcp};
+use snap_server::{Arrival, Gate, Listen, Note, Tcp, Unaccepted};
 use snap_slot::FILE_LEN;
+use snap_stream::Unknown;
 use std::alloc::{AllocError, Global};
 use std::io;
 use std::net::{Net, SocketAddr};
@@ -38,8 +39,12 @@ impl<'a> Ready<'a> {
 impl Listen for Shared<'_> {
     ghost refuses = { λ _. Unit {0} };
 
-    fn accept(&self) -> io::Result<Arrival> {
+    fn accept(&self) -> Result<Arrival, Unaccepted> {
         self.tcp.accept()
+    }
+
+    fn close(&self) {
+        self.tcp.close();
     }
 }
 
@@ -127,12 +132,19 @@ where
         files: vec![in alloc; "first", "second"]?,
         scanners: plan.scanners.clamp(1, 16),
         connections: plan.connections,
+        clients: None,
+        idle: None,
+        log: Level::Info,
     };
-    let note = |_ended: &Ended| {};
+    let note = |_note: &Note| {};
     let edge = Edge {
         bind,
         gate,
         note: &note,
+        watch: NoWatch,
+        causes: &[Unknown, Unknown],
+        clients: 1_000,
+        idle: None,
     };
     let ended = host(
         rt,

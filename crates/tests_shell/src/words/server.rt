@@ -2,7 +2,7 @@
 use super::{fault, is_helped, is_wrong};
 use bytes::Bytes;
 use snap_frame::Request;
-use snap_order::Order;
+use snap_order::{Level, Order, Question};
 use snap_words::order;
 use std::alloc::{AllocError, Global};
 use std::test::Fail;
@@ -77,11 +77,100 @@ fn servers_have_defaults(rt: HostRuntime) {
     }
 }
 
-/// Whether these words are a call with this request and these tries.
-fn is_call(alloc: Global, words: &[&str], request: &Request, tries: u8) -> bool {
+/// Words of a server of one file, and what it is to let in and to log.
+type Limits = (&'static [&'static str], Option<u32>, Option<u32>, Level);
+
+/// Whether these words are this server.
+fn is_limited(alloc: Global, server: &Limits) -> bool {
+    let (words, clients, idle, log) = *server;
+    match order(alloc, words) {
+        Ok(Order::Serve(serving)) => {
+            serving.clients == clients && serving.idle == idle && serving.log == log
+        }
+        _ => false,
+    }
+}
+
+const LIMITED: [Limits; 6] = [
+    (&["snapd", "serve", "A", "F"], None, None, Level::Info),
+    (
+        &[
+            "snapd",
+            "serve",
+            "A",
+            "F",
+            "--clients-max",
+            "1",
+            "--idle=1",
+            "--log=error",
+        ],
+        Some(1),
+        Some(1),
+        Level::Error,
+    ),
+    (
+        &[
+            "snapd",
+            "serve",
+            "--clients-max=1000000",
+            "A",
+            "F",
+            "--log",
+            "warn",
+        ],
+        Some(1_000_000),
+        None,
+        Level::Warn,
+    ),
+    (
+        &[
+            "snapd",
+            "serve",
+            "--idle=31536000",
+            "A",
+            "F",
+            "--log",
+            "debug",
+        ],
+        None,
+        Some(31_536_000),
+        Level::Debug,
+    ),
+    (
+        &["snapd", "serve", "A", "F", "--log=info"],
+        None,
+        None,
+        Level::Info,
+    ),
+    (
+        &[
+            "snapd",
+            "serve",
+            "A",
+            "F",
+            "--connections=7",
+            "--idle",
+            "+60",
+        ],
+        None,
+        Some(60),
+        Level::Info,
+    ),
+];
+
+/// Each flag is read into its own place, and what isn't said has its default.
+#[test]
+fn servers_have_limits(rt: HostRuntime) {
+    for server in &LIMITED {
+        assert!(rt; is_limited(rt.alloc(), server), "{server:?}");
+    }
+}
+
+/// Whether these words are a call that asks this, with these tries.
+fn is_call(alloc: Global, words: &[&str], question: &Question, tries: u8) -> bool {
     match order(alloc, words) {
         Ok(Order::Call(calling)) => {
-            calling.address == "A" && calling.request == *request && calling.tries == tries
+            calling.address == "A" && calling.question == *question && calling.tries == tries
         }
         _ => false,
     }
@@ -95,12 +184,12 @@ fn is_update(
     tries: u8,
 ) -> Result<bool, AllocError> {
     let (segment, number, bytes) = update;
-    let request = Request::Update {
+    let question = Question::Request(Request::Update {
         segment,
         number,
         value: Bytes::copy_from_slice(alloc, bytes)?,
-    };
-    Ok(is_call(alloc, words, &request, tries))
+    });
+    Ok(is_call(alloc, words, &question, tries))
 }
 
 #[test]
@@ -109,12 +198,14 @@ fn calls_have_defaults(rt: HostRuntime) -> Result<(), Fail> {
         is_call(
             rt.alloc(),
             &["snapd", "call", "A", "scan"],
-            &Request::Scan,
+            &Question::Request(Request::Scan),
             1
         )
     );
     let words = ["snapd", "call", "--tries=10", "A", "status"];
-    assert!(rt; is_call(rt.alloc(), &words, &Request::Status, 10));
+    assert!(rt; is_call(rt.alloc(), &words, &Question::Request(Request::Status), 10));
+    let words = ["snapd", "call", "A", "health", "--tries=2"];
+    assert!(rt; is_call(rt.alloc(), &words, &Question::Health, 2));
     let words = [
         "snapd",
         "call",
@@ -133,8 +224,14 @@ fn calls_have_defaults(rt: HostRuntime) -> Result<(), Fail> {
     Ok(())
 }
 
+const NO_CLIENTS: &str = "error: the most clients are not from 1 to 1000000\n";
+
+const NO_IDLE: &str = "error: the idle seconds are not from 1 to 31536000\n";
+
+const NO_LEVEL: &str = "error: the log is not `error`, `warn`, `info` or `debug`\n";
+
 /// Words of servers, and how the text of what is wrong in them begins.
-const BAD_SERVERS: [(&[&str], &str); 8] = [
+const BAD_SERVERS: [(&[&str], &str); 20] = [
     (
         &["snapd", "serve", "A", "F", "--scanners=0"],
         "error: the number of scanners 0 is not from 1 to 16\n",
@@ -154,6 +251,39 @@ const BAD_SERVERS: [(&[&str], &str); 8] = [
     (
         &["snapd", "serve", "A", "F", "--connections=-1"],
         "error: invalid value '-1' for '--connections <K>'",
+    ),
+    (&["snapd", "serve", "A", "F", "--clients-max=0"], NO_CLIENTS),
+    (
+        &["snapd", "serve", "A", "F", "--clients-max=1000001"],
+        NO_CLIENTS,
+    ),
+    (
+        &["snapd", "serve", "A", "F", "--clients-max=4294967297"],
+        NO_CLIENTS,
+    ),
+    (
+        &["snapd", "serve", "A", "F", "--clients-max=-1"],
+        "error: invalid value '-1' for '--clients-max <N>'",
+    ),
+    (
+        &["snapd", "serve", "A", "F", "--clients-max="],
+        "error: invalid value '' for '--clients-max <N>'",
+    ),
+    (&["snapd", "serve", "A", "F", "--idle=0"], NO_IDLE),
+    (&["snapd", "serve", "A", "F", "--idle=31536001"], NO_IDLE),
+    (
+        &["snapd", "serve", "A", "F", "--idle=1.5"],
+        "error: invalid value '1.5' for '--idle <SECONDS>'",
+    ),
+    (&["snapd", "serve", "A", "F", "--log=Info"], NO_LEVEL),
+    (&["snapd", "serve", "A", "F", "--log", "warning"], NO_LEVEL),
+    (
+        &["snapd", "serve", "A", "F", "--log"],
+        "error: a value is required for '--log <LEVEL>' but none was supplied",
+    ),
+    (
+        &["snapd", "serve", "A", "F", "--idle=1", "--idle=2"],
+        "error: the argument '--idle <SECONDS>' cannot be used multiple times",
     ),
     (
         &["snapd", "serve", "A", "F", "--room=1000"],
@@ -180,13 +310,14 @@ fn faults_of_servers_say_what_is_wrong(rt: HostRuntime) -> Result<(), Fail> {
     Ok(())
 }
 
-const NO_FORM: &str = "error: the request is not `update I NUMBER HEX`, `scan` or `status`\n";
+const NO_FORM: &str =
+    "error: the request is not `update I NUMBER HEX`, `scan`, `status` or `health`\n";
 
 const NO_VALUE: &str =
     "error: the update's value is not `-` or two hexadecimal digits for each byte\n";
 
 /// Words of calls, and how the text of what is wrong in them begins.
-const BAD_CALLS: [(&[&str], &str); 12] = [
+const BAD_CALLS: [(&[&str], &str); 14] = [
     (&["snapd", "call", "A", "scan", "0", "1", "61"], NO_FORM),
     (&["snapd", "call", "A", "Update", "0", "1", "61"], NO_FORM),
     (
@@ -210,6 +341,8 @@ const BAD_CALLS: [(&[&str], &str); 12] = [
     (&["snapd", "call", "A", "update", "0", "1", ""], NO_VALUE),
     (&["snapd", "call", "A", "update", "0", "1"], NO_FORM),
     (&["snapd", "call", "A", "part"], NO_FORM),
+    (&["snapd", "call", "A", "health", "0"], NO_FORM),
+    (&["snapd", "call", "A", "healthy"], NO_FORM),
     (
         &["snapd", "call", "A", "scan", "--tries=0"],
         "error: the number of tries 0 is not from 1 to 10\n",
@@ -268,6 +401,9 @@ fn help_says_what_a_server_is(rt: HostRuntime) -> Result<(), Fail> {
             "<FILE>...  The files, in order of segment: 1 to 16",
         ),
         ("serve", "There is no login"),
+        ("serve", "--clients-max <N>"),
+        ("serve", "--idle <SECONDS>"),
+        ("serve", "[default: info]"),
         ("serve", "Killing it is a proper stop"),
         ("serve", "Exit status:"),
         (

@@ -40,39 +40,56 @@ pub(crate) fn measure_restarts(rt: &HostRuntime, words: &[&str]) -> io::Result<(
     match *work {
         "file" => update_files(rt, folder, rounds),
         "memory" => update_memories(rt, rounds),
-        "open" => open_rounds(rt, new_files(rt, folder)?, rounds),
+        "open" => {
+            let paths = paths_in(rt, folder, FILES)?;
+            open_rounds(rt, new_files(rt, paths.as_slice())?, rounds)
+        }
         _ => Err(io::Error::other("WORK is file, memory or open")),
     }
 }
 
-/// A new file in the folder, of this name and segment.
-fn new_file(
-    rt: &HostRuntime,
-    folder: &str,
-    name: u8,
+/// The paths of so many files in the folder.
+fn paths_in(rt: &HostRuntime, folder: &str, count: u8) -> io::Result<Vec<String>> {
+    let mut paths = Vec::new(rt.alloc());
+    for name in 0..count {
+        paths.push(format!(in rt.alloc(); "{folder}/{name}")?)?;
+    }
+    Ok(paths)
+}
+
+/// The new file of a segment at this path.
+fn new_file<'a>(
+    rt: &'a HostRuntime,
+    path: &'a str,
     index: u8,
     count: u8,
-) -> io::Result<FileDisk> {
-    let path = format!(in rt.alloc(); "{folder}/{name}")?;
-    match FileDisk::create(rt, path.as_str()) {
+) -> io::Result<FileDisk<'a, HostRuntime>> {
+    match FileDisk::create(rt, path) {
         Ok(disk) => formatted(disk, index, count),
         Err(_) => Err(io::Error::other("a file can't be made")),
     }
 }
 
 /// The new files of all segments.
-fn new_files(rt: &HostRuntime, folder: &str) -> io::Result<Vec<FileDisk>> {
+fn new_files<'a>(
+    rt: &'a HostRuntime,
+    paths: &'a [String],
+) -> io::Result<Vec<FileDisk<'a, HostRuntime>>> {
     let mut devices = Vec::new(rt.alloc());
-    for index in 0..FILES {
-        devices.push(new_file(rt, folder, index, index, FILES)?)?;
+    for (index, path) in (0..FILES).zip(paths) {
+        devices.push(new_file(rt, path.as_str(), index, FILES)?)?;
     }
     Ok(devices)
 }
 
 /// Updates and stores on two files.
 fn update_files(rt: &HostRuntime, folder: &str, rounds: u64) -> io::Result<()> {
-    let updated = new_file(rt, folder, 0, 0, 1)?;
-    let stored = new_file(rt, folder, 1, 0, 1)?;
+    let paths = paths_in(rt, folder, 2)?;
+    let [updated, stored] = paths.as_slice() else {
+        return Err(io::Error::other("a path is missing"));
+    };
+    let updated = new_file(rt, updated.as_str(), 0, 1)?;
+    let stored = new_file(rt, stored.as_str(), 0, 1)?;
     update_rounds(rt, updated, stored, rounds)
 }
 

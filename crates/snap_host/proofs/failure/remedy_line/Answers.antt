@@ -16,7 +16,7 @@ use Rattle.std.proofs.Common.{
   ◌∙◌,
 }
 use Rattle.std.proofs.lemmas.Option.{IfSome_then, same_Some, slice_get_read, slice_get_within}
-use Rattle.snap_host.specs.Hosting.{file_line}
+use Rattle.snap_stream.specs.Streams.{file_line}
 use Rattle.snap_host.proofs.failure.remedy_line.Goals as goal
 
 none_there : {A : Type 0} (xs ys : List A) (k : ℕ) (x : A) → xs ≡ ys → length xs ≤ k
@@ -30,11 +30,11 @@ one_there xs ys k x y same inside is at = same_Some x y
     (sym (slice_get_read xs (length xs) k x refl inside is) ∙ ap (λ zs. slice_get zs k) same ∙ at)
 
 pub returns-in_default : goal.returns-in_default
-returns-in_default c = λ file at other. absurd (none_there c.deref.result.now _ _ file
+returns-in_default g c = λ file at other. absurd (none_there c.deref.result.now _ _ file
     c.deref.ensures.value c.in_default.ensures.lookup.3 at)
 
 pub returns : goal.returns
-returns c = IfSome_then c.line_of.result c.line_of.ensures (λ line is file at other.
+returns g c = IfSome_then c.line_of.result c.line_of.ensures (λ line is file at other.
     let same = one_there c.deref.result.now _ _ c.in-Some.file.now file c.deref.ensures.value
     c.in-Some.ensures.lookup.3.0 c.in-Some.ensures.lookup.1 at in
     let text = string_bytes c.in_ok-remedy.remedy in

@@ -12,6 +12,8 @@ returns-clause-limits c = record {
   few_files = grind (arith, common_steps);
   scanners = c.in_ok-scanners.ensures.some;
   few_scanners = c.in_ok-scanners.ensures.few;
+  clients = c.in_ok-clients.ensures.limits;
+  idle = c.in_ok-idle.ensures.limits;
 }
 
 pub returns-clause-address : goal.returns-clause-address

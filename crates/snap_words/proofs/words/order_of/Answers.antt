@@ -1,10 +1,10 @@
 use Rattle.std.proofs.Common.{◌∙◌, List, Option, codes, rules, subst, sym}
 use Rattle.clap.specs.Words.{Text, found_of, rows_of}
 use Rattle.snap_words.specs.Faults.{IsFaultOf}
-use Rattle.snap_words.specs.Numbers.{IsLargeNumberOf}
-use Rattle.snap_words.specs.Requests.{IsRequestOf}
+use Rattle.snap_words.specs.Numbers.{IsLevelOf}
+use Rattle.snap_words.specs.Requests.{IsQuestionOf}
 use Rattle.snap_words.specs.Words.{OfCommand}
-use Rattle.snap_words.proofs.Asked.{asked_pair, failed, named, number_is, word_is, words_are}
+use Rattle.snap_words.proofs.Asked.{asked_pair, failed, large_number_is, named, number_is, word_is, words_are}
 use Rattle.snap_words.proofs.Faulted.{call_fault, migrate_fault, serve_fault}
 use Rattle.snap_words.proofs.words.order_of.Goals as goal
 
@@ -31,14 +31,19 @@ returns-then-is-2-clause-asked c = λ words has.
       );
       address = sym (word_is has (codes "address")) ∙ sym serving.address;
       files = sym (words_are has (codes "files")) ∙ sym serving.files;
+      log = subst (λ (o : Option Text). IsLevelOf o c.in_ok-serving.field-0.log)
+          (word_is has (codes "log")) serving.log;
     }
 
 pub returns-then-is-2-clause-numbers : goal.returns-then-is-2-clause-numbers
-returns-then-is-2-clause-numbers c = λ words has. (
-  number_is has (codes "scanners") _ c.in_ok-serving.ensures.scanners,
-  subst (λ (o : Option Text). IsLargeNumberOf o c.in_ok-serving.field-0.connections)
-      (word_is has (codes "connections")) c.in_ok-serving.ensures.connections,
-)
+returns-then-is-2-clause-numbers c = λ words has.
+    let serving = c.in_ok-serving.field-0 in
+    let its = c.in_ok-serving.ensures in record {
+      scanners = number_is has (codes "scanners") _ its.scanners;
+      connections = large_number_is has (codes "connections") serving.connections its.connections;
+      clients = large_number_is has (codes "clients-max") serving.clients its.clients;
+      idle = large_number_is has (codes "idle") serving.idle its.idle;
+    }
 
 pub returns-in_err-calling-clause-faults : goal.returns-in_err-calling-clause-faults
 returns-in_err-calling-clause-faults c =
@@ -57,7 +62,7 @@ returns-then-is-3-clause-asked c = λ words has.
       );
       address = sym (word_is has (codes "address")) ∙ sym calling.address;
       request = subst (λ (asked : List Text).
-          IsRequestOf asked c.in_ok-calling.field-0.request) (words_are has (codes "request"))
+          IsQuestionOf asked c.in_ok-calling.field-0.question) (words_are has (codes "request"))
           calling.request;
     }
 

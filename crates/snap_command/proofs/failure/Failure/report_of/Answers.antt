@@ -1,20 +1,20 @@
-use Rattle.std.proofs.Common.{◌≡◌, ◌≢◌, arith}
-use Rattle.std.proofs.lemmas.Grind.{common_steps}
-use Rattle.snap_disk.specs.declared.refusal.Refusal.TheVariants.{WrongFile}
-use Rattle.snap_command.specs.Failure.{advice_line}
-use Rattle.snap_command.specs.declared.failure.Failure.TheVariants.{Refused}
-use Rattle.snap_command.proofs.Saying.{says_of_old, says_of_other}
+use Rattle.std.proofs.Common.{sym, subst}
+use Rattle.snap_order.specs.Order.{file_of}
+use Rattle.snap_command.specs.Failure.{SaysOf}
+use Rattle.snap_command.specs.declared.failure.Failure.{Failure}
+use Rattle.snap_command.proofs.Saying.{says_of_other}
 use Rattle.snap_command.proofs.failure.Failure.report_of.Goals as goal
 
-pub returns-in-Refused-WrongFile-clause-says : goal.returns-in-Refused-WrongFile-clause-says
-returns-in-Refused-WrongFile-clause-says g c =
-    let why : c.args.self.now ≡ Refused WrongFile = grind (arith, common_steps) in
-    says_of_old c.args.self.now why c.args.file.now c.args.len c.if-len-eq-OLD_FILE_LEN.true
-    c.complain_twice.result _ _
-    (c.complain_twice.ensures.says (advice_line c.args.file.now) c.advice.ensures)
+pub returns-in-Refused-clause-says : goal.returns-in-Refused-clause-says
+returns-in-Refused-clause-says g c =
+    let line = c.line_behind-more.ensures in
+    let P : Failure → Type 0 = λ failure. SaysOf failure (g.C.Cause.may_give c.args.cause.now)
+    (file_of c.args.order.now) c.args.len c.complain_twice.result
+    (g.E.Write.contents c.args.errors.now) (g.E.Write.contents c.complain_twice.new.errors) in
+    subst P (sym c.in-Refused.is) (line.0, line.1, c.complain_twice.ensures.says line.0 line.2)
 
 pub returns-in_default-clause-says : goal.returns-in_default-clause-says
 returns-in_default-clause-says g c =
-    let other : c.args.self.now ≡ Refused WrongFile → c.args.len ≢ 20480 = grind (arith, common_steps) in
-    says_of_other c.args.self.now c.args.file.now c.args.len other c.report.result.is_told _ _
+    says_of_other c.args.self.now (g.C.Cause.may_give c.args.cause.now)
+    (file_of c.args.order.now) c.args.len c.in_default.not-Refused c.report.result.is_told _ _
     c.report.ensures.says

@@ -1,5 +1,5 @@
 use Rattle.std.proofs.Common.{◌≡◌, ◌∙◌, ap, sym, subst}
-use Rattle.snap_command.specs.Migrating.{SaysMigration, as_new_line, as_old_line}
+use Rattle.snap_command.specs.Migrating.{SaysMigration}
 use Rattle.snap_segment.specs.declared.migration.Which.{Which}
 use Rattle.snap_segment.specs.declared.migration.Which.TheVariants.{Old, New}
 use Rattle.snap_command.specs.declared.migrating.MigrationFailure.{MigrationFailure}
@@ -10,16 +10,21 @@ pub returns-in-Old-clause-says : goal.returns-in-Old-clause-says
 returns-in-Old-clause-says g c =
     let is : c.args.self.now ≡ OfFile Old c.in-OfFile.why =
     c.in-OfFile.is ∙ ap (λ (which : Which). OfFile which c.in-OfFile.why) c.in-Old.is in
-    subst (λ (x : MigrationFailure). SaysMigration x c.args.order.now c.complain_twice.result
+    let line = c.line_behind_role-more.ensures in
+    subst (λ (x : MigrationFailure). SaysMigration x
+    (g.C.Cause.may_give c.args.causes.now.old.now) (g.C.Cause.may_give c.args.causes.now.new.now)
+    c.args.order.now c.complain_twice.result
     (g.E.Write.contents c.args.errors.now) (g.E.Write.contents c.complain_twice.new.errors))
-    (sym is) (c.complain_twice.ensures.says (as_old_line c.args.order.now.old.now) c.as_old.ensures)
+    (sym is) (line.0, line.1, c.complain_twice.ensures.says line.0 line.2)
 
 pub returns-in-New-clause-says : goal.returns-in-New-clause-says
 returns-in-New-clause-says g c =
     let is : c.args.self.now ≡ OfFile New c.in-OfFile.why =
     c.in-OfFile.is ∙ ap (λ (which : Which). OfFile which c.in-OfFile.why) c.in-New.is in
-    subst (λ (x : MigrationFailure). SaysMigration x c.args.order.now
-    c.complain_twice-in-New.result (g.E.Write.contents c.args.errors.now)
+    let line = c.line_behind_role-more-in-New.ensures in
+    subst (λ (x : MigrationFailure). SaysMigration x
+    (g.C.Cause.may_give c.args.causes.now.old.now) (g.C.Cause.may_give c.args.causes.now.new.now)
+    c.args.order.now c.complain_twice-in-New.result
+    (g.E.Write.contents c.args.errors.now)
     (g.E.Write.contents c.complain_twice-in-New.new.errors))
-    (sym is)
-    (c.complain_twice-in-New.ensures.says (as_new_line c.args.order.now.new.now) c.as_new.ensures)
+    (sym is) (line.0, line.1, c.complain_twice-in-New.ensures.says line.0 line.2)

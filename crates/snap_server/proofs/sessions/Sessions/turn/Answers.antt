@@ -3,13 +3,13 @@ use mathlib.Core.Logic.{∥∥₁_map}
 use Rattle.slab.specs.Slab.{with_value}
 use Rattle.snap_session.specs.Talk.{Talk, Stays, Moves}
 use Rattle.snap_session.specs.Turns.{Turns, EndsAt, StandsAt}
-use Rattle.snap_session.specs.declared.turns.End.{End}
 use Rattle.snap_session.specs.declared.turns.Turn.{Turn}
 use Rattle.snap_session.specs.declared.turns.Turn.TheVariants.{NeedsInput, NeedsRoom, NeedsOutcome}
 use Rattle.snap_server.specs.declared.connection.Connection.{Connection}
+use Rattle.snap_server.specs.declared.connection.Ending.{Ending}
 use Rattle.snap_server.specs.Listing.{enlisted}
 use Rattle.snap_server.specs.Sharing.{IsTurn}
-use Rattle.snap_server.specs.Standing.{Waits}
+use Rattle.snap_server.specs.Standing.{Waits, MayEnd}
 use Rattle.snap_server.proofs.Sharing.{moved, written_turned, turn_at, under_at}
 use Rattle.snap_server.proofs.Listing.{
   lists_written,
@@ -123,7 +123,7 @@ returns-in-Over-clause-ended g c =
       (
         ap (λ (z : Connection). z.stage) over,
         c.end.ensures.peer ∙ sym (ap (λ (z : Connection). z.peer) over),
-        subst (λ (e : End). EndsAt e c.end.new.self.session None) (sym c.end.ensures.end)
+        subst (λ (e : Ending). MayEnd e c.end.new.self.session) (sym c.end.ensures.how)
             (subst (λ (t : Talk). EndsAt c.in-Over.end t None) same stands),
       ),
     )

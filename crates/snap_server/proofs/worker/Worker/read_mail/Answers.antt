@@ -1,11 +1,16 @@
-use Rattle.std.proofs.Common.{[], refl}
+use Rattle.std.proofs.Common.{[], ap, refl}
 use Rattle.snap_server.proofs.worker.Worker.read_mail.Goals as goal
 
-pub returns-in-Ok-Arrival : goal.returns-in-Ok-Arrival
-returns-in-Ok-Arrival g c = record { moves = ([], [], c.welcome.ensures.service) }
+pub returns-then-not-self : goal.returns-then-not-self
+returns-then-not-self g c = record { moves = ([], [], refl) }
 
 pub returns-in-Ok-Close : goal.returns-in-Ok-Close
-returns-in-Ok-Close g c = record { moves = ([], [], refl) }
+returns-in-Ok-Close g c =
+    record { moves = ([], [], ap (λ s. s.service) c.close.ensures.sessions) }
+
+pub returns-in-Ok-Stop : goal.returns-in-Ok-Stop
+returns-in-Ok-Stop g c =
+    record { moves = ([], [], ap (λ s. s.service) c.close-in-Ok-Stop.ensures.sessions) }
 
 pub returns-in-Err : goal.returns-in-Err
 returns-in-Err g c = record { moves = ([], [], refl) }

@@ -7,10 +7,13 @@ pub loop-init : goal.loop-init
 loop-init g c = ([], [], refl)
 
 pub turns-init : goal.turns-init
-turns-init g c = moves_joins g.S.Service.gives c.args.self.now.sessions.service
+turns-init g c =
+    subst (Moves g.S.Service.gives c.args.self.now.sessions.service)
+    (sym c.look_around.ensures.service)
+    (moves_joins g.S.Service.gives c.args.self.now.sessions.service
     c.loop.self.sessions.service c.take_events.new.self.sessions.service c.loop.invariant
     (subst (λ s. Moves g.S.Service.gives s.service c.take_events.new.self.sessions.service)
-    c.wait.ensures.sessions c.take_events.ensures.moves)
+    c.wait.ensures.sessions c.take_events.ensures.moves))
 
 pub turns-preserved : goal.turns-preserved
 turns-preserved g c = moves_joins g.S.Service.gives c.args.self.now.sessions.service

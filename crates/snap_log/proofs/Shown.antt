@@ -1,0 +1,21 @@
+-- How characters are shown.
+use Rattle.std.proofs.Common.{
+  ◌≡◌,
+  ℕ,
+  List,
+  ◌++◌,
+  Result,
+  Ok,
+  Err,
+  OnOk,
+  is_ok,
+  if◌then◌else◌,
+  ◌∙◌,
+  ap,
+}
+
+-- what was pushed, in other words
+pub pushed : {T E : Type 0} (result : Result T E) (old new text same : List ℕ)
+    → new ≡ (if is_ok result then old ++ text else old) → text ≡ same → OnOk result (new ≡ old ++ same)
+pushed (Ok x) old new text same is are = is ∙ ap (λ l. old ++ l) are
+pushed (Err e) old new text same is are = tt

@@ -1,0 +1,10 @@
+use Rattle.std.proofs.Common.{sym, subst}
+use Rattle.std.proofs.lemmas.Result.{IfOk-weaker}
+use Rattle.snap_log.specs.Line.{IsOneLine}
+use Rattle.snap_log.proofs.Seen.{one_line}
+use Rattle.snap_log.proofs.lines.Lines.line.Goals as goal
+
+pub returns : goal.returns
+returns g c =
+    IfOk-weaker c.line_of.result _ _
+    (λ line is. subst IsOneLine (sym is) (one_line _ _ _ _)) c.line_of.ensures

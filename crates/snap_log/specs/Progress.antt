@@ -1,0 +1,14 @@
+-- What the writing thread tells of lost lines.
+use Rattle.std.specs.Prelude.{◌≡◌, ◌-◌, ◌<◌, ◌⊎◌, ℕ, List, Option}
+use Rattle.std.specs.Io.KnownBytes.{Appends}
+use Rattle.snap_log.specs.declared.writing.Progress.{Progress}
+use Rattle.snap_log.specs.Line.{lost_line, on_its_own}
+
+-- It told of no more lines than before; or more were lost than it had told of, and standard error got
+-- the line that says how many.
+abbrev pub TellsLost : (lost : ℕ) (old new : Progress) (before after : Option (List ℕ)) → Type 0
+TellsLost lost old new before after =
+    (new.told ≡ old.told)
+    ⊎ ((old.told < lost) × (new.told ≡ lost)
+    × ((stamp : List ℕ)
+    × Appends before after (on_its_own old.is_torn (lost_line stamp (lost - old.told)))))

@@ -1,0 +1,87 @@
+//! Where standard error goes.
+ghost use Rattle.std.specs.Prelude.{◌≡◌, ◌↔◌, IfOk, IsTrue};
+ghost use Rattle.snap_log.specs.Line.{stream_text};
+
+use std::alloc::{AllocError, Global};
+use std::fs;
+use std::os::unix::fs::MetadataExt;
+use std::rt::{Env, Files};
+
+/// Where the lines go. That decides whether they begin with the time.
+#[derive(Clone, Copy, Debug, PartialEq, Eq)]
+pub enum Destination {
+    /// The journal of systemd, which keeps itself when each line came.
+    Journal,
+    /// A terminal, a file or a pipe.
+    Other,
+}
+
+/// The variable by which systemd tells which stream it gave a program for the journal.
+const JOURNAL_STREAM: &str = "JOURNAL_STREAM";
+
+/// The most bytes that the variable has: two numbers of up to 20 digits, and a colon.
+const LONGEST: usize = 41;
+
+/// Standard error, as a path that leads to whatever it is, a socket too.
+const STANDARD_ERROR: &str = "/proc/self/fd/2";
+
+impl Destination {
+    /// Where standard error goes: to the journal, if the variable `JOURNAL_STREAM` names it. It takes
+    /// more than the variable, which programs inherit whose standard error goes elsewhere.
+    ///
+    /// What can't be looked up is not the journal: without `/proc`, and where there is no memory.
+    pub fn of_standard_error<R: Env + Files>(rt: &R, alloc: Global) -> Destination {
+        let mut named = [0u8; LONGEST];
+        let Ok(len) = rt.var(JOURNAL_STREAM, &mut named) else {
+            return Destination::Other;
+        };
+        let Ok(metadata) = fs::metadata(rt, STANDARD_ERROR) else {
+            return Destination::Other;
+        };
+        match is_named(alloc, &named[..len], metadata.dev(), metadata.ino()) {
+            Ok(true) => Destination::Journal,
+            _ => Destination::Other,
+        }
+    }
+}
+
+/// Whether the text of the variable names the stream with these numbers, as `DEVICE:INODE`.
+fn is_named(alloc: Global, named: &[u8], device: u64, inode: u64) -> Result<bool, AllocError>
+    ensures { IfOk result (λ is. IsTrue is ↔ (named.now ≡ stream_text device inode)) }
+{
+    let stream = format!(in alloc; "{device}:{inode}")?;
+    Ok(named == stream.as_bytes())
+}
+
+#[cfg(test)]
+mod tests {
+    use super::*;
+    use std::test::Fail;
+
+    #[test]
+    fn names_a_stream(rt: HostRuntime) -> Result<(), Fail> {
+        assert!(rt; is_named(rt.alloc(), b"9:4711", 9, 4711)?);
+        assert!(rt; is_named(rt.alloc(), b"0:18446744073709551615", 0, u64::MAX)?);
+        for other in [
+            b"9:471".as_slice(),
+            b"9:47110",
+            b"8:4711",
+            b"9:",
+            b":4711",
+            b"",
+            b"9 4711",
+            b"4711:9",
+        ] {
+            assert!(rt; !is_named(rt.alloc(), other, 9, 4711)?, "{other:?}");
+        }
+        Ok(())
+    }
+
+    #[test]
+    fn is_no_journal_here(rt: HostRuntime) {
+        assert_eq!(rt;
+            Destination::of_standard_error(&rt, rt.alloc()),
+            Destination::Other
+        );
+    }
+}

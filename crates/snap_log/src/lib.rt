@@ -1,0 +1,30 @@
+//! The log of a program that serves: what it notices while it runs, a line each on standard error.
+//!
+//! [`Lines`] takes the records of all threads, by the macros of the crate `log`. It makes one line of
+//! each and hands it to the one thread that writes, in [`write_lines`]. So no thread that serves waits
+//! for standard error, and no two lines mix. A record never fails: where its line can't be handed
+//! over it is lost, and a later line says how many were.
+//!
+//! ```text
+//! let destination = Destination::of_standard_error(rt, alloc);
+//! let (lines, waiting) = Lines::new(rt, alloc, LevelFilter::Info, destination)?;
+//! scope.spawn(move || write_lines(rt, &waiting, &mut errors));
+//! warn!(lines; target: "accept", "{open} connections are open");
+//! ```
+//!
+//! writes `2026-11-25T16:47:28.123Z WARN accept: 97 connections are open`. A `&Lines` logs too, and
+//! code that needn't know the sink takes a `log: &L` under `L: Log`.
+#![tactic(auto)]
+
+mod destination;
+mod line;
+mod lines;
+mod message;
+mod stamp;
+#[cfg(test)]
+mod tests;
+mod writing;
+
+pub use destination::Destination;
+pub use lines::{Lines, Waiting};
+pub use writing::write_lines;

@@ -1,0 +1,99 @@
+//! The text of one line.
+ghost use Rattle.std.specs.Prelude.{◌≡◌, ◌++◌, IfOk, OnOk, string_bytes};
+ghost use Rattle.snap_log.specs.Line.{is_hidden, hidden_text, shown_char, shown_text, log_line};
+
+use log::Level;
+use std::alloc::{AllocError, Global};
+use std::fmt::Write;
+
+/// The line `LEVEL target: text`, behind the stamp. Characters that would break it, or that aren't
+/// seen, stand in it escaped: a line feed as `\n`, others as `\u{1b}`. A backslash stays as it is.
+pub(crate) fn line_of(
+    alloc: Global,
+    stamp: &str,
+    level: Level,
+    target: &str,
+    text: &str,
+) -> Result<String, AllocError>
+    ensures { IfOk result (λ line.
+        string_bytes line ≡ log_line stamp.now level target.now text.now) }
+{
+    let mut line = String::new(alloc);
+    push_shown(&mut line, stamp)?;
+    line.push_str(level.as_str())?;
+    line.push(' ')?;
+    push_shown(&mut line, target)?;
+    line.push_str(": ")?;
+    push_shown(&mut line, text)?;
+    line.push('\n')?;
+    Ok(line)
+}
+
+/// Appends a text as it is shown in a line. After a refused growth a beginning of it may stand there.
+fn push_shown(line: &mut String, text: &str) -> Result<(), AllocError>
+    ensures { OnOk result (string_bytes line.new ≡ string_bytes line.old ++ shown_text text.now) }
+{
+    for c in text.chars() {
+        push_char(line, c)?;
+    }
+    Ok(())
+}
+
+/// Appends a character as it is shown in a line.
+fn push_char(line: &mut String, c: char) -> Result<(), AllocError>
+    ensures { OnOk result (string_bytes line.new ≡ string_bytes line.old ++ shown_char c) }
+{
+    if is_hidden(c) {
+        push_hidden(line, c)
+    } else {
+        line.push(c)
+    }
+}
+
+/// Appends a character that can't stand in a line, by its letter or its number.
+fn push_hidden(line: &mut String, c: char) -> Result<(), AllocError>
+    ensures { OnOk result (string_bytes line.new ≡ string_bytes line.old ++ hidden_text c) }
+{
+    match c {
+        '\n' => line.push_str("\\n"),
+        '\r' => line.push_str("\\r"),
+        '\t' => line.push_str("\\t"),
+        _ => write!(line, "\\u{{{:x}}}", u32::from(c)),
+    }
+}
+
+/// Whether a character is a control character, or one that Unicode has for the end of a line.
+fn is_hidden(c: char) -> bool
+    ensures { result ≡ is_hidden c }
+{
+    c.is_control() || ('\u{2028}'..='\u{2029}').contains(&c)
+}
+
+#[cfg(test)]
+mod tests {
+    use super::*;
+    use std::test::Fail;
+
+    #[test]
+    fn shows_a_text_on_one_line(rt: HostRuntime) -> Result<(), Fail> {
+        for (text, line) in [
+            ("", "WARN accept: \n"),
+            ("full: 97 open", "WARN accept: full: 97 open\n"),
+            ("a\nERROR b: c\r\n", "WARN accept: a\\nERROR b: c\\r\\n\n"),
+            (
+                "\t\u{1b}[31m\0\u{7f}",
+                "WARN accept: \\t\\u{1b}[31m\\u{0}\\u{7f}\n",
+            ),
+            (
+                "é\u{85}\u{2028}→ \\n",
+                "WARN accept: é\\u{85}\\u{2028}→ \\n\n",
+            ),
+        ] {
+            let shown = line_of(rt.alloc(), "", Level::Warn, "accept", text)?;
+            assert_eq!(rt; shown.as_str(), line);
+        }
+        let shown = line_of(rt.alloc(), "now ", Level::Error, "a\nb", "c")?;
+        assert_eq!(rt; shown.as_str(), "now ERROR a\\nb: c\n");
+        Ok(())
+    }
+}

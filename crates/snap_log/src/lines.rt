@@ -1,0 +1,142 @@
+//! The sink that all threads log to.
+ghost use Rattle.std.specs.Prelude.{◌≡◌, Some, [], IfOk, string_bytes};
+ghost use Rattle.log.specs.Level.{allows};
+ghost use Rattle.snap_log.specs.Line.{IsOneLine};
+
+use crate::Destination;
+use crate::line::line_of;
+use crate::message::Message;
+use crate::stamp::stamp;
+use crossbeam_channel::{Receiver, Sender, unbounded};
+use log::kv::Source;
+use log::span::Spans;
+use log::{LevelFilter, Log, Metadata, Record};
+use std::alloc::{AllocError, Global};
+use std::fmt::Display;
+use std::rt::Clock;
+use std::sync::atomic::{AtomicU64, Ordering};
+use std::sync::{Arc, Wait};
+
+/// How many lines wait at most until they are written, but for those that threads hand over at the
+/// same moment.
+const MAX_WAITING: usize = 4_096;
+
+/// A line on its way to the thread that writes it.
+#[derive(Drop)]
+pub(crate) struct Line {
+    /// The whole line, with its line feed.
+    pub(crate) text: String,
+    /// How many lines had been lost before it.
+    pub(crate) lost: u64,
+    ghost one_line: { ∥ IsOneLine (string_bytes text) ∥₁ },
+}
+
+/// Takes the records of a program, up to a level, and hands a line for each to the thread that
+/// writes them. Threads share it by reference.
+#[derive(Drop)]
+pub struct Lines<'a, R: Wait + Clock> {
+    rt: &'a R,
+    alloc: Global,
+    level: LevelFilter,
+    destination: Destination,
+    to: Sender<Line>,
+    lost: Arc<AtomicU64, Global>,
+}
+
+/// The lines that wait until they are written, for [`write_lines`](crate::write_lines).
+#[derive(Drop)]
+pub struct Waiting {
+    pub(crate) alloc: Global,
+    pub(crate) destination: Destination,
+    pub(crate) lines: Receiver<Line>,
+    pub(crate) lost: Arc<AtomicU64, Global>,
+}
+
+impl<'a, R: Wait + Clock> Lines<'a, R> {
+    ghost use Rattle.snap_log.specs.Lines.{lines_level};
+
+    /// A log of the records up to a level, and where its lines come out. An error is that there was no
+    /// memory for it.
+    pub fn new(
+        rt: &'a R,
+        alloc: Global,
+        level: LevelFilter,
+        destination: Destination,
+    ) -> Result<(Lines<'a, R>, Waiting), AllocError>
+        ensures { IfOk result (λ both. lines_level both.0 ≡ level) }
+    {
+        let (to, lines) = unbounded(alloc)?;
+        let lost = Arc::new(alloc, AtomicU64::new(0))?;
+        let waiting = Waiting {
+            alloc,
+            destination,
+            lines,
+            lost: Arc::try_clone(&lost)?,
+        };
+        let log = Lines {
+            rt,
+            alloc,
+            level,
+            destination,
+            to,
+            lost,
+        };
+        Ok((log, waiting))
+    }
+
+    /// Hands the line of a record over, and says whether it did.
+    fn hand_over<D: Display, K: Source, S: Spans>(&self, record: &Record<'_, D, K, S>) -> bool {
+        if self.to.len() >= MAX_WAITING {
+            return false;
+        }
+        let Ok(text) = self.line(record) else {
+            return false;
+        };
+        let lost = self.lost.load(Ordering::SeqCst);
+        self.to.send(self.rt, Line { text, lost }).is_ok()
+    }
+
+    /// The line of a record.
+    fn line<D: Display, K: Source, S: Spans>(
+        &self,
+        record: &Record<'_, D, K, S>,
+    ) -> Result<String, AllocError>
+        ensures { IfOk result (λ line. IsOneLine (string_bytes line)) }
+    {
+        let stamp = stamp(self.rt, self.destination);
+        let text = format!(in self.alloc; "{}", Message(record))?;
+        line_of(
+            self.alloc,
+            stamp.as_str(),
+            record.level(),
+            record.target(),
+            text.as_str(),
+        )
+    }
+}
+
+/// A record above the level costs a comparison. Of one that is logged, the line is lost and counted
+/// where 4,096 lines wait, where there is no memory for it, and where nobody writes lines any more.
+impl<'a, R: Wait + Clock> Log for Lines<'a, R> {
+    ghost use Rattle.snap_log.specs.Lines.{lines_level};
+
+    ghost enables = { λ lines level _. Some (allows (lines_level lines) level) };
+
+    ghost target_of = { λ _. Some [] };
+
+    fn enabled(&self, metadata: &Metadata<'_>) -> bool {
+        self.level.allows(metadata.level())
+    }
+
+    fn log<D: Display, K: Source, S: Spans>(&self, record: &Record<'_, D, K, S>) {
+        if self.level.allows(record.level()) && !self.hand_over(record) {
+            self.lost.fetch_add(1, Ordering::SeqCst);
+        }
+    }
+
+    fn flush(&self) {}
+
+    fn target(&self) -> &str {
+        ""
+    }
+}

@@ -1,0 +1,49 @@
+//! The time in front of a line.
+ghost use Rattle.std.specs.Prelude.{◌≡◌, []};
+ghost use Rattle.std.specs.Fmt.InlineText.{inline_text};
+
+use crate::Destination;
+use jiff::Timestamp;
+use std::fmt::InlineText;
+use std::rt::Clock;
+
+/// The room for a time and a space.
+const ROOM: usize = 32;
+
+/// What a line begins with: now and a space, as `2026-11-25T16:47:28.123Z `. It is empty where the line
+/// goes to the journal, and the clock isn't asked; and where the clock can't be read.
+pub(crate) fn stamp<R: Clock>(rt: &R, destination: Destination) -> InlineText<ROOM>
+    ensures { destination ≡ Destination.Journal → inline_text result ≡ [] }
+{
+    if destination == Destination::Journal {
+        return InlineText::new();
+    }
+    match Timestamp::now(rt) {
+        Ok(now) => stamp_of(now),
+        Err(_) => InlineText::new(),
+    }
+}
+
+/// A time by RFC 3339 in UTC, cut to milliseconds, and a space.
+fn stamp_of(now: Timestamp) -> InlineText<ROOM> {
+    InlineText::of(format_args!("{now:.3} "))
+}
+
+#[cfg(test)]
+mod tests {
+    use super::*;
+    use std::test::Fail;
+
+    #[test]
+    fn shows_milliseconds(rt: HostRuntime) -> Result<(), Fail> {
+        for (nanoseconds, text) in [
+            (0, "1970-01-01T00:00:00.000Z "),
+            (1_764_089_248_123_999_999, "2025-11-25T16:47:28.123Z "),
+            (951_782_400_000_000_000, "2000-02-29T00:00:00.000Z "),
+        ] {
+            let stamp = stamp_of(Timestamp::from_nanosecond(nanoseconds)?);
+            assert_eq!(rt; stamp.as_str(), text);
+        }
+        Ok(())
+    }
+}

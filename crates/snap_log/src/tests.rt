@@ -1,0 +1,104 @@
+//! What comes out of a log.
+use crate::{Destination, Lines, write_lines};
+use log::{LevelFilter, debug, error, info, warn};
+use snap_stream::TestStream;
+use std::test::Fail;
+
+/// What stands on standard error, of which so many bytes are taken at most.
+fn stream(rt: &HostRuntime, passes: usize) -> TestStream {
+    TestStream {
+        bytes: Vec::new(rt.alloc()),
+        passed: 0,
+        passes,
+        step: 7,
+    }
+}
+
+#[test]
+fn lines_come_in_order(rt: HostRuntime) -> Result<(), Fail> {
+    let (lines, waiting) = Lines::new(&rt, rt.alloc(), LevelFilter::Info, Destination::Journal)?;
+    warn!(lines; target: "accept", "{} connections are open", 97);
+    info!(lines; target: "accept", "there is room again");
+    drop(lines);
+    let mut errors = stream(&rt, usize::MAX);
+    write_lines(&rt, &waiting, &mut errors);
+    assert_eq!(rt;
+        errors.bytes.as_slice(),
+        b"WARN accept: 97 connections are open\nINFO accept: there is room again\n".as_slice()
+    );
+    Ok(())
+}
+
+#[test]
+fn a_level_has_those_above_it(rt: HostRuntime) -> Result<(), Fail> {
+    for (level, text) in [
+        (LevelFilter::Off, ""),
+        (LevelFilter::Error, "ERROR t: a\n"),
+        (LevelFilter::Warn, "ERROR t: a\nWARN t: b\n"),
+        (LevelFilter::Info, "ERROR t: a\nWARN t: b\nINFO t: c\n"),
+        (
+            LevelFilter::Debug,
+            "ERROR t: a\nWARN t: b\nINFO t: c\nDEBUG t: d\n",
+        ),
+    ] {
+        let (lines, waiting) = Lines::new(&rt, rt.alloc(), level, Destination::Journal)?;
+        error!(lines; target: "t", "a");
+        warn!(lines; target: "t", "b");
+        info!(lines; target: "t", "c");
+        debug!(lines; target: "t", "d");
+        drop(lines);
+        let mut errors = stream(&rt, usize::MAX);
+        write_lines(&rt, &waiting, &mut errors);
+        assert_eq!(rt; errors.bytes.as_slice(), text.as_bytes());
+    }
+    Ok(())
+}
+
+#[test]
+fn a_line_begins_with_the_time(rt: HostRuntime) -> Result<(), Fail> {
+    let (lines, waiting) = Lines::new(&rt, rt.alloc(), LevelFilter::Warn, Destination::Other)?;
+    warn!(lines; target: "t", "b");
+    drop(lines);
+    let mut errors = stream(&rt, usize::MAX);
+    write_lines(&rt, &waiting, &mut errors);
+    let line = errors.bytes.as_slice();
+    assert_eq!(rt; line.len(), 25 + 10);
+    assert_eq!(rt; &line[23..], b"Z WARN t: b\n".as_slice());
+    Ok(())
+}
+
+#[test]
+fn what_does_not_fit_is_counted(rt: HostRuntime) -> Result<(), Fail> {
+    let (lines, waiting) = Lines::new(&rt, rt.alloc(), LevelFilter::Warn, Destination::Journal)?;
+    for _ in 0..4_100 {
+        warn!(lines; target: "t", "b");
+    }
+    drop(lines);
+    let mut errors = stream(&rt, usize::MAX);
+    write_lines(&rt, &waiting, &mut errors);
+    let written = errors.bytes.as_slice();
+    let last = b"WARN log: lines lost: 4\n";
+    assert!(rt; written.ends_with(last));
+    assert_eq!(rt; written.len(), 4_096 * 10 + last.len());
+    Ok(())
+}
+
+#[test]
+fn what_cannot_be_written_ends_nothing(rt: HostRuntime) -> Result<(), Fail> {
+    let (lines, waiting) = Lines::new(&rt, rt.alloc(), LevelFilter::Warn, Destination::Journal)?;
+    warn!(lines; target: "t", "b");
+    warn!(lines; target: "t", "b");
+    drop(lines);
+    let mut errors = stream(&rt, 13);
+    write_lines(&rt, &waiting, &mut errors);
+    assert_eq!(rt; errors.bytes.as_slice(), b"WARN t: b\nWAR".as_slice());
+    Ok(())
+}
+
+#[test]
+fn nobody_has_to_write(rt: HostRuntime) -> Result<(), Fail> {
+    let (lines, waiting) = Lines::new(&rt, rt.alloc(), LevelFilter::Warn, Destination::Journal)?;
+    drop(waiting);
+    warn!(lines; target: "t", "b");
+    Ok(())
+}

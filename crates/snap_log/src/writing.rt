@@ -1,0 +1,98 @@
+//! The thread that writes the lines.
+ghost use Rattle.std.specs.Prelude.{◌≡◌, ◌≤◌, IfOk, not, string_bytes, true};
+ghost use Rattle.std.specs.Io.KnownBytes.{Appends};
+ghost use Rattle.snap_log.specs.Line.{lost_line, on_its_own};
+ghost use Rattle.snap_log.specs.Progress.{TellsLost};
+
+use crate::line::line_of;
+use crate::lines::Waiting;
+use crate::stamp::stamp;
+use log::Level;
+use snap_stream::write_whole;
+use std::alloc::{AllocError, Global};
+use std::io::Write;
+use std::rt::Clock;
+use std::sync::Wait;
+use std::sync::atomic::Ordering;
+
+/// How far the lines are written.
+#[derive(Drop)]
+struct Progress {
+    /// How many lost lines were told of.
+    told: u64,
+    /// Whether a part of a line may stand there without its end.
+    is_torn: bool,
+}
+
+/// Writes the lines, until no more will come: all that log to them are gone, and none waits.
+///
+/// Where lines were lost, a line says how many before the next one that wasn't, or at once where none
+/// waits: `WARN log: lines lost: 12`. It comes whatever the level of the log is; one that there is no
+/// memory for comes later. A line that can't be written whole is lost too, and what is written next
+/// begins on a line of its own.
+pub fn write_lines<R: Wait + Clock, E: Write>(rt: &R, waiting: &Waiting, errors: &mut E) {
+    let mut progress = Progress {
+        told: 0,
+        is_torn: false,
+    };
+    for _ in rt.forever() {
+        let Ok(line) = waiting.lines.recv(rt) else {
+            break;
+        };
+        tell_lost(rt, waiting, line.lost, &mut progress, errors);
+        if !write_line(errors, &mut progress.is_torn, line.text.as_str()) {
+            waiting.lost.fetch_add(1, Ordering::SeqCst);
+        }
+        if waiting.lines.is_empty() {
+            let lost = waiting.lost.load(Ordering::SeqCst);
+            tell_lost(rt, waiting, lost, &mut progress, errors);
+        }
+    }
+    let lost = waiting.lost.load(Ordering::SeqCst);
+    tell_lost(rt, waiting, lost, &mut progress, errors);
+}
+
+/// Writes how many lines were lost since that was last told, if any, of so many in all.
+fn tell_lost<R: Clock, E: Write>(
+    rt: &R,
+    waiting: &Waiting,
+    lost: u64,
+    progress: &mut Progress,
+    errors: &mut E,
+)
+    ensures tells { TellsLost lost progress.old progress.new (E.contents errors.old)
+        (E.contents errors.new) }
+    ensures none { lost ≤ progress.old.told → E.contents errors.new ≡ E.contents errors.old }
+{
+    if lost <= progress.told {
+        return;
+    }
+    let stamp = stamp(rt, waiting.destination);
+    let Ok(line) = lost_line(waiting.alloc, stamp.as_str(), lost - progress.told) else {
+        return;
+    };
+    if write_line(errors, &mut progress.is_torn, line.as_str()) {
+        progress.told = lost;
+    }
+}
+
+/// The line that says how many lines were lost.
+fn lost_line(alloc: Global, stamp: &str, lost: u64) -> Result<String, AllocError>
+    ensures { IfOk result (λ line. string_bytes line ≡ lost_line stamp.now lost) }
+{
+    let text = format!(in alloc; "lines lost: {lost}")?;
+    line_of(alloc, stamp, Level::Warn, "log", text.as_str())
+}
+
+/// Writes a line, behind a line feed where the one before was torn. Says whether it was taken whole.
+fn write_line<E: Write>(errors: &mut E, is_torn: &mut bool, line: &str) -> bool
+    ensures torn { is_torn.new ≡ not result }
+    ensures whole { result ≡ true → Appends (E.contents errors.old) (E.contents errors.new)
+        (on_its_own is_torn.old line.now) }
+{
+    if *is_torn && write_whole(errors, b"\n").is_err() {
+        return false;
+    }
+    *is_torn = write_whole(errors, line.as_bytes()).is_err();
+    !*is_torn
+}

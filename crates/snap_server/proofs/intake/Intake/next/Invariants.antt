@@ -1,0 +1,6 @@
+use Rattle.std.proofs.Common.{◌<◌}
+use Rattle.snap_server.proofs.intake.Intake.next.Given as goal
+
+-- what was tried so far was refused
+abbrev pub invariant-loop-rest : goal.invariant-loop-rest
+invariant-loop-rest g l = 0 < l.rest-index → g.L.Listen.refuses l.fn.listener

@@ -1,0 +1,70 @@
+//! The socket of a connection.
+
+use mio::net::TcpStream;
+use mio::{Interest, Registry, Token};
+use std::io::{self, ErrorKind, Read, Write};
+use std::net::Shutdown;
+
+/// A socket that doesn't wait, until it is closed. From then on reads and writes fail.
+#[derive(Drop)]
+pub struct Socket {
+    stream: Option<TcpStream>,
+}
+
+impl Socket {
+    /// An open one.
+    pub fn new(stream: TcpStream) -> Socket {
+        Socket {
+            stream: Some(stream),
+        }
+    }
+
+    /// Has the system report of it under this token.
+    pub fn register(
+        &mut self,
+        registry: &Registry,
+        token: Token,
+        interest: Interest,
+    ) -> io::Result<()> {
+        match &mut self.stream {
+            Some(stream) => registry.register(stream, token, interest),
+            None => Err(io::Error::from(ErrorKind::NotConnected)),
+        }
+    }
+
+    /// Shuts its writing side down, so that the peer reads all that was written, and gives its
+    /// descriptor back.
+    pub fn close(&mut self) {
+        if let Some(stream) = self.stream.take() {
+            let _ = stream.shutdown(Shutdown::Write);
+        }
+    }
+}
+
+impl Read for &Socket {
+    fn read(&mut self, buf: &mut [u8]) -> io::Result<usize> {
+        match &self.stream {
+            Some(stream) => {
+                let mut stream: &TcpStream = stream;
+                stream.read(buf)
+            }
+            None => Err(io::Error::from(ErrorKind::NotConnected)),
+        }
+    }
+}
+
+impl Write for &Socket {
+    fn write(&mut self, buf: &[u8]) -> io::Result<usize> {
+        match &self.stream {
+            Some(stream) => {
+                let mut stream: &TcpStream = stream;
+                stream.write(buf)
+            }
+            None => Err(io::Error::from(ErrorKind::NotConnected)),
+        }
+    }
+
+    fn flush(&mut self) -> io::Result<()> {
+        Ok(())
+    }
+}

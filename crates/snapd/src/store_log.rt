@@ -1,0 +1,47 @@
+//! The log of updates that could not be stored.
+
+use crate::opening::FirstFault;
+use log::error;
+use snap_host::Watch;
+use snap_log::Lines;
+use std::rt::Clock;
+use std::sync::Wait;
+
+/// Logs each update that could not be stored as an error, with the name of its file and what the system
+/// said of it.
+#[derive_where(Clone, Copy)]
+#[derive(Drop)]
+pub struct StoreLog<'a, X: Wait + Clock> {
+    log: &'a Lines<'a, X>,
+    /// The path of each segment's file.
+    files: &'a Vec<&'a str>,
+    /// Why the first call of each file that failed did.
+    told: &'a Vec<FirstFault>,
+}
+
+impl<'a, X: Wait + Clock> StoreLog<'a, X> {
+    /// Logs to this log, for these files.
+    pub fn new(
+        log: &'a Lines<'a, X>,
+        files: &'a Vec<&'a str>,
+        told: &'a Vec<FirstFault>,
+    ) -> StoreLog<'a, X> {
+        StoreLog { log, files, told }
+    }
+}
+
+impl<X: Wait + Clock> Watch for StoreLog<'_, X> {
+    fn unstored(&self, segment: usize, number: u64) {
+        let (Some(file), Some(told)) = (self.files.get(segment), self.told.get(segment)) else {
+            return;
+        };
+        match told.place().get() {
+            Some(fault) => error!(self.log; target: "store",
+                "{file}: segment {segment}: update {number} isn't stored, and the segment is fenced until a restart: {fault}"
+            ),
+            None => error!(self.log; target: "store",
+                "{file}: segment {segment}: update {number} isn't stored, and the segment is fenced until a restart: a call of its device failed"
+            ),
+        }
+    }
+}

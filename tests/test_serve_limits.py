@@ -1,0 +1,191 @@
+"""`snapd serve` with more callers than it has room for: those wait, all others are served, and none is lost once there is room."""
+
+import contextlib
+import errno
+import pathlib
+import re
+import signal
+import socket
+import time
+
+from preload import Accepts, library
+from serving import LOOPBACK, SCAN, Server, fresh, received, segments, snapshot, stored, to_its_end, update
+from test_serve_disks import TWO, Disk
+from waiting import comes_to
+
+FULL = re.compile(r"(\d+) connections are open, and there is no room for more: callers wait")
+ROOM = "there is room again: connections are taken"
+EMPTY = snapshot((0, b""))
+
+
+def told(server):
+    """How many are open where there was no room, and how often it said that there is again."""
+    full = map(FULL.fullmatch, server.logged("WARN", "accept"))
+    return [int(found[1]) for found in full if found], server.logged("INFO", "accept").count(ROOM)
+
+
+def answered(stream, wanted=EMPTY):
+    stream.sendall(SCAN)
+    return received(stream, len(wanted)) == wanted
+
+
+def test_callers_wait_where_no_descriptor_is_left(snapd, _):
+    """It says so once, and once more when there is room, and no connection is tried that the system could refuse."""
+    accepts = Accepts(snapd.folder)
+    with Server(snapd, *fresh(snapd, 1), scanners=2, descriptors=40, env=accepts.env) as server:
+        with contextlib.ExitStack() as open_ones:
+            streams = [open_ones.enter_context(server.connect()) for _ in range(60)]
+            assert answered(streams[0])
+            comes_to(1, lambda: len(told(server)[0]))
+            # Those that are there are served meanwhile.
+            streams[1].sendall(update(0, 1))
+            assert received(streams[1], 13) == stored(1)
+            late = server.connect()
+            late.sendall(SCAN)
+        wanted = snapshot((1, b""))
+        assert received(late, len(wanted)) == wanted
+        late.close()
+        comes_to(True, lambda: told(server)[1] >= 1)
+        full, _ = told(server)
+        assert 1 <= len(full) <= 3 and 10 <= full[0] < 40 and accepts.count() == 0, (full, accepts.count())
+        assert all(answered(server.connect(), wanted) for _ in range(5))
+
+
+def test_a_disk_that_hangs_makes_it_deaf_to_nobody_for_long(snapd, _):
+    """Clients that give up and try again leave an update behind each time. Once the disk is back all goes on."""
+    disk = Disk(snapd)
+    files = segments(snapd, TWO, TWO)
+    with Server(snapd, *files, env=disk.env, descriptors=60) as server:
+        server.ask(SCAN, snapshot((1, b"hi"), (1, b"hi")))
+        disk.says("S0 sync hold 0")
+        gone = []
+        for _ in range(100):
+            with server.connect() as stream:
+                stream.sendall(update(0, 2, b"new"))
+                gone.append(stream)
+        disk.wait_for_hold()
+        disk.says()
+        server.ask(update(0, 2, b"new") + update(1, 2, b"on"), stored(2) + stored(2))
+        server.ask(SCAN, snapshot((2, b"new"), (2, b"on")))
+
+
+def test_a_server_that_was_stopped_takes_all_that_called(snapd, _):
+    with Server(snapd, *fresh(snapd, 1), descriptors=60) as server, contextlib.ExitStack() as open_ones:
+        server.process.send_signal(signal.SIGSTOP)
+        streams = [open_ones.enter_context(server.connect()) for _ in range(200)]
+        server.process.send_signal(signal.SIGCONT)
+        for stream in streams:
+            assert answered(stream)
+            stream.close()
+
+
+def test_no_more_clients_than_it_may_have(snapd, _):
+    with Server(snapd, *fresh(snapd, 1), more=("--clients-max", 2)) as server:
+        first, second, third = (server.connect() for _ in range(3))
+        assert answered(first) and answered(second)
+        third.sendall(SCAN)
+        comes_to([2], lambda: told(server)[0])
+        third.settimeout(0.1)
+        with contextlib.suppress(TimeoutError, socket.timeout):
+            raise AssertionError(f"three were served at once: {third.recv(100).hex()}")
+        first.close()
+        third.settimeout(10)
+        assert received(third, len(EMPTY)) == EMPTY
+        second.close()
+        third.close()
+
+
+def ended_by_itself(server):
+    """Its status, once it has ended."""
+    return server.process.wait(timeout=30)
+
+
+def test_faults_that_pass_end_nothing(snapd, _):
+    """Here the first of sixteen faults in a row, with the rests that they have."""
+    accepts = Accepts(snapd.folder, 2, 6, errno.EBADF)
+    with Server(snapd, *fresh(snapd, 1), env=accepts.env) as server:
+        assert answered(server.connect())
+        comes_to(6, accepts.count)
+        assert answered(server.connect())
+        assert server.process.poll() is None and not server.logged("WARN", "accept")
+
+
+def test_a_listener_that_fails_for_good_ends_it(snapd, _):
+    """It says so at once and takes no more callers. A request that was begun is answered, and the process ends with its status.
+    The rests take a thousandth of their time here, and all of them more than three minutes without that."""
+    accepts = Accepts(snapd.folder, 2, 10**6, errno.EBADF)
+    env = accepts.env | {"LD_PRELOAD": f"{accepts.env['LD_PRELOAD']}:{library('sleeps')}"}
+    with Server(snapd, *fresh(snapd, 1), env=env) as server, server.connect() as stream, server.connect() as idle:
+        request = update(0, 1, b"begun")
+        stream.sendall(request[:9])
+        comes_to(["the listener fails: no more connections are taken, and the server stops"], lambda: server.logged("WARN", "accept"))
+        comes_to(True, lambda: refuses(server))
+        stream.sendall(request[9:])
+        assert received(stream, 13) == stored(1)
+        for connection in (stream, idle):
+            with contextlib.suppress(ConnectionResetError):
+                assert connection.recv(1) == b""
+        run = server.end()
+        said = f"snapd: {LOOPBACK}: 16 connections in a row couldn't be accepted"
+        assert (run.status, run.errors.splitlines()[-1], accepts.count()) == (1, said, 16), run
+
+
+def refuses(server):
+    """Whether nobody listens at its address."""
+    try:
+        server.connect(timeout=1).close()
+    except ConnectionRefusedError:
+        return True
+    except OSError:
+        return False
+    return False
+
+
+def keepalive_of(server, stream):
+    """Whether the system asks the server's end of this connection whether its peer is there: its timer is `2`."""
+    host, port = stream.getsockname()
+    for line in pathlib.Path(f"/proc/{server.process.pid}/net/tcp").read_text().splitlines()[1:]:
+        local, remote, _, _, timer = line.split()[1:6]
+        if int(local.split(":")[1], 16) == server.place[1] and int(remote.split(":")[1], 16) == port:
+            return timer.split(":")[0] == "02"
+    return False
+
+
+def test_silent_peers_are_asked_whether_they_are_there(snapd, _):
+    with Server(snapd, *fresh(snapd, 1)) as server, server.connect() as stream:
+        assert answered(stream)
+        comes_to(True, lambda: keepalive_of(server, stream))
+
+
+def test_silent_connections_are_let_go(snapd, _):
+    """One that said nothing for a second, or began a request and said no more; not one that waits for its update."""
+    disk = Disk(snapd)
+    began = time.monotonic()
+    with Server(snapd, *segments(snapd, TWO), env=disk.env, more=("--idle", 1, "--log", "debug")) as server:
+        disk.says("S0 sync hold 0")
+        with server.connect() as quiet, server.connect() as begun, server.connect() as waits, server.connect() as talks:
+            begun.sendall(SCAN[:3])
+            waits.sendall(update(0, 2, b"late"))
+            disk.wait_for_hold()
+            for stream in (quiet, begun):
+                while stream.gettimeout() and not readable(stream):
+                    talks.sendall(SCAN)
+                    assert received(talks, len(snapshot((1, b"hi")))) == snapshot((1, b"hi"))
+                assert to_its_end(stream) == b""
+            assert time.monotonic() - began >= 1
+            comes_to(2, lambda: len(server.logged("DEBUG", "connection")))
+            disk.says()
+            assert received(waits, 13) == stored(2)
+
+
+def readable(stream):
+    """Whether the stream has something to read, or has ended, within a tenth of a second."""
+    timeout = stream.gettimeout()
+    stream.settimeout(0.1)
+    try:
+        stream.recv(1, socket.MSG_PEEK)
+        return True
+    except (TimeoutError, socket.timeout):
+        return False
+    finally:
+        stream.settimeout(timeout)
