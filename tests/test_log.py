@@ -26,6 +26,23 @@ def test_only_what_matters_is_logged(snapd, _):
             assert all(LOG_LINE.fullmatch(line)[3].endswith(" closed") for line in lines), run.errors
 
 
+def test_lines_of_several_threads_stay_whole(snapd, _):
+    """Workers and the threads that store log at the same moment: each line is one, and none is missing."""
+    disk = Disk(snapd)
+    files, count = fresh(snapd, 4), 64
+    with Server(snapd, *files, scanners=4, connections=count, env=disk.env, more=("--log", "debug")) as server:
+        disk.says(*[f"{name} write fail {errno.EIO}" for name in files])
+        streams = [server.connect() for _ in range(count)]
+        for number, stream in enumerate(streams):
+            stream.sendall(update(number % 4, 1, b"a"))
+        for stream in streams:
+            stream.recv(100)
+            stream.close()
+        lines = server.end().errors.splitlines()
+        assert all(map(LOG_LINE.fullmatch, lines)), lines
+        assert (len(server.logged("ERROR", "store")), len(server.logged("DEBUG", "connection"))) == (4, count), lines
+
+
 def test_a_line_begins_with_the_time(snapd, _):
     with Server(snapd, *fresh(snapd, 1), connections=1, more=("--log", "debug")) as server:
         server.ask(SCAN, snapshot((0, b"")))
