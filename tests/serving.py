@@ -227,6 +227,18 @@ class Server:
     def descriptors(self):
         return len(open_files(self.process.pid))
 
+    def sockets_of(self, stream):
+        """What the system tells of both ends of this connection, the server's first: the fields of a line each."""
+        here, there = self.place[1], stream.getsockname()[1]
+        lines = pathlib.Path(f"/proc/{self.process.pid}/net/tcp").read_text().splitlines()[1:]
+        told = {tuple(int(end.split(":")[1], 16) for end in line.split()[1:3]): line.split() for line in lines}
+        return [told.get(ends) for ends in ((here, there), (there, here))]
+
+    def has_read(self, stream):
+        """Whether it has taken all that this peer has sent: nothing of it is on its way, and nothing waits to be read."""
+        own, peer = self.sockets_of(stream)
+        return peer[4].startswith("00000000:") and own[4].endswith(":00000000")
+
     def memory(self):
         """Resident, in kB."""
         status = pathlib.Path(f"/proc/{self.process.pid}/status").read_text()

@@ -2,7 +2,6 @@
 
 import contextlib
 import errno
-import pathlib
 import re
 import signal
 import socket
@@ -143,12 +142,8 @@ def refuses(server):
 
 def keepalive_of(server, stream):
     """Whether the system asks the server's end of this connection whether its peer is there: its timer is `2`."""
-    host, port = stream.getsockname()
-    for line in pathlib.Path(f"/proc/{server.process.pid}/net/tcp").read_text().splitlines()[1:]:
-        local, remote, _, _, timer = line.split()[1:6]
-        if int(local.split(":")[1], 16) == server.place[1] and int(remote.split(":")[1], 16) == port:
-            return timer.split(":")[0] == "02"
-    return False
+    own, _ = server.sockets_of(stream)
+    return own is not None and own[5].startswith("02:")
 
 
 def test_silent_peers_are_asked_whether_they_are_there(snapd, _):

@@ -57,6 +57,8 @@ def test_each_allocation_of_a_start_is_refused(snapd, _):
         wanted = (0, "") if b"served 0" in run.output else (3, "snapd: refused 8 NoMemory\n")
         is_thread = run.status == 1 and run.errors in (f"snapd: {NO_THREAD}", f"snapd: {LOOPBACK}: {NO_THREAD}")
         assert (run.status, run.errors) == wanted or is_thread, (number, run)
+        # Who waits for the line may count on the server.
+        assert not is_thread or b"listening" not in run.output, (number, run)
         refusals += run.status == 3
         threads += is_thread
     assert refusals > 100 and threads < 10, (refusals, threads)

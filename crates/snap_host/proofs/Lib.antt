@@ -1,4 +1,4 @@
 mod Ends
 mod Memories
-mod Printing
+mod Written
 mod Remedies

@@ -41,6 +41,9 @@ use Rattle.snap_order.specs.declared.status.Status.TheVariants as status
 use Rattle.snap_restart.specs.Opened.{IsOpened, IsStopped, recovered}
 use Rattle.snap_restart.specs.Report.{report_text}
 use Rattle.snap_restart.specs.declared.report.Report.{Report}
+use Rattle.snap_server.specs.declared.fault.RunFault.{RunFault}
+use Rattle.snap_server.specs.declared.fault.RunFault.TheVariants as run
+use Rattle.snap_server.specs.declared.fault.ServerFault.{ServerFault}
 use Rattle.snap_server.specs.declared.fault.ServerFault.TheVariants as faults
 use Rattle.snap_host.specs.declared.failure.HostFailure.{HostFailure}
 use Rattle.snap_host.specs.declared.failure.HostFailure.TheVariants.{
@@ -112,6 +115,15 @@ IsStarved bound report out out' = Keeps out out'
     ⊎ ((a : SocketAddr) × bound a × (Appends out out' (report_text report)
     ⊎ Appends out out' (opening_text report a)))
 
+-- What was written of a server whose threads or sockets failed: it said that it listens once it had
+-- all that it serves by, and not before.
+abbrev pub IsFaulted : Report → SocketAddr → (out out' : Option (List ℕ)) → ServerFault → Type 0
+IsFaulted report a out out' faults.AcceptFailed = Appends out out' (opening_text report a)
+IsFaulted report a out out' faults.PollFailed = Appends out out' (opening_text report a)
+IsFaulted report a out out' faults.NoPoll = Appends out out' (report_text report)
+IsFaulted report a out out' faults.NoThread = Appends out out' (report_text report)
+IsFaulted report a out out' faults.NoMemory = ⊥
+
 -- The server opened its files and then ended so. `bound` says which addresses its own may be bound
 -- to, `refused` why it may not be, `deaf` that connections there may be refused, and `out` and
 -- `out'` what the writer held before and after.
@@ -127,8 +139,8 @@ EndsServing bound refused deaf connections report out out' (Err (Address error))
 EndsServing bound refused deaf connections report out out' (Err (Output error)) =
     IsCutShort bound connections report out out'
 EndsServing bound refused deaf connections report out out' (Err (Server fault)) =
-    (fault ≢ faults.NoMemory) × (fault ≡ faults.AcceptFailed → deaf)
-    × ((a : SocketAddr) × bound a × Appends out out' (opening_text report a))
+    (fault ≡ faults.AcceptFailed → deaf)
+    × ((a : SocketAddr) × bound a × IsFaulted report a out out' fault)
 
 -- The same from the opening on. `IsReport` says which reports are of its devices, and `IsStop`
 -- where and why their opening may be refused.
@@ -149,14 +161,18 @@ PrintFails out out' text (Output error) = AppendsBeginning out out' text
 PrintFails out out' text NoMemory = Keeps out out'
 PrintFails out out' text failure = ⊥
 
--- the address was not bound, or not printed whole
-abbrev pub ListenFails : (bound : SocketAddr → Type 0) (refused : Error → Type 0)
-    (out out' : Option (List ℕ)) → HostFailure → Type 0
-ListenFails bound refused out out' (Address error) = refused error × Keeps out out'
-ListenFails bound refused out out' (Output error) =
-    (a : SocketAddr) × bound a × AppendsBeginning out out' (listening_line a)
-ListenFails bound refused out out' NoMemory = (a : SocketAddr) × bound a × Keeps out out'
-ListenFails bound refused out out' failure = ⊥
+-- the address was not bound, or there was no memory for the line that names it
+abbrev pub ListenFails : (bound : SocketAddr → Type 0) (refused : Error → Type 0) → HostFailure
+    → Type 0
+ListenFails bound refused (Address error) = refused error
+ListenFails bound refused NoMemory = (a : SocketAddr) × bound a
+ListenFails bound refused failure = ⊥
+
+-- what the program ends with where its server ended so
+abbrev pub failure_of : RunFault → HostFailure
+failure_of (run.Announcement error) = Output error
+failure_of (run.Server faults.NoMemory) = NoMemory
+failure_of (run.Server fault) = Server fault
 
 -- ---- standard error
 

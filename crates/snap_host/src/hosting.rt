@@ -1,37 +1,24 @@
 //! A server from its files to its end.
-ghost use Rattle.std.specs.Prelude.{
-  ◌≡◌,
-  ◌-◌,
-  ◌^◌,
-  ◌<◌,
-  length,
-  All,
-  OnOk,
-  IfOk,
-  IfErr,
-  string_bytes,
-};
-ghost use Rattle.std.specs.Io.KnownBytes.{Appends};
+ghost use Rattle.std.specs.Prelude.{◌≡◌, ◌-◌, ◌^◌, ◌<◌, length, All, IfOk, IfErr, string_bytes};
 ghost use Rattle.std.specs.declared.net.socket_addr.SocketAddr.{SocketAddr};
-ghost use Rattle.snap_stream.specs.Streams.{AppendsBeginning};
 ghost use Rattle.snap_order.specs.Order.{IsServable};
 ghost use Rattle.snap_restart.specs.Closed.{AreBack};
-ghost use Rattle.snap_restart.specs.Report.{report_text};
 ghost use Rattle.snap_host.specs.Hosting.{End, EndsHost, EndsServing, IsReportOf, IsStopOf};
-ghost use Rattle.snap_host.specs.Hosting.{ListenFails, PrintFails, SaysEnd};
-ghost use Rattle.snap_host.specs.Hosting.{listening_line, served_line, status_at};
+ghost use Rattle.snap_host.specs.Hosting.{ListenFails, SaysEnd, failure_of, listening_line, status_at};
 
+use crate::announcing::Announcement;
 use crate::bind::Bind;
 use crate::failure::HostFailure;
+use crate::printing::{print_report, print_served};
 use crate::stores::serve_store;
 use crate::watch::Watch;
 use snap_disk::Disk;
 use snap_order::{Ended, Serving, Status};
 use snap_restart::{Report, Store, open_all};
-use snap_server::{Gate, Limits, Note, ServerFault};
-use snap_stream::{Cause, write_whole};
+use snap_server::{Gate, Limits, Note, RunFault, ServerFault};
+use snap_stream::Cause;
 use std::alloc::Global;
-use std::io::{self, Write};
+use std::io::Write;
 use std::net::Net;
 use std::rt::Clock;
 use std::sync::Wait;
@@ -64,10 +51,10 @@ pub struct Edge<'a, B, G, N, H, C> {
 /// Serves the order's segments, one device for each of its files in order, and says how the program
 /// ends.
 ///
-/// All files are opened first. Then the report of the opening is written; then the address is
-/// bound, and `listening ADDRESS` written and flushed, with the address that is really bound; then
-/// as many connections are served as the order says, or without end; and at the end `served K` is
-/// written.
+/// All files are opened first. Then the report of the opening is written, and the address is bound.
+/// Once all threads are there, `listening ADDRESS` is written and flushed, with the address that is
+/// really bound; then as many connections are served as the order says, or without end; and at the
+/// end `served K` is written.
 /// Nothing is served before the report and the line are out.
 ///
 /// Why it ended early goes to `errors`, as one line that begins `snapd: `; behind the line of a
@@ -158,7 +145,7 @@ where
 }
 
 /// Reports, listens, serves, and says how many connections were served.
-#[tactic(auto, using(crate::proofs::Printing::report_failed))]
+#[tactic(auto, using(crate::proofs::Written::report_failed))]
 fn serve_opened<X, D, B, G, N, H, C, W>(
     rt: &X,
     alloc: Global,
@@ -189,8 +176,8 @@ where
         Ok(()) => {}
         Err(failure) => return Err(failure),
     }
-    let listener = match listen(alloc, order.address, edge.bind, writer) {
-        Ok(listener) => listener,
+    let (listener, announcement) = match listen(alloc, order.address, edge.bind) {
+        Ok(listening) => listening,
         Err(failure) => return Err(failure),
     };
     let Edge {
@@ -207,84 +194,57 @@ where
         fault_rest: Duration::from_millis(FAULT_REST),
         idle,
     };
-    match serve_store(rt, alloc, store, &listener, limits, gate, note, watch) {
+    let ended = serve_store(
+        rt,
+        alloc,
+        store,
+        &listener,
+        limits,
+        gate,
+        note,
+        watch,
+        &announcement,
+        writer,
+    );
+    match ended {
         Ok(served) => match print_served(alloc, served, writer) {
             Ok(()) => Ok(served),
             Err(failure) => Err(failure),
         },
-        Err(ServerFault::NoMemory) => Err(HostFailure::NoMemory),
-        Err(fault) => Err(HostFailure::Server(fault)),
+        Err(fault) => Err(failure_of(fault)),
     }
 }
 
-/// Writes what was found in the files.
-fn print_report<W: Write>(alloc: Global, report: &Report, writer: &mut W) -> Result<(), HostFailure>
-    ensures whole { OnOk result
-        (Appends (W.contents writer.old) (W.contents writer.new) (report_text report.now)) }
-    ensures failed { IfErr result
-        (PrintFails (W.contents writer.old) (W.contents writer.new) (report_text report.now)) }
+/// What the program ends with where its server ended so.
+fn failure_of(fault: RunFault) -> HostFailure
+    ensures { result ≡ failure_of fault }
 {
-    let Ok(text) = report.to_string(alloc) else {
-        return Err(HostFailure::NoMemory);
-    };
-    match print_line(&text, writer) {
-        Ok(()) => Ok(()),
-        Err(error) => Err(HostFailure::Output(error)),
+    match fault {
+        RunFault::Announcement(error) => HostFailure::Output(error),
+        RunFault::Server(ServerFault::NoMemory) => HostFailure::NoMemory,
+        RunFault::Server(fault) => HostFailure::Server(fault),
     }
 }
 
-/// Binds the address, and says where it really is.
-fn listen<B: Bind, W: Write>(
+/// Binds the address, and makes the line that says where it really is.
+fn listen<B: Bind>(
     alloc: Global,
     address: &str,
     bind: &B,
-    writer: &mut W,
-) -> Result<B::Listener, HostFailure>
+) -> Result<(B::Listener, Announcement), HostFailure>
 where
     B::Listener: Drop,
-    ensures whole { OnOk result ((a : SocketAddr) × B.binds bind.now address.now a
-        × Appends (W.contents writer.old) (W.contents writer.new) (listening_line a)) }
-    ensures failed { IfErr result (ListenFails (B.binds bind.now address.now)
-        (B.refuses bind.now address.now) (W.contents writer.old) (W.contents writer.new)) }
+    ensures bound { IfOk result (λ made. (a : SocketAddr) × B.binds bind.now address.now a
+        × (string_bytes made.1.line ≡ listening_line a)) }
+    ensures failed { IfErr result
+        (ListenFails (B.binds bind.now address.now) (B.refuses bind.now address.now)) }
 {
     let (listener, bound) = match bind.bind(address) {
         Ok(bound) => bound,
         Err(error) => return Err(HostFailure::Address(error)),
     };
-    let Ok(line) = format!(in alloc; "listening {bound}\n") else {
-        return Err(HostFailure::NoMemory);
-    };
-    match print_line(&line, writer) {
-        Ok(()) => Ok(listener),
-        Err(error) => Err(HostFailure::Output(error)),
-    }
-}
-
-/// Says how many connections were served.
-fn print_served<W: Write>(alloc: Global, served: u64, writer: &mut W) -> Result<(), HostFailure>
-    ensures whole { OnOk result
-        (Appends (W.contents writer.old) (W.contents writer.new) (served_line served)) }
-    ensures failed { IfErr result
-        (PrintFails (W.contents writer.old) (W.contents writer.new) (served_line served)) }
-{
-    let Ok(line) = format!(in alloc; "served {served}\n") else {
-        return Err(HostFailure::NoMemory);
-    };
-    match print_line(&line, writer) {
-        Ok(()) => Ok(()),
-        Err(error) => Err(HostFailure::Output(error)),
-    }
-}
-
-/// Writes a text at once.
-fn print_line<W: Write>(text: &String, writer: &mut W) -> io::Result<()>
-    ensures whole { OnOk result
-        (Appends (W.contents writer.old) (W.contents writer.new) (string_bytes text.now)) }
-    ensures beginning { AppendsBeginning (W.contents writer.old) (W.contents writer.new)
-        (string_bytes text.now) }
-{
-    match write_whole(writer, text.as_bytes()) {
-        Ok(()) => writer.flush(),
-        Err(error) => Err(error),
+    match format!(in alloc; "listening {bound}\n") {
+        Ok(line) => Ok((listener, Announcement { line })),
+        Err(_) => Err(HostFailure::NoMemory),
     }
 }

@@ -6,10 +6,12 @@
 //! comes from the caller ([`Edge`]).
 #![tactic(auto)]
 
+mod announcing;
 mod bind;
 mod failure;
 mod hosting;
 mod notes;
+mod printing;
 mod stores;
 mod watch;
 

@@ -5,13 +5,16 @@ ghost use Rattle.snap_register.specs.Seat.{Known};
 ghost use Rattle.snap_service.specs.Memory.{AreWriters, IsOf};
 ghost use Rattle.snap_restart.specs.Closed.{AreBack};
 ghost use Rattle.snap_host.specs.Scanners.{AreScanners};
+ghost use Rattle.snap_server.specs.Announced.{Announced};
 
 use crate::watch::Watch;
 use snap_desk::{Desk, Outcome, StoreThread, Told, Window};
 use snap_disk::{Disk, Refusal};
 use snap_memory::{Scanner, Snapshot};
 use snap_restart::Store;
-use snap_server::{Background, Done, Gate, Limits, Listen, Note, ServerFault, run};
+use snap_server::{
+    Announce, Background, Done, Gate, Limits, Listen, Note, RunFault, ServerFault, run,
+};
 use snap_service::{Memory, WriterOf, name_writers};
 use snap_writer::Writer;
 use std::alloc::{AllocError, Global};
@@ -155,7 +158,7 @@ where
 }
 
 /// Serves by these desks and stores, as [`run`] does.
-fn serve_parts<M, X, D, L, G, N, H>(
+fn serve_parts<M, X, D, L, G, N, H, A, T>(
     rt: &X,
     alloc: Global,
     parts: (Vec<Desk<X, M, D>>, Vec<Storing<X, M, D, H>>),
@@ -163,7 +166,9 @@ fn serve_parts<M, X, D, L, G, N, H>(
     limits: Limits,
     gate: &G,
     note: &N,
-) -> Result<u64, ServerFault>
+    announce: &A,
+    to: &mut T,
+) -> Result<u64, RunFault>
 where
     M: Memory + Send,
     X: Threads + Wait + Clock + Net + Sync + Send + Copy,
@@ -172,17 +177,22 @@ where
     G: Gate + Sync,
     N: Fn(&Note) + Sync,
     H: Watch + Send + Drop,
+    A: Announce<T>,
     requires note { N.IsAlwaysCallable note.now }
     ensures asked { IfOk result (λ k. limits.connections ≡ Some k) }
-    ensures deaf { IfErr result (λ fault.
-        fault ≡ ServerFault.AcceptFailed → L.refuses listener.now) }
+    ensures deaf { IfErr result (λ why.
+        why ≡ RunFault.Server ServerFault.AcceptFailed → L.refuses listener.now) }
+    ensures announced { Announced (A.announces announce.now) (A.fails announce.now)
+        to.old result to.new }
 {
     let (desks, stores) = parts;
-    run(rt, alloc, listener, desks, stores, limits, gate, note)
+    run(
+        rt, alloc, listener, desks, stores, limits, gate, note, announce, to,
+    )
 }
 
 /// Serves the memory of these writers and scanners, as [`run`] does.
-fn serve_memory<M, X, D, L, G, N, H>(
+fn serve_memory<M, X, D, L, G, N, H, A, T>(
     rt: &X,
     alloc: Global,
     writers: Vec<Writer<D>>,
@@ -192,7 +202,9 @@ fn serve_memory<M, X, D, L, G, N, H>(
     gate: &G,
     note: &N,
     watch: H,
-) -> Result<u64, ServerFault>
+    announce: &A,
+    to: &mut T,
+) -> Result<u64, RunFault>
 where
     M: Memory + Send,
     X: Threads + Wait + Clock + Net + Sync + Send + Copy,
@@ -201,20 +213,25 @@ where
     G: Gate + Sync,
     N: Fn(&Note) + Sync,
     H: Watch + Copy + Send + Drop,
+    A: Announce<T>,
     requires writers { AreWriters M.table M.plan writers.items }
     requires scanners { AreScanners M.table M.plan scanners.items }
     requires note { N.IsAlwaysCallable note.now }
     ensures asked { IfOk result (λ k. limits.connections ≡ Some k) }
-    ensures deaf { IfErr result (λ fault.
-        fault ≡ ServerFault.AcceptFailed → L.refuses listener.now) }
+    ensures deaf { IfErr result (λ why.
+        why ≡ RunFault.Server ServerFault.AcceptFailed → L.refuses listener.now) }
+    ensures announced { Announced (A.announces announce.now) (A.fails announce.now)
+        to.old result to.new }
 {
-    let parts = open_parts::<M, X, D, H>(*rt, alloc, writers, scanners, watch)?;
-    serve_parts(rt, alloc, parts, listener, limits, gate, note)
+    match open_parts::<M, X, D, H>(*rt, alloc, writers, scanners, watch) {
+        Ok(parts) => serve_parts(rt, alloc, parts, listener, limits, gate, note, announce, to),
+        Err(fault) => Err(RunFault::Server(fault)),
+    }
 }
 
 /// Serves this store, as [`run`] does: a worker for each scanner, and a thread that stores for each
 /// writer.
-pub(crate) fn serve_store<X, D, L, G, N, H>(
+pub(crate) fn serve_store<X, D, L, G, N, H, A, T>(
     rt: &X,
     alloc: Global,
     store: Store<D>,
@@ -223,7 +240,9 @@ pub(crate) fn serve_store<X, D, L, G, N, H>(
     gate: &G,
     note: &N,
     watch: H,
-) -> Result<u64, ServerFault>
+    announce: &A,
+    to: &mut T,
+) -> Result<u64, RunFault>
 where
     X: Threads + Wait + Clock + Net + Sync + Send + Copy,
     D: Disk + Send + Drop,
@@ -231,16 +250,19 @@ where
     G: Gate + Sync,
     N: Fn(&Note) + Sync,
     H: Watch + Copy + Send + Drop,
+    A: Announce<T>,
     requires back { AreBack store.writers.items store.scanners.items }
     requires note { N.IsAlwaysCallable note.now }
     ensures asked { IfOk result (λ k. limits.connections ≡ Some k) }
-    ensures deaf { IfErr result (λ fault.
-        fault ≡ ServerFault.AcceptFailed → L.refuses listener.now) }
+    ensures deaf { IfErr result (λ why.
+        why ≡ RunFault.Server ServerFault.AcceptFailed → L.refuses listener.now) }
+    ensures announced { Announced (A.announces announce.now) (A.fails announce.now)
+        to.old result to.new }
 {
     let mut store = store;
     let writers = mem::replace(&mut store.writers, Vec::new(alloc));
     let scanners = mem::replace(&mut store.scanners, Vec::new(alloc));
-    serve_memory::<Brand, X, D, L, G, N, H>(
-        rt, alloc, writers, scanners, listener, limits, gate, note, watch,
+    serve_memory::<Brand, X, D, L, G, N, H, A, T>(
+        rt, alloc, writers, scanners, listener, limits, gate, note, watch, announce, to,
     )
 }

@@ -1,3 +1,4 @@
 mod Sharing
 mod Listing
 mod Made
+mod Announcing

@@ -2,3 +2,4 @@ pub mod Dealing
 pub mod Sharing
 pub mod Listing
 pub mod Standing
+pub mod Announced

@@ -7,6 +7,7 @@
 #![tactic(auto)]
 
 mod accepting;
+mod announce;
 mod background;
 mod connection;
 mod door;
@@ -22,9 +23,10 @@ mod silence;
 mod socket;
 mod worker;
 
+pub use announce::{Announce, NoAnnouncement};
 pub use background::{Background, Done};
 pub use connection::{Ended, Ending};
-pub use fault::ServerFault;
+pub use fault::{RunFault, ServerFault};
 pub use gate::{Gate, NoGate};
 pub use listen::{Arrival, Listen, Tcp, Unaccepted};
 pub use note::Note;

@@ -1,11 +1,13 @@
 //! All threads of a server.
-ghost use Rattle.std.specs.Prelude.{◌≡◌, ◌≢◌, IfOk, IfErr, Some, map, vec_len};
+ghost use Rattle.std.specs.Prelude.{◌≡◌, ◌⊎◌, IfOk, IfErr, Some, map, vec_len};
 ghost use Rattle.std.specs.Thread.{IsSync, IsSend};
+ghost use Rattle.snap_server.specs.Announced.{Announced, end_of, was_announced};
 
 use crate::accepting::Dealer;
+use crate::announce::Announce;
 use crate::background::{Background, Done};
 use crate::door::{Door, Mail};
-use crate::fault::ServerFault;
+use crate::fault::{RunFault, ServerFault};
 use crate::gate::{Gate, Gated};
 use crate::intake::Intake;
 use crate::listen::Listen;
@@ -59,6 +61,15 @@ fn tell_all<X: Wait + Clock, B: Background + Drop>(
     }
 }
 
+/// Tells the workers that no more connections come: they serve those that they have to their end, or
+/// let go of them where the server has failed.
+fn close_all<X: Wait + Clock, O: Drop>(rt: &X, doors: &[Door<O>], has_served: bool) {
+    for door in doors {
+        let mail = if has_served { Mail::Close } else { Mail::Stop };
+        door.post(rt, mail);
+    }
+}
+
 /// The services, each behind the gate.
 fn gate_all<'a, S: Service + Drop, G: Gate>(
     alloc: Global,
@@ -89,7 +100,8 @@ where
     ensures workers { IfOk result (λ made.
         map (λ worker. worker.sessions.service) made.0.items ≡ services.items) }
     ensures doors { IfOk result (λ made. vec_len made.1 ≡ vec_len services) }
-    ensures faults { IfErr result (λ fault. fault ≢ ServerFault.AcceptFailed) }
+    ensures faults { IfErr result (λ fault.
+        (fault ≡ ServerFault.NoPoll) ⊎ (fault ≡ ServerFault.NoMemory)) }
 {
     let mut workers = Vec::new(alloc);
     let mut doors = Vec::new(alloc);
@@ -102,6 +114,23 @@ where
     Ok((workers, doors))
 }
 
+/// A worker for each service behind the gate, and their doors in the same order.
+fn open_all<'a, X: Net, S: Service + Drop, G: Gate>(
+    net: &X,
+    alloc: Global,
+    services: Vec<S>,
+    gate: &'a G,
+    idle: Option<Duration>,
+) -> Result<(Vec<Worker<Gated<'a, S, G>>>, Vec<Door<S::Outcome>>), ServerFault>
+where
+    S::Outcome: Drop,
+    ensures { IfErr result (λ fault.
+        (fault ≡ ServerFault.NoPoll) ⊎ (fault ≡ ServerFault.NoMemory)) }
+{
+    let services = gate_all(alloc, services, gate)?;
+    open_workers(net, alloc, services, idle)
+}
+
 /// Whether there is a thread for this work.
 fn starts<'s, E, F: FnOnce() + Send + Drop + 's>(scope: &Scope<'s, E>, work: F) -> bool
     requires { F.pre work }
@@ -109,8 +138,47 @@ fn starts<'s, E, F: FnOnce() + Send + Drop + 's>(scope: &Scope<'s, E>, work: F) 
     scope.spawn(work).is_ok()
 }
 
-/// Runs the threads of all workers and backgrounds, and accepts on this one.
-fn run_threads<X, L, S, B, N>(
+/// Announces the server where it has all its threads, and then accepts and deals so many
+/// connections, or without end.
+fn accept_announced<X, L, O, N, T, A>(
+    rt: &X,
+    listener: &L,
+    mut dealer: Dealer<'_, O>,
+    is_whole: bool,
+    connections: Option<u64>,
+    note: &N,
+    announce: &A,
+    to: &mut T,
+) -> Result<u64, RunFault>
+where
+    X: Wait + Clock,
+    L: Listen,
+    O: Drop,
+    N: Fn(&Note),
+    A: Announce<T>,
+    requires none { dealer.dealt ≡ 0 }
+    requires note { N.IsAlwaysCallable note.now }
+    ensures asked { IfOk result (λ k. connections ≡ Some k) }
+    ensures deaf { IfErr result (λ why.
+        why ≡ RunFault.Server ServerFault.AcceptFailed → L.refuses listener.now) }
+    ensures announced { Announced (A.announces announce.now) (A.fails announce.now)
+        to.old result to.new }
+{
+    if !is_whole {
+        return Err(RunFault::Server(ServerFault::NoThread));
+    }
+    if let Err(why) = announce.announce(to) {
+        return Err(RunFault::Announcement(why));
+    }
+    match dealer.accept_all(rt, listener, connections, note) {
+        Ok(accepted) => Ok(accepted),
+        Err(fault) => Err(RunFault::Server(fault)),
+    }
+}
+
+/// Runs the threads of all workers and backgrounds. Once all are there it announces the server, and
+/// accepts on this one.
+fn run_threads<X, L, S, B, N, T, A>(
     rt: &X,
     listener: &L,
     workers: Vec<Worker<S>>,
@@ -119,7 +187,9 @@ fn run_threads<X, L, S, B, N>(
     limits: Limits,
     failed: &AtomicBool,
     note: &N,
-) -> Result<u64, ServerFault>
+    announce: &A,
+    to: &mut T,
+) -> Result<u64, RunFault>
 where
     X: Threads + Wait + Clock + Sync,
     L: Listen,
@@ -127,21 +197,27 @@ where
     S::Outcome: Send + Drop,
     B: Background<Outcome = S::Outcome> + Send + Drop,
     N: Fn(&Note) + Sync,
+    A: Announce<T>,
     requires { N.IsAlwaysCallable note.now }
     ensures asked { IfOk result (λ k. limits.connections ≡ Some k) }
-    ensures deaf { IfErr result (λ fault.
-        fault ≡ ServerFault.AcceptFailed → L.refuses listener.now) }
+    ensures deaf { IfErr result (λ why.
+        why ≡ RunFault.Server ServerFault.AcceptFailed → L.refuses listener.now) }
+    ensures announced { Announced (A.announces announce.now) (A.fails announce.now)
+        to.old result to.new }
 {
     let room = Room::new(limits.clients);
     let room = &room;
-    thread::scope(
+    let (accepted, _to) = thread::scope(
         thread::scope_env(),
         rt,
-        |scope| -> Result<u64, ServerFault>
+        move |scope| -> (Result<u64, RunFault>, &mut T)
             requires { IsSync X.row × IsSync N.row × IsSend S.row × N.IsAlwaysCallable note.now }
-            ensures asked { IfOk result (λ k. limits.connections ≡ Some k) }
-            ensures deaf { IfErr result (λ fault.
-                fault ≡ ServerFault.AcceptFailed → L.refuses listener.entry.now) }
+            ensures asked { IfOk result.0 (λ k. limits.connections ≡ Some k) }
+            ensures deaf { IfErr result.0 (λ why.
+                why ≡ RunFault.Server ServerFault.AcceptFailed → L.refuses listener.entry.now) }
+            ensures announced { Announced (A.announces announce.entry.now)
+                (A.fails announce.entry.now) to.entry.now result.0 result.1.now }
+            ensures same { result.1.ghost_name ≡ to.entry.ghost_name }
         {
             let mut is_whole = true;
             for background in backgrounds {
@@ -163,27 +239,19 @@ where
                 };
                 is_whole &= starts(scope, served);
             }
-            let accepted = if is_whole {
-                let intake = Intake::new(room, limits.fault_rest);
-                Dealer::new(intake, doors).accept_all(rt, listener, limits.connections, note)
-            } else {
-                Err(ServerFault::NoThread)
-            };
+            let dealer = Dealer::new(Intake::new(room, limits.fault_rest), doors);
+            let asked = limits.connections;
+            let accepted = accept_announced(
+                rt, listener, dealer, is_whole, asked, note, announce, to,
+            );
             // Who still calls is refused, and waits for nothing.
             listener.close();
-            for door in doors {
-                door.post(
-                    rt,
-                    if accepted.is_ok() {
-                        Mail::Close
-                    } else {
-                        Mail::Stop
-                    },
-                );
-            }
-            accepted
+            close_all(rt, doors, accepted.is_ok());
+            // Handed back: of what a closure that was given away has changed, nothing is known.
+            (accepted, to)
         },
-    )
+    );
+    accepted
 }
 
 /// Serves the connections that the listener gives, dealt in turn to one worker for each service,
@@ -197,13 +265,19 @@ where
 ///
 /// The listener is closed once no more connections are accepted. After a fault those that are there
 /// were let go of: each once it had nothing under way, or was silent within a request for five
-/// seconds. [`NoMemory`](ServerFault::NoMemory): a growth of `run` itself was refused; a connection
-/// that finds no memory is closed, and is no fault. [`NoThread`](ServerFault::NoThread): the system
-/// refused a thread, and none was accepted. 16 faults of the listener in a row are
+/// seconds.
+///
+/// Once its threads, their polls and their memory are there, and before it accepts, the server is
+/// announced to `to`. Where that fails it ends, and has accepted none.
+///
+/// [`NoMemory`](ServerFault::NoMemory): a growth of `run` itself was refused; a connection
+/// that finds no memory is closed, and is no fault. [`NoPoll`](ServerFault::NoPoll) and
+/// [`NoThread`](ServerFault::NoThread): the system refused a worker what it waits by, or a thread, and
+/// none was accepted. 16 faults of the listener in a row are
 /// [`AcceptFailed`](ServerFault::AcceptFailed); want of descriptors or of memory for a socket is
 /// none. [`PollFailed`](ServerFault::PollFailed): the system didn't let a worker wait: its connections
 /// are closed, with no note, and accepting ends with the next one that is dealt to it.
-pub fn run<X, L, S, B, G, N>(
+pub fn run<X, L, S, B, G, N, T, A>(
     rt: &X,
     alloc: Global,
     listener: &L,
@@ -212,7 +286,9 @@ pub fn run<X, L, S, B, G, N>(
     limits: Limits,
     gate: &G,
     note: &N,
-) -> Result<u64, ServerFault>
+    announce: &A,
+    to: &mut T,
+) -> Result<u64, RunFault>
 where
     X: Threads + Wait + Clock + Net + Sync,
     L: Listen,
@@ -221,13 +297,18 @@ where
     B: Background<Outcome = S::Outcome> + Send + Drop,
     G: Gate + Sync,
     N: Fn(&Note) + Sync,
+    A: Announce<T>,
     requires { N.IsAlwaysCallable note.now }
     ensures asked { IfOk result (λ k. limits.connections ≡ Some k) }
-    ensures deaf { IfErr result (λ fault.
-        fault ≡ ServerFault.AcceptFailed → L.refuses listener.now) }
+    ensures deaf { IfErr result (λ why.
+        why ≡ RunFault.Server ServerFault.AcceptFailed → L.refuses listener.now) }
+    ensures announced { Announced (A.announces announce.now) (A.fails announce.now)
+        to.old result to.new }
 {
-    let services = gate_all(alloc, services, gate)?;
-    let (workers, doors) = open_workers(rt, alloc, services, limits.idle)?;
+    let (workers, doors) = match open_all(rt, alloc, services, gate, limits.idle) {
+        Ok(opened) => opened,
+        Err(fault) => return Err(RunFault::Server(fault)),
+    };
     let failed = AtomicBool::new(false);
     let served = run_threads(
         rt,
@@ -238,9 +319,32 @@ where
         limits,
         &failed,
         note,
+        announce,
+        to,
     );
-    if failed.load(Ordering::SeqCst) {
-        return Err(ServerFault::PollFailed);
+    end_of(served, failed.load(Ordering::SeqCst))
+}
+
+/// How a server ended whose threads ended so: where one of them could wait no longer, that is why,
+/// unless it never began to serve.
+fn end_of(served: Result<u64, RunFault>, has_failed: bool) -> Result<u64, RunFault>
+    ensures { result ≡ end_of served has_failed }
+{
+    if has_failed && was_announced(&served) {
+        return Err(RunFault::Server(ServerFault::PollFailed));
     }
     served
+}
+
+/// Whether a server that ended so had begun to serve.
+fn was_announced(served: &Result<u64, RunFault>) -> bool
+    ensures { result ≡ was_announced served.now }
+{
+    match served {
+        Ok(_) => true,
+        Err(RunFault::Announcement(_)) => false,
+        Err(RunFault::Server(fault)) => {
+            matches!(fault, ServerFault::AcceptFailed | ServerFault::PollFailed)
+        }
+    }
 }

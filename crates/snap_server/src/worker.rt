@@ -1,5 +1,5 @@
 //! One thread that serves many connections.
-ghost use Rattle.std.specs.Prelude.{◌≡◌, ◌≢◌, ◌<◌, length, OnOk, IfOk, IfErr, true, false};
+ghost use Rattle.std.specs.Prelude.{◌≡◌, ◌⊎◌, ◌<◌, length, OnOk, IfOk, IfErr, true, false};
 ghost use Rattle.slab.specs.Slab.{slab_len};
 ghost use Rattle.snap_session.specs.Talk.{Moves};
 
@@ -61,11 +61,11 @@ where
 
 /// What is told of a call that failed.
 fn fault_of(error: io::Error) -> ServerFault
-    ensures { result ≢ ServerFault.AcceptFailed }
+    ensures { (result ≡ ServerFault.NoPoll) ⊎ (result ≡ ServerFault.NoMemory) }
 {
     match error.kind() {
         io::ErrorKind::OutOfMemory => ServerFault::NoMemory,
-        _ => ServerFault::PollFailed,
+        _ => ServerFault::NoPoll,
     }
 }
 
@@ -141,7 +141,8 @@ where
         ensures service { IfOk result (λ made. made.0.sessions.service ≡ service) }
         ensures none { IfOk result (λ made. slab_len made.0.sessions.connections ≡ 0) }
         ensures open { IfOk result (λ made. made.0.is_open ≡ true) }
-        ensures faults { IfErr result (λ fault. fault ≢ ServerFault.AcceptFailed) }
+        ensures faults { IfErr result (λ fault.
+            (fault ≡ ServerFault.NoPoll) ⊎ (fault ≡ ServerFault.NoMemory)) }
     {
         let poll = Poll::new(net).map_err(fault_of)?;
         let waker = Waker::new(poll.registry(), INBOX).map_err(fault_of)?;

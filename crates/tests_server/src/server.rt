@@ -1,5 +1,6 @@
 //! Servers over loopback, with both ends in one process.
 
+mod announcing;
 mod course;
 mod faults;
 mod floods;
@@ -10,7 +11,7 @@ mod talks;
 
 use course::Course;
 use shop::{Shop, Store};
-use snap_server::{Gate, Limits, Listen, Note, ServerFault, Tcp, run};
+use snap_server::{Gate, Limits, Listen, NoAnnouncement, Note, RunFault, ServerFault, Tcp, run};
 use std::alloc::{AllocError, Global};
 use std::io;
 use std::io::{Read, Write};
@@ -67,7 +68,23 @@ fn serve_behind<R: Threads + Wait + Clock + Net + AllocGlobal + Sync, L: Listen,
         return Err(ServerFault::NoMemory);
     };
     let note = |note: &Note| course.note(note);
-    run(rt, alloc, listener, shops, stores, limits, gate, &note)
+    let said = &NoAnnouncement;
+    match run(
+        rt,
+        alloc,
+        listener,
+        shops,
+        stores,
+        limits,
+        gate,
+        &note,
+        said,
+        &mut (),
+    ) {
+        Ok(served) => Ok(served),
+        Err(RunFault::Server(fault)) => Err(fault),
+        Err(RunFault::Announcement(_)) => unreachable!(),
+    }
 }
 
 /// The same, with the course as its gate.

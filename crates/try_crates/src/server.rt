@@ -11,7 +11,7 @@ mod tally;
 
 use crossbeam_channel::{Receiver, Sender};
 use desk::open;
-use snap_server::{Ended, Ending, Limits, Note, ServerFault, Tcp, run};
+use snap_server::{Ended, Ending, Limits, NoAnnouncement, Note, RunFault, Tcp, run};
 use std::alloc::Global;
 use std::io;
 use std::net::{Ipv4Addr, Net, SocketAddr};
@@ -64,7 +64,8 @@ where
     println!(rt; "entered {entered}, left {left}")?;
     match served {
         Ok(k) => println!(rt; "served {k}"),
-        Err(fault) => println!(rt; "{fault}"),
+        Err(RunFault::Server(fault)) => println!(rt; "{fault}"),
+        Err(RunFault::Announcement(error)) => println!(rt; "{error}"),
     }
 }
 
@@ -76,7 +77,7 @@ fn run_desks<X>(
     plan: Plan,
     tally: &Tally,
     to: &Sender<Ended>,
-) -> io::Result<Result<u64, ServerFault>>
+) -> io::Result<Result<u64, RunFault>>
 where
     X: Threads + Wait + Clock + Net + Sync,
 {
@@ -92,7 +93,19 @@ where
         fault_rest: Duration::ZERO,
         idle: None,
     };
-    Ok(run(host, alloc, tcp, desks, stores, limits, tally, &note))
+    let said = &NoAnnouncement;
+    Ok(run(
+        host,
+        alloc,
+        tcp,
+        desks,
+        stores,
+        limits,
+        tally,
+        &note,
+        said,
+        &mut (),
+    ))
 }
 
 /// Prints how each connection ended.

@@ -1,4 +1,4 @@
-use Rattle.std.proofs.Common.{◌≡◌, ◌∷◌, length, not, ap, sym, ◌∙◌, arith}
+use Rattle.std.proofs.Common.{◌≡◌, ◌∷◌, length, not, ap, inr, refl, sym, ◌∙◌, arith}
 use Rattle.std.specs.Vec.Iter.{into_iter_items}
 use Rattle.snap_server.proofs.Made.{made_more, made_all, made_len, pushed, pushed_len}
 use Rattle.snap_server.proofs.server.open_workers.Goals as goal
@@ -7,7 +7,7 @@ pub returns-then-is_err : goal.returns-then-is_err
 returns-then-is_err g c = record {
   workers = tt;
   doors = tt;
-  faults = λ wrong. absurd cc;
+  faults = inr refl;
 }
 
 pub services-preserved : goal.services-preserved

@@ -4,8 +4,8 @@ use denote.Exit.{unseen}
 use denote.Param.Send.{Quiet-if}
 use Rattle.snap_server.proofs.server.run_threads.Goals as goal
 
-pub scoped-requires : goal.scoped-requires
-scoped-requires g c = record {
+pub scoped-accepted-requires : goal.scoped-accepted-requires
+scoped-accepted-requires g c = record {
   at = λ a. (
     (
       search rules,
@@ -27,7 +27,7 @@ scoped-requires g c = record {
       },
       record {
         owned = c.type_bounds.send-S-Outcome.owned;
-        leaving = λ k. Quiet-if (k (of_param 5)) unseen unseen (λ x w. tt) (λ x w. tt);
+        leaving = λ k. Quiet-if (k (of_param 7)) unseen unseen (λ x w. tt) (λ x w. tt);
       },
       search rules,
       search rules,

@@ -1,0 +1,153 @@
+-- What a server has written, step by step.
+use Rattle.std.proofs.Common.{◌≡◌, ℕ, List, Option, Some, Ok, Err, inl, inr, ap, subst}
+use Rattle.std.specs.Io.KnownBytes.{Appends}
+use Rattle.std.specs.declared.io.Error.{Error}
+use Rattle.std.specs.declared.net.socket_addr.SocketAddr.{SocketAddr}
+use Rattle.std.proofs.KnownBytes.{Appends-trans, Appends-kept}
+use Rattle.snap_stream.specs.Streams.{AppendsBeginning}
+use Rattle.snap_stream.proofs.Lines.{beginning_behind}
+use Rattle.snap_restart.specs.Report.{report_text}
+use Rattle.snap_restart.specs.declared.report.Report.{Report}
+use Rattle.snap_server.specs.Announced.{Announced}
+use Rattle.snap_server.specs.declared.fault.RunFault.{RunFault}
+use Rattle.snap_server.specs.declared.fault.RunFault.TheVariants as run
+use Rattle.snap_server.specs.declared.fault.ServerFault.TheVariants as faults
+use Rattle.snap_host.specs.declared.failure.HostFailure.{HostFailure}
+use Rattle.snap_host.specs.declared.failure.HostFailure.TheVariants.{
+  Refused,
+  NoMemory,
+  Address,
+  Output,
+  Server,
+}
+use Rattle.snap_host.specs.Hosting.{
+  EndsServing,
+  ListenFails,
+  PrintFails,
+  failure_of,
+  listening_line,
+  opening_text,
+  served_line,
+}
+
+pub report_failed : (bound : SocketAddr → Type 0) (refused : Error → Type 0) (deaf : Type 0)
+    (connections : Option ℕ) (r : Report) (o n : Option (List ℕ)) (failure : HostFailure)
+    → PrintFails o n (report_text r) failure
+    → EndsServing bound refused deaf connections r o n (Err failure)
+report_failed bound refused deaf connections r o n (Output error) fails = inl fails
+report_failed bound refused deaf connections r o n NoMemory fails = inl fails
+report_failed bound refused deaf connections r o n (Refused segment why) fails = absurd fails
+report_failed bound refused deaf connections r o n (Address error) fails = absurd fails
+report_failed bound refused deaf connections r o n (Server fault) fails = absurd fails
+
+pub listen_failed : (bound : SocketAddr → Type 0) (refused : Error → Type 0) (deaf : Type 0)
+    (connections : Option ℕ) (r : Report) (o n : Option (List ℕ)) (failure : HostFailure)
+    → Appends o n (report_text r) → ListenFails bound refused failure
+    → EndsServing bound refused deaf connections r o n (Err failure)
+listen_failed bound refused deaf connections r o n (Address error) came fails = (fails, came)
+listen_failed bound refused deaf connections r o n NoMemory came fails =
+    inr (fails.0, fails.1, inl came)
+listen_failed bound refused deaf connections r o n (Output error) came fails = absurd fails
+listen_failed bound refused deaf connections r o n (Refused segment why) came fails = absurd fails
+listen_failed bound refused deaf connections r o n (Server fault) came fails = absurd fails
+
+-- the address is bound, and this line names it
+abbrev IsNamed : (bound : SocketAddr → Type 0) (line : List ℕ) → Type 0
+IsNamed bound line = (a : SocketAddr) × bound a × (line ≡ listening_line a)
+
+unchanged : {W : Type 0} (contents : W → Option (List ℕ)) (r : Report) (o : Option (List ℕ))
+    (old new : W) → old ≡ new → Appends o (contents old) (report_text r)
+    → Appends o (contents new) (report_text r)
+unchanged contents r o old new same came =
+    subst (λ w. Appends o (contents w) (report_text r)) same came
+
+-- the report and the address were printed
+pub record IsListening (bound : SocketAddr → Type 0) (r : Report) (o n : Option (List ℕ)) : Type 0
+  where
+    pub address : SocketAddr
+    pub is_bound : bound address
+    pub text : Appends o n (opening_text r address)
+
+pub listening : (bound : SocketAddr → Type 0) (r : Report) (o m n : Option (List ℕ))
+    (line : List ℕ) → Appends o m (report_text r) → IsNamed bound line → Appends m n line
+    → IsListening bound r o n
+listening bound r o m n line came named said = record {
+  address = named.0;
+  is_bound = named.1;
+  text = Appends-trans o m n (report_text r) (listening_line named.0) came
+      (subst (Appends m n) named.2 said);
+}
+
+-- the threads were not started, or ended early, for this reason; `contents` is what a writer holds
+pub ended_early : {W : Type 0} (contents : W → Option (List ℕ)) (bound : SocketAddr → Type 0)
+    (refused : Error → Type 0) (deaf : Type 0) (connections : Option ℕ) (r : Report)
+    (o : Option (List ℕ)) (old new : W) (line : List ℕ) (why : RunFault)
+    → Appends o (contents old) (report_text r) → IsNamed bound line
+    → Announced (λ x y. Appends (contents x) (contents y) line)
+    (λ x y. AppendsBeginning (contents x) (contents y) line) old (Err why) new
+    → (why ≡ run.Server faults.AcceptFailed → deaf)
+    → EndsServing bound refused deaf connections r o (contents new) (Err (failure_of why))
+ended_early contents bound refused deaf connections r o old new line (run.Announcement error) came
+    named has is_deaf = inr (
+      named.0,
+      named.1,
+      inl (beginning_behind o (contents old) (contents new) (report_text r) (listening_line named.0)
+          came (subst (AppendsBeginning (contents old) (contents new)) named.2 has)),
+    )
+ended_early contents bound refused deaf connections r o old new line (run.Server faults.AcceptFailed)
+    came named has is_deaf =
+    let is = listening bound r o (contents old) (contents new) line came named has in
+    ((λ same. is_deaf (ap run.Server same)), (is.address, is.is_bound, is.text))
+ended_early contents bound refused deaf connections r o old new line (run.Server faults.PollFailed)
+    came named has is_deaf =
+    let is = listening bound r o (contents old) (contents new) line came named has in
+    ((λ same. is_deaf (ap run.Server same)), (is.address, is.is_bound, is.text))
+ended_early contents bound refused deaf connections r o old new line (run.Server faults.NoPoll)
+    came named has is_deaf = (
+      (λ same. is_deaf (ap run.Server same)),
+      (named.0, named.1, unchanged contents r o old new has came),
+    )
+ended_early contents bound refused deaf connections r o old new line (run.Server faults.NoThread)
+    came named has is_deaf = (
+      (λ same. is_deaf (ap run.Server same)),
+      (named.0, named.1, unchanged contents r o old new has came),
+    )
+ended_early contents bound refused deaf connections r o old new line (run.Server faults.NoMemory)
+    came named has is_deaf =
+    inr (named.0, named.1, inl (unchanged contents r o old new has came))
+
+pub served_failed : (bound : SocketAddr → Type 0) (refused : Error → Type 0) (deaf : Type 0)
+    (connections : Option ℕ) (r : Report) (o m n : Option (List ℕ)) (k : ℕ)
+    (failure : HostFailure) → IsListening bound r o m → connections ≡ Some k
+    → PrintFails m n (served_line k) failure
+    → EndsServing bound refused deaf connections r o n (Err failure)
+served_failed bound refused deaf connections r o m n k (Output error) is asked fails = inr (
+  is.address,
+  is.is_bound,
+  inr (
+    k,
+    asked,
+    beginning_behind o m n (opening_text r is.address) (served_line k) is.text fails,
+  ),
+)
+served_failed bound refused deaf connections r o m n k NoMemory is asked fails = inr (
+  is.address,
+  is.is_bound,
+  inr (Appends-kept o m n (opening_text r is.address) is.text fails),
+)
+served_failed bound refused deaf connections r o m n k (Refused segment why) is asked fails =
+    absurd fails
+served_failed bound refused deaf connections r o m n k (Address error) is asked fails = absurd fails
+served_failed bound refused deaf connections r o m n k (Server fault) is asked fails = absurd fails
+
+pub served : (bound : SocketAddr → Type 0) (refused : Error → Type 0) (deaf : Type 0)
+    (connections : Option ℕ) (r : Report) (o m n : Option (List ℕ)) (k : ℕ)
+    → IsListening bound r o m
+    → connections ≡ Some k → Appends m n (served_line k)
+    → EndsServing bound refused deaf connections r o n (Ok k)
+served bound refused deaf connections r o m n k is asked came = (
+  is.address,
+  is.is_bound,
+  asked,
+  Appends-trans o m n (opening_text r is.address) (served_line k) is.text came,
+)
