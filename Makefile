@@ -27,9 +27,9 @@ edits:
 new-edits:
 	python3 verification/edits.py $(CRATES)
 
-# The program that tests and benchmarks run beside snapd.
+# The programs that tests and benchmarks run beside snapd.
 programs:
-	python3 verification/build.py try_crates
+	python3 verification/build.py try_crates try_plug
 
 # The end-to-end tests alone.
 tests: programs

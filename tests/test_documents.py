@@ -49,6 +49,6 @@ def test_definitions_stand_where_they_are_named(snapd, random):
         for name, target in DEFINED.findall(document.read_text()):
             source = (document.parent / target).read_text()
             word = re.escape(name)
-            assert re.search(rf"^(?:pub )?(?:abbrev |unfoldable )?(?:pub )?(?:record |data )?{word}(?= |$)", source, re.M), (
+            assert re.search(rf"^ *(?:pub )?(?:abbrev |unfoldable )?(?:pub )?(?:record |data )?{word}(?= |$)", source, re.M), (
                 f"{document.name}: {target} has no {name}"
             )

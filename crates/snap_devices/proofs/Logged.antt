@@ -5,6 +5,7 @@ use Rattle.std.proofs.Common.{
   inr,
   ⊎_elim,
   ℕ,
+  Bool,
   List,
   ◌∷◌,
   length,
@@ -31,37 +32,42 @@ length_fit len bytes = omega (
   length-replicate {A = ℕ} len 0,
 )
 
-pub size_same : (len : ℕ) (held : List (List ℕ)) (calls calls' : List Call)
-    → length (device_after len held calls').bytes ≡ length (device_after len held calls).bytes
-size_same len held calls calls' = length_fit len _ ∙ sym (length_fit len _)
+pub size_same : (len : ℕ) (first : List Bool) (held : List (List ℕ)) (calls calls' : List Call)
+    → length (device_after len first held calls').bytes
+    ≡ length (device_after len first held calls).bytes
+size_same len first held calls calls' = length_fit len _ ∙ sym (length_fit len _)
 
-elapses_on : (len : ℕ) (held : List (List ℕ)) (calls : List Call) (e : Call)
-    → Elapses (length calls) (length (e ∷ calls)) (LeftSince len held calls)
-    (LeftSince len held (e ∷ calls)) (device_after len held (e ∷ calls))
-elapses_on len held calls e = record {
+elapses_on : (len : ℕ) (first : List Bool) (held : List (List ℕ)) (calls : List Call) (e : Call)
+    → Elapses (length calls) (length (e ∷ calls)) (LeftSince len first held calls)
+    (LeftSince len first held (e ∷ calls)) (device_after len first held (e ∷ calls))
+elapses_on len first held calls e = record {
   later = omega arith;
   nothing_else = λ t b le left. ⊎_elim (λ now. inr now.1) (λ past. inl past) left;
   keeps = λ t b le past. inr past;
 }
 
 -- the same at an equal list
-pub elapses : (len : ℕ) (held : List (List ℕ)) (calls calls' : List Call) (e : Call)
+pub elapses : (len : ℕ) (first : List Bool) (held : List (List ℕ)) (calls calls' : List Call)
+    (e : Call)
     → calls' ≡ e ∷ calls
-    → Elapses (length calls) (length calls') (LeftSince len held calls) (LeftSince len held calls')
-    (device_after len held calls')
-elapses len held calls calls' e is =
+    → Elapses (length calls) (length calls') (LeftSince len first held calls)
+    (LeftSince len first held calls') (device_after len first held calls')
+elapses len first held calls calls' e is =
     subst (λ (c : List Call).
-    Elapses (length calls) (length c) (LeftSince len held calls) (LeftSince len held c)
-    (device_after len held c)) (sym is) (elapses_on len held calls e)
+    Elapses (length calls) (length c) (LeftSince len first held calls)
+    (LeftSince len first held c) (device_after len first held c)) (sym is)
+    (elapses_on len first held calls e)
 
 -- an honest log says what its newest call did
-pub honest : (len : ℕ) (held : List (List ℕ)) (calls calls' : List Call) (e : Call)
-    → calls' ≡ e ∷ calls → IsHonestLog len held calls'
-    → IsHonestLog len held calls
-    × IsHonestCall e (device_after len held calls) (device_after len held calls')
-honest len held calls calls' e is =
-    subst (λ (c : List Call). IsHonestLog len held c → IsHonestLog len held calls
-    × IsHonestCall e (device_after len held calls) (device_after len held c)) (sym is) (λ h. h)
+pub honest : (len : ℕ) (first : List Bool) (held : List (List ℕ)) (calls calls' : List Call)
+    (e : Call)
+    → calls' ≡ e ∷ calls → IsHonestLog len first held calls'
+    → IsHonestLog len first held calls
+    × IsHonestCall e (device_after len first held calls) (device_after len first held calls')
+honest len first held calls calls' e is =
+    subst (λ (c : List Call). IsHonestLog len first held c → IsHonestLog len first held calls
+    × IsHonestCall e (device_after len first held calls) (device_after len first held c)) (sym is)
+    (λ h. h)
 
 -- what a call that is noted needs
 pub ruleset noted = (length_fit, size_same, elapses, honest)

@@ -7,7 +7,6 @@ use Rattle.std.specs.Prelude.{
   ◌≤◌,
   ◌<◌,
   Bool,
-  true,
   false,
   ◌||◌,
   List,
@@ -44,22 +43,24 @@ use Rattle.snap_devices.specs.declared.call.Call.TheVariants.{
 unfoldable pub fit : ℕ → List ℕ → List ℕ
 fit len bytes = take len (bytes ++ replicate len 0)
 
--- The places that are open after these calls, of which the newest comes first. At first each may be
--- open.
-abbrev pub open_after : List Call → ℕ → Bool
-open_after [] p = true
-open_after (Gave at bytes ∷ earlier) p = open_after earlier p
-open_after (ReadFailed ∷ earlier) p = open_after earlier p
-open_after (Wrote at bytes ∷ earlier) p = in_range at (length bytes.items) p || open_after earlier p
-open_after (WriteFailed at count ∷ earlier) p = in_range at count p || open_after earlier p
-open_after (Synced ∷ earlier) p = false
-open_after (SyncFailed ∷ earlier) p = open_after earlier p
+-- The places that are open after these calls, of which the newest comes first. At first these are
+-- open: what was written of the file before, and not synced.
+abbrev pub open_after : List Bool → List Call → ℕ → Bool
+open_after first [] p = slice_index_or first p false
+open_after first (Gave at bytes ∷ earlier) p = open_after first earlier p
+open_after first (ReadFailed ∷ earlier) p = open_after first earlier p
+open_after first (Wrote at bytes ∷ earlier) p =
+    in_range at (length bytes.items) p || open_after first earlier p
+open_after first (WriteFailed at count ∷ earlier) p =
+    in_range at count p || open_after first earlier p
+open_after first (Synced ∷ earlier) p = false
+open_after first (SyncFailed ∷ earlier) p = open_after first earlier p
 
 -- the device after these calls: `held` lists what it held at first and after each call
-abbrev pub device_after : ℕ → List (List ℕ) → List Call → Device
-device_after len held calls = record {
+abbrev pub device_after : ℕ → List Bool → List (List ℕ) → List Call → Device
+device_after len first held calls = record {
   bytes = fit len (slice_index_or held (length calls) []);
-  is_open = open_after calls;
+  is_open = open_after first calls;
 }
 
 -- this call did what a device's call does
@@ -74,33 +75,34 @@ IsHonestCall Synced old new = IsSynced old new
 IsHonestCall SyncFailed old new = IsUnsynced old new
 
 -- so did each of them
-abbrev pub IsHonestLog : ℕ → List (List ℕ) → List Call → Type 0
-IsHonestLog len held [] = Unit {0}
-IsHonestLog len held (e ∷ earlier) = IsHonestLog len held earlier
-    × IsHonestCall e (device_after len held earlier) (device_after len held (e ∷ earlier))
+abbrev pub IsHonestLog : ℕ → List Bool → List (List ℕ) → List Call → Type 0
+IsHonestLog len first held [] = Unit {0}
+IsHonestLog len first held (e ∷ earlier) = IsHonestLog len first held earlier
+    × IsHonestCall e (device_after len first held earlier)
+    (device_after len first held (e ∷ earlier))
 
 -- a crash after call t or later could have left b
-abbrev pub LeftSince : ℕ → List (List ℕ) → List Call → ℕ → List ℕ → Type 0
-LeftSince len held [] t b = (t ≤ 0) × MayLeave (device_after len held []) b
-LeftSince len held (e ∷ earlier) t b =
-    ((t ≤ length (e ∷ earlier)) × MayLeave (device_after len held (e ∷ earlier)) b)
-    ⊎ LeftSince len held earlier t b
+abbrev pub LeftSince : ℕ → List Bool → List (List ℕ) → List Call → ℕ → List ℕ → Type 0
+LeftSince len first held [] t b = (t ≤ 0) × MayLeave (device_after len first held []) b
+LeftSince len first held (e ∷ earlier) t b =
+    ((t ≤ length (e ∷ earlier)) × MayLeave (device_after len first held (e ∷ earlier)) b)
+    ⊎ LeftSince len first held earlier t b
 
-pub counts_now : (len : ℕ) (held : List (List ℕ)) (calls : List Call) (t : ℕ) (b : List ℕ)
-    → t ≤ length calls → MayLeave (device_after len held calls) b → LeftSince len held calls t b
-counts_now len held [] t b le now = (le, now)
-counts_now len held (e ∷ earlier) t b le now = inl (le, now)
+pub counts_now : (len : ℕ) (first : List Bool) (held : List (List ℕ)) (calls : List Call) (t : ℕ) (b : List ℕ)
+    → t ≤ length calls → MayLeave (device_after len first held calls) b → LeftSince len first held calls t b
+counts_now len first held [] t b le now = (le, now)
+counts_now len first held (e ∷ earlier) t b le now = inl (le, now)
 
-not_before : (len : ℕ) (held : List (List ℕ)) (calls : List Call) (t : ℕ) (b : List ℕ)
-    → length calls < t → LeftSince len held calls t b → ⊥
-not_before len held [] t b later left = absurd (omega (arith, left.0))
-not_before len held (e ∷ earlier) t b later (inl now) = absurd (omega (arith, now.0))
-not_before len held (e ∷ earlier) t b later (inr past) =
-    not_before len held earlier t b (omega arith) past
+not_before : (len : ℕ) (first : List Bool) (held : List (List ℕ)) (calls : List Call) (t : ℕ) (b : List ℕ)
+    → length calls < t → LeftSince len first held calls t b → ⊥
+not_before len first held [] t b later left = absurd (omega (arith, left.0))
+not_before len first held (e ∷ earlier) t b later (inl now) = absurd (omega (arith, now.0))
+not_before len first held (e ∷ earlier) t b later (inr past) =
+    not_before len first held earlier t b (omega arith) past
 
-pub only_now : (len : ℕ) (held : List (List ℕ)) (calls : List Call) (b : List ℕ)
-    → LeftSince len held calls (length calls) b → MayLeave (device_after len held calls) b
-only_now len held [] b left = left.1
-only_now len held (e ∷ earlier) b (inl now) = now.1
-only_now len held (e ∷ earlier) b (inr past) =
-    absurd (not_before len held earlier (length (e ∷ earlier)) b (omega arith) past)
+pub only_now : (len : ℕ) (first : List Bool) (held : List (List ℕ)) (calls : List Call) (b : List ℕ)
+    → LeftSince len first held calls (length calls) b → MayLeave (device_after len first held calls) b
+only_now len first held [] b left = left.1
+only_now len first held (e ∷ earlier) b (inl now) = now.1
+only_now len first held (e ∷ earlier) b (inr past) =
+    absurd (not_before len first held earlier (length (e ∷ earlier)) b (omega arith) past)

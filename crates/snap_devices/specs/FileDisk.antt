@@ -9,9 +9,10 @@ abbrev pub file_held : {R : Type 0} → FileDisk R → List (List ℕ)
 file_held disk = map (λ bytes. bytes.items) disk.held.items
 
 abbrev pub file_device : {R : Type 0} → FileDisk R → Device
-file_device disk = device_after disk.len (file_held disk) disk.calls.items
+file_device disk =
+    device_after disk.len disk.open_at_first.items (file_held disk) disk.calls.items
 
--- No call was made, and so none failed, and each place may be open.
+-- No call was made, and so none failed.
 pub record IsUncalled {R : Type 0} (disk : FileDisk R) : Type 0 where
   pub log : disk.calls.items ≡ []
   pub failures : disk.failures ≡ 0

@@ -105,8 +105,10 @@ pub enum CallFault {
 /// Each method makes the call of the system that it is named for, and then notes it. A sync also
 /// asks whether the path still names the file, and fails where it doesn't. It is honest
 /// where every noted call did what the model of [`Disk`] says, after a sync that failed too, and
-/// nobody else writes the file. At first every place may be open, which is the weakest assumption:
-/// only a sync that succeeds closes them.
+/// nobody else writes the file. Which places are open at first no contract says: those that were
+/// written before and not synced, by a process that ended or before a crash, which leaves them
+/// open. A sync that succeeds closes them. So what is proved holds where each is open, and where a
+/// premise says that no more are than a crash left.
 ///
 /// Why a call failed is told to nobody, unless [`FileDisk::telling`] says to whom.
 #[derive(Drop)]
@@ -123,6 +125,8 @@ pub struct FileDisk<'p, R> {
     calls: Log<Call>,
     /// What the file held at first and after each call. No contract says that.
     held: Log<Log<u8>>,
+    /// Which places were open at first. No contract says that either.
+    open_at_first: Log<bool>,
 }
 
 impl<'p, R: Files<File = fs::File> + Clock> FileDisk<'p, R> {
@@ -212,6 +216,7 @@ impl<'p, R: Files<File = fs::File> + Clock> FileDisk<'p, R> {
             told: None,
             calls: Log::new(),
             held: Log::unknown(),
+            open_at_first: Log::unknown(),
         }
     }
 
@@ -306,16 +311,18 @@ impl<R: Files<File = fs::File> + Clock> Disk for FileDisk<'_, R> {
 
     ghost failure_count = { λ f. f.failures };
 
-    ghost is_honest = { λ f. IsHonestLog f.len (file_held f) f.calls.items };
+    ghost is_honest = { λ f. IsHonestLog f.len f.open_at_first.items (file_held f) f.calls.items };
 
     ghost clock = { λ f. length f.calls.items };
 
-    ghost might_have_left = { λ f t b. LeftSince f.len (file_held f) f.calls.items t b };
+    ghost might_have_left = { λ f t b.
+        LeftSince f.len f.open_at_first.items (file_held f) f.calls.items t b };
 
     ghost counts_now = { λ f t b h le now.
-        counts_now f.len (file_held f) f.calls.items t b le now };
+        counts_now f.len f.open_at_first.items (file_held f) f.calls.items t b le now };
 
-    ghost only_now = { λ f b h left. only_now f.len (file_held f) f.calls.items b left };
+    ghost only_now = { λ f b h left.
+        only_now f.len f.open_at_first.items (file_held f) f.calls.items b left };
 
     fn len(&self) -> u64 {
         self.len

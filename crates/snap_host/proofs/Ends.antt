@@ -1,5 +1,5 @@
 -- How a server's end follows from its opening.
-use Rattle.std.proofs.Common.{◌≡◌, ℕ, List, map, length, Option, Ok, Err, sym, ◌∙◌}
+use Rattle.std.proofs.Common.{◌≡◌, ℕ, List, map, length, Option, Ok, Err, refl, sym, ◌∙◌}
 use Rattle.std.proofs.lemmas.Simd.{map-map}
 use Rattle.std.specs.declared.io.Error.{Error}
 use Rattle.std.specs.declared.net.socket_addr.SocketAddr.{SocketAddr}
@@ -8,6 +8,7 @@ use Rattle.snap_disk.specs.declared.refusal.Refusal.{Refusal}
 use Rattle.snap_history.specs.Pairs.{Pairs}
 use Rattle.snap_writer.specs.Writer.{WriterState}
 use Rattle.snap_restart.specs.Opened.{IsOpened, recovered}
+use Rattle.snap_restart.specs.Crashing.{AreOpened}
 use Rattle.snap_restart.specs.declared.report.Report.{Report}
 use Rattle.snap_host.specs.declared.failure.HostFailure.TheVariants.{
   Refused,
@@ -37,9 +38,13 @@ pub reported : {D : Type 0} (device : D → Device) (failures : D → ℕ) (hone
     → Pairs (IsOpened device failures honest clock might_have_left (length devices)) devices
     (map (λ w. w.segment) writers)
     → r.segments.items ≡ map (λ w. recovered w.segment) writers
+    → AreOpened device honest clock might_have_left devices writers
     → IsReportOf device failures honest clock might_have_left devices r
-reported device failures honest clock might_have_left devices writers r opened says = record {
+reported device failures honest clock might_have_left devices writers r opened says crash = record {
   segments = map (λ w. w.segment) writers;
   opened = opened;
   says = says ∙ sym (map-map recovered (λ w. w.segment) writers);
+  writers = writers;
+  theirs = refl;
+  crash = crash;
 }

@@ -29,6 +29,7 @@ use Rattle.snap_disk.specs.declared.refusal.Refusal.{Refusal}
 use Rattle.snap_disk.specs.declared.refusal.Refusal.TheVariants as refusal
 use Rattle.snap_history.specs.Pairs.{Pairs}
 use Rattle.snap_segment.specs.Segment.{SegmentState}
+use Rattle.snap_writer.specs.Writer.{WriterState}
 use Rattle.snap_stream.specs.Streams.{
   AppendsBeginning,
   Complains,
@@ -39,6 +40,7 @@ use Rattle.snap_stream.specs.Streams.{
 use Rattle.snap_order.specs.declared.status.Status.{Status}
 use Rattle.snap_order.specs.declared.status.Status.TheVariants as status
 use Rattle.snap_restart.specs.Opened.{IsOpened, IsStopped, recovered}
+use Rattle.snap_restart.specs.Crashing.{AreOpened, StayKept}
 use Rattle.snap_restart.specs.Report.{report_text}
 use Rattle.snap_restart.specs.declared.report.Report.{Report}
 use Rattle.snap_server.specs.declared.fault.RunFault.{RunFault}
@@ -83,7 +85,8 @@ opening_text report a = report_text report ++ listening_line a
 abbrev pub whole_text : Report → SocketAddr → ℕ → List ℕ
 whole_text report a k = opening_text report a ++ served_line k
 
--- each of the devices was opened, and the report says what was found
+-- Each of the devices was opened, and the report says what was found. Whatever is served then, a crash
+-- of all devices at any moment is recovered as one memory (`AreOpened`).
 pub record IsReportOf {D : Type 0} (device : D → Device) (failures : D → ℕ) (honest : D → Type 0)
     (clock : D → ℕ) (might_have_left : D → ℕ → List ℕ → Type 0) (devices : List D)
     (report : Report) : Type 0 where
@@ -91,14 +94,18 @@ pub record IsReportOf {D : Type 0} (device : D → Device) (failures : D → ℕ
   pub opened : Pairs (IsOpened device failures honest clock might_have_left (length devices))
       devices segments
   pub says : report.segments.items ≡ map recovered segments
+  pub writers : List (WriterState D)
+  pub theirs : segments ≡ map (λ (w : WriterState D). w.segment) writers
+  pub crash : AreOpened device honest clock might_have_left devices writers
 
--- the opening of these devices was refused at this segment
+-- the opening of these devices was refused at this segment, and a crash leaves what one before could
 abbrev pub IsStopOf : {D : Type 0} (device : D → Device) (failures : D → ℕ) (honest : D → Type 0)
     (clock : D → ℕ) (might_have_left : D → ℕ → List ℕ → Type 0) (devices : List D) → ℕ → Refusal
     → Type 0
 IsStopOf device failures honest clock might_have_left devices segment why =
     (news : List _)
     × IsStopped device failures honest clock might_have_left devices news why segment
+    × StayKept device honest clock might_have_left devices news
 
 -- Of the text no more than a beginning was written: no address that isn't bound, and no number but
 -- the one that was asked for.

@@ -5,3 +5,5 @@ pub mod Returning
 pub mod Splicing
 pub mod Starting
 pub mod Stopping
+pub mod Crashing
+pub mod Lasting

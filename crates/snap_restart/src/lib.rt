@@ -4,10 +4,12 @@
 
 mod closing;
 mod keep;
+mod laws;
 mod opening;
 mod report;
 mod store;
 
+pub use laws::restart_laws;
 pub use opening::Stopped;
 pub use report::{Recovered, Report};
 pub use store::{LOOKS, Store, open_all};

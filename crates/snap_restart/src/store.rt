@@ -30,6 +30,7 @@ ghost use Rattle.snap_writer.specs.Writer.{IsPaired};
 ghost use Rattle.snap_restart.specs.Closed.{AreBack, IsHistory, HoldsAfter};
 ghost use Rattle.snap_restart.specs.Opened.{IsOpened, IsStopped, AreFresh, Starts};
 ghost use Rattle.snap_restart.specs.Opened.{recovered, contents};
+ghost use Rattle.snap_restart.specs.Crashing.{AreOpened, StayKept, AnyCut};
 
 use crate::closing::{gather, release_all};
 use crate::keep::keep;
@@ -74,6 +75,13 @@ impl<D: Disk + Drop> Store<D> {
             × IsHistory h self.writers.items self.scanners.items
             × ((i : ℕ) (w : _) → slice_get self.writers.items i ≡ Some w
             → HoldsAfter D.device D.is_honest h i w) }
+
+        // A crash of all devices at any time before, that found them so that nobody had seen an
+        // update which its writer hadn't shown, is recovered as one memory.
+        ensures crash { (h : List Update)
+            × IsHistory h self.writers.items self.scanners.items
+            × AnyCut D.device D.is_honest D.clock D.might_have_left h self.writers.items
+            self.scanners.items }
     {
         let Store {
             mut writers,
@@ -113,6 +121,18 @@ pub fn open_all<D: Disk + Drop>(
     ensures back { IfOk result (λ r. AreBack r.0.writers.items r.0.scanners.items) }
     ensures report { IfOk result (λ r.
         r.1.segments.items ≡ map (λ w. recovered w.segment) r.0.writers.items) }
+
+    // A crash of all devices at any moment from now on is recovered as the memory after the history
+    // of that moment, followed by at most one begun update of each writer. Where the files hold what
+    // such a crash left, the history before it goes on.
+    ensures crash { IfOk result (λ r. AreOpened D.device D.is_honest D.clock D.might_have_left
+        devices.items r.0.writers.items) }
+
+    // A crash during the opening, however it ends, leaves the memory that was there before.
+    ensures kept_ok { IfOk result (λ r. StayKept D.device D.is_honest D.clock D.might_have_left
+        devices.items (map (λ w. w.segment.device) r.0.writers.items)) }
+    ensures kept_err { IfErr result (λ e. StayKept D.device D.is_honest D.clock D.might_have_left
+        devices.items e.devices.items) }
 
     // After a refusal no writer exists, and all devices come back.
     ensures stopped { IfErr result (λ e.

@@ -13,7 +13,6 @@ use Rattle.std.specs.Prelude.{
 }
 use Rattle.snap_server.specs.declared.fault.RunFault.{RunFault}
 use Rattle.snap_server.specs.declared.fault.RunFault.TheVariants.{Server, Announcement}
-use Rattle.snap_server.specs.declared.fault.ServerFault.{ServerFault}
 use Rattle.snap_server.specs.declared.fault.ServerFault.TheVariants as faults
 
 -- A server that has served was announced before, once; one that the system or want of memory kept

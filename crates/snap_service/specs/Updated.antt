@@ -23,6 +23,7 @@ use Rattle.snap_writer.specs.Judge.{IsJudged, IsAnswer}
 use Rattle.snap_writer.specs.declared.judgement.Judgement.{Judgement}
 use Rattle.snap_writer.specs.declared.judgement.Judgement.TheVariants.{Go}
 use Rattle.snap_writer.specs.Update.{IsSameSeat, Advances, Fails}
+use Rattle.snap_writer.specs.Life.{HasLived, StoresFirst}
 use Rattle.snap_frame.specs.declared.reply.Reply.{Reply}
 use Rattle.snap_service.specs.Settled.{reply_of}
 
@@ -43,6 +44,8 @@ pub record IsUpdated {D : Type 0} (device : D → Device) (failures : D → ℕ)
       (clock old.segment.device) (clock new.segment.device)
   pub left : IsJudged old k v Go → TakesLooks old.seat new.seat
   pub below : IsJudged old k v Go → IsBelow new.seat
+  pub lived : HasLived device honest clock might_have_left old new
+  pub stored_first : IsJudged old k v Go → StoresFirst device honest clock might_have_left v old new
   pub any_time : honest new.segment.device → old.segment.begun ≡ None
       → LeavesOnly clock might_have_left old.segment.device new.segment.device
       (IsEither old.segment.index old.segment.count (number_of old) (value_of old) v)

@@ -29,12 +29,12 @@ use Rattle.std.proofs.Common.{
 }
 use Rattle.std.specs.Int.{w32, to_be_bytes}
 use Rattle.snap_frame.specs.declared.request.Request.{Request}
-use Rattle.snap_frame.specs.Messages.{frame, payload}
+use Rattle.snap_frame.specs.Messages.{max_payload, frame, payload}
 use Rattle.snap_frame.specs.Stream.{HasFrame, HasLongLength}
 use Rattle.snap_frame.specs.declared.reply.Reply.{Reply}
 use Rattle.snap_frame.specs.declared.frame_buffer.Failure.{Failure}
 use Rattle.snap_frame.specs.declared.frame_buffer.Failure.TheVariants.{TooLarge, NoMemory}
-use Rattle.snap_frame.specs.Messages.{says}
+use Rattle.snap_frame.specs.Messages.{says, IsInLimits}
 use Rattle.snap_session.specs.Talk.{
   refused_too_large,
   Talk,
@@ -266,14 +266,15 @@ owes_held old y new false owes = ap (λ (z : Talk). z.held) owes
 -- a request that was handed over is answered
 pub finishes : {S : Type 0} (gives : S → Request → Reply → S
     → Type 0) (s t : S) (old mid new : Talk) (q : Request) (r : Reply) (ok : Bool) → old.over ≡ None
-    → old.asked ≡ Some q → mid ≡ record old { asked = None } → gives s q r t
-    → Owes mid (says r) new ok → Goes Stays gives s t old [] [] new
-finishes gives s t old mid new q r ok going asked is given owes =
+    → old.asked ≡ Some q → mid ≡ record old { asked = None } → gives s q r t → IsInLimits r
+    → length (payload q) ≤ max_payload → Owes mid (says r) new ok
+    → Goes Stays gives s t old [] [] new
+finishes gives s t old mid new q r ok going asked is given limits fits owes =
     answers gives s t old mid new (payload q) (says r) ok going
     (came_asked old q asked ∙ ap (λ zs. frame (payload q) ++ zs) (sym (ap came is)))
     (ap owed_of is)
     (ap over_of is ∙ going)
-    (inl (q, r, refl, given, refl))
+    (fits, inl (q, r, refl, given, (limits, refl)))
     owes
 
 -- nobody waits for an outcome

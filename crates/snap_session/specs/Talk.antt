@@ -18,7 +18,7 @@ use Rattle.std.specs.Prelude.{
   false,
 }
 use Rattle.snap_frame.specs.declared.request.Request.{Request}
-use Rattle.snap_frame.specs.Messages.{max_payload, payload, frame, Asks, Malformed, says}
+use Rattle.snap_frame.specs.Messages.{max_payload, payload, frame, Asks, Malformed, Says, says}
 use Rattle.snap_frame.specs.Stream.{HasLongLength}
 use Rattle.snap_frame.specs.declared.reply.Reply.{Reply}
 use Rattle.snap_frame.specs.declared.reply.Reply.TheVariants.{Refused}
@@ -59,13 +59,13 @@ abbrev pub frames : List (List ℕ) → List ℕ
 frames [] = []
 frames (x ∷ xs) = frame x ++ frames xs
 
--- a service in this state answers the payload so: a request by a reply of its own, any other one is
--- refused as malformed
+-- a service in this state answers the payload so, which fits a frame: a request by a reply of its own,
+-- within the limits of replies; any other one is refused as malformed
 abbrev pub Answer : {S : Type 0} → (S → Request → Reply → S → Type 0) → S → List ℕ → List ℕ → S
     → Type 0
-Answer {S} gives old x y new =
-    ((q : Request) × (r : Reply) × Asks x q × gives old q r new × (y ≡ says r))
-    ⊎ (Malformed x × (new ≡ old) × (y ≡ refused_malformed))
+Answer {S} gives old x y new = (length x ≤ max_payload)
+    × (((q : Request) × (r : Reply) × Asks x q × gives old q r new × Says y r)
+    ⊎ (Malformed x × (new ≡ old) × (y ≡ refused_malformed)))
 
 -- The payloads are answered so, one after another. Between two of them, and before and behind all,
 -- the service may move by `between`.

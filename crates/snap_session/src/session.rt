@@ -4,9 +4,9 @@
 //! peer. It reads and writes nothing itself: somebody gives it what came, has it answer, and
 //! takes off what was written, in any pieces and any order of these calls (`specs/Talk.antt`).
 ghost use Rattle.std.specs.Prelude.{◌≡◌, ◌≤◌, ◌<◌, ◌+◌, ◌↔◌, IsTrue, [], length, drop};
-ghost use Rattle.std.specs.Prelude.{Some, None, true, false};
+ghost use Rattle.std.specs.Prelude.{Some, None, IfSome, true, false};
 ghost use Rattle.snap_frame.specs.Stream.{IsPartial};
-ghost use Rattle.snap_frame.specs.Messages.{says, IsInLimits};
+ghost use Rattle.snap_frame.specs.Messages.{max_payload, payload, says, IsInLimits};
 ghost use Rattle.snap_session.specs.Talk.{
   Talk,
   Goes,
@@ -70,7 +70,9 @@ pub struct Session {
 }
 
 impl Model for Session {
-    ghost use Rattle.std.specs.Prelude.{◌≡◌, None};
+    ghost use Rattle.std.specs.Prelude.{◌≡◌, ◌≤◌, None, length};
+    ghost use Rattle.std.specs.Option.{ForSome};
+    ghost use Rattle.snap_frame.specs.Messages.{max_payload, payload};
     ghost use Rattle.snap_session.specs.Talk.{Talk};
 
     ghost Value = { Talk };
@@ -82,7 +84,8 @@ impl Model for Session {
       over = s.over;
     } };
 
-    ghost invariant = { λ s. s.over ≡ None → s.feed.failure ≡ None };
+    ghost invariant = { λ s. (s.over ≡ None → s.feed.failure ≡ None)
+        × ForSome s.asked (λ q. length (payload q) ≤ max_payload) };
 }
 
 impl Session {
@@ -190,6 +193,7 @@ impl Session {
     /// Takes back a request that was handed over.
     fn take_asked(&mut self) -> Option<Request>
         ensures asked { result ≡ self.old.asked }
+        ensures fits { IfSome result (λ q. length (payload q) ≤ max_payload) }
         ensures rest { self.new ≡ record self.old { asked = None } }
     {
         self.asked.take()
@@ -197,6 +201,7 @@ impl Session {
 
     /// Keeps a request that was handed over.
     fn keep(&mut self, request: Request)
+        requires { length (payload request) ≤ max_payload }
         ensures { self.new ≡ record self.old { asked = Some request } }
     {
         self.asked = Some(request);

@@ -1,19 +1,5 @@
 -- Some rule applies to every update.
-use Rattle.std.proofs.Common.{
-  rules,
-  ◌≡◌,
-  ℕ,
-  ◌+◌,
-  ◌<◌,
-  ◌≤◌,
-  List,
-  length,
-  Option,
-  Some,
-  None,
-  refl,
-  arith,
-}
+use Rattle.std.proofs.Common.{rules, ◌≡◌, ℕ, ◌+◌, List, length, Option, Some, None, refl, arith}
 use mathlib.Core.Logic.{dite}
 use mathlib.Core.List.{List-discrete}
 use native.Mathlib.Decide.{dec_le, ℕ_discrete}

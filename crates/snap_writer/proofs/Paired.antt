@@ -1,8 +1,8 @@
 -- A writer's file beside what its seat has seen, after a scan and after an update.
-use Rattle.std.proofs.Common.{◌≡◌, ℕ, ◌+◌, ◌<◌, List, sym, subst, ◌∙◌, arith}
+use Rattle.std.proofs.Common.{◌≡◌, ℕ, ◌+◌, List, sym, ◌∙◌, arith}
 use Rattle.snap_segment.specs.Segment.{SegmentState}
-use Rattle.snap_register.specs.Seat.{Known, Grows, own_of, number_in, value_in}
-use Rattle.snap_writer.specs.Writer.{WriterState, number_of, value_of, IsPaired}
+use Rattle.snap_register.specs.Seat.{Known, Grows, own_of, number_in}
+use Rattle.snap_writer.specs.Writer.{IsPaired}
 use Rattle.snap_writer.specs.Update.{IsSameSeat, EndsWith}
 use Rattle.snap_writer.proofs.Shown.{number_grown, value_grown, number_shown, value_shown}
 

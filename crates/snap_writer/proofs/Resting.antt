@@ -1,5 +1,5 @@
 -- A file on which no call was made.
-use Rattle.std.proofs.Common.{◌≡◌, ℕ, Bool, List, Option, None, inl, subst}
+use Rattle.std.proofs.Common.{◌≡◌, ℕ, List, Option, None, inl, subst}
 use Rattle.snap_disk.specs.Device.{Device, MayLeave, LeavesOnly}
 use Rattle.snap_disk.specs.Laws.{started}
 use Rattle.snap_slot.specs.States.{IsAtRest, IsEither}

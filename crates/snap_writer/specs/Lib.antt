@@ -1,3 +1,4 @@
 pub mod Judge
+pub mod Life
 pub mod Update
 pub mod Writer

@@ -2,7 +2,6 @@
 use Rattle.std.specs.Prelude.{◌≡◌, ℕ, ◌+◌, List, [], ◌∷◌, ◌++◌, Some, true}
 use Rattle.snap_history.specs.History.{Update, updates_of}
 use Rattle.snap_register.specs.Seat.{Known, Grows, own_of}
-use Rattle.snap_segment.specs.Segment.{SegmentState}
 use Rattle.snap_writer.specs.Writer.{WriterState}
 
 -- the seat is where it was: at the same table, with the same segment to write

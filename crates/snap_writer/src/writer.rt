@@ -23,17 +23,18 @@ ghost use Rattle.snap_slot.specs.States.{IsEither};
 ghost use Rattle.snap_persist.specs.Stage.{store_calls};
 ghost use Rattle.snap_segment.specs.Segment.{CountsRefusal, IsKept};
 ghost use Rattle.snap_register.specs.Seat.{AreTogether, Meets, IsBelow, own_of};
-ghost use Rattle.snap_register.specs.Seat.{number_in, value_in};
+ghost use Rattle.snap_register.specs.Seat.{number_in, value_in, MayPublish, Shows};
 ghost use Rattle.snap_memory.specs.Scans.{CanScan, TakesLooks};
 ghost use Rattle.snap_writer.specs.Writer.{number_of, value_of};
 ghost use Rattle.snap_writer.specs.Judge.{IsJudged, IsAnswer};
 ghost use Rattle.snap_writer.specs.Update.{IsSameSeat, Advances, Fails};
+ghost use Rattle.snap_writer.specs.Life.{HasLived, IsShown, StoresFirst};
 
 use crate::judgement::Judgement;
 use snap_disk::{Disk, Refusal};
 use snap_history::{LAST_NUMBER, MAX_VALUE_LEN};
 use snap_memory::{Scanner, prepare, show};
-use snap_register::{Looker, WriteSeat};
+use snap_register::{Looker, View, WriteSeat};
 use snap_scan::most_looks;
 use snap_segment::Segment;
 use std::marker::Model;
@@ -152,6 +153,12 @@ impl<D: Disk> Writer<D> {
             → TakesLooks self.old.seat self.new.seat }
         ensures below { IsJudged self.old number value.now Judgement.Go → IsBelow self.new.seat }
 
+        // It is a part of its writer's life. One that goes on stores first and shows second.
+        ensures lived { HasLived D.device D.is_honest D.clock D.might_have_left self.old self.new }
+        ensures stored_first { IsJudged self.old number value.now Judgement.Go
+            → StoresFirst D.device D.is_honest D.clock D.might_have_left value.now
+            self.old self.new }
+
         // A crash at any time during the call leaves the number and value that were shown last, or
         // the begun ones.
         ensures any_time { D.is_honest self.new.segment.device → self.old.segment.begun ≡ None
@@ -194,6 +201,7 @@ impl<D: Disk> Writer<D> {
         ensures met { scanner.new.seen ≡ self.new.seat.seen }
         ensures below { IsBelow scanner.new }
         ensures segment { self.new.segment ≡ self.old.segment }
+        ensures lived { HasLived D.device D.is_honest D.clock D.might_have_left self.old self.new }
     {
         scanner.meet(&mut self.seat);
     }
@@ -213,6 +221,7 @@ impl<D: Disk> Writer<D> {
     // the fence. Whatever it is, nothing was called, so the file is as it rests.
     fn judge(&self, number: u64, value: &[u8]) -> Judgement
         ensures rule { IsJudged self.now number value.now result }
+        ensures shown { IsShown self.now }
         ensures kept { D.is_honest self.now.segment.device
             → IsKept self.now.segment.index self.now.segment.count
             (number_of self.now) (value_of self.now) self.now.segment.begun
@@ -279,6 +288,22 @@ impl<D: Disk> Writer<D> {
     {
         let view = prepare(&mut self.seat);
         self.segment.store(value)?;
-        Ok(show(&mut self.seat, value, view))
+        Ok(show_stored(&self.segment, &mut self.seat, view))
     }
+}
+
+/// Shows the update that the segment has stored, with this view, and answers its number: the segment
+/// is one update ahead of what the seat has shown, and no store of it has failed, so its device holds
+/// what is shown.
+fn show_stored<D: Disk>(segment: &Segment<D>, seat: &mut WriteSeat, view: View) -> u64
+    requires ahead { segment.now.number
+        ≡ number_in seat.old seat.old.seen (own_of seat.old) + 1 }
+    requires unfenced { segment.now.begun ≡ None }
+    requires view { MayPublish seat.old view }
+    ensures shown { Shows seat.old seat.new segment.now.value }
+    ensures below { IsBelow seat.new }
+    ensures number { result ≡ number_in seat.new seat.new.seen (own_of seat.new) }
+{
+    let _number = segment.number();
+    show(seat, segment.value(), view)
 }

@@ -9,13 +9,13 @@ ghost use Rattle.std.specs.Prelude.{◌≡◌, ◌<◌, ◌≤◌, length, IfOk}
 ghost use Rattle.snap_register.specs.Seat.{AreTogether};
 ghost use Rattle.snap_restart.specs.Closed.{AreBack};
 
-use crate::files::{new_memories, try_open_all};
 use snap_devices::MemDisk;
 use snap_disk::{Fill, Refusal};
 use snap_memory::{Scanner, Snapshot};
 use snap_restart::Store;
 use snap_writer::Writer;
 use std::io;
+use try_parts::{new_memories, try_open_all};
 
 const FILES: u8 = 3;
 

@@ -20,7 +20,6 @@
 
 mod allocations;
 mod bench;
-mod files;
 mod server;
 mod sweeps;
 mod threads;

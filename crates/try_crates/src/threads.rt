@@ -9,12 +9,11 @@ mod draw;
 mod generation;
 mod worker;
 
-use crate::files::new_memories;
-use draw::Draw;
+use draw::plan_all;
 use generation::{Outcome, crash_all, end, open, stored_by, work_all};
 use std::io;
 use std::thread::Threads;
-use worker::SEGMENTS;
+use try_parts::{Draw, SEGMENTS, new_memories};
 
 const GENERATIONS: u64 = 200;
 
@@ -27,7 +26,7 @@ pub(crate) fn crash_often<X: Threads + Sync>(host: &X, rt: &HostRuntime) -> io::
         shown: [0; SEGMENTS],
     };
     for generation in 1..=GENERATIONS {
-        draw.plan_all(rt.alloc(), &mut devices)?;
+        plan_all(rt.alloc(), &mut devices, &mut draw)?;
         let mut workers = open(rt.alloc(), devices, &last)?;
         let [a, b, c, d] = stored_by(&workers);
         print!(rt; "generation {generation} starts at {a} {b} {c} {d}, ")?;

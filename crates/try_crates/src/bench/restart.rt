@@ -11,7 +11,6 @@
 //!
 //! makes the files of 16 segments in FOLDER, opens all of them for 16 scanners in each round, and then
 //! syncs and reads each of them. It prints the nanoseconds of both, a line a round.
-use crate::files::{formatted, new_memory, opened_all};
 use snap_devices::FileDisk;
 use snap_disk::Disk;
 use snap_restart::Store;
@@ -21,6 +20,7 @@ use snap_writer::Writer;
 use std::alloc::Global;
 use std::io;
 use std::time::Instant;
+use try_parts::{formatted, new_memory, opened_all};
 
 /// How many files are opened at once.
 const FILES: u8 = 16;

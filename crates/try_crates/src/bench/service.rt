@@ -20,7 +20,6 @@ ghost use Rattle.snap_restart.specs.Closed.{AreBack};
 ghost use Rattle.snap_service.specs.Memory.{AreWriters, IsOf};
 
 use crate::bench::calls::call_rounds;
-use crate::files::{new_memories, opened_all};
 use bytes::Bytes;
 use snap_devices::MemDisk;
 use snap_frame::{Reply, Request};
@@ -33,6 +32,7 @@ use std::alloc::{AllocError, Global};
 use std::marker::Brand;
 use std::sync::Wait;
 use std::{io, mem};
+use try_parts::{new_memories, opened_all};
 
 /// What a round does.
 #[derive(Clone, Copy)]

@@ -1,6 +1,5 @@
 //! A migration that is stopped. Its calls are counted over both files: two of the old one, and then
 //! those of the new one.
-use crate::files::as_io;
 use crate::sweeps::segment::restarted;
 use crate::sweeps::stop::{Garbage, Stop};
 use snap_devices::{FaultPlan, MemDisk};
@@ -10,6 +9,7 @@ use snap_slot::FILE_LEN;
 use std::alloc::Global;
 use std::io;
 use std::string::String;
+use try_parts::as_io;
 
 /// The calls of a migration on the old file, which come first.
 const OLD_CALLS: u64 = 2;

@@ -1,5 +1,4 @@
 //! An opening of three files that is stopped, and what they are opened as after the crash.
-use crate::files::{as_io, new_memory, try_open_all};
 use crate::sweeps::segment::open_segment;
 use crate::sweeps::stop::{Garbage, Stop};
 use snap_devices::{FaultPlan, MemDisk};
@@ -7,6 +6,7 @@ use snap_disk::{Disk, Fill, Refusal};
 use std::alloc::Global;
 use std::io;
 use std::string::String;
+use try_parts::{as_io, new_memory, try_open_all};
 
 /// What the stopped opening answered, and what the files are opened as after a crash with this
 /// garbage.

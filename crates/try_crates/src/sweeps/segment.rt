@@ -1,5 +1,4 @@
 //! A formatting and stores that are stopped, and what is found after the crash.
-use crate::files::{as_io, new_memory};
 use crate::sweeps::stop::{Garbage, Stop};
 use snap_devices::{FaultPlan, MemDisk};
 use snap_disk::{Disk, Refusal};
@@ -8,6 +7,7 @@ use snap_slot::FILE_LEN;
 use std::alloc::Global;
 use std::io;
 use std::string::String;
+use try_parts::{as_io, new_memory};
 
 /// What a stopped formatting answers, and what is found after a crash with this garbage: what the
 /// file is opened as, and what a second formatting answers.

@@ -1,5 +1,4 @@
 //! The runs that are stopped.
-use crate::files::new_memory;
 use crate::sweeps::migration::migration_cell;
 use crate::sweeps::opening::opening_cell;
 use crate::sweeps::segment::{format_cell, store_cell, with_hi};
@@ -7,6 +6,7 @@ use crate::sweeps::stop::{Garbage, Stop};
 use std::alloc::Global;
 use std::io;
 use std::string::String;
+use try_parts::new_memory;
 
 /// What is run until a device call fails.
 #[derive(Clone, Copy)]

@@ -1,16 +1,15 @@
 //! One run between an opening of all files and the crash that ends it.
 ghost use Rattle.std.specs.Prelude.{◌<◌};
 
-use crate::files::opened_all;
-use crate::threads::draw::Draw;
-use crate::threads::worker::{Client, Numbers, SEGMENTS, Watcher, Worker, is_value_of, work};
+use crate::threads::worker::{Client, Worker, work};
 use snap_devices::MemDisk;
-use snap_memory::{Scanner, Snapshot};
+use snap_memory::Scanner;
 use snap_writer::Writer;
 use std::alloc::Global;
 use std::io;
 use std::sync::atomic::AtomicU64;
 use std::thread::{Threads, for_each_mut};
+use try_parts::{Draw, Numbers, SEGMENTS, Watcher, is_value_of, opened_all};
 
 const SCANNERS: usize = 2;
 
@@ -74,12 +73,7 @@ fn watchers_of(
     last: &Outcome,
 ) -> io::Result<()> {
     for scanner in scanners {
-        workers.push(Worker::Watcher(Watcher {
-            scanner,
-            snapshot: Snapshot::new(alloc, SEGMENTS)?,
-            shown: last.shown,
-            is_right: true,
-        }))?;
+        workers.push(Worker::Watcher(Watcher::new(alloc, scanner, last.shown)?))?;
     }
     Ok(())
 }

@@ -7,6 +7,7 @@ use Rattle.snap_restart.specs.Opened.{AreFresh, IsOpened, IsStopped, recovered}
 use Rattle.snap_restart.specs.Closed.{AreBack}
 use Rattle.snap_restart.proofs.Stopping.{stopped_last}
 use Rattle.snap_restart.proofs.Starting.{map_both, starts_are, fresh_are, back_are, paired_are}
+use Rattle.snap_restart.proofs.Crashing.{opened, kept_opened, kept_stopped}
 use Rattle.snap_restart.proofs.store.open_all.Goals as goal
 
 pub seat_writers-requires-clause-starts : goal.seat_writers-requires-clause-starts
@@ -52,6 +53,25 @@ returns-in-Ok-prepare-clause-back g c =
     c.seat_writers.result.items c.seat_writers.ensures.seats count.0 (omega arith) (omega arith)
     (omega arith) seats.2 seats.3 seats.4)
 
+pub returns-in-Ok-prepare-clause-crash : goal.returns-in-Ok-prepare-clause-crash
+returns-in-Ok-prepare-clause-crash g c =
+    opened g.D.Disk.device g.D.Disk.is_honest g.D.Disk.clock g.D.Disk.might_have_left
+    g.D.Disk.failure_count c.args.devices.items c.seat_writers.result.items
+    c.seat_scanners.result.items (returns-in-Ok-prepare-clause-fresh g c)
+    (returns-in-Ok-prepare-clause-opened g c) (returns-in-Ok-prepare-clause-starts g c)
+    (returns-in-Ok-prepare-clause-back g c)
+
+pub returns-in-Ok-prepare-clause-kept_ok : goal.returns-in-Ok-prepare-clause-kept_ok
+returns-in-Ok-prepare-clause-kept_ok g c =
+    kept_opened g.D.Disk.device g.D.Disk.is_honest g.D.Disk.clock g.D.Disk.might_have_left
+    g.D.Disk.failure_count c.args.devices.items c.seat_writers.result.items
+    (returns-in-Ok-prepare-clause-opened g c)
+
+pub returns-in-Err-clause-kept_err : goal.returns-in-Err-clause-kept_err
+returns-in-Err-clause-kept_err g c =
+    kept_stopped g.D.Disk.device g.D.Disk.is_honest g.D.Disk.clock g.D.Disk.might_have_left
+    g.D.Disk.failure_count c.args.devices.items _ _ _ c.in-Err.ensures.stopped
+
 pub returns-in-Ok-prepare-clause-report : goal.returns-in-Ok-prepare-clause-report
 returns-in-Ok-prepare-clause-report g c =
     c.in-Ok-prepare.ensures.report ∙ (ap (map recovered) (sym c.seat_writers.ensures.segments)
@@ -71,6 +91,12 @@ returns-in-Err-prepare-clause-stopped g c =
     (size ∙ sym count)
     (stopped_last g.D.Disk.device g.D.Disk.failure_count g.D.Disk.is_honest g.D.Disk.clock
     g.D.Disk.might_have_left ds c.release.new.devices.items ss opened news)
+
+pub returns-in-Err-prepare-clause-kept_err : goal.returns-in-Err-prepare-clause-kept_err
+returns-in-Err-prepare-clause-kept_err g c =
+    kept_stopped g.D.Disk.device g.D.Disk.is_honest g.D.Disk.clock g.D.Disk.might_have_left
+    g.D.Disk.failure_count c.args.devices.items c.release.new.devices.items NoMemory _
+    (returns-in-Err-prepare-clause-stopped g c)
 
 pub prepare-requires-clause-count : goal.prepare-requires-clause-count
 prepare-requires-clause-count g c = rw (← c.in-Ok.ensures.opened.size) c.requires.count

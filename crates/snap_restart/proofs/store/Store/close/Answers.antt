@@ -3,6 +3,7 @@ use Rattle.snap_segment.specs.Segment.{SegmentState}
 use Rattle.snap_writer.specs.Writer.{WriterState}
 use Rattle.snap_restart.specs.Closed.{HasMet}
 use Rattle.snap_restart.proofs.Meetings.{pairs_mapped, holds_after}
+use Rattle.snap_restart.proofs.Crashing.{any_cut}
 use Rattle.snap_restart.proofs.store.Store.close.Goals as goal
 
 pub returns-clause-devices : goal.returns-clause-devices
@@ -19,4 +20,13 @@ returns-clause-history g c =
       holds_after g.D.Disk.device g.D.Disk.is_honest history.0 c.args.self.writers.items
           c.gather.new.writers.items c.args.self.scanners.items c.requires.back history.1
           c.gather.ensures.met c.release_all.ensures.rests,
+    )
+
+pub returns-clause-crash : goal.returns-clause-crash
+returns-clause-crash g c =
+    let history = c.gather.ensures.history in (
+      history.0,
+      history.1,
+      any_cut g.D.Disk.device g.D.Disk.is_honest g.D.Disk.clock g.D.Disk.might_have_left history.0
+          c.args.self.writers.items c.args.self.scanners.items c.requires.back history.1,
     )

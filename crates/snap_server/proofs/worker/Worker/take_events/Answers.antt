@@ -1,4 +1,4 @@
-use Rattle.std.proofs.Common.{[], ◌∙◌}
+use Rattle.std.proofs.Common.{[]}
 use Rattle.snap_session.proofs.Runs.{moves_joins}
 use Rattle.snap_server.proofs.worker.Worker.take_events.Goals as goal
 

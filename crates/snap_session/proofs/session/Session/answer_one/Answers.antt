@@ -1,4 +1,4 @@
-use Rattle.std.proofs.Common.{◌≡◌, refl, ap, subst, sym, inl, inr, ◌∙◌, Some, None}
+use Rattle.std.proofs.Common.{◌≡◌, length, refl, ap, subst, sym, inl, inr, ◌∙◌, Some, None, arith}
 use Rattle.snap_frame.specs.declared.frame_buffer.Failure.TheVariants.{TooLarge, NoMemory}
 use Rattle.snap_session.specs.Talk.{refused_malformed, refused_too_large}
 use Rattle.snap_frame.specs.Messages.{says}
@@ -28,14 +28,22 @@ returns-in-Some-clause-goes g c =
     let h = c.in-Asked.ensures in
     answers g.S.Service.gives _ _ c.args.self.now c.hear.new.self c.owe.new.self h.0
     (says c.in-Some.reply) c.owe.result c.requires.going
-    (found_first c.args.self.now c.hear.new.self h.0 c.requires.free h.1 h.5) h.3 h.4
-    (inl (
-      c.in-Asked.request,
-      c.in-Some.reply,
-      h.2,
-      c.in-Some.ensures.gives,
-      refl,
-    )) c.owe.ensures.owes
+    (found_first c.args.self.now c.hear.new.self h.0 c.requires.free h.1 h.5) h.3 h.4 (
+      h.1.fits,
+      inl (
+        c.in-Asked.request,
+        c.in-Some.reply,
+        h.2,
+        c.in-Some.ensures.gives,
+        (c.in-Some.ensures.limits, refl),
+      ),
+    ) c.owe.ensures.owes
+
+pub keep-requires : goal.keep-requires
+keep-requires g c =
+    let h = c.in-Asked.ensures in
+    let fits = h.1.fits in
+    omega (arith, fits, ap length h.2)
 
 pub returns-in-None-clause-goes : goal.returns-in-None-clause-goes
 returns-in-None-clause-goes g c =
@@ -49,11 +57,10 @@ returns-in-Malformed-clause-goes g c =
     let h = c.in-Malformed.ensures in
     answers g.S.Service.gives _ _ c.args.self.now c.hear.new.self c.owe-in-Malformed.new.self h.0 _
     c.owe-in-Malformed.result c.requires.going
-    (found_first c.args.self.now c.hear.new.self h.0 c.requires.free h.1 h.5) h.3 h.4 (inr (
-      h.2,
-      refl,
-      refl,
-    )) c.owe-in-Malformed.ensures.owes
+    (found_first c.args.self.now c.hear.new.self h.0 c.requires.free h.1 h.5) h.3 h.4 (
+      h.1.fits,
+      inr (h.2, refl, refl),
+    ) c.owe-in-Malformed.ensures.owes
 
 pub returns-in-TooLarge-clause-goes : goal.returns-in-TooLarge-clause-goes
 returns-in-TooLarge-clause-goes g c =

@@ -1,7 +1,5 @@
-use Rattle.std.proofs.Common.{rules, ◌≡◌, ℕ, ◌+◌, ◌^◌, ◌<◌, ap, subst, sym, arith, Result, Ok, Err, List}
+use Rattle.std.proofs.Common.{rules, ◌≡◌, ℕ, ◌+◌, ap, subst, Result, Ok, Err, List}
 use Rattle.std.specs.Result.{OnErr}
-use Rattle.snap_register.specs.Seat.{own_of, number_in}
-use Rattle.snap_segment.specs.Segment.{SegmentState}
 use Rattle.snap_disk.specs.declared.refusal.Refusal.TheVariants.{DeviceFailed}
 use Rattle.snap_slot.specs.States.{IsEither}
 use Rattle.snap_writer.specs.Writer.{WriterState, number_of, value_of}
@@ -9,16 +7,20 @@ use Rattle.snap_writer.specs.Update.{IsSameSeat, EndsWith}
 use Rattle.snap_writer.proofs.Shown.{number_grown, number_shown, same_shown, ends_with}
 use Rattle.snap_writer.proofs.Paired.{paired_grown, paired_shown}
 use Rattle.snap_writer.proofs.writer.Writer.advance.Goals as goal
-use Rattle.snap_writer.proofs.writer.Writer.advance.Goals.{After-show}
+use Rattle.snap_writer.proofs.writer.Writer.advance.Goals.{After-show_stored}
 
-same : (g : _) (c : After-show g) → IsSameSeat c.self.inside.seat c.show.new.seat
-same g c = same_shown c.self.inside.seat c.prepare-view.new.seat c.show.new.seat _
-    c.prepare-view.ensures.seen c.show.ensures.shown
+same : (g : _) (c : After-show_stored g) → IsSameSeat c.self.inside.seat c.show_stored.new.seat
+same g c = same_shown c.self.inside.seat c.prepare-view.new.seat c.show_stored.new.seat _
+    c.prepare-view.ensures.seen c.show_stored.ensures.shown
 
-ends : (g : _) (c : After-show g)
-    → EndsWith c.self.inside.seat c.show.new.seat c.args.value.now
-ends g c = ends_with c.self.inside.seat c.prepare-view.new.seat c.show.new.seat _
-    c.prepare-view.ensures.seen c.self.invariant.alone c.show.ensures.shown
+stored : (g : _) (c : After-show_stored g) → c.store.new.self.value ≡ c.args.value.now
+stored g c = search rules
+
+ends : (g : _) (c : After-show_stored g)
+    → EndsWith c.self.inside.seat c.show_stored.new.seat c.args.value.now
+ends g c = subst (λ (v : List ℕ). EndsWith c.self.inside.seat c.show_stored.new.seat v) (stored g c)
+    (ends_with c.self.inside.seat c.prepare-view.new.seat c.show_stored.new.seat _
+    c.prepare-view.ensures.seen c.self.invariant.alone c.show_stored.ensures.shown)
 
 pub invariant_of-self : goal.invariant_of-self
 invariant_of-self g c =
@@ -27,8 +29,8 @@ invariant_of-self g c =
     paired_grown c.self.inside.segment c.store.new.self c.self.inside.seat c.prepare-view.new.seat
     c.self.invariant c.prepare-view.ensures.seen number value
 
-pub show-requires-clause-next : goal.show-requires-clause-next
-show-requires-clause-next g c =
+pub show_stored-requires-clause-ahead : goal.show_stored-requires-clause-ahead
+show_stored-requires-clause-ahead g c =
     let scanned = number_grown c.self.inside.seat c.prepare-view.new.seat
     c.prepare-view.ensures.seen c.self.invariant.alone in
     let next = c.requires.next in
@@ -38,19 +40,19 @@ pub invariant_of-self-2 : goal.invariant_of-self-2
 invariant_of-self-2 g c =
     let number : c.store.new.self.number ≡ c.self.inside.segment.number + 1 = search rules in
     let value : c.store.new.self.value ≡ c.args.value.now = search rules in
-    paired_shown c.self.inside.segment c.store.new.self c.self.inside.seat c.show.new.seat
+    paired_shown c.self.inside.segment c.store.new.self c.self.inside.seat c.show_stored.new.seat
     c.args.value.now c.self.invariant (same g c) (ends g c) number value
 
 pub returns-clause-answer : goal.returns-clause-answer
 returns-clause-answer g c =
-    let shown = number_shown c.self.inside.seat c.show.new.seat _ (same g c) (ends g c) in
-    let number = c.show.ensures.number in
+    let shown = number_shown c.self.inside.seat c.show_stored.new.seat _ (same g c) (ends g c) in
+    let number = c.show_stored.ensures.number in
     search rules
 
 pub returns-clause-advances : goal.returns-clause-advances
 returns-clause-advances g c =
-    let shown : EndsWith c.args.self.now.seat c.show.new.seat c.args.value.now =
-    subst (λ (w : WriterState _). EndsWith w.seat c.show.new.seat c.args.value.now) c.self.view_is
+    let shown : EndsWith c.args.self.now.seat c.show_stored.new.seat c.args.value.now =
+    subst (λ (w : WriterState _). EndsWith w.seat c.show_stored.new.seat c.args.value.now) c.self.view_is
     (ends g c) in
     record { stored = search rules; shown = shown }
 
@@ -73,5 +75,5 @@ returns-in_err-store-clause-either g c = λ honest.
     (subst (λ (u : List ℕ). IsEither s.index s.count s.number u c.args.value.now b)
     c.self.invariant.value_is is)))
 
-pub show-requires-clause-view : goal.show-requires-clause-view
-show-requires-clause-view g c = search rules
+pub show_stored-requires-clause-view : goal.show_stored-requires-clause-view
+show_stored-requires-clause-view g c = search rules

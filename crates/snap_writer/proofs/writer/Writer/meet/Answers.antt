@@ -1,8 +1,17 @@
-use Rattle.std.proofs.Common.{refl}
+use Rattle.std.proofs.Common.{rules, refl, subst}
 use Rattle.snap_writer.proofs.Paired.{paired_grown}
+use Rattle.snap_register.specs.Seat.{Meets}
+use Rattle.snap_writer.specs.Writer.{WriterState}
+use Rattle.snap_writer.proofs.Living.{met}
 use Rattle.snap_writer.proofs.writer.Writer.meet.Goals as goal
 
 pub invariant_of-self : goal.invariant_of-self
 invariant_of-self g c = let s = c.self.inside.segment in
     paired_grown s s c.self.inside.seat c.meet.new.writer c.self.invariant
     c.meet.ensures.writer.grows refl refl
+
+pub returns-clause-lived : goal.returns-clause-lived
+returns-clause-lived g c = met g.D.Disk.device g.D.Disk.is_honest g.D.Disk.clock
+    g.D.Disk.might_have_left c.args.self.now _ (search rules)
+    (subst (λ (w : WriterState _). Meets w.seat c.meet.new.writer) c.self.view_is
+    c.meet.ensures.writer)

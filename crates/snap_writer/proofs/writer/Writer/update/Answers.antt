@@ -1,5 +1,6 @@
-use Rattle.std.proofs.Common.{rules}
+use Rattle.std.proofs.Common.{rules, ◌≡◌, [], None, refl}
 use Rattle.snap_writer.proofs.Resting.{rests}
+use Rattle.snap_writer.proofs.Living.{went_on, lived_first}
 use Rattle.snap_writer.proofs.writer.Writer.update.Goals as goal
 
 pub returns-in-TooLong-clause-any_time : goal.returns-in-TooLong-clause-any_time
@@ -61,3 +62,38 @@ returns-in-Go-clause-calls g c = search rules
 
 pub returns-in-Fenced-clause-judged : goal.returns-in-Fenced-clause-judged
 returns-in-Fenced-clause-judged g c = search rules
+
+pub returns-in-TooLong-clause-lived : goal.returns-in-TooLong-clause-lived
+returns-in-TooLong-clause-lived g c = ([], refl)
+
+pub returns-in-Stored-clause-lived : goal.returns-in-Stored-clause-lived
+returns-in-Stored-clause-lived g c = ([], refl)
+
+pub returns-in-Conflict-clause-lived : goal.returns-in-Conflict-clause-lived
+returns-in-Conflict-clause-lived g c = ([], refl)
+
+pub returns-in-OutOfStep-clause-lived : goal.returns-in-OutOfStep-clause-lived
+returns-in-OutOfStep-clause-lived g c = ([], refl)
+
+pub returns-in-Exhausted-clause-lived : goal.returns-in-Exhausted-clause-lived
+returns-in-Exhausted-clause-lived g c = ([], refl)
+
+pub returns-in-Fenced-clause-lived : goal.returns-in-Fenced-clause-lived
+returns-in-Fenced-clause-lived g c = ([], refl)
+
+pub returns-in-Worn-clause-lived : goal.returns-in-Worn-clause-lived
+returns-in-Worn-clause-lived g c = ([], refl)
+
+pub returns-in-Go-clause-stored_first : goal.returns-in-Go-clause-stored_first
+returns-in-Go-clause-stored_first g c = λ judged.
+    let unfenced : c.args.self.now.segment.begun ≡ None = search rules in
+    went_on g.D.Disk.device g.D.Disk.is_honest g.D.Disk.clock g.D.Disk.might_have_left _
+    c.args.value.now c.args.self.now c.advance.new.self c.advance.result c.judge.ensures.shown
+    unfenced refl c.advance.ensures.same_seat c.advance.ensures.advances c.advance.ensures.fails
+    c.advance.ensures.any_time c.advance.ensures.last c.advance.ensures.either
+
+pub returns-in-Go-clause-lived : goal.returns-in-Go-clause-lived
+returns-in-Go-clause-lived g c =
+    lived_first g.D.Disk.device g.D.Disk.is_honest g.D.Disk.clock g.D.Disk.might_have_left
+    c.args.value.now c.args.self.now c.advance.new.self
+    (returns-in-Go-clause-stored_first g c c.in-Go.ensures.rule)

@@ -12,7 +12,7 @@ use std::io;
 use std::io::ErrorKind;
 
 /// The device as the new file of this segment of so many.
-pub(crate) fn formatted<D: Disk + Drop>(disk: D, index: u8, count: u8) -> io::Result<D> {
+pub fn formatted<D: Disk + Drop>(disk: D, index: u8, count: u8) -> io::Result<D> {
     let mut disk = disk;
     if index >= count || count > 16 || disk.failures() != 0 {
         return Err(io::Error::other("no such segment"));
@@ -24,12 +24,12 @@ pub(crate) fn formatted<D: Disk + Drop>(disk: D, index: u8, count: u8) -> io::Re
 }
 
 /// The same in memory.
-pub(crate) fn new_memory(alloc: Global, index: u8, count: u8) -> io::Result<MemDisk> {
+pub fn new_memory(alloc: Global, index: u8, count: u8) -> io::Result<MemDisk> {
     formatted(MemDisk::zeroed(alloc, FILE_LEN as usize)?, index, count)
 }
 
 /// The new files of so many segments, in memory.
-pub(crate) fn new_memories(alloc: Global, count: u8) -> io::Result<Vec<MemDisk>> {
+pub fn new_memories(alloc: Global, count: u8) -> io::Result<Vec<MemDisk>> {
     let mut devices = Vec::new(alloc);
     for index in 0..count {
         devices.push(new_memory(alloc, index, count)?)?;
@@ -38,7 +38,7 @@ pub(crate) fn new_memories(alloc: Global, count: u8) -> io::Result<Vec<MemDisk>>
 }
 
 /// Opens all files for so many scanners.
-pub(crate) fn try_open_all<D: Disk + Drop>(
+pub fn try_open_all<D: Disk + Drop>(
     alloc: Global,
     devices: Vec<D>,
     scanners: usize,
@@ -57,7 +57,7 @@ pub(crate) fn try_open_all<D: Disk + Drop>(
 }
 
 /// The same, where nothing is to refuse it.
-pub(crate) fn opened_all<D: Disk + Drop>(
+pub fn opened_all<D: Disk + Drop>(
     alloc: Global,
     devices: Vec<D>,
     scanners: usize,
@@ -72,7 +72,7 @@ pub(crate) fn opened_all<D: Disk + Drop>(
 }
 
 /// The refusal as an error of the program.
-pub(crate) fn as_io(why: Refusal) -> io::Error {
+pub fn as_io(why: Refusal) -> io::Error {
     match why {
         Refusal::NoMemory => ErrorKind::OutOfMemory.into(),
         _ => ErrorKind::InvalidData.into(),

@@ -1,0 +1,87 @@
+-- What a crash leaves of one writer's device: the number and the value shown last, or the next number
+-- with a value that was begun.
+use Rattle.std.proofs.Common.{◌≡◌, ◌⊎◌, ⊎_elim, ℕ, ◌+◌, inl, inr, List, Option, Some, None, refl, ap, sym, subst, ◌∙◌}
+use Rattle.snap_disk.specs.Device.{Device, MayLeave}
+use Rattle.snap_slot.specs.Layout.{IsFileOf}
+use Rattle.snap_segment.specs.Segment.{SegmentState}
+use Rattle.snap_register.specs.declared.plan.Plan.{Plan}
+use Rattle.snap_writer.specs.Writer.{WriterState, number_of, value_of}
+use Rattle.snap_writer.specs.Life.{
+  Place,
+  HasBegun,
+  IsShown,
+  IsAhead,
+  HoldsOf,
+  Leaves,
+  CrashLeaves,
+  IsWriterOf,
+  IsMidStore,
+  IsPlaceOf,
+}
+
+-- the same file, by other names
+same_file : (i j n m k l : ℕ) (v w b : List ℕ) → i ≡ j → n ≡ m → k ≡ l → v ≡ w → IsFileOf i n k v b
+    → IsFileOf j m l w b
+same_file i j n m k l v w b ei en ek ev is =
+    subst (λ (y : ℕ × ℕ × ℕ × List ℕ). IsFileOf y.0 y.1 y.2 y.3 b)
+    (λ t. (ei t, en t, ek t, ev t)) is
+
+-- of a segment without a fence a crash leaves just what is stored
+unfenced : {D : Type 0} (s : SegmentState D) (b : List ℕ) → s.begun ≡ None → HoldsOf s b
+    → IsFileOf s.index s.count s.number s.value b
+unfenced s b none (inl is) = is
+unfenced s b none (inr failed) =
+    let both : None ≡ Some failed.0 = sym none ∙ failed.1 in
+    absurd (cc both)
+
+module _ {D : Type 0} (device : D → Device) (honest : D → Type 0) (clock : D → ℕ)
+    (might_have_left : D → ℕ → List ℕ → Type 0) (plan : Plan) (n i : ℕ) where
+  abbrev pub LeftOf : Place D → List ℕ → Type 0
+  LeftOf p b = IsFileOf i n (number_of p.writer) (value_of p.writer) b
+      ⊎ ((v : List ℕ) × HasBegun p v × IsFileOf i n (number_of p.writer + 1) v b)
+
+  resting_leaves : (w : WriterState D) (storing : Option (List ℕ × D))
+      → IsWriterOf device honest clock might_have_left plan n i w → honest w.segment.device
+      → (b : List ℕ) → MayLeave (device w.segment.device) b
+      → LeftOf (record { writer = w; storing = storing }) b
+  resting_leaves w storing is hon b left =
+      ⊎_elim
+      (λ (shown : IsShown w).
+      ⊎_elim
+      (λ old. inl (same_file _ _ _ _ _ _ _ _ b is.index_is is.count_is shown.0 shown.1 old))
+      (λ new. inr (
+        new.0,
+        inr (inl new.1),
+        same_file _ _ _ _ _ _ _ _ b is.index_is is.count_is (ap (λ (k : ℕ). k + 1) shown.0) refl
+            new.2,
+      ))
+      (is.rests hon b left))
+      (λ (ahead : IsAhead w).
+      inr (
+        w.segment.value,
+        inr (inr (ahead, refl)),
+        same_file _ _ _ _ _ _ _ _ b is.index_is is.count_is ahead.0 refl
+            (unfenced w.segment b ahead.1 (is.rests hon b left)),
+      ))
+      is.stored
+
+  left_at : (w : WriterState D) (storing : Option (List ℕ × D))
+      → IsWriterOf device honest clock might_have_left plan n i w
+      → IsMidStore device honest clock might_have_left w storing → (b : List ℕ)
+      → Leaves device honest clock might_have_left w storing b
+      → LeftOf (record { writer = w; storing = storing }) b
+  left_at w None is mid b left = resting_leaves w None is left.0 b left.1
+  left_at w (Some s) is mid b left =
+      let shown = mid.0 in
+      ⊎_elim
+      (λ old. inl (same_file _ _ _ _ _ _ _ _ b is.index_is is.count_is shown.0 shown.1 old))
+      (λ new. inr (
+        s.0,
+        inl refl,
+        same_file _ _ _ _ _ _ _ _ b is.index_is is.count_is (ap (λ (k : ℕ). k + 1) shown.0) refl new,
+      ))
+      (mid.1 left.0 b left.1)
+
+  pub crash_leaves : (p : Place D) → IsPlaceOf device honest clock might_have_left plan n i p
+      → (b : List ℕ) → CrashLeaves device honest clock might_have_left p b → LeftOf p b
+  crash_leaves p is b left = left_at p.writer p.storing is.writer_is is.storing_is b left

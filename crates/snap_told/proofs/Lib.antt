@@ -1,0 +1,5 @@
+pub mod Telling
+pub mod Reading
+pub mod Running
+pub mod Calling
+pub mod Standing

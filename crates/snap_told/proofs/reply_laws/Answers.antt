@@ -1,0 +1,11 @@
+use Rattle.snap_told.proofs.Telling.{stored, snapshot, replied}
+use Rattle.snap_told.proofs.reply_laws.Goals as goal
+
+pub returns-clause-stored : goal.returns-clause-stored
+returns-clause-stored c = stored
+
+pub returns-clause-scanned : goal.returns-clause-scanned
+returns-clause-scanned c = snapshot
+
+pub returns-clause-replied : goal.returns-clause-replied
+returns-clause-replied c = replied

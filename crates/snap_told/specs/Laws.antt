@@ -1,0 +1,135 @@
+-- What a service, a session and a client tell stands in every history that begins with what the
+-- service's scanner had seen. So it stands in what a crash at any moment leaves.
+use Rattle.std.specs.Prelude.{◌≡◌, ℕ, ◌<◌, List, [], ◌∷◌, ◌++◌, length, map, All, Option, Some, Ok, slice_get}
+use Rattle.atomic_table.specs.Table.{State}
+use Rattle.snap_disk.specs.Device.{Device}
+use Rattle.snap_history.specs.History.{Update, Start, IsBeginning}
+use Rattle.snap_history.specs.Pairs.{Pairs}
+use Rattle.snap_register.specs.declared.plan.SeatView.{SeatView}
+use Rattle.snap_register.specs.History.{starts, updates}
+use Rattle.snap_register.specs.Rule.{segments, Kept}
+use Rattle.snap_register.specs.Seat.{Known, IsMemory}
+use Rattle.snap_writer.specs.Writer.{WriterState}
+use Rattle.snap_writer.specs.Life.{Place, CrashLeaves}
+use Rattle.snap_frame.specs.declared.request.Request.{Request}
+use Rattle.snap_frame.specs.declared.reply.Reply.{Reply}
+use Rattle.snap_frame.specs.declared.reply.Reply.TheVariants.{Stored, Snapshot}
+use Rattle.snap_session.specs.Talk.{Talk, Moves}
+use Rattle.snap_session.specs.Talk as session
+use Rattle.snap_session.specs.Turns.{Turns}
+use Rattle.snap_service.specs.Answers.{Answers, AnswersUpdate, AnswersScan, pair_of}
+use Rattle.snap_client.specs.Calls.{ClientState, Calls, fresh}
+use Rattle.snap_cut.specs.Crash.{Has, Begun, IsRecovered}
+use Rattle.snap_cut.specs.Laws.{IsSeatOf, IsSeenIn}
+use Rattle.snap_restart.specs.Crashing.{IsLifeFrom, AreOpened, GoesOn}
+use Rattle.snap_told.specs.Told.{Stands, IsSendable, AreTold}
+
+-- ---- a reply
+
+-- the update stands there, with its number and its value
+abbrev pub StoredLaw : Type 0
+StoredLaw = (a b : Known) (i k n : ℕ) (v : List ℕ) (h : List Update)
+    → AnswersUpdate a i k v (Stored n) b → IsBeginning b.seen h
+    → (i < segments b.plan) × (n ≡ k) × Has (starts b.plan) h i k v
+
+-- the values are the memory after a beginning of it, which begins with what the service had seen
+-- before the request
+abbrev pub ScannedLaw : Type 0
+ScannedLaw = (a b : Known) (values : _) (h : List Update)
+    → AnswersScan a (Snapshot values) b → IsBeginning b.seen h
+    → (part : List Update) × IsBeginning a.seen part × IsBeginning part h
+    × IsMemory b part (map pair_of values.items)
+
+-- whatever the request, what it was replied stands there
+abbrev pub RepliedLaw : Type 0
+RepliedLaw = (a b : Known) (q : Request) (r : Reply) (h : List Update) → Answers a q r b
+    → IsBeginning b.seen h → Stands (segments b.plan) (starts b.plan) h q r
+
+-- ---- a session
+
+-- Of a session that shares its service with others, all replies that were owed until now: whoever
+-- reads them was told what stands in each history that begins with what the service has seen now.
+abbrev pub SessionLaw : Type 0
+SessionLaw = (a b : Known) (talk : Talk) (read_old read_new written_old written_new : Option (List ℕ))
+    (h : List Update)
+    → (t : Turns (Moves Answers) Answers a b session.start read_old read_new written_old written_new talk)
+    → IsBeginning b.seen h
+    → AreTold (segments b.plan) (starts b.plan) h t.goes.payloads (t.goes.replies ++ t.goes.unsaid)
+
+-- ---- a client
+
+-- These bytes are a beginning of those.
+abbrev pub Begins : List ℕ → List ℕ → Type 0
+Begins early late = (rest : List ℕ) × (late ≡ early ++ rest)
+
+-- A connection that tells its bytes and keeps them: the session at its other end took in a beginning
+-- of what the client wrote, and what the client read is a beginning of what the session gave out.
+pub record IsHonestConnection {R W : Type 0} (remaining : R → Option (List ℕ))
+    (contents : W → Option (List ℕ)) (old new : ClientState R W) (taken given : List ℕ)
+    : Type 0 where
+  pub silent : contents old.writer ≡ Some []
+  pub wrote : List ℕ
+  pub wrote_is : contents new.writer ≡ Some wrote
+  pub taken_is : Begins taken wrote
+  pub left : List ℕ
+  pub left_is : remaining new.reader ≡ Some left
+  pub read : List ℕ
+  pub read_is : remaining old.reader ≡ Some (read ++ left)
+  pub given_is : Begins read given
+
+-- these requests were answered so by one client, one after another
+abbrev pub Converses : {R W : Type 0} → (R → Option (List ℕ)) → (W → Option (List ℕ))
+    → List Request → List Reply → ClientState R W → ClientState R W → Type 0
+Converses remaining contents [] [] old new = new ≡ old
+Converses {R} {W} remaining contents (q ∷ qs) (r ∷ rs) old new = (mid : ClientState R W)
+    × Calls remaining contents q old (Ok r) mid × Converses remaining contents qs rs mid new
+Converses remaining contents [] (r ∷ rs) old new = ⊥
+Converses remaining contents (q ∷ qs) [] old new = ⊥
+
+-- what each reply tells stands there
+abbrev pub AllStand : ℕ → Start → List Update → List Request → List Reply → Type 0
+AllStand n start h [] [] = Unit {0}
+AllStand n start h (q ∷ qs) (r ∷ rs) = Stands n start h q r × AllStand n start h qs rs
+AllStand n start h [] (r ∷ rs) = ⊥
+AllStand n start h (q ∷ qs) [] = ⊥
+
+-- what the client of such a connection answered its caller, call by call, stands there
+abbrev pub ClientLaw : {R W : Type 0} → (R → Option (List ℕ)) → (W → Option (List ℕ)) → Type 0
+ClientLaw {R} {W} remaining contents = (reader : R) (writer : W) (new : ClientState R W)
+    (qs : List Request) (rs : List Reply) (a b : Known) (talk : Talk)
+    (read_old read_new written_old written_new : Option (List ℕ)) (h : List Update)
+    → All IsSendable qs → Converses remaining contents qs rs (fresh reader writer) new
+    → (t : Turns (Moves Answers) Answers a b session.start read_old read_new written_old written_new talk)
+    → IsHonestConnection remaining contents (fresh reader writer) new t.taken t.given
+    → IsBeginning b.seen h → AllStand (segments b.plan) (starts b.plan) h qs rs
+
+-- ---- a crash
+
+-- a seat in the table has seen these updates, and maybe more
+abbrev pub WasSeenIn : List SeatView → List Update → Type 0
+WasSeenIn views seen = (later : List Update) × IsSeenIn views later × IsBeginning seen later
+
+module _ {D : Type 0} (device : D → Device) (honest : D → Type 0) (clock : D → ℕ)
+    (might_have_left : D → ℕ → List ℕ → Type 0) where
+  -- Pull the plug: files that were opened where a history goes on, a moment of their registers, and a
+  -- crash of all devices there. It is recovered as the memory after the whole history, from the first
+  -- start on, and in that history stands all that was told: what any session of this opening had
+  -- replied by then, and what was told before it.
+  abbrev pub PlugLaw : Type 0
+  PlugLaw = (devices : List D) (writers : List (WriterState D)) (start : Start)
+      (before : List Update) (earlier : List (Place D))
+      (opened : AreOpened device honest clock might_have_left devices writers)
+      (on : GoesOn device honest clock might_have_left opened.plan start before earlier writers)
+      (s : State (Unit {0}) SeatView) (kept : Kept opened.plan s) (crashed : List (Place D))
+      (files : List (List ℕ)) → length crashed ≡ length writers
+      → ((i : ℕ) (p : Place D) → slice_get crashed i ≡ Some p
+      → IsLifeFrom device honest clock might_have_left writers i p × IsSeatOf s.views i p)
+      → Pairs (λ _. CrashLeaves device honest clock might_have_left) crashed files
+      → let whole = (before ++ on.more) ++ updates kept.history in
+      IsRecovered (length writers) start whole (Begun crashed) files
+      × ((a b : Known) (talk : Talk) (read_old read_new written_old written_new : Option (List ℕ))
+      → (t : Turns (Moves Answers) Answers a b session.start read_old read_new written_old written_new talk)
+      → b.plan ≡ opened.plan → WasSeenIn s.views b.seen
+      → AreTold (length writers) start whole t.goes.payloads (t.goes.replies ++ t.goes.unsaid))
+      × ((q : Request) (r : Reply) → Stands (length writers) start before q r
+      → Stands (length writers) start whole q r)

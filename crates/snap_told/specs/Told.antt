@@ -1,0 +1,47 @@
+-- What a client was told, and the histories in which it stands.
+use Rattle.std.specs.Prelude.{◌≡◌, ℕ, ◌<◌, ◌≤◌, ◌^◌, List, [], ◌∷◌, length, map, Some, slice_get}
+use Rattle.snap_history.specs.History.{Update, Start, IsBeginning, number_after, value_after}
+use Rattle.snap_frame.specs.declared.request.Request.{Request}
+use Rattle.snap_frame.specs.declared.request.Request.TheVariants as request
+use Rattle.snap_frame.specs.declared.reply.Reply.{Reply}
+use Rattle.snap_frame.specs.declared.reply.Reply.TheVariants.{Stored, Snapshot}
+use Rattle.snap_frame.specs.Messages.{max_payload, payload, Asks, Says}
+use Rattle.snap_service.specs.Answers.{pair_of}
+use Rattle.snap_cut.specs.Crash.{Has}
+
+-- these are the number and the value of each of n segments after this list of updates
+pub record IsMemoryAfter (n : ℕ) (start : Start) (part : List Update)
+    (pairs : List (ℕ × List ℕ)) : Type 0 where
+  pub size : length pairs ≡ n
+  pub each : (i : ℕ) → i < n
+      → slice_get pairs i ≡ Some (number_after start part i, value_after start part i)
+
+-- What the reply tells stands in the history of n segments: an update that is stored, with its number and its
+-- value; or the memory of a scan, after a beginning of it. Other replies tell nothing of it.
+abbrev pub Stands : ℕ → Start → List Update → Request → Reply → Type 0
+Stands n start h (request.Update i k v) (Stored m) = (i < n) × (m ≡ k) × Has start h i k v
+Stands n start h request.Scan (Snapshot values) = (part : List Update) × IsBeginning part h
+    × IsMemoryAfter n start part (map pair_of values.items)
+Stands n start h q r = Unit {0}
+
+-- a number of eight bytes
+abbrev pub HasNumber : Request → Type 0
+HasNumber (request.Update i k v) = k < 2 ^ 64
+HasNumber request.Scan = Unit {0}
+HasNumber request.Status = Unit {0}
+
+-- a request whose payload says it whole and fits a frame: each that a client may call
+abbrev pub IsSendable : Request → Type 0
+IsSendable q = HasNumber q × (length (payload q) ≤ max_payload)
+
+-- whoever reads these payloads as a request and its reply was told what stands in the history
+abbrev pub IsTold : ℕ → Start → List Update → List ℕ → List ℕ → Type 0
+IsTold n start h x y = (q : Request) (r : Reply) → HasNumber q → Asks x q → Says y r
+    → Stands n start h q r
+
+-- so it is with each of these payloads and its reply, in order
+abbrev pub AreTold : ℕ → Start → List Update → List (List ℕ) → List (List ℕ) → Type 0
+AreTold n start h [] [] = Unit {0}
+AreTold n start h (x ∷ xs) (y ∷ ys) = IsTold n start h x y × AreTold n start h xs ys
+AreTold n start h [] (y ∷ ys) = ⊥
+AreTold n start h (x ∷ xs) [] = ⊥

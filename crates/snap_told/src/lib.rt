@@ -1,0 +1,46 @@
+//! What clients were told, beside what a crash of all devices leaves.
+//!
+//! A service replies by what its scanner has seen: an update that it says is stored, and each value of
+//! a scan, stands in that list. So whoever recovers a history that begins with all that anybody had
+//! seen has recovered all that any client was told. The laws lead there link by link: from a reply to
+//! the bytes of a session, from these to what a client answers its caller, and to the crash.
+#![tactic(auto)]
+
+ghost use Rattle.snap_told.specs.Laws.{
+  StoredLaw,
+  ScannedLaw,
+  RepliedLaw,
+  SessionLaw,
+  ClientLaw,
+  PlugLaw,
+};
+
+use snap_disk::Disk;
+use std::io::{Read, Write};
+
+/// An update that was replied `stored`, and the memory that a scan was replied, stand in each history
+/// that begins with what the service's scanner had seen when it replied.
+pub fn reply_laws()
+    ensures stored { StoredLaw }
+    ensures scanned { ScannedLaw }
+    ensures replied { RepliedLaw }
+{}
+
+/// So do all replies that a session owed its peer since its start, with requests of others between
+/// its own, where the history begins with what the service has seen by now.
+pub fn session_laws()
+    ensures { SessionLaw }
+{}
+
+/// And so does what a client answers its caller, where the connection to the session brings its bytes
+/// as they were written.
+pub fn client_laws<R: Read, W: Write>()
+    ensures { ClientLaw R.remaining W.contents }
+{}
+
+/// What a crash of all devices leaves, at any moment of the registers of an opening, is the memory after
+/// the whole history, from the first start on, and some begun updates; and in that history stands all
+/// that was told: what any session of this opening had replied by then, and what was told before it.
+pub fn plug_laws<D: Disk>()
+    ensures { PlugLaw D.device D.is_honest D.clock D.might_have_left }
+{}

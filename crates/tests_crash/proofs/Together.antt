@@ -1,0 +1,213 @@
+-- The premises of the law of a cut, where two writers are at work.
+use Rattle.std.proofs.Common.{◌≡◌, ◌⊎◌, ℕ, zero, suc, ◌+◌, ◌≤◌, inl, inr, List, [], ◌∷◌, ◌++◌, length, map, Option, Some, slice_get, refl, ap, sym, subst, ◌∙◌, arith, length-append}
+use Rattle.std.specs.Option.{option_to_list}
+use Rattle.std.proofs.lemmas.Bool.{cases_lt}
+use Rattle.std.proofs.lemmas.Option.{same_Some, slice_get_within}
+use Rattle.snap_disk.specs.Device.{Device}
+use Rattle.snap_history.specs.History.{Update, IsBeginning, number_after}
+use Rattle.snap_history.specs.Limits.{IsNumber, IsShort}
+use Rattle.snap_history.specs.declared.limits.TheConstants.{LAST_NUMBER}
+use Rattle.snap_history.specs.Pairs.{Pairs}
+use Rattle.snap_history.proofs.Beginnings.{beginning-self}
+use Rattle.snap_history.proofs.Pairing.{element}
+use Rattle.snap_memory.proofs.Gathering.{grows_self}
+use Rattle.snap_scan.specs.Looks.{most_looks}
+use Rattle.snap_register.specs.declared.plan.Plan.{Plan}
+use Rattle.snap_register.specs.History.{starts}
+use Rattle.snap_register.specs.Rule.{segments}
+use Rattle.snap_register.specs.Seat.{Known}
+use Rattle.snap_segment.specs.Segment.{SegmentState}
+use Rattle.snap_writer.specs.Writer.{WriterState, number_of}
+use Rattle.snap_writer.specs.Judge.{IsJudged}
+use Rattle.snap_writer.specs.declared.judgement.Judgement.TheVariants.{Go}
+use Rattle.snap_writer.specs.Life.{Place, in_store, resting, seen_at, Sees, Shows, StoresFirst, IsWriterOf}
+use Rattle.snap_cut.specs.Crash.{all_seen}
+use Rattle.snap_cut.specs.Laws.{IsLivedIn}
+use Rattle.snap_cut.proofs.Cutting.{cut_recovers}
+use Rattle.snap_restart.specs.Opened.{IsOpened, AreFresh}
+use Rattle.snap_restart.specs.Crashing.{AreOpened}
+use Rattle.snap_restart.proofs.Returning.{get_map}
+use Rattle.tests_crash.specs.Together.{stored_unshown, AreTwo, IsRecoveredAt}
+
+module _ {D : Type 0} (device : D → Device) (honest : D → Type 0) (clock : D → ℕ)
+    (might_have_left : D → ℕ → List ℕ → Type 0) where
+  sees_itself : (w : WriterState D) → Sees device honest clock might_have_left w w
+  sees_itself w = record { segment_is = refl; grows = grows_self w.seat }
+
+  -- what is shown, or seen more, leaves the segment as it was
+  same_segment : (b z : WriterState D) → (Shows device honest clock might_have_left b z)
+      ⊎ (Sees device honest clock might_have_left b z) → z.segment ≡ b.segment
+  same_segment b z (inl shows) = shows.segment_is
+  same_segment b z (inr sees) = sees.segment_is
+
+  module _ (plan : Plan) (i : ℕ) (v : List ℕ) (a z : WriterState D)
+      (is : IsWriterOf device honest clock might_have_left plan 2 i a) (fresh : a.seat.seen ≡ [])
+      (first : StoresFirst device honest clock might_have_left v a z) where
+    none_seen : IsBeginning first.0.seat.seen []
+    none_seen = subst (λ (h : List Update). IsBeginning h []) (sym (ap (λ (k : Known). k.seen)
+        first.1.seat_is ∙ fresh)) (beginning-self [])
+
+    -- inside its store
+    pub lived_inside : IsLivedIn device honest clock might_have_left plan 2 [] i
+        (in_store a v z.segment.device)
+    lived_inside =
+        let b = first.0 in (
+          a,
+          b,
+          b ∷ [],
+          is,
+          (inr (inl (v, first.1)), refl),
+          inr (inl (
+            a,
+            v,
+            sees_itself a,
+            subst (λ (k : Known). IsBeginning a.seat.seen k.seen) (sym first.1.seat_is)
+                (beginning-self a.seat.seen),
+            first.1,
+            ap (λ (s : SegmentState D). in_store a v s.device) (same_segment b z first.2),
+          )),
+          none_seen,
+        )
+
+    -- between its store and its show
+    pub lived_between : IsLivedIn device honest clock might_have_left plan 2 [] i
+        (stored_unshown a z)
+    lived_between =
+        let b = first.0 in
+        let segment = same_segment b z first.2 in
+        let seat = first.1.seat_is in (
+          a,
+          b,
+          b ∷ [],
+          is,
+          (inr (inl (v, first.1)), refl),
+          inr (inr (
+            b,
+            sees_itself b,
+            beginning-self b.seat.seen,
+            λ t. resting (record { segment = segment t; seat = sym seat t }),
+          )),
+          none_seen,
+        )
+
+  module _ (plan : Plan) (p q : Place D)
+      (first : IsLivedIn device honest clock might_have_left plan 2 [] 0 p)
+      (second : IsLivedIn device honest clock might_have_left plan 2 [] 1 q)
+      (p_fresh : seen_at p ≡ []) (q_fresh : seen_at q ≡ []) where
+    lived : (i : ℕ) (r : Place D) → slice_get (p ∷ q ∷ []) i ≡ Some r
+        → IsLivedIn device honest clock might_have_left plan 2 [] i r
+    lived zero r e = subst (IsLivedIn device honest clock might_have_left plan 2 [] 0)
+        (same_Some p r e) first
+    lived (suc zero) r e = subst (IsLivedIn device honest clock might_have_left plan 2 [] 1)
+        (same_Some q r e) second
+    lived (suc (suc i)) r e = absurd (cc e)
+
+    fresh_seen : (j : ℕ) (seen : List Update)
+        → slice_get (all_seen (p ∷ q ∷ []) []) j ≡ Some seen → seen ≡ []
+    fresh_seen zero seen e = sym (same_Some (seen_at p) seen e) ∙ p_fresh
+    fresh_seen (suc zero) seen e = sym (same_Some (seen_at q) seen e) ∙ q_fresh
+    fresh_seen (suc (suc j)) seen e = absurd (cc e)
+
+    fresh_at : (i : ℕ) (r : Place D) → slice_get (p ∷ q ∷ []) i ≡ Some r → seen_at r ≡ []
+    fresh_at zero r e = ap (λ (x : Place D). seen_at x) (sym (same_Some p r e)) ∙ p_fresh
+    fresh_at (suc zero) r e = ap (λ (x : Place D). seen_at x) (sym (same_Some q r e)) ∙ q_fresh
+    fresh_at (suc (suc i)) r e = absurd (cc e)
+
+    pub recovered_at : IsRecoveredAt device honest clock might_have_left plan (p ∷ q ∷ [])
+    recovered_at files left =
+        cut_recovers device honest clock might_have_left plan [] (p ∷ q ∷ []) [] files
+        (omega arith) lived (λ k seen e. absurd (cc e))
+        (λ j seen e i r at. (
+        let one = ap (λ (h : List Update). number_after (starts plan) h i) (fresh_seen j seen e) in
+        let two = ap (λ (h : List Update). number_after (starts plan) h i) (fresh_at i r at) in
+        omega (arith, one, two)))
+        left
+
+-- ---- they are met by what an opening ensures
+
+pub two_popped : {A : Type 0} (all mid rest : List A) (r s : Option A) (x y : A) → length all ≡ 2
+    → all ≡ mid ++ option_to_list r → r ≡ Some y → mid ≡ rest ++ option_to_list s → s ≡ Some x
+    → all ≡ x ∷ y ∷ []
+two_popped all mid [] r s x y size one er two es =
+    one ∙ ap (λ (o : Option _). mid ++ option_to_list o) er
+    ∙ ap (λ (l : List _). l ++ y ∷ []) (two ∙ ap (λ (o : Option _). option_to_list o) es)
+two_popped all mid (z ∷ zs) r s x y size one er two es =
+    let ry = ap (λ (o : Option _). length (option_to_list o)) er in
+    let sx = ap (λ (o : Option _). length (option_to_list o)) es in
+    absurd (omega (
+      arith,
+      size,
+      ap length one,
+      ap length two,
+      length-append mid (option_to_list r),
+      length-append (z ∷ zs) (option_to_list s),
+      ry,
+      sx,
+    ))
+
+pub below_last : (k : ℕ) → IsNumber k → (k ≡ LAST_NUMBER → ⊥) → IsNumber (k + 1)
+below_last k low other = elim (cases_lt k LAST_NUMBER) [
+  | inl less ↦ omega (arith, less)
+  | inr least ↦ absurd (other (omega (arith, least, low)))
+]
+
+module _ {D : Type 0} (device : D → Device) (failures : D → ℕ) (honest : D → Type 0)
+    (clock : D → ℕ) (might_have_left : D → ℕ → List ℕ → Type 0) (devices : List D)
+    (writers : List (WriterState D)) (scanners : List Known) (x y : WriterState D)
+    (are : writers ≡ x ∷ y ∷ [])
+    (opened : AreOpened device honest clock might_have_left devices writers)
+    (fresh : AreFresh writers scanners) where
+  at_0 : slice_get writers 0 ≡ Some x
+  at_0 = ap (λ (l : List (WriterState D)). slice_get l 0) are
+
+  at_1 : slice_get writers 1 ≡ Some y
+  at_1 = ap (λ (l : List (WriterState D)). slice_get l 1) are
+
+  two : length writers ≡ 2
+  two = ap (λ (l : List (WriterState D)). length l) are
+
+  same_plan : x.seat.plan ≡ opened.plan
+  same_plan = (opened.writers_are 0 x at_0).plan_is
+
+  of_two : (i : ℕ) (w : WriterState D) → slice_get writers i ≡ Some w
+      → IsWriterOf device honest clock might_have_left x.seat.plan 2 i w
+  of_two i w at = subst (λ (z : Plan × ℕ).
+      IsWriterOf device honest clock might_have_left z.0 z.1 i w)
+      (λ t. (sym same_plan t, two t)) (opened.writers_are i w at)
+
+  pub are_two : AreTwo device honest clock might_have_left x y
+  are_two = record {
+    first_is = of_two 0 x at_0;
+    second_is = of_two 1 y at_1;
+    first_fresh = (fresh.writers_are 0 x at_0).0;
+    second_fresh = (fresh.writers_are 1 y at_1).0;
+  }
+
+  goes_at : Pairs (IsOpened device failures honest clock might_have_left (length devices)) devices
+      (map (λ (w : WriterState D). w.segment) writers)
+      → (i : ℕ) (w : WriterState D) (k : ℕ) (v : List ℕ) → slice_get writers i ≡ Some w
+      → IsShort v → k ≡ number_of w + 1 → IsNumber k → IsJudged w k v Go
+  goes_at were i w k v at short next number =
+      let segment_of : WriterState D → SegmentState D = λ u. u.segment in
+      let low = slice_get_within writers i w at in
+      let each = opened.one_each in
+      let d = element devices i (omega (arith, low, each)) in
+      let is = were.each i d.0 w.segment d.1 (get_map segment_of writers i w at) in
+      let left = (fresh.writers_are i w at).1 in
+      let count : segments w.seat.plan ≡ 2 =
+      ap (λ (p : Plan). segments p) (opened.writers_are i w at).plan_is ∙ sym opened.all ∙ two in (
+        (short, next),
+        number,
+        is.unfenced,
+        subst (λ (n : ℕ). most_looks n ≤ w.seat.left) (sym count) (omega (arith, left)),
+      )
+
+  pub first_goes : Pairs (IsOpened device failures honest clock might_have_left (length devices))
+      devices (map (λ (w : WriterState D). w.segment) writers)
+      → (k : ℕ) (v : List ℕ) → IsShort v → k ≡ number_of x + 1 → IsNumber k → IsJudged x k v Go
+  first_goes were k v = goes_at were 0 x k v at_0
+
+  pub second_goes : Pairs (IsOpened device failures honest clock might_have_left (length devices))
+      devices (map (λ (w : WriterState D). w.segment) writers)
+      → (k : ℕ) (v : List ℕ) → IsShort v → k ≡ number_of y + 1 → IsNumber k → IsJudged y k v Go
+  second_goes were k v = goes_at were 1 y k v at_1

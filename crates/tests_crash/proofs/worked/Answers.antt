@@ -1,0 +1,11 @@
+use Rattle.tests_crash.proofs.Working.{now}
+use Rattle.tests_crash.proofs.worked.Goals as goal
+
+pub returns-in-Ok : goal.returns-in-Ok
+returns-in-Ok g c =
+    let told = c.close.ensures.crash in
+    record {
+      now = now g.D.Disk.device g.D.Disk.is_honest g.D.Disk.clock g.D.Disk.might_have_left told.0
+          c.in-Ok.store.writers.items c.in-Ok.store.scanners.items c.args.devices.items c.close.result.items
+          c.close.ensures.devices c.in-Ok.ensures.crash told.1 told.2;
+    }

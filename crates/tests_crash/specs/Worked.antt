@@ -1,0 +1,28 @@
+-- A crash now, of all devices that a closing gave back.
+use Rattle.std.specs.Prelude.{◌≡◌, ℕ, List, length, map}
+use Rattle.snap_disk.specs.Device.{Device, MayLeave}
+use Rattle.snap_history.specs.History.{Update}
+use Rattle.snap_history.specs.Pairs.{Pairs}
+use Rattle.snap_register.specs.declared.plan.Plan.{Plan}
+use Rattle.snap_register.specs.History.{starts}
+use Rattle.snap_register.specs.Seat.{Known}
+use Rattle.snap_writer.specs.Writer.{WriterState}
+use Rattle.snap_writer.specs.Life.{resting}
+use Rattle.snap_cut.specs.Crash.{Recovers}
+
+module _ {D : Type 0} (device : D → Device) (honest : D → Type 0) where
+  abbrev pub IsLeft : ℕ → D → List ℕ → Type 0
+  IsLeft i d b = honest d × MayLeave (device d) b
+
+  -- there are writers and scanners that had these devices, and what a crash leaves of all of them
+  -- is recovered
+  pub record IsRecoveredNow (devices : List D) : Type 0 where
+    pub plan : Plan
+    pub history : List Update
+    pub writers : List (WriterState D)
+    pub scanners : List Known
+    pub theirs : devices ≡ map (λ (w : WriterState D). w.segment.device) writers
+    pub recovered : (files : List (List ℕ)) → Pairs IsLeft devices files
+        → Recovers (length (map (λ (w : WriterState D). resting w) writers)) (starts plan) history
+        (map (λ (w : WriterState D). resting w) writers)
+        (map (λ (b : Known). b.seen) scanners) files

@@ -1,0 +1,79 @@
+//! The laws of a crash at real calls: their premises are met by what these calls ensure, so they aren't
+//! empty.
+#![tactic(auto)]
+
+ghost use Rattle.std.specs.Prelude.{◌≡◌, ℕ, ◌-◌, ◌^◌, ◌<◌, ◌≤◌, [], ◌∷◌, length, All, IfOk};
+ghost use Rattle.snap_history.specs.declared.limits.TheConstants.{MAX_COUNT};
+ghost use Rattle.snap_history.specs.Limits.{IsShort};
+ghost use Rattle.snap_writer.specs.Judge.{IsJudged};
+ghost use Rattle.snap_writer.specs.Life.{in_store};
+ghost use Rattle.tests_crash.specs.Worked.{IsRecoveredNow};
+ghost use Rattle.tests_crash.specs.Together.{AreTwo, IsRecoveredAt, stored_unshown};
+
+use snap_disk::Disk;
+use snap_history::LAST_NUMBER;
+use snap_restart::{Stopped, open_all};
+use snap_writer::{Judgement, Writer};
+use std::alloc::Global;
+
+/// Opens all files and closes them. A crash of all devices then is recovered by the law of a cut.
+pub fn worked<D: Disk + Drop>(alloc: Global, devices: Vec<D>) -> Result<Vec<D>, Stopped<D>>
+    requires count { (0 < length devices.items) × (length devices.items ≤ MAX_COUNT) }
+    requires headroom { All (λ d. D.failure_count d < 2 ^ 64 - 1) devices.items }
+    ensures now { IfOk result (λ ds. IsRecoveredNow D.device D.is_honest ds.items) }
+{
+    match open_all(alloc, devices, 1) {
+        Ok((store, _)) => Ok(store.close()),
+        Err(stopped) => Err(stopped),
+    }
+}
+
+/// Both writers of an opening update, and their seats are those that the opening gave them. A crash
+/// that finds both inside their stores is recovered, and so is one that finds the second with its
+/// update stored and not shown, and one that finds both so. Nothing says which of them was first.
+pub fn two_at_once<D: Disk>(
+    first: &mut Writer<D>,
+    second: &mut Writer<D>,
+    one: u64,
+    value: &[u8],
+    two: u64,
+    other: &[u8],
+)
+    requires writers { AreTwo D.device D.is_honest D.clock D.might_have_left first.old second.old }
+    requires first { IsJudged first.old one value.now Judgement.Go }
+    requires second { IsJudged second.old two other.now Judgement.Go }
+    ensures inside { IsRecoveredAt D.device D.is_honest D.clock D.might_have_left
+        first.old.seat.plan (in_store first.old value.now first.new.segment.device
+        ∷ in_store second.old other.now second.new.segment.device ∷ []) }
+    ensures beside { IsRecoveredAt D.device D.is_honest D.clock D.might_have_left
+        first.old.seat.plan (in_store first.old value.now first.new.segment.device
+        ∷ stored_unshown second.old second.new ∷ []) }
+    ensures between { IsRecoveredAt D.device D.is_honest D.clock D.might_have_left
+        first.old.seat.plan (stored_unshown first.old first.new
+        ∷ stored_unshown second.old second.new ∷ []) }
+{
+    let _ = first.update(one, value);
+    let _ = second.update(two, other);
+}
+
+/// Opens two files, takes their writers and updates both, where no number is the last: so the premises
+/// of [`two_at_once`] are met by real calls.
+pub fn open_two<D: Disk + Drop>(alloc: Global, devices: Vec<D>, value: &[u8], other: &[u8])
+    requires count { length devices.items ≡ 2 }
+    requires headroom { All (λ d. D.failure_count d < 2 ^ 64 - 1) devices.items }
+    requires value { IsShort value.now }
+    requires other { IsShort other.now }
+{
+    let Ok((mut store, _)) = open_all(alloc, devices, 1) else {
+        return;
+    };
+    let (Some(mut second), Some(mut first)) = (store.writers.pop(), store.writers.pop()) else {
+        return;
+    };
+    let one = first.number();
+    let two = second.number();
+    if one == LAST_NUMBER || two == LAST_NUMBER {
+        return;
+    }
+    two_at_once(&mut first, &mut second, one + 1, value, two + 1, other);
+}
