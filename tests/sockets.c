@@ -2,6 +2,7 @@
  *
  * SOCKETS_FAIL is `CALL NUMBER ERRNO`: of the calls with this name, the one with this number, counted from 1, does nothing and
  * fails. Only those are counted that come while the file SOCKETS_WHILE is there, and it is removed with the failure.
+ * SOCKETS_SHUT names a file that gets one digit for each `shutdown` that is asked for: which side of the socket it is.
  */
 #define _GNU_SOURCE
 #include <dlfcn.h>
@@ -20,12 +21,14 @@
 /* The next definition of a call, which is the C library's. */
 #define REAL(name) ((typeof(&name))dlsym(RTLD_NEXT, #name))
 
-static int number, reason;
+static int number, reason, sides = -1;
 static char fails[32];
 static const char *during;
 
 __attribute__((constructor)) static void begin(void) {
     const char *which = getenv("SOCKETS_FAIL");
+    const char *shut = getenv("SOCKETS_SHUT");
+    if (shut != NULL) sides = open(shut, O_WRONLY | O_CREAT | O_APPEND | O_CLOEXEC, 0666);
     during = getenv("SOCKETS_WHILE");
     if (which == NULL || sscanf(which, "%31s %d %d", fails, &number, &reason) != 3) fails[0] = 0;
 }
@@ -117,6 +120,7 @@ ssize_t send(int socket, const void *bytes, size_t length, int flags) {
 }
 
 int shutdown(int socket, int how) {
+    if (sides >= 0 && write(sides, how == SHUT_RD ? "0" : how == SHUT_WR ? "1" : "2", 1) < 0) abort();
     FAILS(shutdown);
     return REAL(shutdown)(socket, how);
 }

@@ -52,3 +52,39 @@ def test_definitions_stand_where_they_are_named(snapd, random):
             assert re.search(rf"^ *(?:pub )?(?:abbrev |unfoldable )?(?:pub )?(?:record |data )?{word}(?= |$)", source, re.M), (
                 f"{document.name}: {target} has no {name}"
             )
+
+
+# ---- what no clause says ----
+
+def unsaid():
+    """The rows of the table in docs/THEOREMS.md: what, where, what would pass, and the tests."""
+    chapter = (TOP / "docs" / "THEOREMS.md").read_text().split("\n## What no clause says\n")[1].split("\n## ")[0]
+    rows = [line.strip("| ").split(" | ") for line in chapter.splitlines() if line.startswith("| ")]
+    assert rows[0][0] == "What" and len(rows) > 50, rows[0]
+    return rows[1:]
+
+
+def named_in(cell):
+    """Each name that a cell links, without its marks, and the text of its file."""
+    return [(name.strip("`"), target, (TOP / "docs" / target).read_text()) for name, target in LINK.findall(cell)]
+
+
+def test_what_no_clause_says_is_in_the_code(snapd, random):
+    for row in unsaid():
+        assert len(row) == 4 and all(row), row
+        assert named_in(row[1]), f"no code is named: {row[0]}"
+        for name, target, source in named_in(row[1]):
+            assert re.search(rf"\bfn {name}\b", source), f"{target} has no function {name}"
+
+
+def test_what_no_clause_says_has_a_test_or_says_that_it_has_none(snapd, random):
+    shown = set()
+    for row in unsaid():
+        assert named_in(row[3]) or row[3].startswith("none"), f"no test is named: {row[0]}"
+        for name, target, source in named_in(row[3]):
+            shown.add((target, name))
+            test = rf"^def {name}\(" if target.endswith(".py") else rf"#\[test\]\s+fn {name}\b"
+            assert re.search(test, source, re.M), f"{target} has no test {name}"
+    # The tests that were written for such rows stand in them.
+    for name in re.findall(r"^def (test_\w+)", (TOP / "tests" / "test_unsaid.py").read_text(), re.M):
+        assert ("../tests/test_unsaid.py", name) in shown, f"{name} is in no row"

@@ -223,6 +223,17 @@ def test_lines_that_cannot_be_read(snapd, _):
         assert run.errors.startswith("snapd: line 4: ") and run.errors.count("\n") == 1, (line, run)
 
 
+def test_what_is_wrong_in_a_line_is_said(snapd, _):
+    world = "the first line has to be `world N S`, with N and S from 1 to 16"
+    for script, number, text in [
+        ("scan 0\n", 1, world), ("\nworld 17 1\n", 2, world), ("world 1 1\nworld 1 1\n", 2, "only the first line is `world N S`"),
+        ("world 1 1\n\nworld\n", 3, "only the first line is `world N S`"), ("world 1 1\nshout 0\n", 2, "no event begins with this word"),
+        ("world 1 1\nlook 0\n", 2, "expected `look wW` or `look sS`"), ("world 1 1\nserve 0\n", 2, "expected `serve`"),
+    ]:
+        run = snapd("script", stdin=script)
+        assert (run.status, run.errors) == (2, f"snapd: line {number}: {text}\n"), (script, run)
+
+
 def test_the_longest_line_and_one_byte_more(snapd, _):
     longest = "begin 0 " + "a5" * ((LIMIT - 8) // 2)
     assert len(longest) == LIMIT

@@ -1,0 +1,203 @@
+"""What `snapd serve` does that no contract asks for, and no other test looks at (docs/THEOREMS.md, "What no clause says")."""
+
+import contextlib
+import errno
+import fcntl
+import os
+import pathlib
+import subprocess
+import time
+
+from preload import Accepts, library
+from serving import LOG_LINE, LOOPBACK, SCAN, STATUS, Server, fresh, reset, snapshot, standings, stored, to_its_end, update
+from talk import CLOSED, told
+from test_serve_disks import Disk
+from test_serve_sockets import REFUSED, Sockets
+from waiting import comes_to, wait_until
+
+EMPTY = snapshot((0, b""))
+
+
+def processor_time(server):
+    """The seconds for which the server has had a processor, for itself and for its calls of the system."""
+    fields = pathlib.Path(f"/proc/{server.process.pid}/stat").read_text().rpartition(") ")[2].split()
+    return (int(fields[11]) + int(fields[12])) / os.sysconf("SC_CLK_TCK")
+
+
+def test_who_waits_sleeps(snapd, _):
+    """Neither an idle server takes a processor, nor one whose only update waits for its disk."""
+    disk = Disk(snapd)
+    with Server(snapd, *fresh(snapd, 2), scanners=2, env=disk.env) as server, server.connect() as idle, server.connect() as waits:
+        assert told(idle, update(0, 1, b"a")) == stored(1) and told(waits, STATUS) == standings((1, False), (0, False))
+        for hold in ((), ("S1 sync hold 0",)):
+            disk.says(*hold)
+            if hold:
+                waits.sendall(update(1, 1, b"a"))
+                disk.wait_for_hold()
+            # What looks before it sleeps does so for less than a millisecond each time.
+            time.sleep(0.2)
+            before = processor_time(server)
+            time.sleep(1)
+            # A call that is held asks again and again whether it may go on.
+            assert processor_time(server) - before < 0.5, hold
+        disk.says()
+        assert told(waits) == stored(1)
+
+
+def test_faults_of_a_listener_are_rested_behind(snapd, _):
+    """For twice as long behind each; and where the system has no room for a connection, for a moment. No sleep ends early, so what
+    is measured here is too short only where there was none."""
+    for count, why, least in ((6, errno.EBADF, 0.02 * (1 + 2 + 4 + 8 + 16)), (20, errno.EMFILE, 0.01 * 19)):
+        accepts = Accepts(snapd.folder, 2, count, why)
+        accepts.failed.unlink(missing_ok=True)
+        with Server(snapd, *fresh(snapd, 1), env=accepts.env) as server:
+            began = time.monotonic()
+            server.ask(SCAN, EMPTY)
+            comes_to(count, accepts.count)
+            assert time.monotonic() - began >= least, why
+
+
+def name_of(stream):
+    """As the server names this peer."""
+    return "{}:{}".format(*stream.getsockname())
+
+
+def test_a_connection_that_finds_no_room_is_noted(snapd, _):
+    """The system refuses to watch it: it is closed and noted, and its place among the clients is given back."""
+    sockets = Sockets(snapd, "epoll_ctl", 1, errno.ENOSPC)
+    with Server(snapd, *fresh(snapd, 1), env=sockets.env, more=("--clients-max", 1)) as server:
+        server.ask(SCAN, EMPTY)
+        comes_to(0, server.connections)
+        sockets.fail()
+        with server.connect() as stream:
+            name = name_of(stream)
+            assert told(stream, SCAN) == CLOSED
+        comes_to([f"{name} closed for want of memory"], lambda: server.logged("WARN", "connection"))
+        assert sockets.has_failed()
+        server.ask(SCAN, EMPTY)
+
+
+def ends_of(server):
+    """How each connection is said to have ended, by its peer."""
+    return dict(text.split(" ", 1) for text in server.logged("DEBUG", "connection"))
+
+
+def test_how_connections_are_let_go_is_noted(snapd, _):
+    """Of those ends that no other test names: silence, a peer that left its update, a write that failed, and a server that stops."""
+    disk = Disk(snapd)
+    with Server(snapd, *fresh(snapd, 1), env=disk.env, more=("--idle", 1, "--log", "debug")) as server:
+        disk.says("S0 sync hold 0")
+        with server.connect() as quiet, server.connect() as gone:
+            wanted = {name_of(quiet): "let go of: it said nothing for too long", name_of(gone): "lost while an update was under way"}
+            gone.sendall(update(0, 1, b"a"))
+            disk.wait_for_hold()
+            reset(gone)
+            assert to_its_end(quiet) == b""
+            comes_to(wanted, lambda: ends_of(server))
+        disk.says()
+    sockets = Sockets(snapd, "send", 1, errno.EPIPE)
+    with Server(snapd, *fresh(snapd, 1), env=sockets.env, more=("--log", "debug")) as server, server.connect() as stream:
+        sockets.fail()
+        assert told(stream, SCAN) == CLOSED
+        comes_to({name_of(stream): "lost while it was written"}, lambda: ends_of(server))
+    accepts = Accepts(snapd.folder, 2, 10**6, errno.EBADF)
+    env = accepts.env | {"LD_PRELOAD": f"{accepts.env['LD_PRELOAD']}:{library('sleeps')}"}
+    with Server(snapd, *fresh(snapd, 1), env=env, more=("--log", "debug")) as server, server.connect() as idle:
+        with contextlib.suppress(ConnectionError):
+            assert to_its_end(idle) == b""
+        comes_to({name_of(idle): "let go of: the server stops"}, lambda: ends_of(server))
+
+
+def test_a_worker_that_failed_is_told_where_all_have_come(snapd, _):
+    """As many connections as were asked for were dealt before one of the workers failed: they aren't said to be served."""
+    sockets = Sockets(snapd, "epoll_wait", 1, errno.EBADF)
+    with Server(snapd, *fresh(snapd, 1), scanners=2, connections=2, env=sockets.env) as server:
+        with server.connect() as first, server.connect() as second:
+            streams = [first, second]
+            assert [told(stream, SCAN) for stream in streams] == [EMPTY] * 2
+            sockets.fail()
+            for stream in streams:
+                told(stream, STATUS)
+            wait_until(lambda: not sockets.failing.exists())
+            answers = [told(stream, SCAN) for stream in streams]
+            assert sorted(answers) == sorted([CLOSED, EMPTY]), answers
+        run = server.end()
+        assert (run.status, run.output, run.errors) == (1, b"", f"snapd: {LOOPBACK}: {REFUSED}\n"), run
+
+
+def test_the_writing_side_alone_is_shut_down(snapd, _):
+    """Of a connection; the listener is shut down on both sides."""
+    shut = snapd.file("shut")
+    env = {"LD_PRELOAD": library("sockets"), "SOCKETS_SHUT": str(shut)}
+    with Server(snapd, *fresh(snapd, 1), connections=3, env=env) as server:
+        for _ in range(3):
+            server.ask(SCAN, EMPTY)
+        assert server.end().output == b"served 3\n"
+    assert sorted(shut.read_text()) == ["1", "1", "1", "2"], shut.read_text()
+
+
+def test_each_number_of_a_name_is_tried(snapd, _):
+    """The first that can be bound is served, and told; where none can, the reason is the last one's."""
+    files = fresh(snapd, 1)
+
+    def env(*numbers):
+        return {"LD_PRELOAD": library("names"), "NAMES_OF": " ".join(("several.test", *numbers))}
+
+    # No machine has the first: it is for documents.
+    for numbers in (("192.0.2.1", "127.0.0.1"), ("192.0.2.1", "127.0.0.2", "127.0.0.1")):
+        with Server(snapd, *files, address="several.test:0", env=env(*numbers)) as server:
+            assert server.address.startswith(f"{numbers[1]}:"), server.address
+            server.ask(SCAN, EMPTY)
+    with Server(snapd, *files) as server:
+        port = server.place[1]
+        run = snapd("serve", f"several.test:{port}", *fresh(snapd, 1, folder=made(snapd)), env=env("192.0.2.1", "127.0.0.1"))
+        assert run.errors.startswith(f"snapd: several.test:{port}: can't listen there: Address already in use"), run
+
+
+def made(snapd):
+    snapd.file("other").mkdir()
+    return "other"
+
+
+class Logged:
+    """What comes out of a pipe that takes no more once it holds a page."""
+
+    def __init__(self):
+        self.reader, self.writer = os.pipe()
+        fcntl.fcntl(self.writer, fcntl.F_SETPIPE_SZ, 4_096)
+        os.set_blocking(self.writer, False)
+        os.set_blocking(self.reader, False)
+        self.text = ""
+
+    def count(self):
+        """How many lines of connections have come, and how many lines are said to be lost."""
+        with contextlib.suppress(BlockingIOError):
+            self.text += os.read(self.reader, 65_536).decode()
+        lines = [LOG_LINE.fullmatch(line) for line in self.text.splitlines() if line]
+        lost = [int(it[3].removeprefix("lines lost: ")) for it in lines if it[2] == "log"]
+        return sum(it[2] == "connection" for it in lines), sum(lost)
+
+    def close(self):
+        os.close(self.reader)
+        os.close(self.writer)
+
+
+def test_a_line_that_cannot_be_written_ends_no_log(snapd, _):
+    """Standard error takes no more for a while. Of each connection comes a line, or it is counted among those that were lost."""
+    logged = Logged()
+    words = [snapd.path, "serve", LOOPBACK, *fresh(snapd, 1), "--log", "debug"]
+    process = subprocess.Popen(words, cwd=snapd.folder, stdin=subprocess.DEVNULL, stdout=subprocess.PIPE, stderr=logged.writer)
+    try:
+        address = [process.stdout.readline() for _ in range(3)][-1].decode().removeprefix("listening ").strip()
+        for _ in range(100):
+            assert snapd("call", address, "status").status == 0
+        taken, _ = logged.count()
+        assert taken < 100, taken
+        assert snapd("call", address, "status").status == 0
+        comes_to(101, lambda: sum(logged.count()))
+        taken_then, lost = logged.count()
+        assert taken_then > taken and lost > 0, (taken, taken_then, lost)
+    finally:
+        process.kill()
+        process.communicate()
+        logged.close()
