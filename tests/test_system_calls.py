@@ -77,7 +77,7 @@ def test_calls_of_each_command(snapd, _):
     for number in (1, 2, 3, 4):
         on_file, on_streams = calls_of(snapd, "put", "F", stdin=b"hi")
         assert on_file == OPENED + RECOVERED + store_calls(number) + [("close",)], on_file
-        assert len(store_calls(number)) == (6 if number == 1 else 7)
+        assert len(store_calls(number)) == (8 if number == 1 else 9)
         assert on_streams == [("read", 0, 2), ("read", 0, 0), ("write", 1, len("stored 1\n"))], on_streams
 
     on_file, on_streams = calls_of(snapd, "get", "F")
