@@ -267,32 +267,3 @@ def test_a_file_is_gone_while_it_serves(snapd, _):
         segments(snapd, FRESH, [(1, b"on")])
         with Server(snapd, *files) as server:
             assert server.scan() == [(0, b""), (1, b"on")]
-
-
-def test_a_file_that_is_moved_takes_no_update(snapd, _):
-    """What would be stored where nobody finds it again is refused. Once the old file is back, a restart goes on from what was
-    acknowledged."""
-    for how in ("removed", "renamed", "replaced", "replaced by a copy"):
-        files = segments(snapd, TWO, TWO)
-        path, aside = snapd.file("S0"), snapd.file("aside")
-        with Server(snapd, *files) as server:
-            server.ask(update(0, 2, b"new"), stored(2))
-            if how == "removed":
-                os.link(path, aside)
-                path.unlink()
-            elif how == "replaced":
-                os.link(path, aside)
-                backup = snapd.file("backup")
-                backup.write_bytes(layout.holding(*TWO, index=0, count=2))
-                os.replace(backup, path)
-            else:
-                path.rename(aside)
-                if how == "replaced by a copy":
-                    path.write_bytes(aside.read_bytes())
-            server.ask(update(0, 3, b"lost") + update(0, 3, b"lost"), refused(13, 2) + refused(6, 2))
-            server.ask(SCAN + STATUS, snapshot((2, b"new"), (1, b"hi")) + standings((2, True), (1, False)))
-            server.ask(update(1, 2, b"on"), stored(2))
-        os.replace(aside, path)
-        with Server(snapd, *files) as server:
-            assert server.scan()[0] in ((2, b"new"), (3, b"lost")) and server.scan()[1] == (2, b"on"), how
-            server.ask(update(0, 3, b"lost"), stored(3))

@@ -34,7 +34,7 @@ def calls_of(snapd, *words, stdin=b""):
             on_file.append(("open" + opened[str(result)],))
             continue
         number = words_of_call.split(",")[0]
-        path = re.search(r'AT_FDCWD, "(F|OLD)"', words_of_call) if name == "statx" else None
+        path = re.search(r'AT_FDCWD, "(F|\.|OLD)"', words_of_call) if name == "statx" else None
         if path is not None:
             on_file.append(("look at the name" + names[path[1]],))
         elif number in opened:
@@ -51,7 +51,8 @@ OPENED = [("open",), ("flock",), ("statx",)]
 # What only reads looks first whether it is a file, since a pipe would let it wait.
 READ = [("look at the name",), *OPENED]
 # A sync, and then whether the path still names the file.
-SYNCED = [("fdatasync",), ("look at the name",)]
+LOOK = ("look at the name of the folder",)
+SYNCED = [("fdatasync",), LOOK, ("look at the name",)]
 NAMED = [("open of the folder",), ("fsync of the folder",), ("close of the folder",)]
 RECOVERED = [*SYNCED, ("pread64", 0, 28_672)]
 # Of a file that is taken for a new segment: whether it is formatted, and the calls that format it.
@@ -98,7 +99,7 @@ def test_calls_of_a_migration(snapd, _):
     on_file, on_streams = calls_of(snapd, "migrate", "OLD", "F")
     opened = of_old("look at the name", "open", "flock", "statx") + OPENED
     taken = opened + NAMED + [("ftruncate",)]
-    read = of_old("fdatasync", "look at the name") + [("pread64 of the old file", 0, 20_480)]
+    read = [*of_old("fdatasync"), LOOK, *of_old("look at the name"), ("pread64 of the old file", 0, 20_480)]
     ends = on_file[-2:]
     assert on_file[:-2] == taken + read + LOOKED_AT + FILLED, on_file
     assert sorted(ends) == [("close",), *of_old("close")], on_file

@@ -3,13 +3,13 @@ ghost use Rattle.std.specs.Prelude.{◌≡◌, ◌≢◌, ℕ, length, IfOk, IfE
 ghost use Rattle.snap_devices.specs.CallLog.{IsHonestLog, LeftSince, counts_now, only_now};
 ghost use Rattle.snap_devices.specs.FileDisk.{IsUncalled, file_device, file_held};
 
+use crate::name::{FileId, Name, folder_of};
 use crate::{Call, Log};
 use snap_disk::{DeviceFault, Disk};
 use snap_slot::FILE_LEN;
 use std::fs::{self, OpenOptions, TryLockError};
 use std::io::{self, ErrorKind};
-use std::os::unix::fs::{FileExt, MetadataExt};
-use std::path::Path;
+use std::os::unix::fs::FileExt;
 use std::rt::{Clock, Files};
 use std::sync::OnceLock;
 use std::thread;
@@ -30,23 +30,6 @@ pub enum Lock {
     Exclusive,
     /// Nobody else has an exclusive one: for what only reads it, and may only read it.
     Shared,
-}
-
-/// Which file of the system it is, whatever names it has: the number of the device that it is on,
-/// and its own number there.
-#[derive(Clone, Copy, Debug, PartialEq, Eq)]
-pub struct FileId {
-    device: u64,
-    inode: u64,
-}
-
-impl FileId {
-    fn of(found: &fs::Metadata) -> FileId {
-        FileId {
-            device: found.dev(),
-            inode: found.ino(),
-        }
-    }
 }
 
 /// Why a file could not be taken as a device. Nothing of it was changed, save that
@@ -114,9 +97,8 @@ pub enum CallFault {
 #[derive(Drop)]
 pub struct FileDisk<'p, R> {
     rt: &'p R,
-    path: &'p str,
     file: fs::File,
-    id: FileId,
+    name: Name<'p>,
     len: u64,
     failures: u64,
     /// Gets why the first call that fails did.
@@ -186,7 +168,7 @@ impl<'p, R: Files<File = fs::File> + Clock> FileDisk<'p, R> {
 
     /// Which file it is.
     pub fn id(&self) -> FileId {
-        self.id
+        self.name.id()
     }
 
     /// The same device, which tells `to` why a call of it failed: the first one that does, since
@@ -208,9 +190,8 @@ impl<'p, R: Files<File = fs::File> + Clock> FileDisk<'p, R> {
     {
         FileDisk {
             rt,
-            path,
             file,
-            id,
+            name: Name::new(path, id),
             len,
             failures: 0,
             told: None,
@@ -219,15 +200,19 @@ impl<'p, R: Files<File = fs::File> + Clock> FileDisk<'p, R> {
             open_at_first: Log::unknown(),
         }
     }
+}
 
-    /// Syncs, and asks whether the path still names this file.
-    fn sync_named(&self) -> Result<(), CallFault> {
-        self.file.sync_data().map_err(fault_of_sync)?;
-        match fs::metadata(self.rt, self.path) {
-            Ok(named) if FileId::of(&named) == self.id => Ok(()),
-            Err(reason) if reason.kind() != ErrorKind::NotFound => Err(fault_of_sync(reason)),
-            _ => Err(CallFault::Moved),
-        }
+/// Syncs a file, and asks whether this is still a name of it.
+fn sync_named<R: Files<File = fs::File> + Clock>(
+    rt: &R,
+    file: &fs::File,
+    name: &mut Name<'_>,
+) -> Result<(), CallFault> {
+    file.sync_data().map_err(fault_of_sync)?;
+    match name.holds(rt) {
+        Ok(true) => Ok(()),
+        Ok(false) => Err(CallFault::Moved),
+        Err(reason) => Err(fault_of_sync(reason)),
     }
 }
 
@@ -282,14 +267,6 @@ fn sync_folder_of<R: Files<File = fs::File>>(rt: &R, path: &str) -> io::Result<(
     match sync_folder(rt, folder_of(path)) {
         Err(reason) if !is_not_allowed(reason.kind()) => Err(reason),
         _ => Ok(()),
-    }
-}
-
-/// The path of the folder that this path's file is in.
-pub(crate) fn folder_of(path: &str) -> &str {
-    match Path::new(path).parent() {
-        Some(folder) if !folder.as_str().is_empty() => folder.as_str(),
-        _ => ".",
     }
 }
 
@@ -372,7 +349,7 @@ impl<R: Files<File = fs::File> + Clock> Disk for FileDisk<'_, R> {
     }
 
     fn sync(&mut self) -> Result<(), DeviceFault> {
-        match self.sync_named() {
+        match sync_named(self.rt, &self.file, &mut self.name) {
             Ok(()) => {
                 self.calls = self.calls.and(&[Call::Synced]);
                 Ok(())

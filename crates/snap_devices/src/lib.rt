@@ -12,6 +12,7 @@ mod file;
 mod held;
 mod log;
 mod memory;
+mod name;
 mod noise;
 
 pub(crate) use call::Call;
@@ -20,4 +21,5 @@ pub use file::{CallFault, CallKind, FileDisk, FileFault, Lock};
 pub use held::{Held, Waited};
 pub(crate) use log::Log;
 pub use memory::MemDisk;
+pub use name::FileId;
 pub use noise::Noise;

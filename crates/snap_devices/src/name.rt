@@ -1,0 +1,151 @@
+//! Whether a path still names an open file.
+//!
+//! A look at the file itself costs its next write: from version 6.13 on Linux gives a write that comes
+//! behind a question for a file's times a finer time than the clock's last tick, so that its inode
+//! changes and has to be stored with it. So the folder is asked, whose times change with each name in
+//! it that is made, removed or moved, and the file only where that can't tell, and once a second.
+
+use std::fs;
+use std::io::{self, ErrorKind};
+use std::os::unix::fs::MetadataExt;
+use std::path::Path;
+use std::rt::{Clock, Files};
+use std::time::Instant;
+
+/// How long a look at the file counts while its folder stays as it was, in seconds. Where a file system
+/// doesn't tell that a folder has changed, or another one was put over it, that is how late it is
+/// found.
+const LOOK_COUNTS: u64 = 1;
+
+/// How long a folder has to have had its time before each later change gives it another one, in
+/// seconds. Some file systems count in steps of two.
+const STEP: u64 = 3;
+
+/// Which file of the system it is, whatever names it has: the number of the device that it is on,
+/// and its own number there.
+#[derive(Clone, Copy, Debug, PartialEq, Eq)]
+pub struct FileId {
+    device: u64,
+    inode: u64,
+}
+
+impl FileId {
+    pub(crate) fn of(found: &fs::Metadata) -> FileId {
+        FileId {
+            device: found.dev(),
+            inode: found.ino(),
+        }
+    }
+}
+
+/// The path of the folder that this path's file is in.
+pub(crate) fn folder_of(path: &str) -> &str {
+    match Path::new(path).parent() {
+        Some(folder) if !folder.as_str().is_empty() => folder.as_str(),
+        _ => ".",
+    }
+}
+
+/// A folder as it is at some moment: which one, and when its names changed last.
+#[derive(Clone, Copy, PartialEq, Eq)]
+struct Folder {
+    id: FileId,
+    seconds: i64,
+    nanoseconds: i64,
+}
+
+/// A glance at a folder.
+#[derive(Clone, Copy)]
+struct Glance {
+    folder: Folder,
+    at: Instant,
+}
+
+/// A glance at a folder, with a look at the file behind it.
+#[derive(Clone, Copy)]
+struct Look {
+    glance: Glance,
+    /// When the folder was first seen as it was then.
+    since: Instant,
+}
+
+impl Look {
+    /// A look behind this glance, and behind an earlier one where there was one.
+    fn behind(glance: Glance, earlier: Option<Look>) -> Look {
+        let since = match earlier {
+            Some(earlier) if earlier.glance.folder == glance.folder => earlier.since,
+            _ => glance.at,
+        };
+        Look { glance, since }
+    }
+
+    /// Whether this later glance shows that the name that was looked at is there still.
+    fn counts_at(&self, later: Glance) -> bool {
+        later.folder == self.glance.folder
+            && self.glance.at.duration_since(self.since).as_secs() >= STEP
+            && later.at.duration_since(self.glance.at).as_secs() < LOOK_COUNTS
+    }
+}
+
+/// The path by which a file was opened.
+#[derive(Drop)]
+pub struct Name<'p> {
+    path: &'p str,
+    id: FileId,
+    /// The last look that found the file under its own name, and not under that of a link to it.
+    look: Option<Look>,
+}
+
+impl<'p> Name<'p> {
+    /// Of a file that was opened by this path.
+    pub fn new(path: &'p str, id: FileId) -> Name<'p> {
+        Name {
+            path,
+            id,
+            look: None,
+        }
+    }
+
+    /// Which file it was opened for.
+    pub fn id(&self) -> FileId {
+        self.id
+    }
+
+    /// Whether it still names that file. Where the system can't tell, that is its own reason.
+    pub fn holds<R: Files<File = fs::File> + Clock>(&mut self, rt: &R) -> io::Result<bool> {
+        // Before the file, so that a change between the two isn't taken for one before them.
+        let glance = self.glance(rt).ok();
+        let last = self.look.take();
+        if let (Some(last), Some(glance)) = (last, glance) {
+            if last.counts_at(glance) {
+                self.look = Some(last);
+                return Ok(true);
+            }
+        }
+        if let Ok(own) = fs::symlink_metadata(rt, self.path) {
+            if FileId::of(&own) == self.id {
+                self.look = glance.map(|glance| Look::behind(glance, last));
+                return Ok(true);
+            }
+        }
+        match fs::metadata(rt, self.path) {
+            Ok(named) => Ok(FileId::of(&named) == self.id),
+            Err(reason) if reason.kind() == ErrorKind::NotFound => Ok(false),
+            Err(reason) => Err(reason),
+        }
+    }
+
+    /// Looks at the folder and at the clock.
+    fn glance<R: Files<File = fs::File> + Clock>(&self, rt: &R) -> io::Result<Glance> {
+        let found = fs::metadata(rt, folder_of(self.path))?;
+        let folder = Folder {
+            id: FileId::of(&found),
+            seconds: found.ctime(),
+            nanoseconds: found.ctime_nsec(),
+        };
+        Ok(Glance {
+            folder,
+            at: Instant::now(rt)?,
+        })
+    }
+}
