@@ -125,6 +125,21 @@ def test_how_connections_are_let_go_is_noted(snapd, _):
         comes_to({name_of(idle): "let go of: the server stops"}, lambda: ends_of(server))
 
 
+def test_who_began_a_request_keeps_no_server_that_stops(snapd, _):
+    """It is waited for as long as it goes on, and five seconds behind its last byte."""
+    accepts = Accepts(snapd.folder, 2, 10**6, errno.EBADF)
+    env = accepts.env | {"LD_PRELOAD": f"{accepts.env['LD_PRELOAD']}:{library('sleeps')}"}
+    with Server(snapd, *fresh(snapd, 1), env=env, more=("--log", "debug")) as server, server.connect() as begun:
+        begun.sendall(SCAN[:2])
+        comes_to(1, lambda: len(server.logged("WARN", "accept")))
+        begun.sendall(SCAN[2:-1])
+        began, name = time.monotonic(), name_of(begun)
+        assert to_its_end(begun) == b""
+        assert time.monotonic() - began > 4.5
+        comes_to({name: "let go of: it said nothing for too long"}, lambda: ends_of(server))
+        assert server.end().status == 1
+
+
 def test_a_worker_that_failed_is_told_where_all_have_come(snapd, _):
     """As many connections as were asked for were dealt before one of the workers failed: they aren't said to be served."""
     sockets = Sockets(snapd, "epoll_wait", 1, errno.EBADF)
