@@ -2,7 +2,7 @@
  *
  * SOCKETS_FAIL is `CALL NUMBER ERRNO`: of the calls with this name, the one with this number, counted from 1, does nothing and
  * fails. Only those are counted that come while the file SOCKETS_WHILE is there, and it is removed with the failure.
- * SOCKETS_SHUT names a file that gets one digit for each `shutdown` that is asked for: which side of the socket it is.
+ * SOCKETS_TOLD names a file that gets a line for each `listen`, `setsockopt` and `shutdown`: its name and its numbers.
  */
 #define _GNU_SOURCE
 #include <dlfcn.h>
@@ -21,14 +21,14 @@
 /* The next definition of a call, which is the C library's. */
 #define REAL(name) ((typeof(&name))dlsym(RTLD_NEXT, #name))
 
-static int number, reason, sides = -1;
+static int number, reason, told = -1;
 static char fails[32];
 static const char *during;
 
 __attribute__((constructor)) static void begin(void) {
     const char *which = getenv("SOCKETS_FAIL");
-    const char *shut = getenv("SOCKETS_SHUT");
-    if (shut != NULL) sides = open(shut, O_WRONLY | O_CREAT | O_APPEND | O_CLOEXEC, 0666);
+    const char *path = getenv("SOCKETS_TOLD");
+    if (path != NULL) told = open(path, O_WRONLY | O_CREAT | O_APPEND | O_CLOEXEC, 0666);
     during = getenv("SOCKETS_WHILE");
     if (which == NULL || sscanf(which, "%31s %d %d", fails, &number, &reason) != 3) fails[0] = 0;
 }
@@ -44,6 +44,9 @@ static int is_failed(const char *call) {
 
 #define FAILS(name) \
     if (is_failed(#name)) return -1
+
+#define TELLS(...) \
+    if (told >= 0 && dprintf(told, __VA_ARGS__) < 0) abort()
 
 int socket(int family, int kind, int protocol) {
     FAILS(socket);
@@ -61,6 +64,7 @@ int connect(int socket, const struct sockaddr *address, socklen_t length) {
 }
 
 int listen(int socket, int backlog) {
+    TELLS("listen %d\n", backlog);
     FAILS(listen);
     return REAL(listen)(socket, backlog);
 }
@@ -86,6 +90,7 @@ int accept4(int listener, struct sockaddr *address, socklen_t *length, int flags
 }
 
 int setsockopt(int socket, int level, int name, const void *value, socklen_t length) {
+    if (length == sizeof(int)) TELLS("setsockopt %d %d %d\n", level, name, *(const int *)value);
     FAILS(setsockopt);
     return REAL(setsockopt)(socket, level, name, value, length);
 }
@@ -120,7 +125,7 @@ ssize_t send(int socket, const void *bytes, size_t length, int flags) {
 }
 
 int shutdown(int socket, int how) {
-    if (sides >= 0 && write(sides, how == SHUT_RD ? "0" : how == SHUT_WR ? "1" : "2", 1) < 0) abort();
+    TELLS("shutdown %d\n", how);
     FAILS(shutdown);
     return REAL(shutdown)(socket, how);
 }

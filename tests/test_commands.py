@@ -177,6 +177,14 @@ def test_paths_that_fail(snapd, _):
     assert not snapd.file("nowhere").exists()
 
 
+def test_line_feeds_of_a_path_and_of_wrong_words_are_said_as_they_are(snapd, _):
+    """They make several lines of one reason."""
+    snapd("get", "a\nb").gave(1, errors="snapd: a\nb: No such file or directory (os error 2)\n")
+    run = snapd("get", "F", "--index", 1)
+    assert run.status == 2 and run.errors.startswith("snapd: error: the index 1 is not below the count 1\n"), run
+    assert run.errors.endswith("try '--help'.\n") and run.errors.count("snapd: ") == 1, run
+
+
 def test_no_permission(snapd, _):
     """As a user that may read the file but not write it, and one that may do neither."""
     file = snapd.formatted()

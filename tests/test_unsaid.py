@@ -3,8 +3,10 @@
 import contextlib
 import errno
 import fcntl
+import itertools
 import os
 import pathlib
+import socket
 import subprocess
 import time
 
@@ -12,6 +14,7 @@ from preload import Accepts, library
 from serving import LOG_LINE, LOOPBACK, SCAN, STATUS, Server, fresh, reset, snapshot, standings, stored, to_its_end, update
 from talk import CLOSED, told
 from test_serve_disks import Disk
+from test_serve_memory import NO_THREAD
 from test_serve_sockets import REFUSED, Sockets
 from waiting import comes_to, wait_until
 
@@ -42,6 +45,20 @@ def test_who_waits_sleeps(snapd, _):
             assert processor_time(server) - before < 0.5, hold
         disk.says()
         assert told(waits) == stored(1)
+
+
+def test_each_thread_of_a_start_is_refused(snapd, _):
+    """It says so, and doesn't listen: who waits for that line may count on all of them."""
+    files = fresh(snapd, 2)
+    for number in itertools.count(1):
+        env = {"LD_PRELOAD": library("threads"), "THREADS_REFUSE": str(number)}
+        run = snapd("serve", LOOPBACK, *files, "--scanners", 3, "--connections", 0, env=env)
+        if run.status == 0:
+            break
+        assert run.status == 1 and b"listening" not in run.output, (number, run)
+        assert run.errors in (f"snapd: {NO_THREAD}", f"snapd: {LOOPBACK}: {NO_THREAD}"), (number, run)
+    # That of the log, two that store, and three that serve.
+    assert number == 1 + 2 + 3 + 1 and b"served 0" in run.output, (number, run)
 
 
 def test_faults_of_a_listener_are_rested_behind(snapd, _):
@@ -108,6 +125,21 @@ def test_how_connections_are_let_go_is_noted(snapd, _):
         comes_to({name_of(idle): "let go of: the server stops"}, lambda: ends_of(server))
 
 
+def test_who_began_a_request_keeps_no_server_that_stops(snapd, _):
+    """It is waited for as long as it goes on, and five seconds behind its last byte."""
+    accepts = Accepts(snapd.folder, 2, 10**6, errno.EBADF)
+    env = accepts.env | {"LD_PRELOAD": f"{accepts.env['LD_PRELOAD']}:{library('sleeps')}"}
+    with Server(snapd, *fresh(snapd, 1), env=env, more=("--log", "debug")) as server, server.connect() as begun:
+        begun.sendall(SCAN[:2])
+        comes_to(1, lambda: len(server.logged("WARN", "accept")))
+        begun.sendall(SCAN[2:-1])
+        began, name = time.monotonic(), name_of(begun)
+        assert to_its_end(begun) == b""
+        assert time.monotonic() - began > 4.5
+        comes_to({name: "let go of: it said nothing for too long"}, lambda: ends_of(server))
+        assert server.end().status == 1
+
+
 def test_a_worker_that_failed_is_told_where_all_have_come(snapd, _):
     """As many connections as were asked for were dealt before one of the workers failed: they aren't said to be served."""
     sockets = Sockets(snapd, "epoll_wait", 1, errno.EBADF)
@@ -125,15 +157,35 @@ def test_a_worker_that_failed_is_told_where_all_have_come(snapd, _):
         assert (run.status, run.output, run.errors) == (1, b"", f"snapd: {LOOPBACK}: {REFUSED}\n"), run
 
 
-def test_the_writing_side_alone_is_shut_down(snapd, _):
-    """Of a connection; the listener is shut down on both sides."""
-    shut = snapd.file("shut")
-    env = {"LD_PRELOAD": library("sockets"), "SOCKETS_SHUT": str(shut)}
+def told_of(snapd):
+    """Where the calls on sockets are told, and the environment in which they are."""
+    path = snapd.file("calls")
+    path.unlink(missing_ok=True)
+    return path, {"LD_PRELOAD": library("sockets"), "SOCKETS_TOLD": str(path)}
+
+
+# What has small writes go out without delay.
+NO_DELAY = f"setsockopt {socket.IPPROTO_TCP} {socket.TCP_NODELAY} 1"
+
+
+def test_what_is_asked_of_sockets(snapd, _):
+    """Of each connection the writing side alone is shut down, and of the listener both; no small write is delayed; and the queue of
+    callers is as long as the system lets it be."""
+    path, env = told_of(snapd)
     with Server(snapd, *fresh(snapd, 1), connections=3, env=env) as server:
         for _ in range(3):
             server.ask(SCAN, EMPTY)
         assert server.end().output == b"served 3\n"
-    assert sorted(shut.read_text()) == ["1", "1", "1", "2"], shut.read_text()
+    calls = path.read_text().splitlines()
+    assert sorted(it for it in calls if it.startswith("shutdown")) == ["shutdown 1"] * 3 + ["shutdown 2"], calls
+    assert calls.count(NO_DELAY) == 3, calls
+    longest = int(pathlib.Path("/proc/sys/net/core/somaxconn").read_text())
+    (queue,) = [int(it.split()[1]) for it in calls if it.startswith("listen")]
+    assert queue < 0 or queue >= longest, (queue, longest)
+    with Server(snapd, *fresh(snapd, 1)) as server:
+        path, env = told_of(snapd)
+        snapd("call", server.address, "scan", env=env).gave(0, "segment 0 number 0 value -\n")
+        assert NO_DELAY in path.read_text().splitlines()
 
 
 def test_each_number_of_a_name_is_tried(snapd, _):
