@@ -1,6 +1,6 @@
 //! Pulls the plug on threads, and judges what a crash leaves: the crash law where nothing holds still.
 //!
-//!     try_plug ROUNDS SEED [counts]
+//!     try_plug ROUNDS SEED
 //!
 //! A machine has four files in memory, four clients that update them and two scanners, each in a
 //! thread of its own. All devices hang on one plug. The call of a drawn number pulls it, with or
@@ -12,8 +12,8 @@
 //! In each round a second start comes behind the crash, which is cut within its opening or ends right
 //! behind it, so that one crash comes behind the other. The files live on from round to round.
 //!
-//! The line that says so is the same in every run. With the third word two more follow, which count
-//! where the pulls found the threads; no seed fixes that.
+//! The line that says so is the same in every run. On standard error two more follow, which count where
+//! the pulls found the threads; no seed fixes that.
 #![tactic(auto)]
 
 mod device;
@@ -25,36 +25,22 @@ mod tally;
 mod worker;
 
 use rounds::pull_often;
-use std::thread::Threads;
 use std::{env, io};
 
-/// The rounds by these words.
-fn run<X: Threads + Sync>(host: &X, rt: &HostRuntime, words: &[&str]) -> io::Result<()> {
-    let (rounds, seed, counts) = match words {
-        [rounds, seed] => (rounds, seed, false),
-        [rounds, seed, "counts"] => (rounds, seed, true),
-        _ => return Err(io::Error::other("the words are ROUNDS SEED [counts]")),
-    };
-    let (Ok(rounds), Ok(seed)) = (rounds.parse(), seed.parse()) else {
-        return Err(io::Error::other("ROUNDS and SEED are numbers"));
-    };
-    let tally = pull_often(host, rt.alloc(), rounds, seed)?;
-    println!(rt;
-        "{} rounds from seed {seed}: each crash left what it may leave",
-        tally.rounds
-    )?;
-    if counts {
-        tally.print(rt)?;
+/// How many rounds, and the seed.
+fn numbers_in(words: &[String]) -> io::Result<(u64, u64)> {
+    if let [_, rounds, seed] = words {
+        if let (Ok(rounds), Ok(seed)) = (rounds.as_str().parse(), seed.as_str().parse()) {
+            return Ok((rounds, seed));
+        }
     }
-    Ok(())
+    Err(io::Error::other("the words are ROUNDS SEED, two numbers"))
 }
 
 fn main(rt: HostRuntime) -> io::Result<()> {
     let words: Vec<String> = env::args(&rt)?.collect(rt.alloc())?;
-    let words: Vec<&str> = words
-        .iter()
-        .skip(1)
-        .map(|word| word.as_str())
-        .collect(rt.alloc())?;
-    run(&rt, &rt, words.as_slice())
+    let (rounds, seed) = numbers_in(words.as_slice())?;
+    let tally = pull_often(&rt, rt.alloc(), rounds, seed)?;
+    println!(rt; "{rounds} rounds from seed {seed}: each crash left what it may leave")?;
+    tally.print(&rt)
 }

@@ -54,26 +54,36 @@ pub enum Opened {
     Cut(Vec<Plugged>),
 }
 
-/// All devices at this plug, and the same plug for their clients.
+/// This plug for each of so many devices.
+fn plugs_of(alloc: Global, plug: &Plug, devices: usize) -> Result<Vec<Plug>, AllocError> {
+    let mut plugs = Vec::new(alloc);
+    for _ in 0..devices {
+        plugs.push(plug.for_device(alloc)?)?;
+    }
+    Ok(plugs)
+}
+
+/// Each device at its plug.
 fn plug_in(
     alloc: Global,
     devices: Vec<MemDisk>,
-    plug: &Plug,
-) -> Result<(Vec<Plugged>, Vec<Plug>), AllocError> {
+    plugs: &Vec<Plug>,
+) -> Result<Vec<Plugged>, AllocError> {
     let mut plugged = Vec::new(alloc);
-    let mut client_plugs = Vec::new(alloc);
+    let mut plugs = plugs.iter();
     for disk in devices {
-        let plug = plug.for_device(alloc)?;
-        client_plugs.push(plug.for_client()?)?;
-        plugged.push(Plugged::new(disk, plug))?;
+        if let Some(plug) = plugs.next() {
+            plugged.push(Plugged::new(disk, plug.copied()?))?;
+        }
     }
-    Ok((plugged, client_plugs))
+    Ok(plugged)
 }
 
 /// Opens all files. Nothing else than the plug may stop that.
 pub(crate) fn open(alloc: Global, devices: Vec<MemDisk>, pull: Pull) -> io::Result<Opened> {
     let plug = Plug::new(alloc, pull)?;
-    let (devices, client_plugs) = plug_in(alloc, devices, &plug)?;
+    let client_plugs = plugs_of(alloc, &plug, devices.len())?;
+    let devices = plug_in(alloc, devices, &client_plugs)?;
     match try_open_all(alloc, devices, SCANNERS)? {
         Ok((store, _)) => Ok(Opened::Whole(Machine {
             store,

@@ -51,8 +51,8 @@ impl Plug {
         })
     }
 
-    /// The same for its client.
-    pub fn for_client(&self) -> Result<Plug, AllocError> {
+    /// The same for whoever else asks it of this device.
+    pub fn copied(&self) -> Result<Plug, AllocError> {
         Ok(Plug {
             asked: Arc::try_clone(&self.asked)?,
             done: Arc::try_clone(&self.done)?,

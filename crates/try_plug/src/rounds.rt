@@ -119,6 +119,23 @@ fn start_work<X: Threads + Sync>(
     Ok(devices_behind(alloc, workers)?)
 }
 
+/// A start that nothing cuts, and in which nobody works.
+fn start_last(alloc: Global, devices: Vec<MemDisk>, course: &mut Course) -> io::Result<()> {
+    let never = Pull {
+        call: u64::MAX,
+        is_done: false,
+    };
+    let Opened::Whole(machine) = open(alloc, devices, never)? else {
+        return Err(io::Error::other("the last opening failed"));
+    };
+    judge(
+        alloc,
+        &machine.store.writers,
+        &mut course.past,
+        &mut course.tally,
+    )
+}
+
 /// One round behind the other, on the same files. What the last one left is judged too.
 pub(crate) fn pull_often<X: Threads + Sync>(
     host: &X,
@@ -138,18 +155,6 @@ pub(crate) fn pull_often<X: Threads + Sync>(
         devices = start_idle(alloc, devices, &mut course)?;
         crash(alloc, &mut devices, &mut course.draw)?;
     }
-    let never = Pull {
-        call: u64::MAX,
-        is_done: false,
-    };
-    let Opened::Whole(machine) = open(alloc, devices, never)? else {
-        return Err(io::Error::other("the last opening failed"));
-    };
-    judge(
-        alloc,
-        &machine.store.writers,
-        &mut course.past,
-        &mut course.tally,
-    )?;
+    start_last(alloc, devices, &mut course)?;
     Ok(course.tally)
 }

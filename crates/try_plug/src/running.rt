@@ -20,15 +20,12 @@ fn clients_of(
     writers: Vec<Writer<Plugged>>,
     plugs: Vec<Plug>,
 ) -> Result<(), AllocError> {
-    for (segment, (writer, plug)) in writers.into_iter().zip(plugs).enumerate() {
-        workers.push(Worker::Client(Client {
-            told: writer.number(),
-            writer,
-            plug,
-            segment,
-            place: Place::AtRest,
-            is_right: true,
-        }))?;
+    let mut plugs = plugs.into_iter();
+    for writer in writers {
+        if let Some(plug) = plugs.next() {
+            let segment = workers.len();
+            workers.push(Worker::Client(Client::new(segment, writer, plug)))?;
+        }
     }
     Ok(())
 }
@@ -116,6 +113,12 @@ pub(crate) fn past_of(workers: &mut Vec<Worker>) -> io::Result<Past> {
     Ok(past)
 }
 
+/// The device of a writer, in memory.
+fn disk_of(writer: Writer<Plugged>) -> MemDisk {
+    let (segment, _) = writer.into_parts();
+    segment.into_device().into_disk()
+}
+
 /// The devices of writers, in order.
 pub(crate) fn devices_of(
     alloc: Global,
@@ -123,8 +126,7 @@ pub(crate) fn devices_of(
 ) -> Result<Vec<MemDisk>, AllocError> {
     let mut devices = Vec::new(alloc);
     for writer in writers {
-        let (segment, _) = writer.into_parts();
-        devices.push(segment.into_device().into_disk())?;
+        devices.push(disk_of(writer))?;
     }
     Ok(devices)
 }
@@ -134,11 +136,11 @@ pub(crate) fn devices_behind(
     alloc: Global,
     workers: Vec<Worker>,
 ) -> Result<Vec<MemDisk>, AllocError> {
-    let mut writers = Vec::new(alloc);
+    let mut devices = Vec::new(alloc);
     for worker in workers {
         if let Worker::Client(client) = worker {
-            writers.push(client.writer)?;
+            devices.push(disk_of(client.writer))?;
         }
     }
-    devices_of(alloc, writers)
+    Ok(devices)
 }

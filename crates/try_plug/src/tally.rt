@@ -60,7 +60,7 @@ impl Tally {
         count_up(&mut self.openings, true);
     }
 
-    /// Prints the counts in two lines.
+    /// Prints the counts in two lines, on standard error.
     pub fn print(&self, rt: &HostRuntime) -> io::Result<()> {
         let Tally {
             rounds,
@@ -71,12 +71,10 @@ impl Tally {
             new,
             openings,
         } = *self;
-        println!(rt;
+        eprintln!(rt;
             "the plug was pulled in {rounds} rounds: {at_rest} found a writer at rest, \
-            {in_store} inside a store, {before_answer} between its store and the answer"
-        )?;
-        println!(rt;
-            "of the cut stores {old} left the old value and {new} the new one; \
+            {in_store} inside a store, {before_answer} between its store and the answer\n\
+            of the cut stores {old} left the old value and {new} the new one; \
             {openings} openings were cut too"
         )
     }

@@ -47,6 +47,18 @@ pub enum Worker {
 }
 
 impl Client {
+    /// A client of this writer, which is at rest.
+    pub fn new(segment: usize, writer: Writer<Plugged>, plug: Plug) -> Client {
+        Client {
+            told: writer.number(),
+            writer,
+            plug,
+            segment,
+            place: Place::AtRest,
+            is_right: true,
+        }
+    }
+
     /// The next update. Whether it was answered before the plug was pulled.
     fn send(&mut self) -> bool {
         let next = self.told.saturating_add(1);
