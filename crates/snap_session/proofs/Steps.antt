@@ -39,6 +39,7 @@ use Rattle.snap_session.specs.Talk.{
   refused_too_large,
   Talk,
   Goes,
+  GoesBy,
   Stays,
   Run,
   Answer,
@@ -86,24 +87,26 @@ unanswered : {S : Type 0} (gives : S → Request → Reply → S
     → Type 0) (s : S) (old : Talk) (taken given : List ℕ) (new : Talk)
     → given ++ new.owed ≡ old.owed
     → Phase old.over new.over taken [] [] [] (came old ++ taken) (came new) []
-    → Goes Stays gives s s old taken given new
-unanswered gives s old taken given new said phase =
-    record {
-      payloads = [];
-      replies = [];
-      unsaid = [];
-      rest = came old ++ taken;
-      tail = [];
-      run = refl;
-      cut = refl;
-      said = said ∙ owed_only old.owed;
-      phase = phase;
-    }
+    → GoesBy 0 Stays gives s s old taken given new
+unanswered gives s old taken given new said phase = (
+  record {
+    payloads = [];
+    replies = [];
+    unsaid = [];
+    rest = came old ++ taken;
+    tail = [];
+    run = refl;
+    cut = refl;
+    said = said ∙ owed_only old.owed;
+    phase = phase;
+  },
+  omega arith,
+)
 
 -- the bytes that came stay as they are, and some that are owed are sent
 pub sends : {S : Type 0} (gives : S → Request → Reply → S
     → Type 0) (s : S) (old : Talk) (given : List ℕ) (new : Talk) → old.owed ≡ given ++ new.owed
-    → came new ≡ came old → new.over ≡ old.over → Goes Stays gives s s old [] given new
+    → came new ≡ came old → new.over ≡ old.over → GoesBy 0 Stays gives s s old [] given new
 sends gives s old given new owed same over =
     unanswered gives s old [] given new (sym owed)
     (subst (λ (o : Option Failure). Phase old.over o [] [] [] [] (came old ++ []) (came new) [])
@@ -112,13 +115,13 @@ sends gives s old given new owed same over =
 
 -- nothing happens
 pub rests : {S : Type 0} (gives : S → Request → Reply → S → Type 0) (s : S) (t : Talk)
-    → Goes Stays gives s s t [] [] t
+    → GoesBy 0 Stays gives s s t [] [] t
 rests gives s t = sends gives s t [] t refl refl refl
 
 -- memory runs out before anything is answered
 pub gives_up : {S : Type 0} (gives : S → Request → Reply → S
     → Type 0) (s : S) (old : Talk) (taken : List ℕ) (new : Talk) → old.over ≡ None
-    → new.owed ≡ old.owed → new.over ≡ Some NoMemory → Goes Stays gives s s old taken [] new
+    → new.owed ≡ old.owed → new.over ≡ Some NoMemory → GoesBy 0 Stays gives s s old taken [] new
 gives_up gives s old taken new going owed over =
     unanswered gives s old taken [] new owed
     (phase_no_memory old.over new.over taken [] [] [] (came old ++ taken) (came new) going over
@@ -127,7 +130,7 @@ gives_up gives s old taken new going owed over =
 -- a piece is taken in
 pub takes : {S : Type 0} (gives : S → Request → Reply → S
     → Type 0) (s : S) (old : Talk) (piece : List ℕ) (new : Talk) → old.over ≡ None
-    → HasTaken old piece new → Goes Stays gives s s old piece [] new
+    → HasTaken old piece new → GoesBy 0 Stays gives s s old piece [] new
 takes gives s old piece new going (inl is) =
     unanswered gives s old piece [] new (ap owed_of is)
     (phase_going old.over new.over piece [] [] (came old ++ piece) (came new) going
@@ -162,26 +165,28 @@ answered_one : {S : Type 0} (gives : S → Request → Reply → S
     → ys ++ us ≡ y ∷ [] → came old ≡ frame x ++ came mid → Answer gives s x y t
     → new.owed ≡ old.owed ++ (frames ys ++ [])
     → Phase old.over new.over [] (x ∷ []) ys us (came mid) (came new) []
-    → Goes Stays gives s t old [] [] new
-answered_one gives s t old mid new x y ys us one found answer said phase =
-    record {
-      payloads = x ∷ [];
-      replies = ys;
-      unsaid = us;
-      rest = came mid;
-      tail = [];
-      run = subst (λ zs. Run Stays gives s (x ∷ []) zs t) (sym one) (s, t, refl, answer, refl);
-      cut = append-nil (came old) ∙ found
-          ∙ ap (λ zs. zs ++ came mid) (sym (append-nil (frame x)));
-      said = said;
-      phase = phase;
-    }
+    → GoesBy 1 Stays gives s t old [] [] new
+answered_one gives s t old mid new x y ys us one found answer said phase = (
+  record {
+    payloads = x ∷ [];
+    replies = ys;
+    unsaid = us;
+    rest = came mid;
+    tail = [];
+    run = subst (λ zs. Run Stays gives s (x ∷ []) zs t) (sym one) (s, t, refl, answer, refl);
+    cut = append-nil (came old) ∙ found
+        ∙ ap (λ zs. zs ++ came mid) (sym (append-nil (frame x)));
+    said = said;
+    phase = phase;
+  },
+  omega arith,
+)
 
 -- a frame is answered
 pub answers : {S : Type 0} (gives : S → Request → Reply → S
     → Type 0) (s t : S) (old mid new : Talk) (x y : List ℕ) (ok : Bool) → old.over ≡ None
     → came old ≡ frame x ++ came mid → mid.owed ≡ old.owed → mid.over ≡ None → Answer gives s x y t
-    → Owes mid y new ok → Goes Stays gives s t old [] [] new
+    → Owes mid y new ok → GoesBy 1 Stays gives s t old [] [] new
 answers gives s t old mid new x y true going found owed over answer owes =
     answered_one gives s t old mid new x y (y ∷ []) [] refl found answer
     (ap owed_of owes ∙ ap (λ zs. zs ++ frame y) owed ∙ said_one old.owed y)
@@ -197,20 +202,22 @@ answers gives s t old mid new x y false going found owed over answer owes =
 pub refuses : {S : Type 0} (gives : S → Request → Reply → S
     → Type 0) (s : S) (old mid new : Talk) (ok : Bool) → old.over ≡ None → HasLongLength (came old)
     → mid ≡ record old { over = Some TooLarge } → Owes mid refused_too_large new ok
-    → Goes Stays gives s s old [] [] new
-refuses gives s old mid new true going long is owes =
-    record {
-      payloads = [];
-      replies = [];
-      unsaid = [];
-      rest = came old;
-      tail = frame refused_too_large;
-      run = refl;
-      cut = append-nil (came old);
-      said = ap owed_of owes ∙ ap (λ zs. zs ++ frame refused_too_large) (ap owed_of is);
-      phase = phase_too_large old.over new.over [] [] [] (came old) (came new) going
-          (ap over_of owes ∙ ap over_of is) long;
-    }
+    → GoesBy 0 Stays gives s s old [] [] new
+refuses gives s old mid new true going long is owes = (
+  record {
+    payloads = [];
+    replies = [];
+    unsaid = [];
+    rest = came old;
+    tail = frame refused_too_large;
+    run = refl;
+    cut = append-nil (came old);
+    said = ap owed_of owes ∙ ap (λ zs. zs ++ frame refused_too_large) (ap owed_of is);
+    phase = phase_too_large old.over new.over [] [] [] (came old) (came new) going
+        (ap over_of owes ∙ ap over_of is) long;
+  },
+  omega arith,
+)
 refuses gives s old mid new false going long is owes =
     gives_up gives s old [] new going (ap owed_of owes ∙ ap owed_of is) (ap over_of owes)
 
@@ -224,7 +231,7 @@ found_first old mid x free found same =
 pub hands : {S : Type 0} (gives : S → Request → Reply → S
     → Type 0) (s : S) (old mid new : Talk) (x : List ℕ) (q : Request) → old.over ≡ None
     → old.asked ≡ None → HasFrame old.held x mid.held → x ≡ payload q → mid.owed ≡ old.owed
-    → mid.over ≡ None → new ≡ record mid { asked = Some q } → Goes Stays gives s s old [] [] new
+    → mid.over ≡ None → new ≡ record mid { asked = Some q } → GoesBy 0 Stays gives s s old [] [] new
 hands gives s old mid new x q going free found asks owed over is =
     sends gives s old [] new
     (sym (ap owed_of is ∙ owed))
@@ -270,17 +277,23 @@ pub finishes : {S : Type 0} (gives : S → Request → Reply → S
     → length (payload q) ≤ max_payload → Owes mid (says r) new ok
     → Goes Stays gives s t old [] [] new
 finishes gives s t old mid new q r ok going asked is given limits fits owes =
-    answers gives s t old mid new (payload q) (says r) ok going
+    (answers gives s t old mid new (payload q) (says r) ok going
     (came_asked old q asked ∙ ap (λ zs. frame (payload q) ++ zs) (sym (ap came is)))
     (ap owed_of is)
     (ap over_of is ∙ going)
     (fits, inl (q, r, refl, given, (limits, refl)))
-    owes
+    owes).0
 
 -- nobody waits for an outcome
 pub nobody : {S : Type 0} (gives : S → Request → Reply → S → Type 0) (s : S) (t : Talk)
     → t.asked ≡ None → Goes Stays gives s s t [] [] (record t { asked = None })
-nobody gives s t free = sends gives s t [] (record t {
+nobody gives s t free = (sends gives s t [] (record t {
   asked =
       None;
-}) refl (sym (came_free t free)) refl
+}) refl (sym (came_free t free)) refl).0
+
+-- fewer are no more
+pub by_more : {S : Type 0} (gives : S → Request → Reply → S
+    → Type 0) (s t : S) (old : Talk) (taken given : List ℕ) (new : Talk) (m n : ℕ) → m ≤ n
+    → GoesBy m Stays gives s t old taken given new → GoesBy n Stays gives s t old taken given new
+by_more gives s t old taken given new m n more goes = (goes.0, omega (arith, more, goes.1))

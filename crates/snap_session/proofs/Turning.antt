@@ -25,6 +25,7 @@ use Rattle.std.proofs.Common.{
   ◌∷◌,
   Bool,
   true,
+  false,
   eqb-true,
 }
 use Rattle.std.specs.Bool.{◌==◌}
@@ -50,11 +51,13 @@ use Rattle.snap_session.specs.Talk.{
   asked_bytes,
   start,
   most_owed,
+  HoldsFrameAnd,
 }
 use Rattle.snap_session.specs.Turns.{Turns, Sends, Serves, EndsAt}
 use Rattle.snap_session.proofs.Runs.{Joins, stays_joins}
 use Rattle.snap_session.proofs.Going.{goes_on}
 use Rattle.snap_session.proofs.Steps.{rests, takes, sends}
+use Rattle.snap_session.proofs.Holding.{holds_sent}
 use Rattle.snap_session.proofs.Known.{
   appends_none,
   appends_more,
@@ -72,7 +75,7 @@ begins gives s t r w =
       read = consumes_none r;
       writes = appends_none w;
       goes =
-          rests gives s t;
+          (rests gives s t).0;
     }
 
 pub turns_on : {S : Type 0} (between : S → S → Type 0) (joins : Joins between) (gives : S → Request
@@ -116,7 +119,7 @@ then_sends gives s t t0 t1 t2 r0 r1 w0 w1 w2 one two =
       read = consumes_none r1;
       writes = two.writes;
       goes =
-          sends gives t t1 two.given t2 two.owed (same_came t1 t2 two.asked two.held) two.over;
+          (sends gives t t1 two.given t2 two.owed (same_came t1 t2 two.asked two.held) two.over).0;
     })
 
 -- then frames are answered
@@ -157,7 +160,7 @@ then_takes gives s t t0 t1 t2 r0 r1 r2 w0 w1 piece one going read taken =
       read = read;
       writes = appends_none w1;
       goes =
-          takes gives t t1 piece t2 going taken;
+          (takes gives t t1 piece t2 going taken).0;
     })
 
 -- then a read gives nothing
@@ -244,25 +247,27 @@ still_under a b P same on = subst (λ z. OnSome z P) (sym same) on
 
 -- ---- how far a turn has come
 
--- what stands in a turn: its bytes are those of a run, few are owed, and what is handed over is
--- handed over under its key
+-- what stands in a turn: its bytes are those of a run, few are owed and held, and what is handed over
+-- is handed over under its key
 pub record Stood {S : Type 0} (gives : S → Request → Reply → S → Type 0) (hands_over one : Type 0)
-    (s t : S) (old new : Talk) (r0 r1 w0 w1 : Option (List ℕ)) : Type 0 where
+    (more : ℕ) (s t : S) (old new : Talk) (r0 r1 w0 w1 : Option (List ℕ)) : Type 0 where
   pub turns : Turns Stays gives s t old r0 r1 w0 w1 new
   pub bounded : length old.owed ≤ most_owed → length new.owed ≤ most_owed
   pub free : (hands_over → ⊥) → old.asked ≡ None → new.asked ≡ None
   pub under : old.asked ≡ None → OnSome new.asked one
+  pub held : HoldsFrameAnd more old → HoldsFrameAnd more new
 
 -- it stands when bytes that are owed are written
 pub stood_sent : {S : Type 0} (gives : S → Request → Reply → S → Type 0) (hands_over one : Type 0)
-    (s t : S) (old mid new : Talk) (r0 r1 w0 w1 w2 : Option (List ℕ))
-    → Stood gives hands_over one s t old mid r0 r1 w0 w1 → Sends mid new w1 w2
-    → Stood gives hands_over one s t old new r0 r1 w0 w2
-stood_sent gives hands_over one s t old mid new r0 r1 w0 w1 w2 stood sent = record {
+    (more : ℕ) (s t : S) (old mid new : Talk) (r0 r1 w0 w1 w2 : Option (List ℕ))
+    → Stood gives hands_over one more s t old mid r0 r1 w0 w1 → Sends mid new w1 w2
+    → Stood gives hands_over one more s t old new r0 r1 w0 w2
+stood_sent gives hands_over one more s t old mid new r0 r1 w0 w1 w2 stood sent = record {
   turns = then_sends gives s t old mid new r0 r1 w0 w1 w2 stood.turns sent;
   bounded = λ few. few_left _ _ _ sent.owed (stood.bounded few);
   free = λ no at. sent.asked ∙ stood.free no at;
   under = λ none. still_under _ _ _ sent.asked (stood.under none);
+  held = λ small. holds_sent more mid new w1 w2 sent (stood.held small);
 }
 
 -- nothing is owed
@@ -271,6 +276,12 @@ pub none_owed : (is_empty : Bool) (seen owed : List ℕ) → is_empty ≡ true
 none_owed is_empty [] owed so by same = sym same
 none_owed is_empty (x ∷ xs) owed so by same =
     absurd (omega (arith, eqb-true (length (x ∷ xs)) 0 (sym by ∙ so)))
+
+-- something is owed
+pub some_owed : (is_empty : Bool) (seen owed : List ℕ) → is_empty ≡ false
+    → is_empty ≡ (length seen == 0) → seen ≡ owed → owed ≡ [] → ⊥
+some_owed is_empty [] owed so by same none = let wrong : true ≡ false = sym by ∙ so in absurd cc
+some_owed is_empty (x ∷ xs) owed so by same none = let wrong : x ∷ xs ≡ [] = same ∙ none in absurd cc
 
 -- one ends in one way
 pub again_apart : Again ≡ NeedsOutcome → ⊥

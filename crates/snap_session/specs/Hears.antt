@@ -1,5 +1,5 @@
 -- What stands first among the bytes held.
-use Rattle.std.specs.Prelude.{◌≡◌, ℕ, List, Some, None}
+use Rattle.std.specs.Prelude.{◌≡◌, ◌<◌, ℕ, List, Some, None, length}
 use Rattle.snap_frame.specs.Messages as messages
 use Rattle.snap_frame.specs.Stream.{IsPartial, HasFrame, HasLongLength}
 use Rattle.snap_frame.specs.declared.frame_buffer.Failure.TheVariants as failures
@@ -11,10 +11,10 @@ use Rattle.snap_session.specs.declared.session.Heard.TheVariants.{
   TooLarge,
   NoMemory,
 }
-use Rattle.snap_session.specs.Talk.{Talk}
+use Rattle.snap_session.specs.Talk.{Talk, longest_frame}
 
 abbrev pub Hears : Talk → Heard → Talk → Type 0
-Hears old Nothing new = IsPartial old.held × (new ≡ old)
+Hears old Nothing new = IsPartial old.held × (new ≡ old) × (length old.held < longest_frame)
 Hears old (Asked q) new =
     (x : List ℕ) × HasFrame old.held x new.held × messages.Asks x q × (new.owed ≡ old.owed)
     × (new.over ≡ None) × (new.asked ≡ old.asked)

@@ -113,6 +113,12 @@ pub record Goes {S : Type 0} (between : S → S → Type 0) (gives : S → Reque
   pub said : given ++ new.owed ≡ old.owed ++ (frames replies ++ tail)
   pub phase : Phase old.over new.over taken payloads replies unsaid rest (came new) tail
 
+-- the same, with at most so many frames answered
+abbrev pub GoesBy : {S : Type 0} → ℕ → (S → S → Type 0) → (S → Request → Reply → S → Type 0) → S → S
+    → Talk → List ℕ → List ℕ → Talk → Type 0
+GoesBy most between gives s t old taken given new =
+    (goes : Goes between gives s t old taken given new) × (length goes.payloads ≤ most)
+
 -- no memory was left, and nothing else has changed
 abbrev pub HasNoMemory : Talk → Talk → Type 0
 HasNoMemory old new = new ≡ record old { over = Some NoMemory }
@@ -134,3 +140,11 @@ longest_frame = 4 + max_payload
 -- the most bytes that are owed: an answer begins below the bound, and adds one frame
 abbrev pub most_owed : ℕ
 most_owed = MAX_OWED + longest_frame
+
+-- how many frames are answered at a time, so that one peer doesn't hold up the others
+abbrev pub most_answers : ℕ
+most_answers = 64
+
+-- while it goes on, it holds at most one frame and so many bytes behind it
+abbrev pub HoldsFrameAnd : ℕ → Talk → Type 0
+HoldsFrameAnd more t = t.over ≡ None → length t.held ≤ longest_frame + more

@@ -1,5 +1,20 @@
 -- What a session does to its reader and its writer.
-use Rattle.std.specs.Prelude.{◌≡◌, ℕ, List, [], ◌++◌, Option, Some, None}
+use Rattle.std.specs.Prelude.{
+  ◌≡◌,
+  ◌≤◌,
+  ◌<◌,
+  ◌⊎◌,
+  ℕ,
+  zero,
+  suc,
+  List,
+  [],
+  ◌++◌,
+  length,
+  Option,
+  Some,
+  None,
+}
 use Rattle.std.specs.Io.KnownBytes.{Appends, Consumes, IsAtEnd}
 use Rattle.snap_frame.specs.declared.request.Request.{Request}
 use Rattle.snap_frame.specs.Stream.{IsPartial}
@@ -15,7 +30,7 @@ use Rattle.snap_session.specs.declared.turns.Turn.TheVariants.{
   NeedsOutcome,
   Over,
 }
-use Rattle.snap_session.specs.Talk.{Talk, Goes, Stays, start}
+use Rattle.snap_session.specs.Talk.{Talk, Goes, GoesBy, Stays, HasTaken, start, most_answers}
 
 -- Bytes that were read were taken in, and bytes that were given out were written.
 pub record Turns {S : Type 0} (between : S → S → Type 0) (gives : S → Request → Reply → S
@@ -65,3 +80,59 @@ pub record Serves {S : Type 0} (gives : S → Request → Reply → S
   pub last : Talk
   pub turns : Turns Stays gives s t start read_old read_new written_old written_new last
   pub ends : EndsAt end last read_new
+
+-- how many rounds a turn takes at most, so that one peer doesn't hold up the others
+abbrev pub most_rounds : ℕ
+most_rounds = 16
+
+-- A service and a session on it, with the bytes that its reader has left and that its writer has
+-- got, where these are known.
+pub record Scene (S : Type 0) : Type 0 where
+  pub service : S
+  pub talk : Talk
+  pub left : Option (List ℕ)
+  pub written : Option (List ℕ)
+
+-- nothing is read, or one piece is, of at most so many bytes: only while the session goes on, and
+-- with nothing owed
+abbrev pub ReadsPiece : ℕ → Talk → Option (List ℕ) → Option (List ℕ) → List ℕ → Talk → Type 0
+ReadsPiece most old left_old left_new piece new =
+    Consumes left_old left_new piece
+    × (((piece ≡ []) × (new ≡ old))
+    ⊎ ((length piece ≤ most) × (old.over ≡ None) × (old.owed ≡ []) × HasTaken old piece new))
+
+module _ {S : Type 0} (gives : S → Request → Reply → S → Type 0) (most : ℕ) where
+  -- One round: bytes that are owed are written, frames that are held are answered, and then at most
+  -- one piece is read.
+  pub record Round (a b : Scene S) : Type 0 where
+    pub sent : Talk
+    pub answered : Talk
+    pub piece : List ℕ
+    pub sends : Sends a.talk sent a.written b.written
+    pub answers : GoesBy most_answers Stays gives a.service b.service sent [] [] answered
+    pub reads : ReadsPiece most answered a.left b.left piece b.talk
+
+  -- A round that got on: all that was owed is written, and it is over, something is owed anew, or
+  -- something was read.
+  pub record WholeRound (a b : Scene S) : Type 0 where
+    pub round : Round a b
+    pub all : round.sent.owed ≡ []
+    pub gets_on : b.talk.over ≡ None → b.talk.owed ≡ [] → round.piece ≡ [] → ⊥
+
+  -- so many rounds that got on
+  abbrev pub WholeRounds : ℕ → Scene S → Scene S → Type 0
+  WholeRounds zero a c = c ≡ a
+  WholeRounds (suc n) a c = (b : Scene S) × WholeRounds n a b × WholeRound b c
+
+  -- fewer rounds than a turn may take, all of which but the last one got on
+  abbrev pub FewRounds : Scene S → Scene S → Type 0
+  FewRounds a c = (n : ℕ) × (b : Scene S) × (n < most_rounds) × WholeRounds n a b × Round b c
+
+  -- The rounds of a turn that came so far. It stops before the last round that it may take only where
+  -- it would wait, or has ended.
+  abbrev pub TakesRounds : Turn → Scene S → Scene S → Type 0
+  TakesRounds Again a c = WholeRounds most_rounds a c
+  TakesRounds NeedsInput a c = FewRounds a c
+  TakesRounds NeedsRoom a c = FewRounds a c
+  TakesRounds NeedsOutcome a c = FewRounds a c
+  TakesRounds (Over end) a c = FewRounds a c

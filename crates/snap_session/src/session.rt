@@ -10,12 +10,14 @@ ghost use Rattle.snap_frame.specs.Messages.{max_payload, payload, says, IsInLimi
 ghost use Rattle.snap_session.specs.Talk.{
   Talk,
   Goes,
+  GoesBy,
   Stays,
   HasTaken,
   Owes,
   start,
   longest_frame,
   most_owed,
+  most_answers,
 };
 ghost use Rattle.snap_session.specs.Wants.{WantsAt};
 ghost use Rattle.snap_session.specs.Hears.{Hears};
@@ -73,6 +75,7 @@ impl Model for Session {
     ghost use Rattle.std.specs.Prelude.{◌≡◌, ◌≤◌, None, length};
     ghost use Rattle.std.specs.Option.{ForSome};
     ghost use Rattle.snap_frame.specs.Messages.{max_payload, payload};
+    ghost use Rattle.snap_frame.specs.Stream.{IsBytes};
     ghost use Rattle.snap_session.specs.Talk.{Talk};
 
     ghost Value = { Talk };
@@ -85,7 +88,8 @@ impl Model for Session {
     } };
 
     ghost invariant = { λ s. (s.over ≡ None → s.feed.failure ≡ None)
-        × ForSome s.asked (λ q. length (payload q) ≤ max_payload) };
+        × ForSome s.asked (λ q. length (payload q) ≤ max_payload)
+        × (s.over ≡ None → IsBytes s.feed.bytes) };
 }
 
 impl Session {
@@ -211,9 +215,10 @@ impl Session {
     fn answer_one<S: Service>(&mut self, service: &mut S, key: usize) -> Wants
         requires going { self.old.over ≡ None }
         requires free { self.old.asked ≡ None }
-        ensures goes { Goes Stays S.gives service.old service.new self.old [] [] self.new }
+        ensures goes { GoesBy 1 Stays S.gives service.old service.new self.old [] [] self.new }
         ensures wants { WantsAt (S.hands_over × S.hands_over_under key) result self.new }
         ensures bounded { length self.new.owed ≤ length self.old.owed + longest_frame }
+        ensures held { self.new.over ≡ None → length self.new.held ≤ length self.old.held }
     {
         match self.hear() {
             Heard::Nothing => return Wants::Bytes,
@@ -250,9 +255,11 @@ impl Session {
     pub fn answer<S: Service>(&mut self, service: &mut S, key: usize) -> Wants
         requires { self.old.over ≡ None }
         ensures goes { Goes Stays S.gives service.old service.new self.old [] [] self.new }
+        ensures few { GoesBy most_answers Stays S.gives service.old service.new self.old [] [] self.new }
         ensures wants { WantsAt
             (self.old.asked ≡ None → S.hands_over × S.hands_over_under key) result self.new }
         ensures bounded { length self.old.owed ≤ most_owed → length self.new.owed ≤ most_owed }
+        ensures held { self.new.over ≡ None → length self.new.held ≤ length self.old.held }
     {
         if !self.is_free() {
             return Wants::Outcome;

@@ -1,7 +1,7 @@
 //! A session over any reader and writer, by turns.
 ghost use Rattle.std.specs.Prelude.{◌≡◌, ◌<◌, ◌≤◌, ◌↔◌, length, [], None, OnSome};
-ghost use Rattle.snap_session.specs.Talk.{Stays, most_owed};
-ghost use Rattle.snap_session.specs.Turns.{Turns, Sends, StandsAt, Serves};
+ghost use Rattle.snap_session.specs.Talk.{Stays, most_owed, HoldsFrameAnd};
+ghost use Rattle.snap_session.specs.Turns.{Turns, Sends, StandsAt, Serves, TakesRounds};
 
 use crate::service::Service;
 use crate::session::{Session, Wants};
@@ -11,7 +11,10 @@ use std::io;
 use std::io::{Read, Write};
 use std::sync::Wait;
 
-/// How many pieces one turn reads at most, so that one peer doesn't hold up the others.
+#[cfg(test)]
+mod tests;
+
+/// How many rounds one turn takes at most, so that one peer doesn't hold up the others.
 const MAX_ROUNDS: u32 = 16;
 
 /// How a connection ended.
@@ -69,8 +72,8 @@ fn send_owed<W: Write>(session: &mut Session, writer: &mut W) -> Sent
     Sent::All
 }
 
-/// One turn: writes what is owed, answers what is held and reads on, in this order, until one of
-/// them would wait or 16 pieces were read.
+/// One turn of at most 16 rounds: each writes what is owed, answers what is held and reads one piece,
+/// in this order. It ends sooner where one of them would wait.
 ///
 /// A reader or writer says by `WouldBlock` that it would wait. Every other error ends the
 /// connection with no retry, and so does a write that takes no byte. Nothing is read while bytes
@@ -95,6 +98,23 @@ pub fn proceed<R: Read, W: Write, S: Service>(
         → result ≡ Turn.NeedsOutcome → ⊥ }
     ensures under { session.old.asked ≡ None
         → OnSome session.new.asked (S.hands_over_under key) }
+
+    // What a peer sends is read no faster than it takes its replies.
+    ensures held { HoldsFrameAnd (length piece.old) session.old
+        → HoldsFrameAnd (length piece.old) session.new }
+    ensures rounds { TakesRounds S.gives (length piece.old) result
+        (record {
+          service = service.old;
+          talk = session.old;
+          left = R.remaining reader.old;
+          written = W.contents writer.old;
+        })
+        (record {
+          service = service.new;
+          talk = session.new;
+          left = R.remaining reader.new;
+          written = W.contents writer.new;
+        }) }
 {
     for _ in 0..MAX_ROUNDS {
         match send_owed(session, writer) {

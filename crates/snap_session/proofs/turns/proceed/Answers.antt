@@ -1,5 +1,18 @@
-use Rattle.std.proofs.Common.{ap, sym, subst, length, ◌≤◌, ◌∙◌, take, [], ◌≡◌, ◌<◌, Some, true≢false}
+use Rattle.std.proofs.Common.{ap, sym, subst, length, ◌≤◌, ◌∙◌, take, [], ◌≡◌, ◌<◌, ℕ, List, Option, Some, true≢false, refl, arith}
+use Rattle.std.specs.Io.KnownBytes.{Consumes}
 use Rattle.snap_session.specs.Talk.{most_owed}
+use Rattle.snap_session.specs.Turns.{FewRounds, WholeRounds, most_rounds}
+use Rattle.snap_session.proofs.Known.{consumes_none, consumes_kept}
+use Rattle.snap_session.proofs.Holding.{holds_sent, holds_answered, holds_taken}
+use Rattle.snap_session.proofs.Rounding.{
+  scene,
+  only_sends,
+  reads_nothing,
+  answers_some,
+  reads_some,
+  one_more,
+  and_last,
+}
 use Rattle.snap_session.proofs.Steps.{taken_asked, taken_owed}
 use Rattle.snap_session.proofs.Turning.{
   Stood,
@@ -11,6 +24,7 @@ use Rattle.snap_session.proofs.Turning.{
   then_ends,
   few_left,
   none_owed,
+  some_owed,
   again_apart,
   input_apart,
   room_apart,
@@ -26,23 +40,25 @@ use Rattle.snap_session.proofs.turns.proceed.Goals.{After-send_owed, In-Bytes}
 
 -- what stands once the bytes that are owed are written
 sent_on : (g : _) (c : After-send_owed g) → Stood g.S.Service.gives g.S.Service.hands_over
-    (g.S.Service.hands_over_under c.args.key) c.args.service.now c.loop.service c.args.session.now
+    (g.S.Service.hands_over_under c.args.key) (length c.args.piece.now) c.args.service.now
+    c.loop.service c.args.session.now
     c.send_owed.new.session (g.R.Read.remaining c.args.reader.now)
     (g.R.Read.remaining c.loop.reader) (g.W.Write.contents c.args.writer.now)
     (g.W.Write.contents c.send_owed.new.writer)
-sent_on g c = stood_sent g.S.Service.gives _ _ _ _ _ _ _ _ _ _ _ _
+sent_on g c = stood_sent g.S.Service.gives _ _ _ _ _ _ _ _ _ _ _ _ _
     (record {
       turns = c.loop.invariant.turns;
       bounded = c.loop.invariant.bounded;
       free = c.loop.invariant.free;
       under = c.loop.invariant.under;
+      held = c.loop.invariant.held;
     })
     c.send_owed.ensures.sends
 
 -- and once all that is held is answered
 answered_on : (g : _) (c : In-Bytes g) → Stood g.S.Service.gives g.S.Service.hands_over
-    (g.S.Service.hands_over_under c.args.key) c.args.service.now c.answer.new.service
-    c.args.session.now c.answer.new.self (g.R.Read.remaining c.args.reader.now)
+    (g.S.Service.hands_over_under c.args.key) (length c.args.piece.now) c.args.service.now
+    c.answer.new.service c.args.session.now c.answer.new.self (g.R.Read.remaining c.args.reader.now)
     (g.R.Read.remaining c.loop.reader) (g.W.Write.contents c.args.writer.now)
     (g.W.Write.contents c.send_owed.new.writer)
 answered_on g c = record {
@@ -52,7 +68,33 @@ answered_on g c = record {
       (few_left _ _ _ c.send_owed.ensures.sends.owed (c.loop.invariant.bounded few));
   free = λ no at. c.in-Bytes.ensures.wants.1;
   under = λ none. on_none _ _ c.in-Bytes.ensures.wants.1;
+  held = λ small. holds_answered _ c.send_owed.new.session c.answer.new.self
+      (sym c.over.ensures ∙ c.in-None.is) c.answer.ensures.held
+      (holds_sent _ _ _ _ _ c.send_owed.ensures.sends (c.loop.invariant.held small));
 }
+
+-- the rounds, where the last one ends behind the write
+few_sent : (g : _) (c : After-send_owed g) → FewRounds g.S.Service.gives (length c.args.piece.now)
+    (scene c.args.service.now c.args.session.now (g.R.Read.remaining c.args.reader.now)
+    (g.W.Write.contents c.args.writer.now))
+    (scene c.loop.service c.send_owed.new.session (g.R.Read.remaining c.loop.reader)
+    (g.W.Write.contents c.send_owed.new.writer))
+few_sent g c = and_last g.S.Service.gives _ c.loop.counter _ _ _ (omega arith)
+    c.loop.invariant.rounds
+    (only_sends g.S.Service.gives _ _ _ _ _ _ _ c.send_owed.ensures.sends)
+
+-- and where it ends behind a read that gave nothing
+few_read : (g : _) (c : In-Bytes g) (left : Option (List ℕ))
+    → Consumes (g.R.Read.remaining c.loop.reader) left []
+    → FewRounds g.S.Service.gives (length c.args.piece.now)
+    (scene c.args.service.now c.args.session.now (g.R.Read.remaining c.args.reader.now)
+    (g.W.Write.contents c.args.writer.now))
+    (scene c.answer.new.service c.answer.new.self left
+    (g.W.Write.contents c.send_owed.new.writer))
+few_read g c left read = and_last g.S.Service.gives _ c.loop.counter _ _ _ (omega arith)
+    c.loop.invariant.rounds
+    (reads_nothing g.S.Service.gives _ _ _ _ _ _ _ _ _ _ c.send_owed.ensures.sends
+    c.answer.ensures.few read)
 
 pub loop-init : goal.loop-init
 loop-init g c = record {
@@ -61,6 +103,8 @@ loop-init g c = record {
   under = λ none. on_none _ _ none;
   bounded =
       λ few. few;
+  held = λ small. small;
+  rounds = refl;
 }
 
 pub loop-preserved-in-Turn : goal.loop-preserved-in-Turn
@@ -72,6 +116,14 @@ loop-preserved-in-Turn g c =
       under = λ none. on_none _ _ c.in-Turn.ensures.wants.0;
       bounded = λ few. c.answer.ensures.bounded
           (few_left _ _ _ c.send_owed.ensures.sends.owed (c.loop.invariant.bounded few));
+      held = λ small. holds_answered _ c.send_owed.new.session c.answer.new.self
+          (sym c.over.ensures ∙ c.in-None.is)
+          c.answer.ensures.held
+          (holds_sent _ _ _ _ _ c.send_owed.ensures.sends (c.loop.invariant.held small));
+      rounds = one_more g.S.Service.gives _ c.loop.counter _ _ _ c.loop.invariant.rounds
+          (answers_some g.S.Service.gives _ _ _ _ _ _ _ _ _ c.send_owed.ensures.sends
+          c.answer.ensures.few (c.send_owed.ensures.all.0 c.in-All.is)
+          (c.in-Turn.ensures.wants.1));
     }
 
 pub loop-preserved-in-Outcome-2 : goal.loop-preserved-in-Outcome-2
@@ -87,6 +139,14 @@ loop-preserved-in-Outcome-2 g c =
       bounded =
           λ few. c.answer.ensures.bounded
           (few_left _ _ _ c.send_owed.ensures.sends.owed (c.loop.invariant.bounded few));
+      held = λ small. holds_answered _ c.send_owed.new.session c.answer.new.self
+          (sym c.over.ensures ∙ c.in-None.is)
+          c.answer.ensures.held
+          (holds_sent _ _ _ _ _ c.send_owed.ensures.sends (c.loop.invariant.held small));
+      rounds = one_more g.S.Service.gives _ c.loop.counter _ _ _ c.loop.invariant.rounds
+          (answers_some g.S.Service.gives _ _ _ _ _ _ _ _ _ c.send_owed.ensures.sends
+          c.answer.ensures.few (c.send_owed.ensures.all.0 c.in-All.is)
+          (λ going. some_owed _ _ _ c.if-is_empty.false c.is_empty.ensures c.owed.ensures));
     }
 
 pub loop-preserved-then-not-is_empty : goal.loop-preserved-then-not-is_empty
@@ -97,11 +157,22 @@ loop-preserved-then-not-is_empty g c =
       free = answered.free;
       under = answered.under;
       bounded = answered.bounded;
+      held = answered.held;
+      rounds = one_more g.S.Service.gives _ c.loop.counter _ _ _ c.loop.invariant.rounds
+          (answers_some g.S.Service.gives _ _ _ _ _ _ _ _ _ c.send_owed.ensures.sends
+          c.answer.ensures.few (c.send_owed.ensures.all.0 c.in-All.is)
+          (λ going. some_owed _ _ _ c.if-not-is_empty.true c.is_empty-in-loop.ensures
+          c.owed-in-loop.ensures));
     }
 
 pub loop-preserved : goal.loop-preserved
 loop-preserved g c =
     let answered = answered_on g (goal.at.loop-preserved g c).In-Bytes in
+    let piece = take c.in-Ok.n c.read.new.buf in
+    let many : length piece ≡ c.in-Ok.n = sym c.in-Ok.ensures.bound.1 in
+    let some : 0 < length piece = omega (arith, many, c.in-Ok.n-test.1) in
+    let few : length piece ≤ length c.args.piece.now =
+    omega (arith, many, c.in-Ok.ensures.bound.0, c.read.auto.buf, c.loop.auto.piece) in
     record {
       turns = then_takes g.S.Service.gives _ _ _ _ _ _ _ _ _ _ _
           answered.turns c.in-Bytes.ensures.wants.0
@@ -112,6 +183,14 @@ loop-preserved g c =
       bounded = λ few. subst (λ zs. length zs ≤ most_owed)
           (sym (taken_owed _ _ _ c.take_in.ensures))
           (answered.bounded few);
+      held = λ small. holds_taken _ _ _ _ c.in-Bytes.ensures.wants.3 few c.take_in.ensures;
+      rounds = one_more g.S.Service.gives _ c.loop.counter _ _ _ c.loop.invariant.rounds
+          (reads_some g.S.Service.gives _ _ _ _ _ _ _ _ _ _ _ _ c.send_owed.ensures.sends
+          c.answer.ensures.few (c.send_owed.ensures.all.0 c.in-All.is) c.in-Ok.ensures.bytes.0
+          some few c.in-Bytes.ensures.wants.0
+          (none_owed _ _ _ c.if-not-is_empty.false c.is_empty-in-loop.ensures
+          c.owed-in-loop.ensures)
+          c.take_in.ensures);
     }
 
 pub returns-in-Blocked : goal.returns-in-Blocked
@@ -124,6 +203,8 @@ returns-in-Blocked g c =
       free = sent.free;
       outcome = λ no at. room_apart;
       under = sent.under;
+      held = sent.held;
+      rounds = few_sent g ((goal.at.returns-in-Blocked g c).After-send_owed);
     }
 
 pub returns-in-Failed : goal.returns-in-Failed
@@ -136,6 +217,8 @@ returns-in-Failed g c =
       free = sent.free;
       outcome = λ no at. over_apart _;
       under = sent.under;
+      held = sent.held;
+      rounds = few_sent g ((goal.at.returns-in-Failed g c).After-send_owed);
     }
 
 pub returns-in-Some-TooLarge : goal.returns-in-Some-TooLarge
@@ -151,6 +234,8 @@ returns-in-Some-TooLarge g c =
       free = sent.free;
       outcome = λ no at. over_apart _;
       under = sent.under;
+      held = sent.held;
+      rounds = few_sent g ((goal.at.returns-in-Some-TooLarge g c).After-send_owed);
     }
 
 pub returns-in-Some-NoMemory : goal.returns-in-Some-NoMemory
@@ -166,6 +251,8 @@ returns-in-Some-NoMemory g c =
       free = sent.free;
       outcome = λ no at. over_apart _;
       under = sent.under;
+      held = sent.held;
+      rounds = few_sent g ((goal.at.returns-in-Some-NoMemory g c).After-send_owed);
     }
 
 pub returns-in-Outcome : goal.returns-in-Outcome
@@ -185,6 +272,12 @@ returns-in-Outcome g c = record {
       ∙ c.loop.invariant.free no at)).0;
   under = λ none. on_any _ _ (or_new _ _ (c.loop.invariant.under none)
       (λ free. (c.in-Outcome.ensures.wants.0 (c.send_owed.ensures.sends.asked ∙ free)).1));
+  held = λ small. holds_answered _ c.send_owed.new.session c.answer.new.self
+      (sym c.over.ensures ∙ c.in-None.is) c.answer.ensures.held
+      (holds_sent _ _ _ _ _ c.send_owed.ensures.sends (c.loop.invariant.held small));
+  rounds = and_last g.S.Service.gives _ c.loop.counter _ _ _ (omega arith) c.loop.invariant.rounds
+      (reads_nothing g.S.Service.gives _ _ _ _ _ _ _ _ _ _ c.send_owed.ensures.sends
+      c.answer.ensures.few (consumes_none _));
 }
 
 pub returns-in-Ok-eq0 : goal.returns-in-Ok-eq0
@@ -208,6 +301,9 @@ returns-in-Ok-eq0 g c =
       free = answered.free;
       outcome = λ no at. over_apart _;
       under = answered.under;
+      held = answered.held;
+      rounds = few_read g ((goal.at.returns-in-Ok-eq0 g c).In-Bytes) _
+          (subst (Consumes _ _) none read.0);
     }
 
 pub returns-in-Ok-eq0-2 : goal.returns-in-Ok-eq0-2
@@ -236,6 +332,9 @@ returns-in-Ok-eq0-2 g c =
       free = answered.free;
       outcome = λ no at. over_apart _;
       under = answered.under;
+      held = answered.held;
+      rounds = few_read g ((goal.at.returns-in-Ok-eq0-2 g c).In-Bytes) _
+          (subst (Consumes _ _) none read.0);
     }
 
 pub returns-in-Err : goal.returns-in-Err
@@ -254,6 +353,9 @@ returns-in-Err g c =
       free = answered.free;
       outcome = λ no at. input_apart;
       under = answered.under;
+      held = answered.held;
+      rounds = few_read g ((goal.at.returns-in-Err g c).In-Bytes) _
+          (consumes_kept _ _ _ [] (consumes_none _) c.in-Err.ensures.bytes);
     }
 
 pub returns-in-Err-2 : goal.returns-in-Err-2
@@ -272,6 +374,9 @@ returns-in-Err-2 g c =
       free = answered.free;
       outcome = λ no at. over_apart _;
       under = answered.under;
+      held = answered.held;
+      rounds = few_read g ((goal.at.returns-in-Err-2 g c).In-Bytes) _
+          (consumes_kept _ _ _ [] (consumes_none _) c.in-Err-2.ensures.bytes);
     }
 
 pub returns : goal.returns
@@ -282,4 +387,12 @@ returns g c = record {
   free = c.loop.invariant.free;
   outcome = λ no at. again_apart;
   under = c.loop.invariant.under;
+  held = c.loop.invariant.held;
+  rounds =
+      let all : c.loop.counter ≡ most_rounds = omega arith in
+      subst (λ (n : ℕ). WholeRounds g.S.Service.gives (length c.args.piece.now) n
+      (scene c.args.service.now c.args.session.now (g.R.Read.remaining c.args.reader.now)
+      (g.W.Write.contents c.args.writer.now))
+      (scene c.loop.service c.loop.session (g.R.Read.remaining c.loop.reader)
+      (g.W.Write.contents c.loop.writer))) all c.loop.invariant.rounds;
 }

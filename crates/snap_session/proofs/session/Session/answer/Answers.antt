@@ -1,31 +1,58 @@
-use Rattle.std.proofs.Common.{arith, refl}
-use Rattle.snap_session.proofs.Steps.{rests}
-use Rattle.snap_session.proofs.Going.{goes_silent}
+use Rattle.std.proofs.Common.{arith, refl, sym, ◌∙◌}
+use Rattle.snap_session.specs.Talk.{most_answers}
+use Rattle.snap_session.proofs.Steps.{rests, by_more}
+use Rattle.snap_session.proofs.Holding.{still_going}
+use Rattle.snap_session.proofs.Going.{goes_more}
 use Rattle.snap_session.proofs.session.Session.answer.Goals as goal
 
 pub returns-then-not-is_free-clause-goes : goal.returns-then-not-is_free-clause-goes
-returns-then-not-is_free-clause-goes g c = rests g.S.Service.gives _ _
+returns-then-not-is_free-clause-goes g c = (rests g.S.Service.gives _ _).0
+
+pub returns-then-not-is_free-clause-few : goal.returns-then-not-is_free-clause-few
+returns-then-not-is_free-clause-few g c =
+    by_more g.S.Service.gives _ _ _ _ _ _ 0 most_answers (omega arith) (rests g.S.Service.gives _ _)
 
 pub loop-init : goal.loop-init
 loop-init g c = record {
   goes = rests g.S.Service.gives _ _;
   free = c.is_free.ensures.free c.if-not-is_free.false;
   bounded = λ few. few;
+  held = λ going. omega arith;
   some = λ ran. absurd (ran refl);
 }
 
 pub returns-in_default-clause-goes : goal.returns-in_default-clause-goes
 returns-in_default-clause-goes g c =
-    goes_silent g.S.Service.gives _ _ _ _ _ _ c.loop.invariant.goes c.answer_one.ensures.goes
+    (goes_more g.S.Service.gives _ _ _ _ _ _ _ 1 c.loop.invariant.goes c.answer_one.ensures.goes).0
+
+pub returns-then-is_some-clause-few : goal.returns-then-is_some-clause-few
+returns-then-is_some-clause-few g c =
+    by_more g.S.Service.gives _ _ _ _ _ _ _ most_answers (omega arith) c.loop.invariant.goes
+
+pub returns-in_default-clause-few : goal.returns-in_default-clause-few
+returns-in_default-clause-few g c =
+    by_more g.S.Service.gives _ _ _ _ _ _ _ most_answers (omega arith)
+    (goes_more g.S.Service.gives _ _ _ _ _ _ _ 1 c.loop.invariant.goes c.answer_one.ensures.goes)
+
+pub returns-clause-few : goal.returns-clause-few
+returns-clause-few g c =
+    by_more g.S.Service.gives _ _ _ _ _ _ _ most_answers (omega arith) c.loop.invariant.goes
 
 pub loop-preserved : goal.loop-preserved
 loop-preserved g c = record {
-  goes = goes_silent g.S.Service.gives _ _ _ _ _ _ c.loop.invariant.goes c.answer_one.ensures.goes;
+  goes = goes_more g.S.Service.gives _ _ _ _ _ _ _ 1 c.loop.invariant.goes
+      c.answer_one.ensures.goes;
   free = c.in-Turn.ensures.wants.0;
   bounded = λ few. omega (
     arith,
     c.answer_one.ensures.bounded,
     c.has_room.ensures.0 c.if-not-has_room.false,
+  );
+  held = λ going. omega (
+    arith,
+    c.answer_one.ensures.held going,
+    c.loop.invariant.held (sym c.over.ensures
+        ∙ still_going _ _ c.is_some.ensures c.if-is_some.false),
   );
   some = λ ran. c.in-Turn.ensures.wants.1;
 }

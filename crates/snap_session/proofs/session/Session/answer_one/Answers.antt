@@ -1,9 +1,24 @@
-use Rattle.std.proofs.Common.{◌≡◌, length, refl, ap, subst, sym, inl, inr, ◌∙◌, Some, None, arith}
+use Rattle.std.proofs.Common.{
+  ◌≡◌,
+  [],
+  length,
+  refl,
+  ap,
+  subst,
+  sym,
+  inl,
+  inr,
+  ◌∙◌,
+  Some,
+  None,
+  arith,
+}
 use Rattle.snap_frame.specs.declared.frame_buffer.Failure.TheVariants.{TooLarge, NoMemory}
 use Rattle.snap_session.specs.Talk.{refused_malformed, refused_too_large}
 use Rattle.snap_frame.specs.Messages.{says}
 use Rattle.snap_session.proofs.Steps.{
   rests,
+  by_more,
   gives_up,
   answers,
   refuses,
@@ -21,7 +36,9 @@ use Rattle.snap_session.proofs.session.Session.answer_one.Goals as goal
 
 pub returns-in-Nothing-clause-goes : goal.returns-in-Nothing-clause-goes
 returns-in-Nothing-clause-goes g c =
-    rw c.in-Nothing.ensures.1 (rests g.S.Service.gives c.args.service.now c.args.self.now)
+    rw c.in-Nothing.ensures.1 (by_more g.S.Service.gives c.args.service.now _ c.args.self.now
+    [] [] c.args.self.now 0 1 (omega arith)
+    (rests g.S.Service.gives c.args.service.now c.args.self.now))
 
 pub returns-in-Some-clause-goes : goal.returns-in-Some-clause-goes
 returns-in-Some-clause-goes g c =
@@ -49,8 +66,9 @@ pub returns-in-None-clause-goes : goal.returns-in-None-clause-goes
 returns-in-None-clause-goes g c =
     let h = c.in-Asked.ensures in
     rw c.in-None.ensures.later
+    (by_more g.S.Service.gives _ _ _ _ _ _ 0 1 (omega arith)
     (hands g.S.Service.gives c.args.service.now c.args.self.now c.hear.new.self c.keep.new.self
-    h.0 c.in-Asked.request c.requires.going c.requires.free h.1 h.2 h.3 h.4 c.keep.ensures)
+    h.0 c.in-Asked.request c.requires.going c.requires.free h.1 h.2 h.3 h.4 c.keep.ensures))
 
 pub returns-in-Malformed-clause-goes : goal.returns-in-Malformed-clause-goes
 returns-in-Malformed-clause-goes g c =
@@ -65,15 +83,17 @@ returns-in-Malformed-clause-goes g c =
 pub returns-in-TooLarge-clause-goes : goal.returns-in-TooLarge-clause-goes
 returns-in-TooLarge-clause-goes g c =
     let h = c.in-TooLarge.ensures in
-    refuses g.S.Service.gives _ c.args.self.now c.hear.new.self c.owe-in-TooLarge.new.self
+    by_more g.S.Service.gives _ _ _ _ _ _ 0 1 (omega arith)
+    (refuses g.S.Service.gives _ c.args.self.now c.hear.new.self c.owe-in-TooLarge.new.self
     c.owe-in-TooLarge.result c.requires.going
     (subst HasLongLength (sym (came_free c.args.self.now c.requires.free)) h.0) h.1
-    c.owe-in-TooLarge.ensures.owes
+    c.owe-in-TooLarge.ensures.owes)
 
 pub returns-in-NoMemory-clause-goes : goal.returns-in-NoMemory-clause-goes
 returns-in-NoMemory-clause-goes g c =
     let h = c.in-NoMemory.ensures in
-    gives_up g.S.Service.gives _ c.args.self.now _ c.hear.new.self c.requires.going h.0 h.1
+    by_more g.S.Service.gives _ _ _ _ _ _ 0 1 (omega arith)
+    (gives_up g.S.Service.gives _ c.args.self.now _ c.hear.new.self c.requires.going h.0 h.1)
 
 pub returns-in-Some-clause-wants : goal.returns-in-Some-clause-wants
 returns-in-Some-clause-wants g c = (
