@@ -6,9 +6,10 @@ ghost use Rattle.snap_writer.specs.Writer.{number_of};
 ghost use Rattle.snap_service.specs.Memory.{IsOf};
 ghost use Rattle.snap_service.specs.Settled.{IsSettledAt, IsTellable, reply_of};
 ghost use Rattle.snap_desk.specs.Came.{Came};
+ghost use Rattle.snap_desk.specs.Store.{StandsAt};
 
 use crate::job::Job;
-use crate::standing::standing_of;
+use crate::standing::{Standing, standing_of};
 use crossbeam_channel::Sender;
 use snap_disk::{Disk, Refusal};
 use snap_frame::Reply;
@@ -57,6 +58,13 @@ impl<R: Wait + Copy, M: Memory, D: Disk + Drop> Outcome<R, M, D> {
         ensures { result ≡ record { job = job; writer = lent.writer; told = told } }
     {
         Outcome { job, told, lent }
+    }
+
+    /// Where the writer stands.
+    pub fn stands(&self) -> Standing
+        ensures { StandsAt self.now.writer result }
+    {
+        Standing::of(&self.lent.writer)
     }
 
     /// Where the writer stands, in one word: twice its number, and one more where it is fenced.
