@@ -4,9 +4,9 @@ ghost use Rattle.snap_register.specs.Seat.{own_of};
 ghost use Rattle.snap_service.specs.Updated.{IsUpdated};
 ghost use Rattle.snap_desk.specs.Store.{IsNew, IsTaken, StandsAt, StoresOne, next_count};
 
-use crate::desk::Window;
 use crate::job::Job;
 use crate::lent::{Lent, Outcome};
+use crate::outbox::Window;
 use crate::queue::Queue;
 use crate::standing::{Standing, standing_of};
 use crossbeam_channel::{Receiver, Sender, bounded, unbounded};
