@@ -1,7 +1,7 @@
 -- How a worker hands updates over.
 use Rattle.std.specs.Prelude.{◌≡◌, ℕ, List, [], Some, slice_get}
+use Rattle.snap_service.specs.Counted.{next_count}
 use Rattle.snap_desk.specs.declared.job.Job.{Job}
-use Rattle.snap_desk.specs.Store.{next_count}
 
 -- the worker, the segments of its windows, in order, and how many updates were handed over
 pub record Handing : Type 0 where

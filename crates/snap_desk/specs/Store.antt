@@ -1,9 +1,10 @@
 -- The store of a segment, as its thread has it.
-use Rattle.std.specs.Prelude.{◌≡◌, ℕ, ◌+◌, ◌%◌, ◌^◌, List, Option, Some, None, is_some}
+use Rattle.std.specs.Prelude.{◌≡◌, ℕ, List, Option, Some, None, is_some}
 use Rattle.snap_disk.specs.Device.{Device}
 use Rattle.snap_register.specs.Seat.{own_of}
 use Rattle.snap_writer.specs.Writer.{WriterState, number_of}
 use Rattle.snap_service.specs.Updated.{IsUpdated}
+use Rattle.snap_service.specs.Counted.{next_count}
 use Rattle.snap_desk.specs.declared.standing.Standing.{Standing}
 use Rattle.snap_desk.specs.Came.{Came}
 
@@ -19,10 +20,6 @@ pub record Store (D : Type 0) : Type 0 where
   pub writer : Option (WriterState D)
   pub stands : Standing
   pub taken : ℕ
-
--- one more, and from 0 again behind the largest
-abbrev pub next_count : ℕ → ℕ
-next_count k = (k + 1) % 2 ^ 64
 
 -- a new store has this writer, and has taken nothing
 pub record IsNew {D : Type 0} (w : WriterState D) (s : Store D) : Type 0 where

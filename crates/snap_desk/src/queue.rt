@@ -1,6 +1,6 @@
 //! What was handed over to a store and isn't taken yet.
 ghost use Rattle.std.specs.Prelude.{◌≡◌, IfOk, OnErr, IfSome, IfNone};
-ghost use Rattle.snap_desk.specs.Store.{next_count};
+ghost use Rattle.snap_service.specs.Counted.{next_count};
 
 use crate::job::Job;
 use crossbeam_channel::{Receiver, TryRecvError};

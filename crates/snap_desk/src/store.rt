@@ -2,7 +2,8 @@
 ghost use Rattle.std.specs.Prelude.{◌≡◌, ℕ, IfOk, IfSome, IfNone, Some, None};
 ghost use Rattle.snap_register.specs.Seat.{own_of};
 ghost use Rattle.snap_service.specs.Updated.{IsUpdated};
-ghost use Rattle.snap_desk.specs.Store.{IsNew, IsTaken, StandsAt, StoresOne, next_count};
+ghost use Rattle.snap_service.specs.Counted.{next_count};
+ghost use Rattle.snap_desk.specs.Store.{IsNew, IsTaken, StandsAt, StoresOne};
 
 use crate::job::Job;
 use crate::lent::{Lent, Outcome};
