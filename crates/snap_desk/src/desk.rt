@@ -1,13 +1,10 @@
 //! One worker's half of the service, which waits for no store.
-ghost use Rattle.std.specs.Prelude.{◌≡◌, ℕ, ◌<◌, IfSome, IfNone, length, true};
-ghost use Rattle.snap_history.specs.Limits.{IsShort};
+ghost use Rattle.std.specs.Prelude.{◌≡◌, ℕ, IfSome, IfNone, length};
 ghost use Rattle.snap_register.specs.Rule.{segments};
-ghost use Rattle.snap_register.specs.Seat.{own_of};
 ghost use Rattle.snap_frame.specs.Messages.{IsInLimits};
-ghost use Rattle.snap_writer.specs.Writer.{number_of};
 ghost use Rattle.snap_service.specs.Memory.{IsOf};
-ghost use Rattle.snap_service.specs.Settled.{reply_of};
 ghost use Rattle.snap_desk.specs.Handing.{HasHanded, job_of};
+ghost use Rattle.snap_desk.specs.Tells.{TellsUpdate};
 ghost use Rattle.snap_service.specs.Answers.{
   Answers,
   AnswersUpdate,
@@ -54,7 +51,7 @@ impl<R: Wait + Copy, M: Memory, D: Disk + Drop> Model for Desk<R, M, D> {
 }
 
 /// The reply to an update whose outcome came. Its writer is at rest meanwhile, and goes home behind
-/// it. An outcome of another update isn't told: then a look answers.
+/// it. An outcome of another update isn't told: then the place is judged, and a look answers.
 pub fn answer_outcome<R: Wait + Copy, M: Memory, D: Disk + Drop>(
     scanner: &mut Scanner,
     segment: usize,
@@ -63,18 +60,19 @@ pub fn answer_outcome<R: Wait + Copy, M: Memory, D: Disk + Drop>(
     outcome: Outcome<R, M, D>,
 ) -> Reply
     requires memory { IsOf M.table M.plan scanner.old }
-    requires segment { segment < segments scanner.old.plan }
-    requires size { IsShort value.now }
     ensures answer { AnswersUpdate scanner.old segment number value.now result scanner.new }
     ensures limits { IsInLimits result }
-    ensures told { own_of outcome.writer.seat ≡ segment → outcome.job.number ≡ number
-        → outcome.job.value ≡ value.now
-        → result ≡ reply_of (number_of outcome.writer) outcome.told }
+    ensures told { TellsUpdate outcome segment number value.now result }
 {
-    if !outcome.is_of(segment, number, value) {
-        return answer_by_look(scanner, segment, number, value);
+    let is_its = outcome.is_of(segment, number, value);
+    let is_there = segment < scanner.segments();
+    if is_its && is_there {
+        return outcome.tell(scanner);
     }
-    outcome.tell(scanner)
+    match refuse_place(scanner, segment, value) {
+        Some(reply) => reply,
+        None => answer_by_look(scanner, segment, number, value),
+    }
 }
 
 /// An update goes to its store, once. A look answers it where that can't be.
@@ -145,7 +143,7 @@ impl<R: Wait + Copy + Clock, M: Memory, D: Disk + Drop> Desk<R, M, D> {
         )
     }
 
-    /// An update whose outcome came.
+    /// An update whose outcome came: it is told.
     fn finish_update(
         &mut self,
         segment: usize,
@@ -155,10 +153,8 @@ impl<R: Wait + Copy + Clock, M: Memory, D: Disk + Drop> Desk<R, M, D> {
     ) -> Reply
         ensures answer { AnswersUpdate self.old segment number value.now result self.new }
         ensures limits { IsInLimits result }
+        ensures told { TellsUpdate outcome segment number value.now result }
     {
-        if let Some(reply) = refuse_place(&self.scanner, segment, value) {
-            return reply;
-        }
         answer_outcome(&mut self.scanner, segment, number, value, outcome)
     }
 
@@ -184,16 +180,27 @@ impl<R: Wait + Copy + Clock, M: Memory, D: Disk + Drop> Desk<R, M, D> {
     {
         answer_scan(self.alloc, &mut self.scanner)
     }
+
+    /// Its scanner, as it is: so a store can be closed once all its scanners and writers have come back.
+    pub fn into_scanner(self) -> Scanner
+        ensures scanner { result ≡ self }
+        ensures memory { IsOf M.table M.plan result }
+    {
+        self.scanner
+    }
 }
 
 impl<R: Wait + Copy + Clock, M: Memory, D: Disk + Drop> Service for Desk<R, M, D> {
     ghost use Rattle.snap_service.specs.Answers.{Answers};
+    ghost use Rattle.snap_desk.specs.Tells.{Tells};
 
     type Outcome = Outcome<R, M, D>;
 
     ghost gives = { λ old request reply new. Answers old request reply new };
 
     ghost hands_over = { Unit {0} };
+
+    ghost tells = { λ outcome request reply. Tells outcome request reply };
 
     fn answer(&mut self, request: &Request, key: usize) -> Option<Reply> {
         match request {

@@ -1,5 +1,6 @@
 //! A writer that is lent to a desk.
 ghost use Rattle.std.specs.Prelude.{◌≡◌, ◌+◌, ◌*◌, ℕ, List, true, false, None, IsSome};
+ghost use Rattle.snap_history.specs.Limits.{IsShort};
 ghost use Rattle.snap_register.specs.Seat.{Meets, own_of};
 ghost use Rattle.snap_frame.specs.Messages.{IsInLimits};
 ghost use Rattle.snap_writer.specs.Writer.{number_of};
@@ -97,6 +98,8 @@ impl<R: Wait + Copy, M: Memory, D: Disk + Drop> Outcome<R, M, D> {
             × (self.now.job.number ≡ number) × (self.now.job.value ≡ value.now) }
         ensures no { result ≡ false → own_of self.now.writer.seat ≡ segment
             → self.now.job.number ≡ number → self.now.job.value ≡ value.now → ⊥ }
+        ensures short { result ≡ true → IsShort value.now }
+        ensures memory { IsOf M.table M.plan self.now.writer.seat }
     {
         if self.lent.writer.segment() != segment || self.job.number != number {
             return false;
