@@ -1,12 +1,10 @@
 //! One worker's half of the service, which waits for no store.
-ghost use Rattle.std.specs.Prelude.{◌≡◌, ℕ, ◌<◌, All, IfOk, IfSome, IfNone, length, true};
-ghost use Rattle.snap_history.specs.Limits.{IsShort};
+ghost use Rattle.std.specs.Prelude.{◌≡◌, ℕ, IfSome, IfNone, length};
 ghost use Rattle.snap_register.specs.Rule.{segments};
-ghost use Rattle.snap_register.specs.Seat.{own_of};
-ghost use Rattle.snap_frame.specs.Messages.{IsInLimits, IsStatus};
-ghost use Rattle.snap_writer.specs.Writer.{number_of};
+ghost use Rattle.snap_frame.specs.Messages.{IsInLimits};
 ghost use Rattle.snap_service.specs.Memory.{IsOf};
-ghost use Rattle.snap_service.specs.Settled.{reply_of};
+ghost use Rattle.snap_desk.specs.Handing.{HasHanded, job_of};
+ghost use Rattle.snap_desk.specs.Tells.{TellsUpdate};
 ghost use Rattle.snap_service.specs.Answers.{
   Answers,
   AnswersUpdate,
@@ -14,115 +12,26 @@ ghost use Rattle.snap_service.specs.Answers.{
   AnswersStatus,
 };
 
-use crate::job::{Job, Payload};
+use crate::job::Asked;
 use crate::lent::Outcome;
-use crate::standing::status_in;
-use crossbeam_channel::{SendError, Sender};
+use crate::outbox::{Handed, Outbox, Window};
 use snap_disk::{Disk, Refusal};
-use snap_frame::{Reply, Request, SegmentStatus};
+use snap_frame::{Reply, Request};
 use snap_memory::{Scanner, Snapshot};
 use snap_service::{Memory, answer_by_look, answer_scan, refuse_place};
 use snap_session::Service;
 use std::alloc::{AllocError, Global};
-use std::marker::{Model, PhantomData};
+use std::marker::{Brand, Model, PhantomData};
 use std::rt::Clock;
-use std::sync::atomic::{AtomicU64, Ordering};
-use std::sync::{Arc, Wait};
-use std::thread;
-use std::time::Duration;
-
-/// How long to rest where no memory is left to hand an update over, in milliseconds.
-const REST: u64 = 5;
-
-/// How often it is tried: for a tenth of a second. A worker that rested for longer couldn't let go of
-/// its connections, whose memory may be what is wanting.
-const TRIES: u32 = 20;
-
-/// What came of trying to hand an update over.
-#[derive(Drop)]
-enum Sent {
-    /// Its store has it.
-    Over,
-    /// No memory was left for it.
-    NoMemory,
-    /// The store is another segment's, or gone.
-    Gone,
-}
-
-/// What a desk sees of a segment's store: where its updates go, and where it stands. Its value is the
-/// segment. The store works until all its windows are gone.
-#[derive(Drop)]
-pub struct Window {
-    segment: usize,
-    jobs: Sender<Job>,
-    /// In one word, as [`status_in`] reads it.
-    standing: Arc<AtomicU64, Global>,
-}
-
-impl Model for Window {
-    ghost use Rattle.std.specs.Prelude.{ℕ};
-
-    ghost Value = { ℕ };
-
-    ghost view = { λ w. w.segment };
-}
-
-impl Window {
-    pub(crate) fn new(segment: usize, jobs: Sender<Job>, standing: Arc<AtomicU64, Global>) -> Window
-        ensures { result ≡ segment }
-    {
-        Window {
-            segment,
-            jobs,
-            standing,
-        }
-    }
-
-    /// Tries to hand an update of this segment over to its store.
-    fn send<R: Wait>(&self, rt: &R, segment: usize, job: Job) -> Sent
-        ensures { result ≡ Sent.Over → self.now ≡ segment }
-    {
-        if self.segment != segment {
-            return Sent::Gone;
-        }
-        match self.jobs.send(rt, job) {
-            Ok(()) => Sent::Over,
-            Err(SendError::OutOfMemory(_)) => Sent::NoMemory,
-            Err(SendError::Disconnected(_)) => Sent::Gone,
-        }
-    }
-
-    /// Where its store stood when it last told.
-    fn status(&self) -> SegmentStatus
-        ensures { IsStatus result }
-    {
-        status_in(self.standing.load(Ordering::SeqCst))
-    }
-}
-
-impl Clone for Window {
-    ghost use Rattle.std.specs.Prelude.{◌≡◌};
-
-    ghost is_clone = { λ window copy. copy ≡ window };
-
-    fn clone(&self) -> Result<Window, AllocError> {
-        Ok(Window {
-            segment: self.segment,
-            jobs: self.jobs.clone()?,
-            standing: Arc::try_clone(&self.standing)?,
-        })
-    }
-}
+use std::sync::Wait;
 
 /// A scanner, and a window for each segment: a [`Service`] that hands updates over. Its state is
 /// what its scanner knows. It takes no lock and waits for no store; only where no memory is left to
 /// hand an update over, it waits a little for memory.
 #[derive(Drop)]
 pub struct Desk<R: Wait + Copy, M: Memory, D: Disk + Drop> {
-    rt: R,
     alloc: Global,
-    worker: usize,
-    windows: Vec<Window>,
+    outbox: Outbox<R>,
     scanner: Scanner,
     of: PhantomData<(M, D)>,
 }
@@ -138,11 +47,11 @@ impl<R: Wait + Copy, M: Memory, D: Disk + Drop> Model for Desk<R, M, D> {
     ghost view = { λ d. d.scanner };
 
     ghost invariant = { λ d. IsOf M.table M.plan d.scanner
-        × (length d.windows.items ≡ segments d.scanner.plan) };
+        × (length d.outbox.windows ≡ segments d.scanner.plan) };
 }
 
 /// The reply to an update whose outcome came. Its writer is at rest meanwhile, and goes home behind
-/// it. An outcome of another update isn't told: then a look answers.
+/// it. An outcome of another update isn't told: then the place is judged, and a look answers.
 pub fn answer_outcome<R: Wait + Copy, M: Memory, D: Disk + Drop>(
     scanner: &mut Scanner,
     segment: usize,
@@ -151,30 +60,47 @@ pub fn answer_outcome<R: Wait + Copy, M: Memory, D: Disk + Drop>(
     outcome: Outcome<R, M, D>,
 ) -> Reply
     requires memory { IsOf M.table M.plan scanner.old }
-    requires segment { segment < segments scanner.old.plan }
-    requires size { IsShort value.now }
     ensures answer { AnswersUpdate scanner.old segment number value.now result scanner.new }
     ensures limits { IsInLimits result }
-    ensures told { own_of outcome.writer.seat ≡ segment → outcome.job.number ≡ number
-        → outcome.job.value ≡ value.now
-        → result ≡ reply_of (number_of outcome.writer) outcome.told }
+    ensures told { TellsUpdate outcome segment number value.now result }
 {
-    if !outcome.is_of(segment, number, value) {
-        return answer_by_look(scanner, segment, number, value);
+    let is_its = outcome.is_of(segment, number, value);
+    let is_there = segment < scanner.segments();
+    if is_its && is_there {
+        return outcome.tell(scanner);
     }
-    outcome.tell(scanner)
+    match refuse_place(scanner, segment, value) {
+        Some(reply) => reply,
+        None => answer_by_look(scanner, segment, number, value),
+    }
 }
 
-/// Where each segment stood as its store last told, with no look and no lock.
-fn list_statuses(alloc: Global, windows: &[Window]) -> Result<Vec<SegmentStatus>, AllocError>
-    ensures count { IfOk result (λ s. length s.items ≡ length windows.now) }
-    ensures limits { IfOk result (λ s. All IsStatus s.items) }
+/// An update goes to its store, once. A look answers it where that can't be.
+fn ask<R: Wait + Copy + Clock, J: Asked>(
+    outbox: &mut Outbox<R>,
+    scanner: &mut Scanner,
+    segment: usize,
+    number: u64,
+    value: &[u8],
+    key: usize,
+) -> Option<Reply>
+    requires windows { length outbox.old.windows ≡ segments scanner.old.plan }
+    requires job { J.job ≡ job_of outbox.old.worker key number value.now }
+    ensures answer { IfSome result (λ r.
+        AnswersUpdate scanner.old segment number value.now r scanner.new) }
+    ensures limits { IfSome result (λ r. IsInLimits r) }
+    ensures later { IfNone result (scanner.new ≡ scanner.old) }
+    ensures over { IfNone result (HasHanded outbox.old segment outbox.new) }
+    ensures not_over { IfSome result (λ _. outbox.new ≡ outbox.old) }
 {
-    let mut statuses = Vec::new(alloc);
-    for window in windows {
-        statuses.push(window.status())?;
+    if let Some(reply) = refuse_place(scanner, segment, value) {
+        return Some(reply);
     }
-    Ok(statuses)
+    let handed: Option<Handed<J>> = outbox.hand_over(segment, number, value, key);
+    if handed.is_some() {
+        return None;
+    }
+    Some(answer_by_look(scanner, segment, number, value))
 }
 
 impl<R: Wait + Copy + Clock, M: Memory, D: Disk + Drop> Desk<R, M, D> {
@@ -193,46 +119,11 @@ impl<R: Wait + Copy + Clock, M: Memory, D: Disk + Drop> Desk<R, M, D> {
         ensures { result ≡ scanner }
     {
         Desk {
-            rt,
             alloc,
-            worker,
-            windows,
+            outbox: Outbox::new(rt, alloc, worker, windows),
             scanner: scanner.with_room(snapshot),
             of: PhantomData,
         }
-    }
-
-    /// Tries to hand an update over to its store's thread.
-    fn offer(&self, segment: usize, number: u64, value: &[u8], key: usize) -> Sent
-        requires segment { segment < segments self.now.plan }
-        requires size { IsShort value.now }
-    {
-        let Ok(value) = Payload::of(self.alloc, value) else {
-            return Sent::NoMemory;
-        };
-        let job = Job {
-            worker: self.worker,
-            key,
-            number,
-            value,
-        };
-        self.windows[segment].send(&self.rt, segment, job)
-    }
-
-    /// Hands an update over to its store's thread; `false` where that is gone, or no memory is left for
-    /// a tenth of a second.
-    fn hand_over(&self, segment: usize, number: u64, value: &[u8], key: usize) -> bool
-        requires segment { segment < segments self.now.plan }
-        requires size { IsShort value.now }
-    {
-        for _ in 0..TRIES {
-            match self.offer(segment, number, value, key) {
-                Sent::Over => return true,
-                Sent::NoMemory => thread::sleep(&self.rt, Duration::from_millis(REST)),
-                Sent::Gone => return false,
-            }
-        }
-        false
     }
 
     /// An update goes to its store. A look answers it where that can't be.
@@ -242,16 +133,17 @@ impl<R: Wait + Copy + Clock, M: Memory, D: Disk + Drop> Desk<R, M, D> {
         ensures limits { IfSome result (λ r. IsInLimits r) }
         ensures later { IfNone result (self.new ≡ self.old) }
     {
-        if let Some(reply) = refuse_place(&self.scanner, segment, value) {
-            return Some(reply);
-        }
-        if self.hand_over(segment, number, value, key) {
-            return None;
-        }
-        Some(answer_by_look(&mut self.scanner, segment, number, value))
+        ask::<R, Brand>(
+            &mut self.outbox,
+            &mut self.scanner,
+            segment,
+            number,
+            value,
+            key,
+        )
     }
 
-    /// An update whose outcome came.
+    /// An update whose outcome came: it is told.
     fn finish_update(
         &mut self,
         segment: usize,
@@ -261,10 +153,8 @@ impl<R: Wait + Copy + Clock, M: Memory, D: Disk + Drop> Desk<R, M, D> {
     ) -> Reply
         ensures answer { AnswersUpdate self.old segment number value.now result self.new }
         ensures limits { IsInLimits result }
+        ensures told { TellsUpdate outcome segment number value.now result }
     {
-        if let Some(reply) = refuse_place(&self.scanner, segment, value) {
-            return reply;
-        }
         answer_outcome(&mut self.scanner, segment, number, value, outcome)
     }
 
@@ -275,7 +165,7 @@ impl<R: Wait + Copy + Clock, M: Memory, D: Disk + Drop> Desk<R, M, D> {
     {
         // how many segments there are
         let _segments = self.scanner.segments();
-        match list_statuses(self.alloc, &self.windows) {
+        match self.outbox.list_statuses() {
             Ok(statuses) => Reply::Status(statuses),
             Err(AllocError) => Reply::Refused {
                 why: Refusal::NoMemory,
@@ -290,16 +180,27 @@ impl<R: Wait + Copy + Clock, M: Memory, D: Disk + Drop> Desk<R, M, D> {
     {
         answer_scan(self.alloc, &mut self.scanner)
     }
+
+    /// Its scanner, as it is: so a store can be closed once all its scanners and writers have come back.
+    pub fn into_scanner(self) -> Scanner
+        ensures scanner { result ≡ self }
+        ensures memory { IsOf M.table M.plan result }
+    {
+        self.scanner
+    }
 }
 
 impl<R: Wait + Copy + Clock, M: Memory, D: Disk + Drop> Service for Desk<R, M, D> {
     ghost use Rattle.snap_service.specs.Answers.{Answers};
+    ghost use Rattle.snap_desk.specs.Tells.{Tells};
 
     type Outcome = Outcome<R, M, D>;
 
     ghost gives = { λ old request reply new. Answers old request reply new };
 
     ghost hands_over = { Unit {0} };
+
+    ghost tells = { λ outcome request reply. Tells outcome request reply };
 
     fn answer(&mut self, request: &Request, key: usize) -> Option<Reply> {
         match request {

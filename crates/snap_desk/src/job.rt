@@ -1,9 +1,11 @@
 //! Updates that are handed over.
 ghost use Rattle.std.specs.Prelude.{◌≡◌, IfOk};
 ghost use Rattle.snap_history.specs.Limits.{IsShort};
+ghost use Rattle.snap_desk.specs.declared.job.Job.{Job};
+ghost use Rattle.snap_desk.specs.Handing.{no_job};
 
 use std::alloc::{AllocError, Global};
-use std::marker::Model;
+use std::marker::{Brand, Model};
 
 /// A value of its own, which is on its way to its store. Its bytes lie on the heap, so that handing it
 /// on copies none of them.
@@ -49,4 +51,13 @@ pub struct Job {
     pub key: usize,
     pub number: u64,
     pub value: Payload,
+}
+
+/// Which job is meant. It has no values: the proof of a call with `Brand` says which job it is.
+pub(crate) trait Asked {
+    ghost job: { Job };
+}
+
+impl Asked for Brand {
+    ghost job = { no_job };
 }

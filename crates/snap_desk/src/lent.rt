@@ -1,14 +1,16 @@
 //! A writer that is lent to a desk.
 ghost use Rattle.std.specs.Prelude.{◌≡◌, ◌+◌, ◌*◌, ℕ, List, true, false, None, IsSome};
+ghost use Rattle.snap_history.specs.Limits.{IsShort};
 ghost use Rattle.snap_register.specs.Seat.{Meets, own_of};
 ghost use Rattle.snap_frame.specs.Messages.{IsInLimits};
 ghost use Rattle.snap_writer.specs.Writer.{number_of};
 ghost use Rattle.snap_service.specs.Memory.{IsOf};
 ghost use Rattle.snap_service.specs.Settled.{IsSettledAt, IsTellable, reply_of};
 ghost use Rattle.snap_desk.specs.Came.{Came};
+ghost use Rattle.snap_desk.specs.Store.{StandsAt};
 
 use crate::job::Job;
-use crate::standing::standing_of;
+use crate::standing::{Standing, standing_of};
 use crossbeam_channel::Sender;
 use snap_disk::{Disk, Refusal};
 use snap_frame::Reply;
@@ -59,6 +61,13 @@ impl<R: Wait + Copy, M: Memory, D: Disk + Drop> Outcome<R, M, D> {
         Outcome { job, told, lent }
     }
 
+    /// Where the writer stands.
+    pub fn stands(&self) -> Standing
+        ensures { StandsAt self.now.writer result }
+    {
+        Standing::of(&self.lent.writer)
+    }
+
     /// Where the writer stands, in one word: twice its number, and one more where it is fenced.
     pub fn standing(&self) -> u64
         ensures fenced { IsSome self.now.writer.segment.begun
@@ -89,6 +98,8 @@ impl<R: Wait + Copy, M: Memory, D: Disk + Drop> Outcome<R, M, D> {
             × (self.now.job.number ≡ number) × (self.now.job.value ≡ value.now) }
         ensures no { result ≡ false → own_of self.now.writer.seat ≡ segment
             → self.now.job.number ≡ number → self.now.job.value ≡ value.now → ⊥ }
+        ensures short { result ≡ true → IsShort value.now }
+        ensures memory { IsOf M.table M.plan self.now.writer.seat }
     {
         if self.lent.writer.segment() != segment || self.job.number != number {
             return false;

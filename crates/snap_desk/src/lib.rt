@@ -10,10 +10,14 @@
 mod desk;
 mod job;
 mod lent;
+mod outbox;
+mod queue;
 mod standing;
 mod store;
 
-pub use desk::{Desk, Window, answer_outcome};
+pub use desk::{Desk, answer_outcome};
 pub use job::{Job, Payload};
 pub use lent::{Lent, Outcome};
+pub use outbox::Window;
+pub use standing::Standing;
 pub use store::{StoreThread, Told, store_one};

@@ -1,12 +1,34 @@
-//! Where a store stands, in one word, so that who reads it while its thread works sees one moment:
+//! Where a writer stands. In one word, so that who reads it while its thread works sees one moment:
 //! twice the number, and one more where it is fenced.
 ghost use Rattle.std.specs.Prelude.{◌≡◌, ◌+◌, ◌*◌, true, false, None, IsSome};
 ghost use Rattle.snap_frame.specs.Messages.{IsStatus};
 ghost use Rattle.snap_writer.specs.Writer.{number_of};
+ghost use Rattle.snap_desk.specs.Store.{StandsAt};
 
 use snap_disk::Disk;
 use snap_frame::SegmentStatus;
 use snap_service::{Memory, WriterOf};
+
+/// Which segment a writer writes, its number, and whether a store of it has failed.
+#[derive(Clone, Copy, PartialEq, Eq)]
+pub struct Standing {
+    pub segment: usize,
+    pub number: u64,
+    pub is_fenced: bool,
+}
+
+impl Standing {
+    /// Where this writer stands.
+    pub fn of<M: Memory, D: Disk>(writer: &WriterOf<M, D>) -> Standing
+        ensures { StandsAt writer.now result }
+    {
+        Standing {
+            segment: writer.segment(),
+            number: writer.number(),
+            is_fenced: writer.is_fenced(),
+        }
+    }
+}
 
 /// The word that says where a writer stands.
 pub(crate) fn standing_of<M: Memory, D: Disk>(writer: &WriterOf<M, D>) -> u64

@@ -1,23 +1,23 @@
 //! The store of a segment, as the thread that owns it drives it.
-ghost use Rattle.std.specs.Prelude.{◌≡◌, IfOk, IfSome};
+ghost use Rattle.std.specs.Prelude.{◌≡◌, ℕ, IfOk, IfSome, IfNone, Some, None};
 ghost use Rattle.snap_register.specs.Seat.{own_of};
 ghost use Rattle.snap_service.specs.Updated.{IsUpdated};
+ghost use Rattle.snap_service.specs.Counted.{next_count};
+ghost use Rattle.snap_desk.specs.Store.{IsNew, IsTaken, StandsAt, StoresOne};
 
-use crate::desk::Window;
 use crate::job::Job;
 use crate::lent::{Lent, Outcome};
-use crate::standing::standing_of;
-use crossbeam_channel::{Receiver, Sender, TryRecvError, bounded, unbounded};
+use crate::outbox::Window;
+use crate::queue::Queue;
+use crate::standing::{Standing, standing_of};
+use crossbeam_channel::{Receiver, Sender, bounded, unbounded};
 use snap_disk::Disk;
 use snap_patience::Patience;
 use snap_service::{Memory, WriterOf};
 use std::alloc::{AllocError, Global};
+use std::marker::Model;
 use std::sync::atomic::{AtomicU64, Ordering};
 use std::sync::{Arc, Wait};
-use std::thread;
-
-/// How often a store's thread looks for an update before it sleeps: for about half a millisecond.
-const LOOKS: u32 = 2_000;
 
 /// What comes to a desk: the outcome of the request with this key, and which desk it is.
 #[derive(Drop)]
@@ -60,17 +60,32 @@ fn window_of(
 }
 
 /// The store of a segment: its writer, and what was handed over to it. One thread drives it, step
-/// by step.
+/// by step. Its value is its writer, none while that is lent, where that stood when it was here last,
+/// and how many updates were taken.
 #[derive(Drop)]
 pub struct StoreThread<R: Wait + Copy, M: Memory, D: Disk + Drop> {
     rt: R,
     /// None while it is lent.
     writer: Option<WriterOf<M, D>>,
-    jobs: Receiver<Job>,
+    /// Where the writer stands, or stood when it was lent.
+    stands: Standing,
+    queue: Queue,
+    patience: Patience,
     standing: Arc<AtomicU64, Global>,
     home: Sender<WriterOf<M, D>>,
     back: Receiver<WriterOf<M, D>>,
-    patience: Patience,
+}
+
+impl<R: Wait + Copy, M: Memory, D: Disk + Drop> Model for StoreThread<R, M, D> {
+    ghost use Rattle.std.specs.Prelude.{◌≡◌, Some};
+    ghost use Rattle.snap_writer.specs.Writer.{WriterState};
+    ghost use Rattle.snap_desk.specs.Store.{Store, StandsAt};
+
+    ghost Value = { Store D };
+
+    ghost view = { λ t. record { writer = t.writer; stands = t.stands; taken = t.queue } };
+
+    ghost invariant = { λ t. (w : WriterState D) → t.writer ≡ Some w → StandsAt w t.stands };
 }
 
 impl<R: Wait + Copy, M: Memory, D: Disk + Drop> StoreThread<R, M, D> {
@@ -80,43 +95,77 @@ impl<R: Wait + Copy, M: Memory, D: Disk + Drop> StoreThread<R, M, D> {
         alloc: Global,
         writer: WriterOf<M, D>,
     ) -> Result<(StoreThread<R, M, D>, Window), AllocError>
-        ensures { IfOk result (λ made. made.1 ≡ own_of writer.seat) }
+        ensures window { IfOk result (λ made. made.1 ≡ own_of writer.seat) }
+        ensures store { IfOk result (λ made. IsNew writer made.0) }
     {
         let (home, back) = bounded(alloc, 1)?;
         let (window, jobs, standing) = window_of(alloc, writer.segment(), standing_of(&writer))?;
+        let stands = Standing::of(&writer);
         let store = StoreThread {
             rt,
             writer: Some(writer),
-            jobs,
+            stands,
+            queue: Queue::new(jobs),
+            patience: Patience::new(),
             standing,
             home,
             back,
-            patience: Patience::new(),
         };
         Ok((store, window))
     }
 
-    /// The writer. Where it is lent, it is waited for; None where it will not come back.
-    fn take_writer(&mut self) -> Option<WriterOf<M, D>> {
-        match self.writer.take() {
-            Some(writer) => Some(writer),
-            None => self.back.recv(&self.rt).ok(),
+    /// Takes the writer. Where it is lent, it is waited for; None where it will not come back. One that
+    /// doesn't stand where it was lent isn't taken.
+    fn take_writer(&mut self) -> Option<WriterOf<M, D>>
+        ensures taken { IfSome result (λ w. IsTaken self.old w) }
+        ensures here { (w : _) → self.old.writer ≡ Some w → result ≡ Some w }
+        ensures left { self.new ≡ record self.old { writer = None } }
+    {
+        if let Some(writer) = self.writer.take() {
+            return Some(writer);
         }
+        let writer = self.back.recv(&self.rt).ok()?;
+        if Standing::of(&writer) != self.stands {
+            return None;
+        }
+        Some(writer)
     }
 
-    /// Waits for an update. None where all windows are gone and none is left.
-    fn take_job(&mut self) -> Option<Job> {
-        if self.patience.may_look() {
-            for _ in 0..LOOKS {
-                match self.jobs.try_recv(&self.rt) {
-                    Ok(job) => return Some(job),
-                    Err(TryRecvError::Disconnected) => return None,
-                    Err(TryRecvError::Empty) => thread::yield_now(),
-                }
-            }
-            self.patience.rest();
+    /// Takes one update, and waits until one comes. None where all windows are gone and none is left.
+    fn take_job(&mut self) -> Option<Job>
+        ensures one { IfSome result (λ _.
+            self.new ≡ record self.old { taken = next_count self.old.taken }) }
+        ensures none { IfNone result (self.new ≡ self.old) }
+    {
+        self.queue.take(&self.rt, &mut self.patience)
+    }
+
+    /// Does this update by this writer, and lends the writer with the outcome.
+    fn store(
+        &mut self,
+        home: Sender<WriterOf<M, D>>,
+        writer: WriterOf<M, D>,
+        job: Job,
+    ) -> Told<R, M, D>
+        requires { self.old.writer ≡ None }
+        ensures worker { result.worker ≡ job.worker }
+        ensures key { result.key ≡ job.key }
+        ensures job { result.outcome.job ≡ job }
+        ensures updated { IsUpdated D.device D.failure_count D.is_honest D.clock D.might_have_left
+            writer result.outcome.writer job.number job.value result.outcome.told }
+        ensures lent { self.new.writer ≡ None }
+        ensures stands { StandsAt result.outcome.writer self.new.stands }
+        ensures taken { self.new.taken ≡ self.old.taken }
+    {
+        let (worker, key) = (job.worker, job.key);
+        let outcome = store_one(self.rt, home, writer, job);
+        self.stands = outcome.stands();
+        self.standing.store(outcome.standing(), Ordering::SeqCst);
+        Told {
+            worker,
+            key,
+            outcome,
         }
-        self.jobs.recv(&self.rt).ok()
     }
 
     /// Waits until an update is handed over and its writer is back, does it, and lends the writer
@@ -125,6 +174,9 @@ impl<R: Wait + Copy, M: Memory, D: Disk + Drop> StoreThread<R, M, D> {
     pub fn next(&mut self) -> Option<Told<R, M, D>>
         ensures worker { IfSome result (λ t. t.worker ≡ t.outcome.job.worker) }
         ensures key { IfSome result (λ t. t.key ≡ t.outcome.job.key) }
+        ensures stored { IfSome result (λ t.
+            StoresOne D.device D.failure_count D.is_honest D.clock D.might_have_left
+            self.old t.outcome self.new) }
     {
         let job = self.take_job()?;
         let writer = self.take_writer()?;
@@ -133,18 +185,14 @@ impl<R: Wait + Copy, M: Memory, D: Disk + Drop> StoreThread<R, M, D> {
             self.writer = Some(writer);
             return None;
         };
-        let (worker, key) = (job.worker, job.key);
-        let outcome = store_one(self.rt, home, writer, job);
-        self.standing.store(outcome.standing(), Ordering::SeqCst);
-        Some(Told {
-            worker,
-            key,
-            outcome,
-        })
+        Some(self.store(home, writer, job))
     }
 
     /// Its writer, once it is back; None where it will not come back.
-    pub fn into_writer(mut self) -> Option<WriterOf<M, D>> {
+    pub fn into_writer(mut self) -> Option<WriterOf<M, D>>
+        ensures taken { IfSome result (λ w. IsTaken self w) }
+        ensures here { (w : _) → self.writer ≡ Some w → result ≡ Some w }
+    {
         self.take_writer()
     }
 }

@@ -2,3 +2,4 @@ pub mod Memory
 pub mod Settled
 pub mod Updated
 pub mod Answers
+pub mod Counted

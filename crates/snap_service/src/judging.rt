@@ -7,6 +7,7 @@ ghost use Rattle.snap_frame.specs.declared.reply.Reply.{Reply};
 ghost use Rattle.snap_frame.specs.Messages.{IsInLimits};
 ghost use Rattle.snap_service.specs.Settled.{IsSettled, IsReplyByLook};
 ghost use Rattle.snap_service.specs.Answers.{AnswersUpdate};
+ghost use Rattle.snap_service.specs.Counted.{IsMisplaced};
 
 use snap_disk::Refusal;
 use snap_frame::Reply;
@@ -18,6 +19,7 @@ use snap_memory::Scanner;
 pub fn refuse_place(scanner: &Scanner, segment: usize, value: &[u8]) -> Option<Reply>
     ensures refused { IfSome result (λ r. (number : ℕ)
         → AnswersUpdate scanner.now segment number value.now r scanner.now) }
+    ensures misplaced { IfSome result (λ _. IsMisplaced scanner.now segment value.now) }
     ensures fine { IfNone result ((segment < segments scanner.now.plan) × IsShort value.now) }
     ensures limits { IfSome result (λ r. IsInLimits r) }
 {

@@ -7,6 +7,7 @@
 //! and an update locks its own segment alone.
 #![tactic(auto)]
 
+mod held;
 mod judging;
 mod memory;
 mod node;

@@ -23,9 +23,9 @@ ghost use Rattle.snap_frame.specs.Messages.{IsInLimits};
 ghost use Rattle.snap_writer.specs.Writer.{number_of};
 ghost use Rattle.snap_service.specs.Memory.{IsOf, AreWriters, no_table, no_plan};
 ghost use Rattle.snap_service.specs.Settled.{IsSettledAt, IsTellable, reply_of};
-ghost use Rattle.snap_service.specs.Updated.{IsUpdated, HasMet};
+ghost use Rattle.snap_service.specs.Updated.{IsUpdated, IsUpdatedAndTold, HasMet};
 
-use crate::settling::{reply_told, update};
+use crate::settling::{reply_told, settle, update};
 use snap_disk::{Disk, Refusal};
 use snap_frame::Reply;
 use snap_memory::Scanner;
@@ -50,7 +50,7 @@ impl Memory for Brand {
 /// The writer of one segment of the memory `M`.
 #[derive(Drop)]
 pub struct WriterOf<M: Memory, D: Disk> {
-    pub(crate) writer: Writer<D>,
+    writer: Writer<D>,
     segment: usize,
     of: PhantomData<M>,
 }
@@ -123,6 +123,27 @@ impl<M: Memory, D: Disk> WriterOf<M, D> {
     {
         let _segment = self.segment();
         update(&mut self.writer, number, value)
+    }
+
+    /// An update, and the reply that says what it told, as [`settle`](crate::settle) does it.
+    pub(crate) fn settle(
+        &mut self,
+        scanner: &mut Scanner,
+        segment: usize,
+        number: u64,
+        value: &[u8],
+    ) -> Reply
+        requires memory { IsOf M.table M.plan scanner.old }
+        requires own { own_of self.old.seat ≡ segment }
+        requires size { IsShort value.now }
+        ensures told { IsUpdatedAndTold D.device D.failure_count D.is_honest D.clock
+            D.might_have_left self.old self.new number value.now result }
+        ensures settled { IsSettledAt scanner.new segment number value.now result }
+        ensures limits { IsInLimits result }
+        ensures scanner { Meets scanner.old scanner.new }
+    {
+        let _segment = self.segment();
+        settle(&mut self.writer, scanner, segment, number, value)
     }
 
     /// The reply that says what the writer told, as [`reply_told`](crate::reply_told) gives it.

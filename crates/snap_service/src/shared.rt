@@ -3,6 +3,7 @@ ghost use Rattle.std.specs.Prelude.{◌≡◌, ◌<◌, ◌≤◌, [], length, v
 ghost use Rattle.snap_register.specs.Rule.{segments};
 ghost use Rattle.snap_service.specs.Memory.{AreWriters, AreDisplaced};
 
+use crate::held::Held;
 use crate::memory::{Memory, WriterOf};
 use snap_disk::Disk;
 use snap_writer::Writer;
@@ -12,7 +13,7 @@ use std::sync::Mutex;
 /// The writers of all segments of the memory `M`, in order, each under a lock of its own.
 #[derive(Drop)]
 pub struct Shared<M: Memory, D: Disk + Drop> {
-    pub(crate) writers: Vec<Mutex<WriterOf<M, D>>>,
+    pub(crate) writers: Vec<Mutex<Held<M, D>>>,
     ghost all: { length writers.items ≡ segments M.plan },
 }
 
@@ -28,7 +29,7 @@ impl<M: Memory, D: Disk + Drop> Shared<M, D> {
         };
         'writers: for writer in writers {
             let segment = locks.len();
-            match locks.push(Mutex::new(WriterOf::new(writer, segment))) {
+            match locks.push(Mutex::new(Held::of(WriterOf::new(writer, segment)))) {
                 Ok(()) => {}
                 Err(_) => unreachable!(),
             }
@@ -51,7 +52,7 @@ impl<M: Memory, D: Disk + Drop> Shared<M, D> {
         let mut is_displaced = false;
         'locks: for lock in self.writers {
             let place = writers.len();
-            let writer = lock.into_inner();
+            let writer = lock.into_inner().release();
             if writer.segment() != place {
                 is_displaced = true;
             }

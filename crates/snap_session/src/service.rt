@@ -22,6 +22,9 @@ pub trait Service {
     /// Under which keys it may do so.
     ghost hands_over_under: { ℕ → Type 0 } = { λ _. Unit {0} };
 
+    /// What the reply to a request that was handed over says of its outcome.
+    ghost tells: { Self.Outcome → Request → Reply → Type 0 } = { λ _ _ _. Unit {0} };
+
     /// The reply, or `None` where the request was handed over: the service is then as it was, and
     /// [`finish`](Service::finish) answers the request once its outcome has come. `key` says
     /// whose request it is.
@@ -32,8 +35,9 @@ pub trait Service {
         ensures may { IfNone result Self.hands_over }
         ensures under { IfNone result (Self.hands_over_under key) };
 
-    /// The reply to a request that was handed over.
+    /// The reply to a request that was handed over: it tells its outcome.
     fn finish(&mut self, request: &Request, outcome: Self::Outcome) -> Reply
         ensures gives { Self.gives self.old request.now result self.new }
-        ensures limits { IsInLimits result };
+        ensures limits { IsInLimits result }
+        ensures tells { Self.tells outcome request.now result };
 }
