@@ -3,6 +3,8 @@
 import pathlib
 import re
 
+import segment_file as layout
+from preload import library
 from serving import FRESH, Server, segments
 
 TOP = pathlib.Path(__file__).resolve().parent.parent
@@ -50,6 +52,44 @@ def test_all_addresses_are_served(snapd, _):
     with server:
         port = server.address.rpartition(":")[2]
         snapd("call", f"127.0.0.1:{port}", "scan").gave(0, "segment 0 number 0 value -\n")
+
+
+EMPTY = "segment 0 number 0 value -\n"
+
+
+def test_any_port_is_told_as_the_one_that_it_is(snapd, _):
+    """Port 0 asks the system for one: each server has its own, says which, and is answered for there."""
+    for name in ("A", "B"):
+        snapd.file(name).write_bytes(layout.holding(*FRESH))
+    with Server(snapd, "A", address="127.0.0.1:0") as first, Server(snapd, "B", address="127.0.0.1:0") as second:
+        assert first.place[0] == second.place[0] == "127.0.0.1"
+        assert 0 < first.place[1] != second.place[1] > 0, (first.address, second.address)
+        for server in (first, second):
+            snapd("call", server.address, "scan").gave(0, EMPTY)
+
+
+def named(*addresses):
+    """The environment in which `two.test` has these two addresses. No machine has one of those for documents."""
+    return {"LD_PRELOAD": library("lookups"), "LOOKUPS": " ".join(("two.test", *addresses))}
+
+
+def test_a_name_of_two_addresses(snapd, _):
+    """They are tried in order, and the one that is bound is told."""
+    files = segments(snapd, FRESH)
+    for addresses, bound in (
+        (("203.0.113.1", "127.0.0.1"), "127.0.0.1"),
+        (("127.0.0.1", "203.0.113.1"), "127.0.0.1"),
+        (("127.0.0.2", "127.0.0.1"), "127.0.0.2"),
+    ):
+        with Server(snapd, *files, address="two.test:0", env=named(*addresses)) as server:
+            assert server.place[0] == bound and server.place[1] > 0, (addresses, server.address)
+            snapd("call", server.address, "scan").gave(0, EMPTY)
+
+
+def test_a_name_of_which_no_address_can_be_bound(snapd, _):
+    run = snapd("serve", "two.test:0", *segments(snapd, FRESH), env=named("203.0.113.1", "198.51.100.1"))
+    assert run.status == 1 and b"listening" not in run.output, run
+    assert run.errors.startswith("snapd: ") and run.errors.count("\n") == 1, run
 
 
 # ---- one port and one kind of file ----

@@ -3,10 +3,9 @@ use Rattle.std.specs.Prelude.{◌≡◌, ◌⊎◌, ℕ, List, Option, None, Res
 use Rattle.std.specs.Io.KnownBytes.{Appends, Keeps}
 use Rattle.snap_client.specs.declared.fault.ClientFault.{ClientFault}
 use Rattle.snap_client.specs.declared.fault.ClientFault.TheVariants.{NoMemory}
-use Rattle.snap_disk.specs.declared.refusal.Refusal.{Refusal}
 use Rattle.snap_disk.specs.declared.refusal.Refusal.TheVariants as refusal
 use Rattle.snap_frame.specs.declared.reply.Reply.{Reply}
-use Rattle.snap_frame.specs.declared.reply.Reply.TheVariants.{Refused}
+use Rattle.snap_frame.specs.declared.reply.Reply.TheVariants.{Refused, Stored}
 use Rattle.snap_frame.specs.declared.reply.Reply.TheVariants as reply
 use Rattle.snap_order.specs.declared.order.Question.{Question}
 use Rattle.snap_order.specs.declared.order.Question.TheVariants.{Health}
@@ -14,7 +13,7 @@ use Rattle.snap_order.specs.declared.status.Status.{Status}
 use Rattle.snap_order.specs.declared.status.Ended.{Ended}
 use Rattle.snap_order.specs.declared.status.Status.TheVariants as status
 use Rattle.snap_stream.specs.Streams.{AppendsBeginning, Complains, refused_line}
-use Rattle.snap_ask.specs.Text.{answer_text, detailed_line, is_any_fenced}
+use Rattle.snap_ask.specs.Text.{answer_text, detailed_line, is_any_fenced, stored_line}
 
 -- it ends as refused, and standard error got a beginning of this line, and all of it where that is
 -- told
@@ -27,11 +26,6 @@ pub record SaysRefused (text : List ℕ) (ended : Ended) (errs errs' : Option (L
 -- memory was wanting
 abbrev pub WantsMemory : Ended → (errs errs' : Option (List ℕ)) → Type 0
 WantsMemory ended errs errs' = SaysRefused (refused_line refusal.NoMemory) ended errs errs'
-
--- the server's refusal is said, or memory was wanting for it
-abbrev pub IsRefused : Refusal → (detail : ℕ) → Ended → (errs errs' : Option (List ℕ)) → Type 0
-IsRefused why detail ended errs errs' = SaysRefused (detailed_line why detail) ended errs errs'
-    ⊎ WantsMemory ended errs errs'
 
 -- how a call ends whose answer was printed: as refused where it asked for a fence and there is one
 abbrev pub answer_status : Question → Reply → Status
@@ -54,10 +48,22 @@ pub record IsCutShort (text : List ℕ) (ended : Ended) (out out' errs errs' : O
   pub beginning : AppendsBeginning out out' text
   pub said : Complains None ended.is_told errs errs'
 
--- the text was printed, or cut short, or memory was wanting before the first byte
+-- the text was printed, or cut short
+abbrev pub PrintsInPlace : (how : Status) → List ℕ → Ended → (out out' errs errs' : Option (List ℕ))
+    → Type 0
+PrintsInPlace how text ended out out' errs errs' =
+    IsPrinted how text ended out out' errs errs' ⊎ IsCutShort text ended out out' errs errs'
+
+-- the same, or memory was wanting before the first byte
 abbrev pub Prints : (how : Status) → List ℕ → Ended → (out out' errs errs' : Option (List ℕ)) → Type 0
-Prints how text ended out out' errs errs' = IsPrinted how text ended out out' errs errs'
-    ⊎ (IsCutShort text ended out out' errs errs' ⊎ (WantsMemory ended errs errs' × Keeps out out'))
+Prints how text ended out out' errs errs' = PrintsInPlace how text ended out out' errs errs'
+    ⊎ (WantsMemory ended errs errs' × Keeps out out')
+
+-- the reply to a read: nothing was done that it tells of
+abbrev pub IsRead : Reply → Type 0
+IsRead (reply.Snapshot values) = Unit {0}
+IsRead (reply.Status statuses) = Unit {0}
+IsRead reply = ⊥
 
 -- there is no answer, which one line says
 pub record GivesUp (ended : Ended) (errs errs' : Option (List ℕ)) : Type 0 where
@@ -65,11 +71,14 @@ pub record GivesUp (ended : Ended) (errs errs' : Option (List ℕ)) : Type 0 whe
   pub said : Complains None ended.is_told errs errs'
 
 -- How a call ends that asked this and is answered so: `out` and `out'` are what standard output held before and
--- after, `errs` and `errs'` what standard error did.
+-- after, `errs` and `errs'` what standard error did. Memory is wanting only for the text of a read, and where the
+-- client itself found none. Behind the reply to an update, stored or refused, it never is.
 abbrev pub EndsAsked : Question → Result Reply ClientFault → Ended
     → (out out' errs errs' : Option (List ℕ)) → Type 0
 EndsAsked question (Ok (Refused why detail)) ended out out' errs errs' =
-    IsRefused why detail ended errs errs' × Keeps out out'
+    SaysRefused (detailed_line why detail) ended errs errs' × Keeps out out'
+EndsAsked question (Ok (Stored number)) ended out out' errs errs' =
+    PrintsInPlace status.Done (stored_line number) ended out out' errs errs'
 EndsAsked question (Ok reply) ended out out' errs errs' = Prints (answer_status question reply)
     (answer_text question reply) ended out out' errs errs'
 EndsAsked question (Err NoMemory) ended out out' errs errs' =

@@ -5,10 +5,11 @@ ghost use Rattle.snap_client.specs.declared.fault.ClientFault.{ClientFault};
 ghost use Rattle.snap_frame.specs.declared.reply.Reply.{Reply};
 ghost use Rattle.snap_order.specs.Order.{IsCallable, request_of};
 ghost use Rattle.snap_order.specs.declared.status.Status.TheVariants as status;
-ghost use Rattle.snap_ask.specs.Asking.{EndsAsked, GivesUp, IsRefused, Prints, SaysRefused};
-ghost use Rattle.snap_ask.specs.Asking.{WantsMemory, answer_status};
-ghost use Rattle.snap_ask.specs.Text.{answer_text};
+ghost use Rattle.snap_ask.specs.Asking.{EndsAsked, GivesUp, IsRead, Prints, PrintsInPlace};
+ghost use Rattle.snap_ask.specs.Asking.{SaysRefused, WantsMemory, answer_status};
+ghost use Rattle.snap_ask.specs.Text.{answer_text, detailed_line, stored_line};
 
+use crate::line::{detailed_line, stored_line};
 use crate::print::{answer_of, is_any_fenced};
 use snap_client::{ClientFault, call_again};
 use snap_disk::Refusal;
@@ -24,7 +25,8 @@ use std::io::{Read, Write};
 /// request may be answered on another connection.
 ///
 /// A refusal by the server and want of memory are one line on `errors`, and the status
-/// [`Status::Refused`]; nothing is printed then. A connection that fails and a `writer` that does
+/// [`Status::Refused`]; nothing is printed then. What was answered of an update is said without
+/// memory, so that none is wanting behind a reply but for the values and fences of a read. A connection that fails and a `writer` that does
 /// are one line too, and the status [`Status::Failed`]; of a reply that couldn't be printed whole,
 /// `writer` got a beginning.
 pub fn ask<R: Read + Drop, C: Write + Drop, F: FnMut() -> Option<(R, C)>, W: Write, E: Write>(
@@ -45,7 +47,8 @@ pub fn ask<R: Read + Drop, C: Write + Drop, F: FnMut() -> Option<(R, C)>, W: Wri
         (E.contents errors.old) (E.contents errors.new) }
 {
     match answer_from(alloc, order, connect) {
-        Ok(Reply::Refused { why, detail }) => refuse(alloc, why, detail, errors),
+        Ok(Reply::Refused { why, detail }) => refuse(why, detail, errors),
+        Ok(Reply::Stored(number)) => say_stored(alloc, number, writer, errors),
         Ok(reply) => print(alloc, &order.question, &reply, writer, errors),
         Err(ClientFault::NoMemory) => stop(errors),
         Err(fault) => give_up(alloc, order.address, fault, errors),
@@ -90,7 +93,36 @@ fn fence_status(is_fenced: bool) -> Status
     }
 }
 
-/// Prints a reply that isn't a refusal.
+/// Says under which number an update is stored. The line takes no memory.
+fn say_stored<W: Write, E: Write>(
+    alloc: Global,
+    number: u64,
+    writer: &mut W,
+    errors: &mut E,
+) -> Ended
+    ensures { PrintsInPlace status.Done (stored_line number) result
+        (W.contents writer.old) (W.contents writer.new)
+        (E.contents errors.old) (E.contents errors.new) }
+{
+    let line = stored_line(number);
+    let Err(error) = write_whole(writer, line.as_str().as_bytes()) else {
+        return Ended {
+            status: Status::Done,
+            is_told: true,
+        };
+    };
+    let is_told = complain(
+        alloc,
+        errors,
+        &format_args!("stored {number}, but standard output: {error}"),
+    );
+    Ended {
+        status: Status::Failed,
+        is_told,
+    }
+}
+
+/// Prints the answer of a read.
 fn print<W: Write, E: Write>(
     alloc: Global,
     question: &Question,
@@ -98,6 +130,7 @@ fn print<W: Write, E: Write>(
     writer: &mut W,
     errors: &mut E,
 ) -> Ended
+    requires { IsRead reply.now }
     ensures { Prints (answer_status question.now reply.now) (answer_text question.now reply.now)
         result (W.contents writer.old) (W.contents writer.new)
         (E.contents errors.old) (E.contents errors.new) }
@@ -111,35 +144,20 @@ fn print<W: Write, E: Write>(
             is_told: true,
         };
     };
-    let is_told = match reply {
-        Reply::Stored(number) => complain(
-            alloc,
-            errors,
-            &format_args!("stored {number}, but standard output: {error}"),
-        ),
-        _ => complain(alloc, errors, &format_args!("standard output: {error}")),
-    };
+    let is_told = complain(alloc, errors, &format_args!("standard output: {error}"));
     Ended {
         status: Status::Failed,
         is_told,
     }
 }
 
-/// Says that the server refused the request, with the refusal's detail.
-fn refuse<E: Write>(alloc: Global, why: Refusal, detail: u64, errors: &mut E) -> Ended
-    ensures { IsRefused why detail result (E.contents errors.old) (E.contents errors.new) }
+/// Says that the server refused the request, with the refusal's detail. It takes no memory.
+fn refuse<E: Write>(why: Refusal, detail: u64, errors: &mut E) -> Ended
+    ensures { SaysRefused (detailed_line why detail) result (E.contents errors.old)
+        (E.contents errors.new) }
 {
-    match format!(in alloc; "snapd: refused {why} {detail}\n") {
-        Ok(line) => say_refused(line.as_bytes(), errors),
-        Err(_) => stop(errors),
-    }
-}
-
-/// Ends as refused, with this line.
-fn say_refused<E: Write>(line: &[u8], errors: &mut E) -> Ended
-    ensures { SaysRefused line.now result (E.contents errors.old) (E.contents errors.new) }
-{
-    let is_told = match write_whole(errors, line) {
+    let line = detailed_line(why, detail);
+    let is_told = match write_whole(errors, line.as_str().as_bytes()) {
         Ok(()) => true,
         Err(_) => false,
     };

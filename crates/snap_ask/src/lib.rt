@@ -5,6 +5,7 @@
 #![tactic(auto)]
 
 mod asking;
+mod line;
 mod print;
 
 pub use asking::ask;

@@ -1,8 +1,9 @@
-//! The text of replies.
+//! The text of the replies to reads.
 ghost use Rattle.std.specs.Prelude.{◌≡◌, ◌++◌, IfOk, OnOk};
+ghost use Rattle.snap_ask.specs.Asking.{IsRead};
 ghost use Rattle.snap_ask.specs.Text.{answer_text, fence_line, health_text, is_any_fenced};
 ghost use Rattle.snap_ask.specs.Text.{lines_from, reply_text, segment_text, status_line};
-ghost use Rattle.snap_ask.specs.Text.{stored_line, value_line};
+ghost use Rattle.snap_ask.specs.Text.{value_line};
 
 use itoa::Buffer;
 use snap_frame::{Reply, SegmentStatus, SegmentValue};
@@ -16,6 +17,7 @@ pub(crate) fn answer_of(
     question: &Question,
     reply: &Reply,
 ) -> Result<Vec<u8>, AllocError>
+    requires { IsRead reply.now }
     ensures { IfOk result (λ text. text.items ≡ answer_text question.now reply.now) }
 {
     match (question, reply) {
@@ -44,28 +46,18 @@ pub(crate) fn is_any_fenced(statuses: &[SegmentStatus]) -> bool
     statuses.iter().any(|status| status.is_fenced)
 }
 
-/// The lines of a reply. A refusal has none.
+/// The lines of the reply to a read.
 fn text_of(alloc: Global, reply: &Reply) -> Result<Vec<u8>, AllocError>
+    requires { IsRead reply.now }
     ensures { IfOk result (λ text. text.items ≡ reply_text reply.now) }
 {
     let mut out = Vec::new(alloc);
     match reply {
-        Reply::Stored(number) => put_stored(&mut out, *number)?,
         Reply::Snapshot(values) => put_values(&mut out, values)?,
         Reply::Status(statuses) => put_statuses(&mut out, statuses)?,
-        Reply::Refused { .. } => {}
+        Reply::Stored(_) | Reply::Refused { .. } => unreachable!(),
     }
     Ok(out)
-}
-
-/// Appends the line of a stored number.
-fn put_stored(out: &mut Vec<u8>, number: u64) -> Result<(), AllocError>
-    ensures { OnOk result (out.new.items ≡ out.old.items ++ stored_line number) }
-{
-    let mut digits = Buffer::new();
-    out.extend_from_slice(b"stored ")?;
-    out.extend_from_slice(digits.format(number).as_bytes())?;
-    out.extend_from_slice(b"\n")
 }
 
 /// Appends a line for each segment's value.
