@@ -2,3 +2,4 @@ pub mod Failure
 pub mod Commands
 pub mod Keeping
 pub mod Migrating
+pub mod Calls

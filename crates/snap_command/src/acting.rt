@@ -9,6 +9,7 @@ ghost use Rattle.snap_slot.specs.declared.layout.TheConstants.{FILE_LEN};
 ghost use Rattle.snap_history.specs.declared.limits.TheConstants.{MAX_COUNT};
 ghost use Rattle.snap_history.specs.Limits.{IsShort};
 ghost use Rattle.snap_segment.specs.Making.{IsFresh};
+ghost use Rattle.snap_command.specs.Calls.{CountsCallsOf, CountsOrder, CountsStore};
 ghost use Rattle.snap_command.specs.Commands.{CountsEnd, End, EndSays, EndsCheck, EndsFormat};
 ghost use Rattle.snap_command.specs.Commands.{EndsGet, EndsOrder, EndsPut, EndsStore, OrderLeaves};
 ghost use Rattle.snap_command.specs.Commands.{PutLeaves, StoreLeaves, status_at};
@@ -51,6 +52,7 @@ pub fn act<D: Disk, C: Cause, R: Read, W: Write, E: Write>(
         × EndSays (C.may_give cause.now) (file_of order.now) (length (D.device disk).bytes) end
         result.1.is_told (E.contents errors.old) (E.contents errors.new)
         × CountsEnd end (D.failure_count disk) (D.failure_count result.0)
+        × CountsOrder order.now end (D.clock disk) (D.clock result.0)
         × OrderKeeps order.now (result.0 ≡ disk) (D.is_honest result.0 → LeavesOnly D.clock
         D.might_have_left disk result.0 (MayLeave (D.device disk))) end
         × EndsOrder order.now (D.is_honest result.0) (R.remaining reader.old) (D.device disk)
@@ -86,6 +88,7 @@ fn carry_out<D: Disk, R: Read, W: Write>(
     requires headroom { D.failure_count disk < 2 ^ 64 - 1 }
     ensures honest { D.is_honest result.0 → D.is_honest disk }
     ensures count { CountsEnd result.1 (D.failure_count disk) (D.failure_count result.0) }
+    ensures calls { CountsOrder order.now result.1 (D.clock disk) (D.clock result.0) }
     ensures keeps { OrderKeeps order.now (result.0 ≡ disk) (D.is_honest result.0 → LeavesOnly
         D.clock D.might_have_left disk result.0 (MayLeave (D.device disk))) result.1 }
     ensures ends { EndsOrder order.now (D.is_honest result.0) (R.remaining reader.old)
@@ -116,6 +119,7 @@ fn format_file<D: Disk, W: Write>(
     requires headroom { D.failure_count disk < 2 ^ 64 - 1 }
     ensures honest { D.is_honest result.0 → D.is_honest disk }
     ensures count { CountsEnd result.1 (D.failure_count disk) (D.failure_count result.0) }
+    ensures calls { CountsCallsOf 7 result.1 (D.clock disk) (D.clock result.0) }
     ensures ends { EndsFormat (D.is_honest result.0) index count (D.device disk)
         (D.device result.0) (W.contents writer.old) (W.contents writer.new) result.1 }
     ensures keeps { FormatKeeps (result.0 ≡ disk) (D.is_honest result.0 → LeavesOnly D.clock
@@ -152,6 +156,7 @@ fn put<D: Disk, R: Read, W: Write>(
     requires headroom { D.failure_count disk < 2 ^ 64 - 1 }
     ensures honest { D.is_honest result.0 → D.is_honest disk }
     ensures count { CountsEnd result.1 (D.failure_count disk) (D.failure_count result.0) }
+    ensures calls { CountsStore result.1 (D.clock disk) (D.clock result.0) }
     ensures ends { EndsPut (D.is_honest result.0) index count (R.remaining reader.old)
         (D.device disk) (D.device result.0) (W.contents writer.old) (W.contents writer.new)
         result.1 }
@@ -188,6 +193,7 @@ fn store<D: Disk, W: Write>(
     requires fits { IsShort value.now }
     ensures honest { D.is_honest result.0 → D.is_honest disk }
     ensures count { CountsEnd result.1 (D.failure_count disk) (D.failure_count result.0) }
+    ensures calls { CountsStore result.1 (D.clock disk) (D.clock result.0) }
     ensures ends { EndsStore (D.is_honest result.0) index count value.now (D.device disk)
         (D.device result.0) (W.contents writer.old) (W.contents writer.new) result.1 }
     ensures keeps { StoreKeeps (D.is_honest result.0 → LeavesOnly D.clock
@@ -232,6 +238,7 @@ fn get<D: Disk, W: Write>(
     requires headroom { D.failure_count disk < 2 ^ 64 - 1 }
     ensures honest { D.is_honest result.0 → D.is_honest disk }
     ensures count { CountsEnd result.1 (D.failure_count disk) (D.failure_count result.0) }
+    ensures calls { CountsCallsOf 2 result.1 (D.clock disk) (D.clock result.0) }
     ensures ends { EndsGet (D.is_honest result.0) index count (D.device disk)
         (W.contents writer.old) (W.contents writer.new) result.1 }
     ensures wrong_length { length (D.device disk).bytes ≢ FILE_LEN → result.0 ≡ disk }
@@ -257,6 +264,7 @@ fn check_file<D: Disk, W: Write>(
     requires headroom { D.failure_count disk < 2 ^ 64 - 1 }
     ensures honest { D.is_honest result.0 → D.is_honest disk }
     ensures count { CountsEnd result.1 (D.failure_count disk) (D.failure_count result.0) }
+    ensures calls { CountsCallsOf 1 result.1 (D.clock disk) (D.clock result.0) }
     ensures ends { EndsCheck (D.is_honest result.0) (D.device disk) (W.contents writer.old)
         (W.contents writer.new) result.1 }
     ensures wrong_length { length (D.device disk).bytes ≢ FILE_LEN → result.0 ≡ disk }

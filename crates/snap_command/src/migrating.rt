@@ -10,6 +10,7 @@ ghost use Rattle.snap_slot.specs.declared.layout.TheConstants.{FILE_LEN};
 ghost use Rattle.snap_history.specs.declared.limits.TheConstants.{MAX_COUNT};
 ghost use Rattle.snap_old_slot.specs.declared.layout.TheConstants.{OLD_FILE_LEN};
 ghost use Rattle.snap_order.specs.Order.{IsPlace};
+ghost use Rattle.snap_command.specs.Calls.{CountsPair};
 ghost use Rattle.snap_command.specs.Migrating.{CountsMigration, EndsMigration, MigrationEnd};
 ghost use Rattle.snap_command.specs.Migrating.{MigrationKeeps, MigrationLeaves, MigrationReads};
 ghost use Rattle.snap_command.specs.Migrating.{MigrationSays, SaysMigration, migrated_beginning};
@@ -114,6 +115,8 @@ pub fn act_pair<O: Disk, N: Disk, C: Cause, W: Write, E: Write>(
         end result.2.is_told (E.contents errors.old) (E.contents errors.new)
         × CountsMigration end (O.failure_count old) (O.failure_count result.0)
         (N.failure_count new) (N.failure_count result.1)
+        × CountsPair 2 end (O.clock old) (O.clock result.0)
+        × CountsPair 7 end (N.clock new) (N.clock result.1)
         × MigrationReads end (O.is_honest result.0
         → (O.device result.0).bytes ≡ (O.device old).bytes)
         × MigrationKeeps end (result.0 ≡ old) (result.1 ≡ new) (N.is_honest result.1
@@ -161,6 +164,8 @@ fn migrate_files<O: Disk, N: Disk, W: Write>(
     ensures new_honest { N.is_honest result.1 → N.is_honest new }
     ensures count { CountsMigration result.2 (O.failure_count old) (O.failure_count result.0)
         (N.failure_count new) (N.failure_count result.1) }
+    ensures old_calls { CountsPair 2 result.2 (O.clock old) (O.clock result.0) }
+    ensures new_calls { CountsPair 7 result.2 (N.clock new) (N.clock result.1) }
     ensures reads { MigrationReads result.2 (O.is_honest result.0
         → (O.device result.0).bytes ≡ (O.device old).bytes) }
     ensures keeps { MigrationKeeps result.2 (result.0 ≡ old) (result.1 ≡ new) (N.is_honest result.1
