@@ -86,7 +86,8 @@ pub enum CallFault {
 /// and ends with the device, or with the process, however that ends.
 ///
 /// Each method makes the call of the system that it is named for, and then notes it. A sync also
-/// asks whether the path still names the file, and fails where it doesn't. It is honest
+/// asks whether the path still names the file, if the one before it didn't, and fails where it
+/// doesn't: so each store asks, which syncs twice. It is honest
 /// where every noted call did what the model of [`Disk`] says, after a sync that failed too, and
 /// nobody else writes the file. Which places are open at first no contract says: those that were
 /// written before and not synced, by a process that ended or before a crash, which leaves them
@@ -202,14 +203,14 @@ impl<'p, R: Files<File = fs::File> + Clock> FileDisk<'p, R> {
     }
 }
 
-/// Syncs a file, and asks whether this is still a name of it.
+/// Syncs a file, and asks whether this is still a name of it, if it didn't behind the last sync.
 fn sync_named<R: Files<File = fs::File> + Clock>(
     rt: &R,
     file: &fs::File,
     name: &mut Name<'_>,
 ) -> Result<(), CallFault> {
     file.sync_data().map_err(fault_of_sync)?;
-    match name.holds(rt) {
+    match name.holds_synced(rt) {
         Ok(true) => Ok(()),
         Ok(false) => Err(CallFault::Moved),
         Err(reason) => Err(fault_of_sync(reason)),

@@ -94,6 +94,8 @@ pub struct Name<'p> {
     id: FileId,
     /// The last look that found the file under its own name, and not under that of a link to it.
     look: Option<Look>,
+    /// Whether it was asked for behind the last sync, and held.
+    is_fresh: bool,
 }
 
 impl<'p> Name<'p> {
@@ -103,6 +105,7 @@ impl<'p> Name<'p> {
             path,
             id,
             look: None,
+            is_fresh: false,
         }
     }
 
@@ -111,8 +114,20 @@ impl<'p> Name<'p> {
         self.id
     }
 
-    /// Whether it still names that file. Where the system can't tell, that is its own reason.
-    pub fn holds<R: Files<File = fs::File> + Clock>(&mut self, rt: &R) -> io::Result<bool> {
+    /// Whether it still names that file, behind a sync. Of two syncs in a row it is asked for behind
+    /// one at least, and so within each store, which makes two. Where the system can't tell, that is its
+    /// own reason.
+    pub fn holds_synced<R: Files<File = fs::File> + Clock>(&mut self, rt: &R) -> io::Result<bool> {
+        if self.is_fresh {
+            self.is_fresh = false;
+            return Ok(true);
+        }
+        self.is_fresh = self.holds(rt)?;
+        Ok(self.is_fresh)
+    }
+
+    /// Whether it names that file now.
+    fn holds<R: Files<File = fs::File> + Clock>(&mut self, rt: &R) -> io::Result<bool> {
         // Before the file, so that a change between the two isn't taken for one before them.
         let glance = self.glance(rt).ok();
         let last = self.look.take();
