@@ -129,8 +129,8 @@ module _ {S : Type 0} (gives : S → Request → Reply → S → Type 0) (most :
   abbrev pub FewRounds : Scene S → Scene S → Type 0
   FewRounds a c = (n : ℕ) × (b : Scene S) × (n < most_rounds) × WholeRounds n a b × Round b c
 
-  -- The rounds of a turn that came so far. It stops before the last round that it may take only where
-  -- it would wait, or has ended.
+  -- The rounds of a turn that came so far. It stops before the last round that it may take only
+  -- where it would wait, or has ended.
   abbrev pub TakesRounds : Turn → Scene S → Scene S → Type 0
   TakesRounds Again a c = WholeRounds most_rounds a c
   TakesRounds NeedsInput a c = FewRounds a c
