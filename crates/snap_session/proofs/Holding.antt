@@ -77,7 +77,8 @@ first_four (a ∷ b ∷ c ∷ d ∷ xs) bytes long =
     let each : IsBytes front = bytes-take 4 (a ∷ b ∷ c ∷ d ∷ xs) bytes in
     (be_bytes_4 front _ refl each refl, omega (arith, each 0, each 1, each 2, each 3))
 
--- with no whole frame first, and no length above the limit, fewer bytes are held than a frame may have
+-- with no whole frame first, and no length above the limit, fewer bytes are held than a frame may
+-- have
 pub partial_is_short : (xs : List ℕ) → IsBytes xs → IsPartial xs → length xs < longest_frame
 partial_is_short xs bytes part =
     elim (cases_lt (length xs) longest_frame) [

@@ -68,17 +68,17 @@ module _ {S : Type 0} (gives : S → Request → Reply → S → Type 0) (most :
       (r0 r1 w0 w1 : Option (List ℕ)) → Sends old mid w0 w1
       → GoesBy most_answers Stays gives s t mid [] [] answered → mid.owed ≡ []
       → Consumes r0 r1 piece → 0 < length piece → length piece ≤ most → answered.over ≡ None
-      → answered.owed ≡ [] → HasTaken answered piece new
+      → answered.owed ≡ [] → answered.asked ≡ None → HasTaken answered piece new
       → WholeRound gives most (scene s old r0 w0) (scene t new r1 w1)
   reads_some s t old mid answered new piece r0 r1 w0 w1 sends answers all read some few going none
-      taken = record {
+      free taken = record {
         round = record {
           sent = mid;
           answered = answered;
           piece = piece;
           sends = sends;
           answers = answers;
-          reads = (read, inr (few, going, none, taken));
+          reads = (read, inr (few, going, none, free, taken));
         };
         all = all;
         gets_on = λ _ _ empty. absurd (omega (arith, some, ap length empty));

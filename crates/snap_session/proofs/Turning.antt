@@ -247,8 +247,8 @@ still_under a b P same on = subst (λ z. OnSome z P) (sym same) on
 
 -- ---- how far a turn has come
 
--- what stands in a turn: its bytes are those of a run, few are owed and held, and what is handed over
--- is handed over under its key
+-- what stands in a turn: its bytes are those of a run, few are owed and held, and what is handed
+-- over is handed over under its key
 pub record Stood {S : Type 0} (gives : S → Request → Reply → S → Type 0) (hands_over one : Type 0)
     (more : ℕ) (s t : S) (old new : Talk) (r0 r1 w0 w1 : Option (List ℕ)) : Type 0 where
   pub turns : Turns Stays gives s t old r0 r1 w0 w1 new

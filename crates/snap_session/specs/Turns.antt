@@ -93,13 +93,14 @@ pub record Scene (S : Type 0) : Type 0 where
   pub left : Option (List ℕ)
   pub written : Option (List ℕ)
 
--- nothing is read, or one piece is, of at most so many bytes: only while the session goes on, and
--- with nothing owed
+-- nothing is read, or one piece is, of at most so many bytes: only while the session goes on, with
+-- nothing owed and no request handed over
 abbrev pub ReadsPiece : ℕ → Talk → Option (List ℕ) → Option (List ℕ) → List ℕ → Talk → Type 0
 ReadsPiece most old left_old left_new piece new =
     Consumes left_old left_new piece
     × (((piece ≡ []) × (new ≡ old))
-    ⊎ ((length piece ≤ most) × (old.over ≡ None) × (old.owed ≡ []) × HasTaken old piece new))
+    ⊎ ((length piece ≤ most) × (old.over ≡ None) × (old.owed ≡ []) × (old.asked ≡ None)
+    × HasTaken old piece new))
 
 module _ {S : Type 0} (gives : S → Request → Reply → S → Type 0) (most : ℕ) where
   -- One round: bytes that are owed are written, frames that are held are answered, and then at most
@@ -128,8 +129,8 @@ module _ {S : Type 0} (gives : S → Request → Reply → S → Type 0) (most :
   abbrev pub FewRounds : Scene S → Scene S → Type 0
   FewRounds a c = (n : ℕ) × (b : Scene S) × (n < most_rounds) × WholeRounds n a b × Round b c
 
-  -- The rounds of a turn that came so far. It stops before the last round that it may take only where
-  -- it would wait, or has ended.
+  -- The rounds of a turn that came so far. It stops before the last round that it may take only
+  -- where it would wait, or has ended.
   abbrev pub TakesRounds : Turn → Scene S → Scene S → Type 0
   TakesRounds Again a c = WholeRounds most_rounds a c
   TakesRounds NeedsInput a c = FewRounds a c

@@ -255,7 +255,8 @@ impl Session {
     pub fn answer<S: Service>(&mut self, service: &mut S, key: usize) -> Wants
         requires { self.old.over ≡ None }
         ensures goes { Goes Stays S.gives service.old service.new self.old [] [] self.new }
-        ensures few { GoesBy most_answers Stays S.gives service.old service.new self.old [] [] self.new }
+        ensures few { GoesBy most_answers Stays S.gives service.old service.new
+            self.old [] [] self.new }
         ensures wants { WantsAt
             (self.old.asked ≡ None → S.hands_over × S.hands_over_under key) result self.new }
         ensures bounded { length self.old.owed ≤ most_owed → length self.new.owed ≤ most_owed }

@@ -72,8 +72,8 @@ fn send_owed<W: Write>(session: &mut Session, writer: &mut W) -> Sent
     Sent::All
 }
 
-/// One turn of at most 16 rounds: each writes what is owed, answers what is held and reads one piece,
-/// in this order. It ends sooner where one of them would wait.
+/// One turn of at most 16 rounds: each writes what is owed, answers what is held and reads one
+/// piece, in this order. It ends sooner where one of them would wait.
 ///
 /// A reader or writer says by `WouldBlock` that it would wait. Every other error ends the
 /// connection with no retry, and so does a write that takes no byte. Nothing is read while bytes

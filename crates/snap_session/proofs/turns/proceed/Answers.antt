@@ -190,7 +190,7 @@ loop-preserved g c =
           some few c.in-Bytes.ensures.wants.0
           (none_owed _ _ _ c.if-not-is_empty.false c.is_empty-in-loop.ensures
           c.owed-in-loop.ensures)
-          c.take_in.ensures);
+          c.in-Bytes.ensures.wants.1 c.take_in.ensures);
     }
 
 pub returns-in-Blocked : goal.returns-in-Blocked
