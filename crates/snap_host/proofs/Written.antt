@@ -30,26 +30,26 @@ use Rattle.snap_host.specs.Hosting.{
   served_line,
 }
 
-pub report_failed : (bound : SocketAddr → Type 0) (refused : Error → Type 0) (deaf : Type 0)
+pub report_failed : (bound : SocketAddr → Type 0) (refused : Error → Type 0) (deaf : Type 0) (has_come : ℕ → Type 0)
     (connections : Option ℕ) (r : Report) (o n : Option (List ℕ)) (failure : HostFailure)
     → PrintFails o n (report_text r) failure
-    → EndsServing bound refused deaf connections r o n (Err failure)
-report_failed bound refused deaf connections r o n (Output error) fails = inl fails
-report_failed bound refused deaf connections r o n NoMemory fails = inl fails
-report_failed bound refused deaf connections r o n (Refused segment why) fails = absurd fails
-report_failed bound refused deaf connections r o n (Address error) fails = absurd fails
-report_failed bound refused deaf connections r o n (Server fault) fails = absurd fails
+    → EndsServing bound refused deaf has_come connections r o n (Err failure)
+report_failed bound refused deaf has_come connections r o n (Output error) fails = inl fails
+report_failed bound refused deaf has_come connections r o n NoMemory fails = inl fails
+report_failed bound refused deaf has_come connections r o n (Refused segment why) fails = absurd fails
+report_failed bound refused deaf has_come connections r o n (Address error) fails = absurd fails
+report_failed bound refused deaf has_come connections r o n (Server fault) fails = absurd fails
 
-pub listen_failed : (bound : SocketAddr → Type 0) (refused : Error → Type 0) (deaf : Type 0)
+pub listen_failed : (bound : SocketAddr → Type 0) (refused : Error → Type 0) (deaf : Type 0) (has_come : ℕ → Type 0)
     (connections : Option ℕ) (r : Report) (o n : Option (List ℕ)) (failure : HostFailure)
     → Appends o n (report_text r) → ListenFails bound refused failure
-    → EndsServing bound refused deaf connections r o n (Err failure)
-listen_failed bound refused deaf connections r o n (Address error) came fails = (fails, came)
-listen_failed bound refused deaf connections r o n NoMemory came fails =
+    → EndsServing bound refused deaf has_come connections r o n (Err failure)
+listen_failed bound refused deaf has_come connections r o n (Address error) came fails = (fails, came)
+listen_failed bound refused deaf has_come connections r o n NoMemory came fails =
     inr (fails.0, fails.1, inl came)
-listen_failed bound refused deaf connections r o n (Output error) came fails = absurd fails
-listen_failed bound refused deaf connections r o n (Refused segment why) came fails = absurd fails
-listen_failed bound refused deaf connections r o n (Server fault) came fails = absurd fails
+listen_failed bound refused deaf has_come connections r o n (Output error) came fails = absurd fails
+listen_failed bound refused deaf has_come connections r o n (Refused segment why) came fails = absurd fails
+listen_failed bound refused deaf has_come connections r o n (Server fault) came fails = absurd fails
 
 -- the address is bound, and this line names it
 abbrev IsNamed : (bound : SocketAddr → Type 0) (line : List ℕ) → Type 0
@@ -80,74 +80,76 @@ listening bound r o m n line came named said = record {
 
 -- the threads were not started, or ended early, for this reason; `contents` is what a writer holds
 pub ended_early : {W : Type 0} (contents : W → Option (List ℕ)) (bound : SocketAddr → Type 0)
-    (refused : Error → Type 0) (deaf : Type 0) (connections : Option ℕ) (r : Report)
+    (refused : Error → Type 0) (deaf : Type 0) (has_come : ℕ → Type 0) (connections : Option ℕ) (r : Report)
     (o : Option (List ℕ)) (old new : W) (line : List ℕ) (why : RunFault)
     → Appends o (contents old) (report_text r) → IsNamed bound line
     → Announced (λ x y. Appends (contents x) (contents y) line)
     (λ x y. AppendsBeginning (contents x) (contents y) line) old (Err why) new
     → (why ≡ run.Server faults.AcceptFailed → deaf)
-    → EndsServing bound refused deaf connections r o (contents new) (Err (failure_of why))
-ended_early contents bound refused deaf connections r o old new line (run.Announcement error) came
+    → EndsServing bound refused deaf has_come connections r o (contents new) (Err (failure_of why))
+ended_early contents bound refused deaf has_come connections r o old new line (run.Announcement error) came
     named has is_deaf = inr (
       named.0,
       named.1,
       inl (beginning_behind o (contents old) (contents new) (report_text r) (listening_line named.0)
           came (subst (AppendsBeginning (contents old) (contents new)) named.2 has)),
     )
-ended_early contents bound refused deaf connections r o old new line (run.Server faults.AcceptFailed)
+ended_early contents bound refused deaf has_come connections r o old new line (run.Server faults.AcceptFailed)
     came named has is_deaf =
     let is = listening bound r o (contents old) (contents new) line came named has in
     ((λ same. is_deaf (ap run.Server same)), (is.address, is.is_bound, is.text))
-ended_early contents bound refused deaf connections r o old new line (run.Server faults.PollFailed)
+ended_early contents bound refused deaf has_come connections r o old new line (run.Server faults.PollFailed)
     came named has is_deaf =
     let is = listening bound r o (contents old) (contents new) line came named has in
     ((λ same. is_deaf (ap run.Server same)), (is.address, is.is_bound, is.text))
-ended_early contents bound refused deaf connections r o old new line (run.Server faults.NoPoll)
+ended_early contents bound refused deaf has_come connections r o old new line (run.Server faults.NoPoll)
     came named has is_deaf = (
       (λ same. is_deaf (ap run.Server same)),
       (named.0, named.1, unchanged contents r o old new has came),
     )
-ended_early contents bound refused deaf connections r o old new line (run.Server faults.NoThread)
+ended_early contents bound refused deaf has_come connections r o old new line (run.Server faults.NoThread)
     came named has is_deaf = (
       (λ same. is_deaf (ap run.Server same)),
       (named.0, named.1, unchanged contents r o old new has came),
     )
-ended_early contents bound refused deaf connections r o old new line (run.Server faults.NoMemory)
+ended_early contents bound refused deaf has_come connections r o old new line (run.Server faults.NoMemory)
     came named has is_deaf =
     inr (named.0, named.1, inl (unchanged contents r o old new has came))
 
-pub served_failed : (bound : SocketAddr → Type 0) (refused : Error → Type 0) (deaf : Type 0)
+pub served_failed : (bound : SocketAddr → Type 0) (refused : Error → Type 0) (deaf : Type 0) (has_come : ℕ → Type 0)
     (connections : Option ℕ) (r : Report) (o m n : Option (List ℕ)) (k : ℕ)
     (failure : HostFailure) → IsListening bound r o m → connections ≡ Some k
-    → PrintFails m n (served_line k) failure
-    → EndsServing bound refused deaf connections r o n (Err failure)
-served_failed bound refused deaf connections r o m n k (Output error) is asked fails = inr (
+    → has_come k → PrintFails m n (served_line k) failure
+    → EndsServing bound refused deaf has_come connections r o n (Err failure)
+served_failed bound refused deaf has_come connections r o m n k (Output error) is asked came fails = inr (
   is.address,
   is.is_bound,
   inr (
     k,
     asked,
+    came,
     beginning_behind o m n (opening_text r is.address) (served_line k) is.text fails,
   ),
 )
-served_failed bound refused deaf connections r o m n k NoMemory is asked fails = inr (
+served_failed bound refused deaf has_come connections r o m n k NoMemory is asked came fails = inr (
   is.address,
   is.is_bound,
   inr (Appends-kept o m n (opening_text r is.address) is.text fails),
 )
-served_failed bound refused deaf connections r o m n k (Refused segment why) is asked fails =
+served_failed bound refused deaf has_come connections r o m n k (Refused segment why) is asked came fails =
     absurd fails
-served_failed bound refused deaf connections r o m n k (Address error) is asked fails = absurd fails
-served_failed bound refused deaf connections r o m n k (Server fault) is asked fails = absurd fails
+served_failed bound refused deaf has_come connections r o m n k (Address error) is asked came fails = absurd fails
+served_failed bound refused deaf has_come connections r o m n k (Server fault) is asked came fails = absurd fails
 
-pub served : (bound : SocketAddr → Type 0) (refused : Error → Type 0) (deaf : Type 0)
+pub served : (bound : SocketAddr → Type 0) (refused : Error → Type 0) (deaf : Type 0) (has_come : ℕ → Type 0)
     (connections : Option ℕ) (r : Report) (o m n : Option (List ℕ)) (k : ℕ)
     → IsListening bound r o m
-    → connections ≡ Some k → Appends m n (served_line k)
-    → EndsServing bound refused deaf connections r o n (Ok k)
-served bound refused deaf connections r o m n k is asked came = (
+    → connections ≡ Some k → has_come k → Appends m n (served_line k)
+    → EndsServing bound refused deaf has_come connections r o n (Ok k)
+served bound refused deaf has_come connections r o m n k is asked came said = (
   is.address,
   is.is_bound,
   asked,
-  Appends-trans o m n (opening_text r is.address) (served_line k) is.text came,
+  came,
+  Appends-trans o m n (opening_text r is.address) (served_line k) is.text said,
 )

@@ -43,6 +43,9 @@ use Rattle.snap_restart.specs.Opened.{IsOpened, IsStopped, recovered}
 use Rattle.snap_restart.specs.Crashing.{AreOpened, StayKept}
 use Rattle.snap_restart.specs.Report.{report_text}
 use Rattle.snap_restart.specs.declared.report.Report.{Report}
+use Rattle.snap_server.specs.Dealing.{GivesSoMany}
+use Rattle.snap_server.specs.declared.listen.Arrival.{Arrival}
+use Rattle.snap_server.specs.declared.listen.Unaccepted.{Unaccepted}
 use Rattle.snap_server.specs.declared.fault.RunFault.{RunFault}
 use Rattle.snap_server.specs.declared.fault.RunFault.TheVariants as run
 use Rattle.snap_server.specs.declared.fault.ServerFault.{ServerFault}
@@ -107,13 +110,19 @@ IsStopOf device failures honest clock might_have_left devices segment why =
     × IsStopped device failures honest clock might_have_left devices news why segment
     × StayKept device honest clock might_have_left devices news
 
+-- so many connections were accepted from a listener of this kind, one after another
+abbrev pub HaveCome : {L : Type 0} → (accepts : L → Result Arrival Unaccepted → L → Type 0) → ℕ
+    → Type 0
+HaveCome {L} accepts k = (first : L) × (last : L) × GivesSoMany accepts k first last
+
 -- Of the text no more than a beginning was written: no address that isn't bound, and no number but
--- the one that was asked for.
-abbrev pub IsCutShort : (bound : SocketAddr → Type 0) (connections : Option ℕ) → Report
-    → (out out' : Option (List ℕ)) → Type 0
-IsCutShort bound connections report out out' = AppendsBeginning out out' (report_text report)
+-- the one that was asked for and has come.
+abbrev pub IsCutShort : (bound : SocketAddr → Type 0) (came : ℕ → Type 0) (connections : Option ℕ)
+    → Report → (out out' : Option (List ℕ)) → Type 0
+IsCutShort bound came connections report out out' = AppendsBeginning out out' (report_text report)
     ⊎ ((a : SocketAddr) × bound a × (AppendsBeginning out out' (opening_text report a)
-    ⊎ ((k : ℕ) × (connections ≡ Some k) × AppendsBeginning out out' (whole_text report a k))))
+    ⊎ ((k : ℕ) × (connections ≡ Some k) × came k
+    × AppendsBeginning out out' (whole_text report a k))))
 
 -- want of memory cuts no line short, and comes before the last one
 abbrev pub IsStarved : (bound : SocketAddr → Type 0) → Report → (out out' : Option (List ℕ))
@@ -132,20 +141,21 @@ IsFaulted report a out out' faults.NoThread = Appends out out' (report_text repo
 IsFaulted report a out out' faults.NoMemory = ⊥
 
 -- The server opened its files and then ended so. `bound` says which addresses its own may be bound
--- to, `refused` why it may not be, `deaf` that connections there may be refused, and `out` and
--- `out'` what the writer held before and after.
+-- to, `refused` why it may not be, `deaf` that connections there may be refused, `came` that so many
+-- came, and `out` and `out'` what the writer held before and after.
 abbrev pub EndsServing : (bound : SocketAddr → Type 0) (refused : Error → Type 0) (deaf : Type 0)
-    (connections : Option ℕ) → Report → (out out' : Option (List ℕ)) → End → Type 0
-EndsServing bound refused deaf connections report out out' (Ok k) =
-    (a : SocketAddr) × bound a × (connections ≡ Some k) × Appends out out' (whole_text report a k)
-EndsServing bound refused deaf connections report out out' (Err (Refused segment why)) = ⊥
-EndsServing bound refused deaf connections report out out' (Err NoMemory) =
+    (came : ℕ → Type 0) (connections : Option ℕ) → Report → (out out' : Option (List ℕ)) → End → Type 0
+EndsServing bound refused deaf came connections report out out' (Ok k) =
+    (a : SocketAddr) × bound a × (connections ≡ Some k) × came k
+    × Appends out out' (whole_text report a k)
+EndsServing bound refused deaf came connections report out out' (Err (Refused segment why)) = ⊥
+EndsServing bound refused deaf came connections report out out' (Err NoMemory) =
     IsStarved bound report out out'
-EndsServing bound refused deaf connections report out out' (Err (Address error)) =
+EndsServing bound refused deaf came connections report out out' (Err (Address error)) =
     refused error × Appends out out' (report_text report)
-EndsServing bound refused deaf connections report out out' (Err (Output error)) =
-    IsCutShort bound connections report out out'
-EndsServing bound refused deaf connections report out out' (Err (Server fault)) =
+EndsServing bound refused deaf came connections report out out' (Err (Output error)) =
+    IsCutShort bound came connections report out out'
+EndsServing bound refused deaf came connections report out out' (Err (Server fault)) =
     (fault ≡ faults.AcceptFailed → deaf)
     × ((a : SocketAddr) × bound a × IsFaulted report a out out' fault)
 
@@ -153,12 +163,12 @@ EndsServing bound refused deaf connections report out out' (Err (Server fault)) 
 -- where and why their opening may be refused.
 abbrev pub EndsHost : (IsReport : Report → Type 0) (IsStop : ℕ → Refusal → Type 0)
     (bound : SocketAddr → Type 0) (refused : Error → Type 0) (deaf : Type 0)
-    (connections : Option ℕ) (out out' : Option (List ℕ)) → End → Type 0
-EndsHost IsReport IsStop bound refused deaf connections out out' (Err (Refused segment why)) =
+    (came : ℕ → Type 0) (connections : Option ℕ) (out out' : Option (List ℕ)) → End → Type 0
+EndsHost IsReport IsStop bound refused deaf came connections out out' (Err (Refused segment why)) =
     IsStop segment why × Keeps out out'
-EndsHost IsReport IsStop bound refused deaf connections out out' end =
+EndsHost IsReport IsStop bound refused deaf came connections out out' end =
     (report : Report) × IsReport report
-    × EndsServing bound refused deaf connections report out out' end
+    × EndsServing bound refused deaf came connections report out out' end
 
 -- ---- the steps
 

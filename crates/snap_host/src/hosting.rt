@@ -4,7 +4,7 @@ ghost use Rattle.std.specs.declared.net.socket_addr.SocketAddr.{SocketAddr};
 ghost use Rattle.snap_order.specs.Order.{IsServable};
 ghost use Rattle.snap_restart.specs.Closed.{AreBack};
 ghost use Rattle.snap_host.specs.Hosting.{End, EndsHost, EndsServing, IsReportOf, IsStopOf};
-ghost use Rattle.snap_host.specs.Hosting.{ListenFails, SaysEnd, failure_of, listening_line, status_at};
+ghost use Rattle.snap_host.specs.Hosting.{HaveCome, ListenFails, SaysEnd, failure_of, listening_line, status_at};
 
 use crate::announcing::Announcement;
 use crate::bind::Bind;
@@ -92,7 +92,8 @@ where
         devices.items) (IsStopOf D.device D.failure_count D.is_honest D.clock D.might_have_left
         devices.items) (B.binds edge.entry.bind.now order.now.address.now)
         (B.refuses edge.entry.bind.now order.now.address.now)
-        ((l : B.Listener) × B.Listener.refuses l) order.now.connections
+        ((l : B.Listener) × B.Listener.refuses l) (HaveCome B.Listener.accepts)
+        order.now.connections
         (W.contents writer.old) (W.contents writer.new) end }
 {
     let causes = edge.causes;
@@ -132,7 +133,8 @@ where
         devices.items) (IsStopOf D.device D.failure_count D.is_honest D.clock D.might_have_left
         devices.items) (B.binds edge.entry.bind.now order.now.address.now)
         (B.refuses edge.entry.bind.now order.now.address.now)
-        ((l : B.Listener) × B.Listener.refuses l) order.now.connections
+        ((l : B.Listener) × B.Listener.refuses l) (HaveCome B.Listener.accepts)
+        order.now.connections
         (W.contents writer.old) (W.contents writer.new) result }
 {
     match open_all(alloc, devices, usize::from(order.scanners)) {
@@ -169,7 +171,8 @@ where
     requires note { N.IsAlwaysCallable edge.note.now }
     ensures { EndsServing (B.binds edge.entry.bind.now order.now.address.now)
         (B.refuses edge.entry.bind.now order.now.address.now)
-        ((l : B.Listener) × B.Listener.refuses l) order.now.connections
+        ((l : B.Listener) × B.Listener.refuses l) (HaveCome B.Listener.accepts)
+        order.now.connections
         report.now (W.contents writer.old) (W.contents writer.new) result }
 {
     match print_report(alloc, report, writer) {
@@ -198,7 +201,7 @@ where
         rt,
         alloc,
         store,
-        &listener,
+        listener,
         limits,
         gate,
         note,

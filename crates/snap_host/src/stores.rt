@@ -6,6 +6,7 @@ ghost use Rattle.snap_service.specs.Memory.{AreWriters, IsOf};
 ghost use Rattle.snap_restart.specs.Closed.{AreBack};
 ghost use Rattle.snap_host.specs.Scanners.{AreScanners};
 ghost use Rattle.snap_server.specs.Announced.{Announced};
+ghost use Rattle.snap_server.specs.Dealing.{GivesSoMany};
 
 use crate::watch::Watch;
 use snap_desk::{Desk, Outcome, StoreThread, Told, Window};
@@ -162,7 +163,7 @@ fn serve_parts<M, X, D, L, G, N, H, A, T>(
     rt: &X,
     alloc: Global,
     parts: (Vec<Desk<X, M, D>>, Vec<Storing<X, M, D, H>>),
-    listener: &L,
+    listener: L,
     limits: Limits,
     gate: &G,
     note: &N,
@@ -173,15 +174,16 @@ where
     M: Memory + Send,
     X: Threads + Wait + Clock + Net + Sync + Send + Copy,
     D: Disk + Send + Drop,
-    L: Listen,
+    L: Listen + Drop,
     G: Gate + Sync,
     N: Fn(&Note) + Sync,
     H: Watch + Send + Drop,
     A: Announce<T>,
     requires note { N.IsAlwaysCallable note.now }
     ensures asked { IfOk result (λ k. limits.connections ≡ Some k) }
+    ensures accepted { IfOk result (λ k. (left : L) × GivesSoMany L.accepts k listener left) }
     ensures deaf { IfErr result (λ why.
-        why ≡ RunFault.Server ServerFault.AcceptFailed → L.refuses listener.now) }
+        why ≡ RunFault.Server ServerFault.AcceptFailed → L.refuses listener) }
     ensures announced { Announced (A.announces announce.now) (A.fails announce.now)
         to.old result to.new }
 {
@@ -197,7 +199,7 @@ fn serve_memory<M, X, D, L, G, N, H, A, T>(
     alloc: Global,
     writers: Vec<Writer<D>>,
     scanners: Vec<Scanner>,
-    listener: &L,
+    listener: L,
     limits: Limits,
     gate: &G,
     note: &N,
@@ -209,7 +211,7 @@ where
     M: Memory + Send,
     X: Threads + Wait + Clock + Net + Sync + Send + Copy,
     D: Disk + Send + Drop,
-    L: Listen,
+    L: Listen + Drop,
     G: Gate + Sync,
     N: Fn(&Note) + Sync,
     H: Watch + Copy + Send + Drop,
@@ -218,8 +220,9 @@ where
     requires scanners { AreScanners M.table M.plan scanners.items }
     requires note { N.IsAlwaysCallable note.now }
     ensures asked { IfOk result (λ k. limits.connections ≡ Some k) }
+    ensures accepted { IfOk result (λ k. (left : L) × GivesSoMany L.accepts k listener left) }
     ensures deaf { IfErr result (λ why.
-        why ≡ RunFault.Server ServerFault.AcceptFailed → L.refuses listener.now) }
+        why ≡ RunFault.Server ServerFault.AcceptFailed → L.refuses listener) }
     ensures announced { Announced (A.announces announce.now) (A.fails announce.now)
         to.old result to.new }
 {
@@ -235,7 +238,7 @@ pub(crate) fn serve_store<X, D, L, G, N, H, A, T>(
     rt: &X,
     alloc: Global,
     store: Store<D>,
-    listener: &L,
+    listener: L,
     limits: Limits,
     gate: &G,
     note: &N,
@@ -246,7 +249,7 @@ pub(crate) fn serve_store<X, D, L, G, N, H, A, T>(
 where
     X: Threads + Wait + Clock + Net + Sync + Send + Copy,
     D: Disk + Send + Drop,
-    L: Listen,
+    L: Listen + Drop,
     G: Gate + Sync,
     N: Fn(&Note) + Sync,
     H: Watch + Copy + Send + Drop,
@@ -254,8 +257,9 @@ where
     requires back { AreBack store.writers.items store.scanners.items }
     requires note { N.IsAlwaysCallable note.now }
     ensures asked { IfOk result (λ k. limits.connections ≡ Some k) }
+    ensures accepted { IfOk result (λ k. (left : L) × GivesSoMany L.accepts k listener left) }
     ensures deaf { IfErr result (λ why.
-        why ≡ RunFault.Server ServerFault.AcceptFailed → L.refuses listener.now) }
+        why ≡ RunFault.Server ServerFault.AcceptFailed → L.refuses listener) }
     ensures announced { Announced (A.announces announce.now) (A.fails announce.now)
         to.old result to.new }
 {

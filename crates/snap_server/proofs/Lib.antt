@@ -2,3 +2,4 @@ mod Sharing
 mod Listing
 mod Made
 mod Announcing
+mod Dealing

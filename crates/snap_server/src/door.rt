@@ -1,4 +1,6 @@
 //! What comes to a worker from other threads.
+ghost use Rattle.std.specs.Prelude.{◌≡◌, true};
+ghost use Rattle.snap_server.specs.declared.listen.Arrival.{Arrival};
 
 use crate::listen::Arrival;
 use crossbeam_channel::{Receiver, SendError, Sender, unbounded};
@@ -21,6 +23,16 @@ pub enum Mail<O: Drop> {
     Close,
     /// None will come, and those that are there are let go of between their requests.
     Stop,
+}
+
+/// Takes connections in for a worker.
+pub trait Hand {
+    /// That this connection was handed over.
+    ghost takes: { Self → Arrival → Type 0 };
+
+    /// Hands a connection over and wakes the worker; `false` where it has ended.
+    fn hand<X: Wait + Clock>(&self, rt: &X, arrival: Arrival) -> bool
+        ensures { result ≡ true → takes self.now arrival };
 }
 
 /// Where connections and mail for a worker are put, apart, so that no outcome waits behind those that
@@ -56,14 +68,18 @@ impl<O: Drop> Door<O> {
         Ok((door, inbox))
     }
 
-    /// Hands a connection over and wakes the worker; `false` where it has ended.
-    pub fn hand<X: Wait + Clock>(&self, rt: &X, arrival: Arrival) -> bool {
-        sent(rt, &self.arrivals, arrival) && self.waker.wake().is_ok()
-    }
-
     /// Sends mail and wakes the worker; `false` where it has ended.
     pub fn post<X: Wait + Clock>(&self, rt: &X, mail: Mail<O>) -> bool {
         sent(rt, &self.mail, mail) && self.waker.wake().is_ok()
+    }
+}
+
+impl<O: Drop> Hand for Door<O> {
+    // Of what goes through a channel nothing is known.
+    ghost takes = { λ _ _. Unit {0} };
+
+    fn hand<X: Wait + Clock>(&self, rt: &X, arrival: Arrival) -> bool {
+        sent(rt, &self.arrivals, arrival) && self.waker.wake().is_ok()
     }
 }
 

@@ -1,5 +1,6 @@
 //! Takes connections from a listener, while there is room for them.
-ghost use Rattle.std.specs.Prelude.{◌≡◌, IfErr, IfNone};
+ghost use Rattle.std.specs.Prelude.{◌≡◌, ◌⊎◌, IfErr, IfNone, IfOk, IfSome, Ok, Err};
+ghost use Rattle.snap_server.specs.Dealing.{AsksInVain, Gives};
 
 use crate::listen::{Arrival, Listen, Unaccepted};
 use crate::note::Note;
@@ -48,11 +49,13 @@ impl<'a> Intake<'a> {
     pub fn next<X: Wait + Clock, L: Listen, N: Fn(&Note)>(
         &mut self,
         rt: &X,
-        listener: &L,
+        listener: &mut L,
         note: &N,
     ) -> Option<Arrival>
         requires { N.IsAlwaysCallable note.now }
-        ensures deaf { IfNone result (L.refuses listener.now) }
+        ensures came { IfSome result (λ a. Gives L.accepts listener.old a listener.new) }
+        ensures deaf { IfNone result (L.refuses listener.old) }
+        ensures same { L.refuses listener.new → L.refuses listener.old }
     {
         for rest in &FAULT_RESTS {
             if let Some(arrival) = self.wait_for_one(rt, listener, note) {
@@ -68,11 +71,14 @@ impl<'a> Intake<'a> {
     fn wait_for_one<X: Wait + Clock, L: Listen, N: Fn(&Note)>(
         &mut self,
         rt: &X,
-        listener: &L,
+        listener: &mut L,
         note: &N,
     ) -> Option<Arrival>
         requires { N.IsAlwaysCallable note.now }
-        ensures deaf { IfNone result (L.refuses listener.now) }
+        ensures came { IfSome result (λ a. Gives L.accepts listener.old a listener.new) }
+        ensures vain { IfNone result (AsksInVain L.accepts listener.old listener.new) }
+        ensures deaf { IfNone result (L.refuses listener.old) }
+        ensures same { L.refuses listener.new → L.refuses listener.old }
     {
         for _ in rt.forever() {
             match self.try_one(listener) {
@@ -93,8 +99,12 @@ impl<'a> Intake<'a> {
     }
 
     /// Asks the listener, where there is room for what it may give.
-    fn try_one<L: Listen>(&self, listener: &L) -> Result<Arrival, Unaccepted>
-        ensures { IfErr result (λ why. why ≡ Unaccepted.Failed → L.refuses listener.now) }
+    fn try_one<L: Listen>(&self, listener: &mut L) -> Result<Arrival, Unaccepted>
+        ensures came { IfOk result (λ a. L.accepts listener.old (Ok a) listener.new) }
+        ensures vain { IfErr result (λ why. (listener.new ≡ listener.old)
+            ⊎ L.accepts listener.old (Err why) listener.new) }
+        ensures deaf { IfErr result (λ why. why ≡ Unaccepted.Failed → L.refuses listener.old) }
+        ensures same { L.refuses listener.new → L.refuses listener.old }
     {
         if !self.room.is_free() {
             return Err(Unaccepted::NoRoom);

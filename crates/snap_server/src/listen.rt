@@ -1,5 +1,7 @@
 //! Where connections come from.
-ghost use Rattle.std.specs.Prelude.{◌≡◌, IfErr};
+ghost use Rattle.std.specs.Prelude.{◌≡◌, IfErr, Result};
+ghost use Rattle.snap_server.specs.declared.listen.Arrival.{Arrival};
+ghost use Rattle.snap_server.specs.declared.listen.Unaccepted.{Unaccepted};
 
 use libc::net;
 use mio::net::TcpStream;
@@ -30,12 +32,19 @@ pub enum Unaccepted {
 
 /// Gives connections, one after another.
 pub trait Listen {
+    /// What a call of [`accept`](Listen::accept) may answer, and what it leaves.
+    ghost accepts: { Self → Result Arrival Unaccepted → Self → Type 0 } = { λ _ _ _. Unit {0} };
+
     /// Whether it may fail.
     ghost refuses: { Self → Type 0 };
 
     /// Waits for the next connection. After an error it may be called again.
-    fn accept(&self) -> Result<Arrival, Unaccepted>
-        ensures refuses { IfErr result (λ why. why ≡ Unaccepted.Failed → Self.refuses self.now) };
+    fn accept(&mut self) -> Result<Arrival, Unaccepted>
+        ensures accepts { accepts self.old result self.new }
+        ensures refuses { IfErr result (λ why. why ≡ Unaccepted.Failed → Self.refuses self.old) }
+
+        // No call makes a listener one that may fail.
+        ensures same { Self.refuses self.new → Self.refuses self.old };
 
     /// Takes no more connections: who calls is refused, and waits for nothing.
     fn close(&self);
@@ -72,13 +81,9 @@ impl Tcp {
     pub fn address(&self) -> io::Result<SocketAddr> {
         self.listener.local_addr()
     }
-}
 
-impl Listen for Tcp {
-    /// The system may fail at any time.
-    ghost refuses = { λ _. Unit {0} };
-
-    fn accept(&self) -> Result<Arrival, Unaccepted> {
+    /// Waits for the next connection.
+    fn take(&self) -> Result<Arrival, Unaccepted> {
         let (stream, peer) = match self.listener.accept() {
             Ok(accepted) => accepted,
             Err(error) => return Err(why_not(&error)),
@@ -90,10 +95,31 @@ impl Listen for Tcp {
         let stream = TcpStream::from_std(stream);
         Ok(Arrival { stream, peer })
     }
+}
+
+impl Listen for Tcp {
+    /// The system may fail at any time.
+    ghost refuses = { λ _. Unit {0} };
+
+    fn accept(&mut self) -> Result<Arrival, Unaccepted> {
+        self.take()
+    }
 
     /// Its descriptor stays open, and is no listener's any more.
     fn close(&self) {
         net::shutdown(self.listener.as_raw_fd(), net::SHUT_RDWR);
+    }
+}
+
+impl Listen for &Tcp {
+    ghost refuses = { λ _. Unit {0} };
+
+    fn accept(&mut self) -> Result<Arrival, Unaccepted> {
+        Tcp::take(*self)
+    }
+
+    fn close(&self) {
+        Tcp::close(*self);
     }
 }
 

@@ -2,11 +2,12 @@
 ghost use Rattle.std.specs.Prelude.{◌≡◌, ◌⊎◌, IfOk, IfErr, Some, map, vec_len};
 ghost use Rattle.std.specs.Thread.{IsSync, IsSend};
 ghost use Rattle.snap_server.specs.Announced.{Announced, end_of, was_announced};
+ghost use Rattle.snap_server.specs.Dealing.{Deals, GivesSoMany};
 
 use crate::accepting::Dealer;
 use crate::announce::Announce;
 use crate::background::{Background, Done};
-use crate::door::{Door, Mail};
+use crate::door::{Door, Hand, Mail};
 use crate::fault::{RunFault, ServerFault};
 use crate::gate::{Gate, Gated};
 use crate::intake::Intake;
@@ -140,10 +141,10 @@ fn starts<'s, E, F: FnOnce() + Send + Drop + 's>(scope: &Scope<'s, E>, work: F) 
 
 /// Announces the server where it has all its threads, and then accepts and deals so many
 /// connections, or without end.
-fn accept_announced<X, L, O, N, T, A>(
+fn accept_announced<X, L, H, N, T, A>(
     rt: &X,
-    listener: &L,
-    mut dealer: Dealer<'_, O>,
+    listener: &mut L,
+    mut dealer: Dealer<'_, H>,
     is_whole: bool,
     connections: Option<u64>,
     note: &N,
@@ -153,14 +154,18 @@ fn accept_announced<X, L, O, N, T, A>(
 where
     X: Wait + Clock,
     L: Listen,
-    O: Drop,
+    H: Hand,
     N: Fn(&Note),
     A: Announce<T>,
     requires none { dealer.dealt ≡ 0 }
+    requires first { dealer.next ≡ 0 }
     requires note { N.IsAlwaysCallable note.now }
     ensures asked { IfOk result (λ k. connections ≡ Some k) }
+    ensures deals { IfOk result (λ k. Deals L.accepts H.takes dealer.entry.doors.now k
+        listener.old listener.new) }
+    ensures accepted { IfOk result (λ k. GivesSoMany L.accepts k listener.old listener.new) }
     ensures deaf { IfErr result (λ why.
-        why ≡ RunFault.Server ServerFault.AcceptFailed → L.refuses listener.now) }
+        why ≡ RunFault.Server ServerFault.AcceptFailed → L.refuses listener.old) }
     ensures announced { Announced (A.announces announce.now) (A.fails announce.now)
         to.old result to.new }
 {
@@ -180,7 +185,7 @@ where
 /// accepts on this one.
 fn run_threads<X, L, S, B, N, T, A>(
     rt: &X,
-    listener: &L,
+    listener: L,
     workers: Vec<Worker<S>>,
     doors: &[Door<S::Outcome>],
     backgrounds: Vec<B>,
@@ -192,7 +197,7 @@ fn run_threads<X, L, S, B, N, T, A>(
 ) -> Result<u64, RunFault>
 where
     X: Threads + Wait + Clock + Sync,
-    L: Listen,
+    L: Listen + Drop,
     S: Service + Send + Drop,
     S::Outcome: Send + Drop,
     B: Background<Outcome = S::Outcome> + Send + Drop,
@@ -200,8 +205,10 @@ where
     A: Announce<T>,
     requires { N.IsAlwaysCallable note.now }
     ensures asked { IfOk result (λ k. limits.connections ≡ Some k) }
+    ensures accepted { IfOk result (λ k.
+        (left : L) × GivesSoMany L.accepts k listener left) }
     ensures deaf { IfErr result (λ why.
-        why ≡ RunFault.Server ServerFault.AcceptFailed → L.refuses listener.now) }
+        why ≡ RunFault.Server ServerFault.AcceptFailed → L.refuses listener) }
     ensures announced { Announced (A.announces announce.now) (A.fails announce.now)
         to.old result to.new }
 {
@@ -213,8 +220,10 @@ where
         move |scope| -> (Result<u64, RunFault>, &mut T)
             requires { IsSync X.row × IsSync N.row × IsSend S.row × N.IsAlwaysCallable note.now }
             ensures asked { IfOk result.0 (λ k. limits.connections ≡ Some k) }
+            ensures accepted { IfOk result.0 (λ k.
+                (left : L) × GivesSoMany L.accepts k listener left) }
             ensures deaf { IfErr result.0 (λ why.
-                why ≡ RunFault.Server ServerFault.AcceptFailed → L.refuses listener.entry.now) }
+                why ≡ RunFault.Server ServerFault.AcceptFailed → L.refuses listener) }
             ensures announced { Announced (A.announces announce.entry.now)
                 (A.fails announce.entry.now) to.entry.now result.0 result.1.now }
             ensures same { result.1.ghost_name ≡ to.entry.ghost_name }
@@ -239,10 +248,18 @@ where
                 };
                 is_whole &= starts(scope, served);
             }
+            let mut listener = listener;
             let dealer = Dealer::new(Intake::new(room, limits.fault_rest), doors);
             let asked = limits.connections;
             let accepted = accept_announced(
-                rt, listener, dealer, is_whole, asked, note, announce, to,
+                rt,
+                &mut listener,
+                dealer,
+                is_whole,
+                asked,
+                note,
+                announce,
+                to,
             );
             // Who still calls is refused, and waits for nothing.
             listener.close();
@@ -263,6 +280,9 @@ where
 /// connection that has ended, on its worker's thread, and of the accepting: that there is no room,
 /// and again, and that it has ended.
 ///
+/// The number that it answers is that of the connections that the listener gave, each of which was handed to a
+/// worker.
+///
 /// The listener is closed once no more connections are accepted. After a fault those that are there
 /// were let go of: each once it had nothing under way, or was silent within a request for five
 /// seconds.
@@ -280,7 +300,7 @@ where
 pub fn run<X, L, S, B, G, N, T, A>(
     rt: &X,
     alloc: Global,
-    listener: &L,
+    listener: L,
     services: Vec<S>,
     backgrounds: Vec<B>,
     limits: Limits,
@@ -291,7 +311,7 @@ pub fn run<X, L, S, B, G, N, T, A>(
 ) -> Result<u64, RunFault>
 where
     X: Threads + Wait + Clock + Net + Sync,
-    L: Listen,
+    L: Listen + Drop,
     S: Service + Send + Drop,
     S::Outcome: Send + Drop,
     B: Background<Outcome = S::Outcome> + Send + Drop,
@@ -300,8 +320,10 @@ where
     A: Announce<T>,
     requires { N.IsAlwaysCallable note.now }
     ensures asked { IfOk result (λ k. limits.connections ≡ Some k) }
+    ensures accepted { IfOk result (λ k.
+        (left : L) × GivesSoMany L.accepts k listener left) }
     ensures deaf { IfErr result (λ why.
-        why ≡ RunFault.Server ServerFault.AcceptFailed → L.refuses listener.now) }
+        why ≡ RunFault.Server ServerFault.AcceptFailed → L.refuses listener) }
     ensures announced { Announced (A.announces announce.now) (A.fails announce.now)
         to.old result to.new }
 {

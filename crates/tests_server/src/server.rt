@@ -55,9 +55,13 @@ fn limits(connections: Option<u64>) -> Limits {
 }
 
 /// Runs a server with so many workers and one store behind a gate.
-fn serve_behind<R: Threads + Wait + Clock + Net + AllocGlobal + Sync, L: Listen, G: Gate + Sync>(
+fn serve_behind<
+    R: Threads + Wait + Clock + Net + AllocGlobal + Sync,
+    L: Listen + Drop,
+    G: Gate + Sync,
+>(
     rt: &R,
-    listener: &L,
+    listener: L,
     workers: usize,
     limits: Limits,
     course: &Course,
@@ -88,9 +92,9 @@ fn serve_behind<R: Threads + Wait + Clock + Net + AllocGlobal + Sync, L: Listen,
 }
 
 /// The same, with the course as its gate.
-fn serve<R: Threads + Wait + Clock + Net + AllocGlobal + Sync, L: Listen>(
+fn serve<R: Threads + Wait + Clock + Net + AllocGlobal + Sync, L: Listen + Drop>(
     rt: &R,
-    listener: &L,
+    listener: L,
     workers: usize,
     connections: Option<u64>,
     course: &Course,

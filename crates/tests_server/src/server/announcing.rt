@@ -17,10 +17,10 @@ struct Asked {
     closed: AtomicU64,
 }
 
-impl Listen for Asked {
+impl Listen for &Asked {
     ghost refuses = { λ _. Unit {0} };
 
-    fn accept(&self) -> Result<Arrival, Unaccepted> {
+    fn accept(&mut self) -> Result<Arrival, Unaccepted> {
         self.calls.fetch_add(1, Ordering::SeqCst);
         Err(Unaccepted::Failed)
     }

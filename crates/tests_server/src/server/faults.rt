@@ -16,10 +16,10 @@ struct Deaf {
     calls: AtomicU64,
 }
 
-impl Listen for Deaf {
+impl Listen for &Deaf {
     ghost refuses = { λ _. Unit {0} };
 
-    fn accept(&self) -> Result<Arrival, Unaccepted> {
+    fn accept(&mut self) -> Result<Arrival, Unaccepted> {
         self.calls.fetch_add(1, Ordering::SeqCst);
         Err(Unaccepted::Failed)
     }
@@ -36,13 +36,13 @@ struct Slow {
     calls: AtomicU64,
 }
 
-impl Listen for Slow {
+impl Listen for &Slow {
     ghost refuses = { λ _. Unit {0} };
 
-    fn accept(&self) -> Result<Arrival, Unaccepted> {
+    fn accept(&mut self) -> Result<Arrival, Unaccepted> {
         let call = self.calls.fetch_add(1, Ordering::SeqCst);
         if call % self.tries.saturating_add(1).max(1) == self.tries {
-            return self.tcp.accept();
+            return Listen::accept(&mut &self.tcp);
         }
         Err(self.why)
     }

@@ -17,12 +17,12 @@ struct Few {
     given: AtomicU64,
 }
 
-impl Listen for Few {
+impl Listen for &Few {
     ghost refuses = { λ _. Unit {0} };
 
-    fn accept(&self) -> Result<Arrival, Unaccepted> {
+    fn accept(&mut self) -> Result<Arrival, Unaccepted> {
         if self.given.fetch_add(1, Ordering::SeqCst) < self.few {
-            return self.tcp.accept();
+            return Listen::accept(&mut &self.tcp);
         }
         Err(Unaccepted::Failed)
     }

@@ -39,8 +39,8 @@ impl<'a> Ready<'a> {
 impl Listen for Shared<'_> {
     ghost refuses = { λ _. Unit {0} };
 
-    fn accept(&self) -> Result<Arrival, Unaccepted> {
-        self.tcp.accept()
+    fn accept(&mut self) -> Result<Arrival, Unaccepted> {
+        Listen::accept(&mut self.tcp)
     }
 
     fn close(&self) {
