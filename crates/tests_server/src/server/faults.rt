@@ -42,7 +42,7 @@ impl Listen for &Slow {
     fn accept(&mut self) -> Result<Arrival, Unaccepted> {
         let call = self.calls.fetch_add(1, Ordering::SeqCst);
         if call % self.tries.saturating_add(1).max(1) == self.tries {
-            return self.tcp.take();
+            return Listen::accept(&mut &self.tcp);
         }
         Err(self.why)
     }

@@ -22,7 +22,7 @@ impl Listen for &Few {
 
     fn accept(&mut self) -> Result<Arrival, Unaccepted> {
         if self.given.fetch_add(1, Ordering::SeqCst) < self.few {
-            return self.tcp.take();
+            return Listen::accept(&mut &self.tcp);
         }
         Err(Unaccepted::Failed)
     }

@@ -40,7 +40,7 @@ impl Listen for Shared<'_> {
     ghost refuses = { λ _. Unit {0} };
 
     fn accept(&mut self) -> Result<Arrival, Unaccepted> {
-        self.tcp.take()
+        Listen::accept(&mut self.tcp)
     }
 
     fn close(&self) {
