@@ -139,3 +139,14 @@ fn writer_goes_home_from_a_worker_that_left(rt: HostRuntime) -> Result<(), Fail>
     assert!(rt; course_of_update(&rt, Course::Left, 1, &[])?.0);
     Ok(())
 }
+
+/// What the windows of stores that are gone are asked, and what a look answers.
+const ALONE: [Pair<'static>; 3] = [(HI, FENCED), (REPEAT, STORED_0), (SCAN, EMPTY)];
+
+#[test]
+fn store_that_is_gone_takes_no_update(rt: HostRuntime) -> Result<(), Fail> {
+    let (asked, replies) = halves(rt.alloc(), &ALONE)?;
+    let seen = run(&rt, Course::Alone, asked.as_slice(), false, 1)?;
+    assert!(rt; seen.written.as_slice() == replies.as_slice() && seen.numbers.is_empty());
+    Ok(())
+}

@@ -23,6 +23,8 @@ pub(crate) enum Course {
     Gone,
     /// A peer sends the update, and then the worker leaves.
     Left,
+    /// The stores are gone. Then a peer sends the frames, and takes what it is owed at once.
+    Alone,
 }
 
 /// What comes to the worker, and what its peers were sent.
@@ -130,6 +132,13 @@ impl<R: Wait + Copy + Clock, M: Memory> Worker<R, M> {
         self.talk(rt, desk, SCAN)
     }
 
+    /// What a session of one peer is owed with no outcome.
+    fn talk_alone(&mut self, desk: &mut Desk<R, M, Held>, bytes: &[u8]) -> Result<(), AllocError> {
+        let mut session = Session::new(self.alloc);
+        ask(desk, &mut session, bytes, 0);
+        self.written.extend_from_slice(session.owed())
+    }
+
     /// The whole course. At its end nothing comes to the worker any more.
     pub(crate) fn run(
         &mut self,
@@ -148,6 +157,7 @@ impl<R: Wait + Copy + Clock, M: Memory> Worker<R, M> {
                 ask(desk, &mut left, bytes, 0);
                 Ok(())
             }
+            Course::Alone => self.talk_alone(desk, bytes),
         };
         self.inbox = None;
         done

@@ -206,6 +206,9 @@ fn run_writers<R: Threads + Wait + Clock + Sync + Send + Copy, M: Memory + Send>
         windows,
     } = stores_of(rt, alloc, writers)?;
     let desk = desk_of(rt, alloc, windows, scanner)?;
+    if matches!(work.0, Course::Alone) {
+        threads.clear();
+    }
     let written = run_desk(rt, alloc, threads.as_mut_slice(), desk, work)?;
     seen_by(alloc, written, threads)
 }
