@@ -49,6 +49,8 @@ impl<S: Service + Drop, G: Gate> Service for Gated<'_, S, G> {
 
     ghost hands_over_under = { S.hands_over_under };
 
+    ghost tells = { S.tells };
+
     fn answer(&mut self, request: &Request, key: usize) -> Option<Reply> {
         self.gate.enter();
         let reply = self.service.answer(request, key);
