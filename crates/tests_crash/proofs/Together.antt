@@ -48,7 +48,7 @@ module _ {D : Type 0} (device : D → Device) (honest : D → Type 0) (clock : D
         first.1.seat_is ∙ fresh)) (beginning-self [])
 
     -- inside its store
-    pub lived_inside : IsLivedIn device honest clock might_have_left plan 2 [] i
+    lived_inside : IsLivedIn device honest clock might_have_left plan 2 [] i
         (in_store a v z.segment.device)
     lived_inside =
         let b = first.0 in (
@@ -70,7 +70,7 @@ module _ {D : Type 0} (device : D → Device) (honest : D → Type 0) (clock : D
         )
 
     -- between its store and its show
-    pub lived_between : IsLivedIn device honest clock might_have_left plan 2 [] i
+    lived_between : IsLivedIn device honest clock might_have_left plan 2 [] i
         (stored_unshown a z)
     lived_between =
         let b = first.0 in
@@ -113,7 +113,7 @@ module _ {D : Type 0} (device : D → Device) (honest : D → Type 0) (clock : D
     fresh_at (suc zero) r e = ap (λ (x : Place D). seen_at x) (sym (same_Some q r e)) ∙ q_fresh
     fresh_at (suc (suc i)) r e = absurd (cc e)
 
-    pub recovered_at : IsRecoveredAt device honest clock might_have_left plan (p ∷ q ∷ [])
+    recovered_at : IsRecoveredAt device honest clock might_have_left plan (p ∷ q ∷ [])
     recovered_at files left =
         cut_recovers device honest clock might_have_left plan [] (p ∷ q ∷ []) [] files
         (omega arith) lived (λ k seen e. absurd (cc e))
@@ -122,6 +122,37 @@ module _ {D : Type 0} (device : D → Device) (honest : D → Type 0) (clock : D
         let two = ap (λ (h : List Update). number_after (starts plan) h i) (fresh_at i r at) in
         omega (arith, one, two)))
         left
+
+  -- both were updated, first stored and then shown
+  module _ (first second first_new second_new : WriterState D) (v w : List ℕ)
+      (two : AreTwo device honest clock might_have_left first second)
+      (one : StoresFirst device honest clock might_have_left v first first_new)
+      (other : StoresFirst device honest clock might_have_left w second second_new) where
+    inside_first : IsLivedIn device honest clock might_have_left first.seat.plan 2 [] 0
+        (in_store first v first_new.segment.device)
+    inside_first = lived_inside first.seat.plan 0 v first first_new two.first_is two.first_fresh one
+
+    between_second : IsLivedIn device honest clock might_have_left first.seat.plan 2 [] 1
+        (stored_unshown second second_new)
+    between_second =
+        lived_between first.seat.plan 1 w second second_new two.second_is two.second_fresh other
+
+    pub both_inside : IsRecoveredAt device honest clock might_have_left first.seat.plan
+        (in_store first v first_new.segment.device ∷ in_store second w second_new.segment.device ∷ [])
+    both_inside = recovered_at first.seat.plan _ _ inside_first
+        (lived_inside first.seat.plan 1 w second second_new two.second_is two.second_fresh other)
+        two.first_fresh two.second_fresh
+
+    pub one_beside : IsRecoveredAt device honest clock might_have_left first.seat.plan
+        (in_store first v first_new.segment.device ∷ stored_unshown second second_new ∷ [])
+    one_beside =
+        recovered_at first.seat.plan _ _ inside_first between_second two.first_fresh two.second_fresh
+
+    pub both_between : IsRecoveredAt device honest clock might_have_left first.seat.plan
+        (stored_unshown first first_new ∷ stored_unshown second second_new ∷ [])
+    both_between = recovered_at first.seat.plan _ _
+        (lived_between first.seat.plan 0 v first first_new two.first_is two.first_fresh one)
+        between_second two.first_fresh two.second_fresh
 
 -- ---- they are met by what an opening ensures
 
