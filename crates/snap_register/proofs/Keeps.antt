@@ -15,6 +15,7 @@ use Rattle.std.proofs.Common.{
   List,
   [],
   ◌∷◌,
+  ◌++◌,
   length,
   get_or,
   set,
@@ -46,7 +47,7 @@ use Rattle.snap_register.specs.declared.plan.Entry.{Entry}
 use Rattle.snap_register.specs.declared.plan.Plan.{Plan}
 use Rattle.snap_register.specs.declared.plan.Pool.{Pool}
 use Rattle.snap_register.specs.declared.plan.SeatView.{SeatView}
-use Rattle.snap_register.specs.History.{entry, only, count, line, record_words, start_at}
+use Rattle.snap_register.specs.History.{entry, sight, only, count, line, record_words, start_at}
 use Rattle.snap_register.specs.Rule.{
   segments,
   buffers,
@@ -372,6 +373,7 @@ module _ (S : Type 0) where
         pins = set v.pins j (get_or s.words j 0 / 2 ^ 56 + 1);
         records =
             set v.records j (count j h);
+        sights = v.sights ++ sight h ∷ [];
       } in
       let pin : get_or w.pins j 0 ≡ d.current + 1 =
       get_or-set_same v.pins j (get_or s.words j 0 / 2 ^ 56 + 1) 0 wide_pins

@@ -36,7 +36,8 @@ use Rattle.snap_register.specs.declared.plan.Entry.{Entry}
 use Rattle.snap_register.specs.declared.plan.Plan.{Plan}
 use Rattle.snap_register.specs.declared.plan.Pool.{Pool}
 use Rattle.snap_register.specs.declared.plan.SeatView.{SeatView}
-use Rattle.snap_register.specs.History.{entry, only, count}
+use Rattle.snap_register.specs.declared.plan.Sight.{Sight}
+use Rattle.snap_register.specs.History.{entry, sight, only, count}
 use Rattle.snap_register.specs.Rule.{segments, buffers, width, cell, IsLegal, Publishes}
 use Rattle.snap_register.specs.Setup.{IsSized, IsSeated}
 use Rattle.snap_register.specs.Held.{Readable}
@@ -45,9 +46,9 @@ use Rattle.snap_register.proofs.Places.{word_inside}
 use Rattle.snap_register.proofs.Lines.{count_prefix, only-append, count_push_same}
 
 module _ (S : Type 0) where
-  -- where nothing but the pins, the records and what was seen changes
+  -- where nothing but the pins, the records, the looks and what was seen changes
   pub seated_with : (words words' : ℕ) (pins pins' : List ℕ) (left left' : ℕ) (m m' : Me S SeatView)
-      (seen : List Entry) (l : ℕ) (ps ms : List ℕ) (d : Pool) → words' ≡ words → m'.1 ≡ m.1
+      (seen : List Entry) (l : ℕ) (ps ms : List ℕ) (ss : List Sight) (d : Pool) → words' ≡ words → m'.1 ≡ m.1
       → m'.0 ≡ record m.0 {
         seen = seen;
         received = [];
@@ -55,6 +56,7 @@ module _ (S : Type 0) where
         left = l;
         pins = ps;
         records = ms;
+        sights = ss;
         pool = d;
       } → left' ≡ l
       → length ps ≡ length m.0.pins → length ms ≡ length m.0.records
@@ -63,8 +65,8 @@ module _ (S : Type 0) where
       → ((i : ℕ) → i < segments m.0.plan → get_or ms i 0 ≤ count i seen)
       → ((i : ℕ) → i < segments m.0.plan → Readable m.0.plan seen i (get_or ms i 0))
       → IsSeated words pins left m → IsSeated words' pins' left' m'
-  seated_with words words' pins pins' left left' m m' seen l ps ms d same f is lefts wide_ps wide_ms
-      pins_are inside records read old =
+  seated_with words words' pins pins' left left' m m' seen l ps ms ss d same f is lefts wide_ps
+      wide_ms pins_are inside records read old =
       let v : SeatView = record m.0 {
         seen = seen;
         received = [];
@@ -72,6 +74,7 @@ module _ (S : Type 0) where
         left = l;
         pins = ps;
         records = ms;
+        sights = ss;
         pool = d;
       } in
       let goal : IsSeated words' pins' left' (v, m.1) = record {
@@ -105,6 +108,7 @@ module _ (S : Type 0) where
         pins = set m.0.pins j (found / 2 ^ 56 + 1);
         records =
             set m.0.records j (count j m'.0.seen);
+        sights = m.0.sights ++ sight m'.0.seen ∷ [];
       }
       → IsSeated words pins left m → IsSeated words' (set pins j (found / 2 ^ 56 + 1)) left' m'
   seated_pinned n s block_words whole words words' pins left left' m m' j found lj wide same f few
@@ -123,7 +127,7 @@ module _ (S : Type 0) where
       get_or-set_other m.0.records j i (count j m'.0.seen) 0 ne in let b =
       old.records_are i li in omega arith) in
       seated_with words words' pins (set pins j x) left left' m m' m'.0.seen
-      (m.0.left - 1) ps ms m.0.pool same f is (let a = old.left_is in
+      (m.0.left - 1) ps ms (m.0.sights ++ sight m'.0.seen ∷ []) m.0.pool same f is (let a = old.left_is in
       omega arith) (length-set m.0.pins j x) (length-set m.0.records j (count j m'.0.seen))
       (λ i li. dite (ℕ_discrete i j)
       (λ e. ap (λ (z : ℕ). get_or (set pins j x) z 0) e
@@ -147,7 +151,7 @@ module _ (S : Type 0) where
       let ps : List ℕ = set m.0.pins j 0 in
       let wp : j < length m.0.pins = let a = old.wide_pins in omega arith in
       seated_with words words' pins (set pins j 0) left left m m' m.0.seen m.0.left ps m.0.records
-      m.0.pool same (ap (λ (z : Me S SeatView). z.1) is)
+      m.0.sights m.0.pool same (ap (λ (z : Me S SeatView). z.1) is)
       (ap (λ (z : Me S SeatView). z.0) is
       ∙ (λ t. record m.0 {
         received = old.received_none t;
@@ -173,8 +177,8 @@ module _ (S : Type 0) where
       → words' ≡ words → m' ≡ (record m.0 { pool = d }, m.1) → IsSeated words pins left m
       → IsSeated words' pins left m'
   seated_pool words words' pins left m m' d same is old =
-      seated_with words words' pins pins left left m m' m.0.seen m.0.left m.0.pins m.0.records d
-      same (ap (λ (z : Me S SeatView). z.1) is)
+      seated_with words words' pins pins left left m m' m.0.seen m.0.left m.0.pins m.0.records
+      m.0.sights d same (ap (λ (z : Me S SeatView). z.1) is)
       (ap (λ (z : Me S SeatView). z.0) is
       ∙ (λ t. record m.0 {
         received = old.received_none t;
@@ -194,7 +198,8 @@ module _ (S : Type 0) where
       let old_records : (i : ℕ) → i < segments m.0.plan → get_or m.0.records i 0 ≤ count i seen =
       λ i li. let c = count_prefix i m.0.seen seen pre in let b = old.records_are i li in
       omega arith in
-      seated_with words words' pins pins left left m m' seen m.0.left m.0.pins m.0.records d same f
+      seated_with words words' pins pins left left m m' seen m.0.left m.0.pins m.0.records m.0.sights
+      d same f
       (is ∙ (λ t. record m.0 {
         seen = seen;
         received = old.received_none t;

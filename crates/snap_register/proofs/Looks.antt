@@ -5,7 +5,11 @@ use Rattle.std.proofs.Common.{
   ◌<◌,
   ◌≤◌,
   List,
+  [],
+  ◌∷◌,
+  ◌++◌,
   length,
+  map,
   get_or,
   Some,
   slice_get,
@@ -15,10 +19,12 @@ use Rattle.std.proofs.Common.{
   ◌∙◌,
   arith,
 }
+use Rattle.std.proofs.lemmas.List.{map-append}
 use Rattle.atomic_table.specs.Seated.{TableId}
 use Rattle.snap_register.specs.declared.plan.Plan.{Plan}
 use Rattle.snap_register.specs.declared.plan.SeatView.{SeatView}
-use Rattle.snap_register.specs.History.{count, number}
+use Rattle.snap_register.specs.declared.plan.Sight.{Sight}
+use Rattle.snap_register.specs.History.{count, number, sight, updates}
 use Rattle.snap_register.specs.Rule.{segments, Learns, IsLegal}
 use Rattle.snap_register.specs.Rule as rule
 use Rattle.snap_register.specs.Packing.{value_at}
@@ -62,6 +68,12 @@ module _ (z : TableId) (v : SeatView) (a : Known) (seat : known z v ≡ a) where
     look_looked j k pinned is =
         subst (λ (x : Known). Looks x (known z' w) j k) seat
         (looks_is z z' v w j k (ap (λ (u : SeatView). u.plan) view) pinned is)
+
+    pub look_sights : (known z' w).sights ≡ a.sights ++ (known z' w).seen ∷ []
+    look_sights = ap (λ (l : List Sight). map (λ s. updates s.seen) l)
+        (ap (λ (u : SeatView). u.sights) view)
+        ∙ (map-append (λ (s : Sight). updates s.seen) v.sights (sight w.seen ∷ [])
+        ∙ ap (λ (x : Known). x.sights ++ updates w.seen ∷ []) seat)
 
   module _ (j : ℕ) where
     pub has_looked : 0 < get_or v.pins j 0 → HasLooked a j

@@ -375,6 +375,7 @@ shown_is z z' v w k value same s =
       high = ap (λ (u : SeatView). u.high) s.same;
       looks = λ i. ap (λ (u : SeatView). looked (known z' u) i) s.same;
       left = ap (λ (u : SeatView). u.left) s.same;
+      sights = ap (λ (u : SeatView). (known z' u).sights) s.same;
       between = updates s.between;
       seen = ap updates s.seen ∙ (map-append update_of (v.seen ++ s.between) (e ∷ [])
           ∙ (λ t. map-append update_of v.seen s.between t ++ last t ∷ []));

@@ -21,7 +21,16 @@ use Rattle.snap_register.specs.declared.plan.Pool.{Pool}
 use Rattle.snap_register.specs.declared.plan.SeatView.{SeatView}
 use Rattle.snap_register.specs.declared.view.View.{View}
 use Rattle.snap_register.specs.declared.view.View.TheVariants.{Collected, Borrowed}
-use Rattle.snap_register.specs.History.{entry, only, start_at, record_words, memory, number, count}
+use Rattle.snap_register.specs.History.{
+  entry,
+  sight,
+  only,
+  start_at,
+  record_words,
+  memory,
+  number,
+  count,
+}
 use Rattle.snap_register.specs.Packing.{block_at, size_at, value_at, behind, IsBlock}
 use Rattle.snap_register.specs.Rule.{segments, buffers, width, IsBelow}
 
@@ -77,7 +86,7 @@ pub record IsShown (v w : SeatView) (i k : ℕ) (value : List ℕ) : Type 0 wher
   pub number_is : number w.plan w.seen i ≡ k
   pub below : IsBelow w.plan w.seen
 
--- a look changes what was seen, the pins, and the looks left
+-- a look changes what was seen, the pins, and the looks left, and it is one more of the looks taken
 abbrev pub HasLookedFrom : SeatView → SeatView → Type 0
 HasLookedFrom v w = w ≡ record v {
   seen = w.seen;
@@ -86,6 +95,7 @@ HasLookedFrom v w = w ≡ record v {
   left = w.left;
   pins = w.pins;
   records = w.records;
+  sights = v.sights ++ sight w.seen ∷ [];
 }
 
 -- the pool once the buffer b is current, where the word before counted x pins

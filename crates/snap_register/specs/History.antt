@@ -2,12 +2,16 @@
 use Rattle.std.specs.Prelude.{ℕ, ◌+◌, ◌==◌, cond, List, [], ◌∷◌, length, map, slice_index_or}
 use Rattle.snap_history.specs.History as history
 use Rattle.snap_register.specs.declared.plan.Entry.{Entry}
+use Rattle.snap_register.specs.declared.plan.Sight.{Sight}
 use Rattle.snap_register.specs.declared.plan.Start.{Start}
 use Rattle.snap_register.specs.declared.plan.Plan.{Plan}
 use Rattle.snap_register.specs.Packing.{value_at}
 
 abbrev pub entry : ℕ → List ℕ → Entry
 entry i ws = record { segment = i; words = ws }
+
+abbrev pub sight : List Entry → Sight
+sight h = record { seen = h }
 
 -- the entries of the segment i, in order
 abbrev pub only : ℕ → List Entry → List Entry

@@ -34,7 +34,7 @@ use Rattle.snap_register.specs.declared.plan.Entry.{Entry}
 use Rattle.snap_register.specs.declared.plan.Plan.{Plan}
 use Rattle.snap_register.specs.declared.plan.Pool.{Pool}
 use Rattle.snap_register.specs.declared.plan.SeatView.{SeatView}
-use Rattle.snap_register.specs.History.{entry, only, count, number, record_words, memory}
+use Rattle.snap_register.specs.History.{entry, sight, only, count, number, record_words, memory}
 use Rattle.snap_register.specs.Packing.{value_at, IsRecord}
 
 abbrev pub segments : Plan → ℕ
@@ -220,6 +220,7 @@ spent = record {
   left = 0;
   pins = [];
   records = [];
+  sights = [];
 }
 
 -- the first segment that the view writes, alone, with a pin a register and the looks of a seat
@@ -292,7 +293,7 @@ abbrev pub next_other : Pool → ℕ
 next_other d = other d.current d.found_pinned
 
 module _ {S : Type 0} where
-  -- a fetch_add on a current word
+  -- a fetch_add on a current word, which is a look
   abbrev pub pinning : Step S → Me S SeatView → ℕ → Me S SeatView → Type 0
   pinning st m found m' = Learns m.0 m'.0 × (m'.1 ≡ m.1) × (found / 2 ^ 56 < buffers m.0.plan)
       × (m'.0 ≡ record m.0 {
@@ -304,6 +305,7 @@ module _ {S : Type 0} where
         pins = slice_set m.0.pins st.word (found / 2 ^ 56 + 1);
         records =
             slice_set m.0.records st.word (count st.word m'.0.seen);
+        sights = m.0.sights ++ sight m'.0.seen ∷ [];
       })
 
   -- a fetch_add on the given-back count of a pinned buffer

@@ -16,6 +16,7 @@ use Rattle.std.specs.Prelude.{
   ◌∷◌,
   ◌++◌,
   length,
+  map,
   slice_index,
   slice_get,
 }
@@ -30,8 +31,8 @@ use Rattle.snap_register.specs.History.{starts, updates, start_at}
 use Rattle.snap_register.specs.Rule.{segments}
 
 -- the table and its plan, the updates that the seat has seen, the segments that it writes, from
--- `low` on and below `high`, which buffers and which records its last looks found, and how many
--- looks it has left
+-- `low` on and below `high`, which buffers and which records its last looks found, how many looks
+-- it has left, and what it had seen at each look that it took, in order
 pub record Known : Type 0 where
   pub table : TableId
   pub plan : Plan
@@ -41,6 +42,7 @@ pub record Known : Type 0 where
   pub pins : List ℕ
   pub records : List ℕ
   pub left : ℕ
+  pub sights : List (List Update)
 
 abbrev pub known : TableId → SeatView → Known
 known z v = record {
@@ -52,6 +54,7 @@ known z v = record {
   pins = v.pins;
   records = v.records;
   left = v.left;
+  sights = map (λ s. updates s.seen) v.sights;
 }
 
 -- the number that the last look at the segment j told
@@ -88,11 +91,12 @@ pub record Grows (a b : Known) : Type 0 where
   pub later : IsBeginning a.seen b.seen
   pub own : (i : ℕ) → a.low ≤ i → i < a.high → number_in a b.seen i ≡ number_in a a.seen i
 
--- the same, and nothing else: no look was taken, and the last looks are as they were
+-- the same, and nothing else: no look was taken, and the looks are as they were
 pub record Meets (a b : Known) : Type 0 where
   pub grows : Grows a b
   pub looks : (i : ℕ) → looked b i ≡ looked a i
   pub left : b.left ≡ a.left
+  pub sights : b.sights ≡ a.sights
 
 -- the last look at j told this number, and those at the other segments are as they were
 pub record Looks (a b : Known) (j number : ℕ) : Type 0 where
@@ -161,6 +165,7 @@ pub record Shows (a b : Known) (value : List ℕ) : Type 0 where
   pub high : b.high ≡ a.high
   pub looks : (i : ℕ) → looked b i ≡ looked a i
   pub left : b.left ≡ a.left
+  pub sights : b.sights ≡ a.sights
   pub between : List Update
   pub seen : b.seen ≡ (a.seen ++ between) ++ record { segment = own_of a; value = value } ∷ []
   pub others : updates_of (own_of a) between ≡ 0

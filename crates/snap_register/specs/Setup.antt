@@ -73,6 +73,7 @@ first_view p = record {
   left = seats p * p.looks;
   pins = replicate (segments p) 0;
   records = replicate (segments p) 0;
+  sights = [];
 }
 
 -- the counts are those of the plan

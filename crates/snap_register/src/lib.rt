@@ -17,7 +17,7 @@ mod snapshot;
 mod view;
 
 pub use opening::Parts;
-pub use plan::{Entry, Opening, Plan, Pool, SeatView, Start};
+pub use plan::{Entry, Opening, Plan, Pool, SeatView, Sight, Start};
 pub use registers::Registers;
 pub use seats::{Looker, ReadSeat, WriteSeat};
 pub use setup::{OneHistory, Setup, TableSeat, WordTable};

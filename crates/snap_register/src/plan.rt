@@ -28,6 +28,11 @@ pub struct Entry {
     pub words: [u64; 0],
 }
 
+/// What a seat had seen at one of its looks.
+pub struct Sight {
+    pub seen: [Entry; 0],
+}
+
 /// A clause reads an array as a list, of any length.
 pub struct Plan {
     pub scanners: u64,
@@ -76,4 +81,6 @@ pub struct SeatView {
     pub pins: [u64; 0],
     /// For each register which record that buffer holds.
     pub records: [u64; 0],
+    /// What it had seen at each of its looks, in order.
+    pub sights: [Sight; 0],
 }

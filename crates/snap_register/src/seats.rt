@@ -1,5 +1,6 @@
 //! The two kinds of seat.
-ghost use Rattle.std.specs.Prelude.{◌≡◌, ℕ, ◌+◌, ◌*◌, ◌^◌, ◌<◌, ◌≤◌, length, take, [], IsTrue, ◌↔◌};
+ghost use Rattle.std.specs.Prelude.{◌≡◌, ℕ, ◌+◌, ◌*◌, ◌^◌, ◌<◌, ◌≤◌, ◌++◌, ◌∷◌, length, take, []};
+ghost use Rattle.std.specs.Prelude.{IsTrue, ◌↔◌};
 ghost use Rattle.snap_history.specs.Limits.{IsNumber, IsShort};
 ghost use Rattle.snap_history.specs.declared.limits.TheConstants.{MAX_COUNT, MAX_VALUE_LEN};
 ghost use Rattle.snap_register.specs.History.{start_at};
@@ -37,7 +38,8 @@ pub trait Looker {
 
     /// Looks at the segment `j`: the seat sees all updates that stand in the history at this
     /// moment, and the number of `j` among them is the answer. The record that was found stays as
-    /// it is until the seat's next look at `j`. A look waits for nobody.
+    /// it is until the seat's next look at `j`. A look waits for nobody, and it is one more in the
+    /// list of what the seat had seen at each of its looks.
     fn look(&mut self, j: usize) -> u64
         requires segment { j < segments (known self.old).plan }
         requires left { 0 < (known self.old).left }
@@ -45,6 +47,8 @@ pub trait Looker {
         ensures below { IsBelow (known self.new) }
         ensures number { result ≡ number_in (known self.new) (known self.new).seen j }
         ensures looked { Looks (known self.old) (known self.new) j result }
+        ensures sights { (known self.new).sights ≡ (known self.old).sights
+            ++ (known self.new).seen ∷ [] }
         ensures left { (known self.new).left + 1 ≡ (known self.old).left };
 
     /// Writes the value of the record of the last look at `j` to the front of `out`, and answers
@@ -121,7 +125,7 @@ impl ReadSeat {
     }
 
     /// Afterwards both seats have seen the same: all that either had seen, and all that stands in
-    /// the history at a moment of this call. It isn't a look, and the last looks of both stay.
+    /// the history at a moment of this call. It isn't a look, and the looks of both stay.
     pub fn meet(&mut self, writer: &mut WriteSeat)
         requires together { AreTogether self.old writer.old }
         ensures scanner { Meets self.old self.new }

@@ -26,6 +26,7 @@ returns-clause-scanner c =
           has.1 in absurd (omega arith));
       looks = λ i. ap (λ (m : Me (Unit {0}) SeatView). looked (known s.table_id m.0) i) is;
       left = ap (λ (m : Me (Unit {0}) SeatView). m.0.left) is;
+      sights = ap (λ (m : Me (Unit {0}) SeatView). (known s.table_id m.0).sights) is;
     })
 
 pub returns-clause-writer : goal.returns-clause-writer
@@ -42,6 +43,7 @@ returns-clause-writer c =
           l.seen l.own;
       looks = λ i. ap (λ (m : Me (Unit {0}) SeatView). looked (known s.table_id m.0) i) is;
       left = ap (λ (m : Me (Unit {0}) SeatView). m.0.left) is;
+      sights = ap (λ (m : Me (Unit {0}) SeatView). (known s.table_id m.0).sights) is;
     })
 
 pub returns-clause-below : goal.returns-clause-below

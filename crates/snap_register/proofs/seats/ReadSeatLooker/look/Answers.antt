@@ -1,7 +1,7 @@
 use Rattle.std.proofs.Common.{sym, ◌∙◌}
 use Rattle.snap_register.specs.declared.plan.SeatView.{SeatView}
 use Rattle.snap_register.proofs.Updates.{number_is}
-use Rattle.snap_register.proofs.Looks.{look_seen, look_below, look_looked}
+use Rattle.snap_register.proofs.Looks.{look_seen, look_below, look_looked, look_sights}
 use Rattle.snap_register.proofs.seats.ReadSeatLooker.look.Goals as goal
 
 pub returns-clause-seen : goal.returns-clause-seen
@@ -22,3 +22,8 @@ pub returns-clause-looked : goal.returns-clause-looked
 returns-clause-looked c = let l = c.look.ensures in
     look_looked _ c.self.inside.access.seat.me.0 _ c.self.view_is _ c.look.new.self.seat.me.0
     l.same.0 l.view c.args.j _ l.looks l.number
+
+pub returns-clause-sights : goal.returns-clause-sights
+returns-clause-sights c =
+    look_sights _ c.self.inside.access.seat.me.0 _ c.self.view_is _ c.look.new.self.seat.me.0
+    c.look.ensures.same.0 c.look.ensures.view
