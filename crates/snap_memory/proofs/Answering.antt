@@ -57,6 +57,7 @@ pub snapshot_clean : (a b : Known) (memory : List (ℕ × List ℕ)) → IsClean
 snapshot_clean a b memory s l = record {
   part = s.part;
   begins = s.begins;
+  fresh = s.fresh;
   within = s.within;
   is_memory = record {
     size = l.size;
@@ -74,6 +75,7 @@ pub snapshot_borrowed : (a b : Known) (j : ℕ) (memory : List (ℕ × List ℕ)
 snapshot_borrowed a b j memory s v = record {
   part = v.part;
   begins = s.begins v.part v.beginning v.before;
+  fresh = s.fresh v.part v.beginning v.before;
   within = v.beginning;
   is_memory = v.memory;
 }

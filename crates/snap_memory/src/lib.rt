@@ -5,7 +5,9 @@
 //! numbers told tell one moment. Then it reads the values out of the buffers that its seat still
 //! pins: those of the last looks where the scan is clean, and the view of one register where it
 //! borrows. Its answer is the memory after a list of updates that begins with all that its seat had
-//! seen before, and is a beginning of all that it has seen after (specs/Scans.antt).
+//! seen before, and with all that it saw at the first look of this call, so with all that stood in
+//! the history then; and the list is a beginning of all that the seat has seen after
+//! (specs/Scans.antt).
 #![tactic(auto)]
 
 mod looks;

@@ -41,7 +41,8 @@ pub(crate) fn gather<L: Looker>(seat: &mut L, numbers: &mut [u64; MAX_SEGMENTS])
 
 /// Fills `out` with the memory of one moment, by the looks of any kind of seat, also of one that a
 /// caller has put round a seat of the registers. [`Scanner::scan_into`](crate::Scanner::scan_into)
-/// is this scan by a scanner's own seat.
+/// is this scan by a scanner's own seat. The memory has all updates that stood in the history at the
+/// first look of this call.
 ///
 /// It takes off the looks that it takes; the caller has to see that enough for a scan are left
 /// ([`most_looks`](snap_scan::most_looks)).
@@ -74,7 +75,8 @@ fn read_all<L: Looker>(seat: &mut L, numbers: &[u64; MAX_SEGMENTS], out: &mut Sn
 }
 
 /// Fills `out` with the memory of one moment, as [`scan`] does, where it holds what the seat has seen
-/// before: the value of a segment that still has the number held isn't read again.
+/// before: the value of a segment that still has the number held isn't read again. The memory has all
+/// updates that stood in the history at the first look of this call, whatever `out` held.
 pub(crate) fn scan_again<L: Looker>(seat: &mut L, out: &mut SnapshotBuf)
     requires left { CanScan (L.known seat.old) }
     requires kept { IsKept (L.known seat.old) out.old }

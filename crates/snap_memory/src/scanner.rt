@@ -1,5 +1,5 @@
 //! The scanners.
-ghost use Rattle.std.specs.Prelude.{◌≡◌, ℕ, ◌+◌, ◌<◌, ◌≤◌, ◌⊎◌, length, take};
+ghost use Rattle.std.specs.Prelude.{◌≡◌, ℕ, ◌+◌, ◌<◌, ◌≤◌, ◌⊎◌, [], ◌∷◌, ◌++◌, length, take};
 ghost use Rattle.std.specs.Prelude.{OnOk, OnErr, IfOk, IfErr, IsTrue, ◌↔◌};
 ghost use Rattle.snap_history.specs.declared.limits.TheConstants.{MAX_COUNT, MAX_VALUE_LEN};
 ghost use Rattle.snap_register.specs.Rule.{segments};
@@ -83,7 +83,8 @@ impl Scanner {
 
     /// Fills `out` with the number and the value of each segment, all of one moment: the memory
     /// after a list of updates that begins with all that the scanner had seen before this call, and
-    /// is a beginning of all that it has seen after. It takes off the looks that it takes.
+    /// with all that stood in the history at its first look of this call, and is a beginning of all
+    /// that it has seen after. It takes off the looks that it takes.
     ///
     /// Where fewer looks are left than a scan might take ([`most_looks`]) it answers `Worn`, and
     /// nothing changes.
@@ -108,7 +109,8 @@ impl Scanner {
 
     /// The number and the value of each segment, all of one moment, as [`Scanner::scan_into`] gives
     /// them, in the scanner's room. Of what was kept there ([`Scanner::keep`]) the value of a segment
-    /// that still has the same number isn't read again: a number has one value.
+    /// that still has the same number isn't read again: a number has one value. But the looks are
+    /// taken anew, so the answer has all that stood in the history at the first look of this call.
     ///
     /// Where fewer looks are left than a scan might take it answers `Worn`. Where it has no room it
     /// takes memory for one, and answers `NoMemory` where that is refused. Both change nothing.
@@ -158,6 +160,7 @@ impl Scanner {
         ensures number { result.0 ≡ number_in self.new self.new.seen j }
         ensures value { take result.1 value.new ≡ value_in self.new self.new.seen j }
         ensures size { result.1 ≤ MAX_VALUE_LEN }
+        ensures sights { self.new.sights ≡ self.old.sights ++ self.new.seen ∷ [] }
         ensures left { self.new.left + 1 ≡ self.old.left }
     {
         let number = self.seat.look(j);

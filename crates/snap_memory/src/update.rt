@@ -8,8 +8,9 @@ use crate::looks::gather;
 use snap_register::{View, WriteSeat};
 use snap_scan::MAX_SEGMENTS;
 
-/// The scan inside an update: where the memory stands that the update is to take along. The seat
-/// may show an update with it as long as it takes no further look and shows no other update.
+/// The scan inside an update: where the memory stands that the update is to take along. It has all
+/// that stood in the history at the first look of this call. The seat may show an update with it as
+/// long as it takes no further look and shows no other update.
 ///
 /// It takes off the looks that it takes; the caller has to see that enough for a scan are left
 /// ([`most_looks`](snap_scan::most_looks)).

@@ -42,7 +42,7 @@ looks-preserved g c =
     c.look-number.ensures.seen c.look-number.ensures.number
     c.told.new.self c.told.ensures.segments c.told.ensures.told
     (c.next.ensures.decides.bound c.in-Look.segment c.in-Look.is) c.look-number.ensures.looked
-    c.look-number.ensures.left c.look-number.ensures.below
+    c.look-number.ensures.sights c.look-number.ensures.left c.look-number.ensures.below
 
 pub returns-in-Clean-clause-below : goal.returns-in-Clean-clause-below
 returns-in-Clean-clause-below g c =
