@@ -4,3 +4,4 @@ pub mod Placed
 pub mod Living
 pub mod Cutting
 pub mod Lasting
+pub mod Staying

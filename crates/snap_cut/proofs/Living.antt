@@ -125,7 +125,7 @@ module _ {D : Type 0} (device : D → Device) (honest : D → Type 0) (clock : D
           rests = rests_same a b seg is.rests;
         }
 
-    does_is : (a b : WriterState D) → Is a → Does device honest clock might_have_left a b → Is b
+    pub does_is : (a b : WriterState D) → Is a → Does device honest clock might_have_left a b → Is b
     does_is a b is (inl sees) = sees_is a b is sees
     does_is a b is (inr (inl stores)) = stores_is stores.0 a b is stores.1
     does_is a b is (inr (inr shows)) = shows_is a b is shows

@@ -1,2 +1,3 @@
 pub mod Crash
 pub mod Laws
+pub mod Staying

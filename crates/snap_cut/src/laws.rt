@@ -1,14 +1,21 @@
 //! The laws of a crash of all devices, whatever the writers and the scanners did: each law is a
 //! contract of a call that does nothing.
 ghost use Rattle.snap_cut.specs.Laws.{Lives, CutLaw, ConsistentLaw, MomentLaw, ScanLaw};
+ghost use Rattle.snap_cut.specs.Staying.{StaysLaw};
 
 use snap_disk::Disk;
 
 /// A writer's life keeps its device and its seat together: wherever a crash finds it, what the crash
 /// leaves is the number and the value that were shown last, or one number more with a value that was
 /// begun.
+///
+/// And what is stored stays, over its whole life and not only over a call: since the time at which the
+/// segment had a number, a crash leaves that number with its value, or a later number with the value
+/// that the writer gave to it. So once an update was answered with number k, which then is the
+/// segment's number, no crash since leaves less than k, and of k no other value.
 pub fn life_laws<D: Disk>()
     ensures lives { Lives D.device D.is_honest D.clock D.might_have_left }
+    ensures stays { StaysLaw D.device D.is_honest D.clock D.might_have_left }
 {}
 
 /// Where a crash of all devices finds each writer and each scanner of one opening at some place in

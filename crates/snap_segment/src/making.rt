@@ -33,7 +33,7 @@ ghost use Rattle.snap_slot.specs.Layout.{IsUnformatted, IsFormatted};
 ghost use Rattle.snap_slot.specs.States.{IsAtRest, IsPrepared};
 ghost use Rattle.snap_segment.specs.Refusals.{IsMakeRefusal};
 ghost use Rattle.snap_segment.specs.Segment.{CountsRefusal};
-ghost use Rattle.snap_segment.specs.Making.{IsMadeOrLeft};
+ghost use Rattle.snap_segment.specs.Making.{IsMadeOrLeft, new_file};
 
 use snap_disk::{DeviceFault, Disk, Refusal, write_synced};
 use snap_slot::{
@@ -42,7 +42,7 @@ use snap_slot::{
 };
 
 /// Makes the file of segment `index` of `count` on a device of a file's length: it holds `number`
-/// and `value`, and its other slots are closed. It makes seven device calls.
+/// and `value`, and its other slots are closed and hold zeros. It makes seven device calls.
 ///
 /// Refused as `AlreadyFormatted` where the header's gate is open, after a sync and a read, and
 /// nothing is written; `DeviceFailed` where a device call failed. The header's gate is opened last,
@@ -93,6 +93,10 @@ pub(crate) fn make_file<D: Disk>(
     // Once it has answered Ok, a crash leaves the new file.
     ensures last { D.is_honest device.new
         → OnOk result (IsAtRest index count number value.now false (D.device device.new)) }
+
+    // Then these are all its bytes, whatever it held before.
+    ensures bytes { D.is_honest device.new
+        → OnOk result ((D.device device.new).bytes ≡ new_file index count number value.now) }
 {
     match is_unformatted(device) {
         Err(_) => return Err(Refusal::DeviceFailed),

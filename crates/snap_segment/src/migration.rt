@@ -27,7 +27,7 @@ ghost use Rattle.snap_old_slot.specs.Old.{OldHead, OldHolds};
 ghost use Rattle.snap_old_slot.specs.Reading.{IsOldFound, IsNoOldOpening};
 ghost use Rattle.snap_segment.specs.Refusals.{IsMigrationRefusal};
 ghost use Rattle.snap_segment.specs.Segment.{CountsRefusal};
-ghost use Rattle.snap_segment.specs.Making.{IsMadeOrLeft};
+ghost use Rattle.snap_segment.specs.Making.{IsMadeOrLeft, new_file};
 ghost use Rattle.snap_segment.specs.Migration.{CountsFault, IsRead};
 
 use crate::making::make_file;
@@ -135,6 +135,11 @@ pub fn migrate<O: Disk, N: Disk>(
         → OldHolds (O.device old.old).bytes k v
         → IfOk result (λ number. (number ≡ k)
         × IsAtRest index count k v false (N.device new.new)) }
+
+    // Then these are all the bytes of the new file, whatever it held before.
+    ensures bytes { O.is_honest old.new → N.is_honest new.new → (k : ℕ) (v : List ℕ)
+        → OldHolds (O.device old.old).bytes k v
+        → OnOk result ((N.device new.new).bytes ≡ new_file index count k v) }
 {
     if old.len() != OLD_FILE_LEN {
         return Err((Which::Old, Refusal::WrongFile));

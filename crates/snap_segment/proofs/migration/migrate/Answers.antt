@@ -1,7 +1,7 @@
 use Rattle.std.proofs.Common.{◌≡◌, ℕ, List, false, ◌∙◌, rules}
 use Rattle.snap_disk.specs.Device.{LeavesOnly}
 use Rattle.snap_slot.specs.States.{IsAtRest}
-use Rattle.snap_segment.specs.Making.{IsMadeOrLeft}
+use Rattle.snap_segment.specs.Making.{IsMadeOrLeft, new_file}
 use Rattle.snap_segment.proofs.Migrating.{found_same, carried}
 use Rattle.snap_segment.proofs.migration.migrate.Goals as goal
 
@@ -59,6 +59,17 @@ returns-in-Ok-make_file-clause-last g c old_honest new_honest k v holds =
           found.number k c.value-value.result.now v same.0 value
           (c.in-Ok-make_file.ensures.last new_honest),
     )
+
+pub returns-in-Ok-make_file-clause-bytes : goal.returns-in-Ok-make_file-clause-bytes
+returns-in-Ok-make_file-clause-bytes g c old_honest new_honest k v holds =
+    let found = c.in-Ok.found in
+    let same = found_same c.args.index c.args.count k v (g.O.Disk.device c.args.old.now).bytes
+    c.read_old.new.file found c.in-Ok.ensures.found (c.in-Ok.ensures.given old_honest) holds in
+    let value : c.value-value.result.now ≡ v = c.value-value.ensures.value ∙ same.1 in
+    carried (λ (m : ℕ) (x : List ℕ). (g.N.Disk.device c.make_file.new.device).bytes
+    ≡ new_file c.args.index c.args.count m x)
+    found.number k c.value-value.result.now v same.0 value
+    (c.in-Ok-make_file.ensures.bytes new_honest)
 
 pub returns-in-Err-make_file-clause-count_err : goal.returns-in-Err-make_file-clause-count_err
 returns-in-Err-make_file-clause-count_err g c = search rules

@@ -1,0 +1,49 @@
+-- What a crash leaves of one writer's device over a whole run, not only over a call.
+use Rattle.std.specs.Prelude.{◌≡◌, ◌⊎◌, ℕ, ◌+◌, ◌≤◌, List, ◌∷◌, Some, slice_get}
+use Rattle.snap_disk.specs.Device.{Device, MayLeave, LeavesOnly}
+use Rattle.snap_slot.specs.Layout.{IsFileOf}
+use Rattle.snap_register.specs.declared.plan.Plan.{Plan}
+use Rattle.snap_writer.specs.Writer.{WriterState}
+use Rattle.snap_writer.specs.Life.{Lived, IsWriterOf}
+
+-- this writer has number k stored with value v, or its store of them has failed
+abbrev pub Gave : {D : Type 0} → ℕ → List ℕ → WriterState D → Type 0
+Gave k v w = ((k ≡ w.segment.number) × (v ≡ w.segment.value))
+    ⊎ ((k ≡ w.segment.number + 1) × (w.segment.begun ≡ Some v))
+
+-- at one of these places of its life it was so
+abbrev pub Once : {D : Type 0} → List (WriterState D) → (WriterState D → Type 0) → Type 0
+Once {D} life P = (j : ℕ) × (w : WriterState D) × (slice_get life j ≡ Some w) × P w
+
+-- and at each of them
+abbrev pub Always : {D : Type 0} → List (WriterState D) → (WriterState D → Type 0) → Type 0
+Always {D} life P = (j : ℕ) (w : WriterState D) → slice_get life j ≡ Some w → P w
+
+-- These bytes are the file of segment i of n, and nothing that the writer had stored when it was at
+-- a is lost: it holds the number that was stored there, with the value that was, or a later number,
+-- with the value that the writer gave to it in its life since.
+pub record Keeps {D : Type 0} (n i : ℕ) (a : WriterState D) (life : List (WriterState D))
+    (b : List ℕ) : Type 0 where
+  pub number : ℕ
+  pub value : List ℕ
+  pub file : IsFileOf i n number value b
+  pub no_less : a.segment.number ≤ number
+  pub same_value : number ≡ a.segment.number → value ≡ a.segment.value
+  pub given : Once (a ∷ life) (Gave number value)
+
+module _ {D : Type 0} (device : D → Device) (honest : D → Type 0) (clock : D → ℕ)
+    (might_have_left : D → ℕ → List ℕ → Type 0) where
+  -- a crash at any time since the writer was at a leaves that, and so does one now that it is at z
+  pub record Stays (n i : ℕ) (a : WriterState D) (life : List (WriterState D))
+      (z : WriterState D) : Type 0 where
+    pub any_time : LeavesOnly clock might_have_left a.segment.device z.segment.device
+        (Keeps n i a life)
+    pub now : (b : List ℕ) → MayLeave (device z.segment.device) b → Keeps n i a life b
+
+  -- so it is wherever a writer has come to by its life, on a device that was honest all the time
+  abbrev pub StaysLaw : Type 0
+  StaysLaw = (plan : Plan) (n i : ℕ) (a z : WriterState D) (life : List (WriterState D))
+      → IsWriterOf device honest clock might_have_left plan n i a
+      → Lived device honest clock might_have_left a life z
+      → Always (a ∷ life) (λ w. honest w.segment.device)
+      → Stays n i a life z
