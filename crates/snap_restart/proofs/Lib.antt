@@ -7,3 +7,4 @@ pub mod Starting
 pub mod Stopping
 pub mod Crashing
 pub mod Lasting
+pub mod Staying

@@ -14,7 +14,7 @@ use Rattle.snap_register.specs.Seat.{Known, own_of, number_in}
 use Rattle.snap_register.specs.Parts.{IsNewSeat, IsOpening, AreWriters, AreReaders}
 use Rattle.snap_writer.specs.Writer.{WriterState, IsPaired}
 use Rattle.snap_restart.specs.declared.store.TheConstants.{LOOKS}
-use Rattle.snap_restart.specs.Opened.{AreFresh, Starts, contents}
+use Rattle.snap_restart.specs.Opened.{all_looks, AreFresh, Starts, contents}
 use Rattle.snap_restart.specs.Closed.{AreBack}
 use Rattle.snap_restart.proofs.Returning.{get_map}
 
@@ -50,7 +50,7 @@ module _ {D : Type 0} (z : TableId) (p : Plan) (ss : List (SegmentState D)) (ws 
     seat_new seats new i w at = new i w.seat
         (ap (λ l. slice_get l i) (sym seats) ∙ get_map (λ (w : WriterState D). w.seat) writers i w at)
 
-    pub fresh_are : map (λ w. w.seat) writers ≡ ws → p.looks ≡ LOOKS → AreWriters z p ws
+    pub fresh_are : map (λ w. w.seat) writers ≡ ws → p.looks ≡ all_looks → AreWriters z p ws
         → AreReaders z p rs → AreFresh writers rs
     fresh_are seats looks new readers = record {
       writers_are = λ i w at. (

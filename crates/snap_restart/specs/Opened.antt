@@ -1,7 +1,7 @@
 -- Devices before and after an opening of all files. What is said is over any kind D of device: its
 -- bytes and open places, its failure count, whether it is honest, its clock, and what a crash at a
 -- time of the clock or later could have left.
-use Rattle.std.specs.Prelude.{◌≡◌, ◌≢◌, ℕ, ◌+◌, ◌<◌, ◌≤◌, List, [], length, None, Some, slice_get}
+use Rattle.std.specs.Prelude.{◌≡◌, ◌≢◌, ℕ, ◌+◌, ◌^◌, ◌<◌, ◌≤◌, List, [], length, None, Some, slice_get}
 use Rattle.snap_disk.specs.declared.refusal.Refusal.{Refusal}
 use Rattle.snap_disk.specs.declared.refusal.Refusal.TheVariants.{NoMemory}
 use Rattle.snap_disk.specs.Device.{Device, MayLeave, LeavesOnly}
@@ -15,7 +15,6 @@ use Rattle.snap_history.specs.Pairs.{Pairs}
 use Rattle.snap_register.specs.Seat.{Known, own_of, number_in, value_in}
 use Rattle.snap_writer.specs.Writer.{WriterState}
 use Rattle.snap_restart.specs.declared.report.Recovered.{Recovered}
-use Rattle.snap_restart.specs.declared.store.TheConstants.{LOOKS}
 
 -- the bytes are the file of segment i of n, with some number and value
 abbrev pub IsOpenable : (i n : ℕ) → List ℕ → Type 0
@@ -66,9 +65,13 @@ pub record IsStopped {D : Type 0} (device : D → Device) (failures : D → ℕ)
   pub returned : Pairs (IsReturned device failures honest clock might_have_left (length olds) k why)
       olds news
 
+-- how many looks a seat may take between an opening and the next
+abbrev pub all_looks : ℕ
+all_looks = 2 ^ 50
+
 -- the seat has seen no update, and has all its looks
 abbrev pub IsFresh : Known → Type 0
-IsFresh a = (a.seen ≡ []) × (a.left ≡ LOOKS)
+IsFresh a = (a.seen ≡ []) × (a.left ≡ all_looks)
 
 -- so it is with each writer and each scanner
 pub record AreFresh {D : Type 0} (writers : List (WriterState D)) (scanners : List Known)

@@ -31,6 +31,7 @@ ghost use Rattle.snap_restart.specs.Closed.{AreBack, IsHistory, HoldsAfter};
 ghost use Rattle.snap_restart.specs.Opened.{IsOpened, IsStopped, AreFresh, Starts};
 ghost use Rattle.snap_restart.specs.Opened.{recovered, contents};
 ghost use Rattle.snap_restart.specs.Crashing.{AreOpened, StayKept, AnyCut};
+ghost use Rattle.snap_restart.specs.Staying.{AllStays};
 
 use crate::closing::{gather, release_all};
 use crate::keep::keep;
@@ -127,6 +128,11 @@ pub fn open_all<D: Disk + Drop>(
     // such a crash left, the history before it goes on.
     ensures crash { IfOk result (λ r. AreOpened D.device D.is_honest D.clock D.might_have_left
         devices.items r.0.writers.items) }
+
+    // And what a writer has stored stays: once an update was answered with number k, each later
+    // crash leaves k with its value, or a later number with the value that the writer gave to it.
+    ensures stays { IfOk result (λ r. AllStays D.device D.is_honest D.clock D.might_have_left
+        r.0.writers.items) }
 
     // A crash during the opening, however it ends, leaves the memory that was there before.
     ensures kept_ok { IfOk result (λ r. StayKept D.device D.is_honest D.clock D.might_have_left

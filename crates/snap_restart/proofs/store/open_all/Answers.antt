@@ -8,6 +8,7 @@ use Rattle.snap_restart.specs.Closed.{AreBack}
 use Rattle.snap_restart.proofs.Stopping.{stopped_last}
 use Rattle.snap_restart.proofs.Starting.{map_both, starts_are, fresh_are, back_are, paired_are}
 use Rattle.snap_restart.proofs.Crashing.{opened, kept_opened, kept_stopped}
+use Rattle.snap_restart.proofs.Staying.{stay_stored}
 use Rattle.snap_restart.proofs.store.open_all.Goals as goal
 
 pub seat_writers-requires-clause-starts : goal.seat_writers-requires-clause-starts
@@ -36,9 +37,10 @@ pub returns-in-Ok-prepare-clause-fresh : goal.returns-in-Ok-prepare-clause-fresh
 returns-in-Ok-prepare-clause-fresh g c =
     let seats = c.in-Ok-prepare.ensures.seats in
     let rs : List Known = c.in-Ok-prepare.field-0.parts.scanners.items in
+    let looks = seats.2.looks_are in
     subst (λ (l : List Known). AreFresh c.seat_writers.result.items l) (sym c.seat_scanners.ensures)
     (fresh_are seats.0 seats.1 c.in-Ok.opened.0.items c.in-Ok-prepare.field-0.parts.writers.items rs
-    c.seat_writers.result.items c.seat_writers.ensures.seats seats.2.looks_are seats.3 seats.4)
+    c.seat_writers.result.items c.seat_writers.ensures.seats (omega (arith, looks)) seats.3 seats.4)
 
 pub returns-in-Ok-prepare-clause-back : goal.returns-in-Ok-prepare-clause-back
 returns-in-Ok-prepare-clause-back g c =
@@ -60,6 +62,12 @@ returns-in-Ok-prepare-clause-crash g c =
     c.seat_scanners.result.items (returns-in-Ok-prepare-clause-fresh g c)
     (returns-in-Ok-prepare-clause-opened g c) (returns-in-Ok-prepare-clause-starts g c)
     (returns-in-Ok-prepare-clause-back g c)
+
+pub returns-in-Ok-prepare-clause-stays : goal.returns-in-Ok-prepare-clause-stays
+returns-in-Ok-prepare-clause-stays g c =
+    stay_stored g.D.Disk.device g.D.Disk.is_honest g.D.Disk.clock g.D.Disk.might_have_left
+    g.met.D.Disk.only_now c.args.devices.items c.seat_writers.result.items
+    (returns-in-Ok-prepare-clause-crash g c)
 
 pub returns-in-Ok-prepare-clause-kept_ok : goal.returns-in-Ok-prepare-clause-kept_ok
 returns-in-Ok-prepare-clause-kept_ok g c =
