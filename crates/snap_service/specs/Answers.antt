@@ -49,7 +49,8 @@ abbrev pub MayRefuseScan : Known → Refusal → Known → Type 0
 MayRefuseScan a why b = ((why ≡ NoMemory) × ((b ≡ a) ⊎ HasScanned a b))
     ⊎ ((why ≡ Worn) × (a.left < most_looks (segments a.plan)) × (b ≡ a))
 
--- the reply to a scan: the numbers and the values of all segments at one moment of what was seen
+-- the reply to a scan: the numbers and the values of all segments at one moment of what was seen,
+-- which has all that had been seen before, and all that was seen at the first look of the scan
 abbrev pub AnswersScan : Known → Reply → Known → Type 0
 AnswersScan a (Snapshot values) b = IsSnapshot a b (map pair_of values.items) × HasScanned a b
 AnswersScan a (Refused why detail) b = (detail ≡ 0) × MayRefuseScan a why b

@@ -26,9 +26,10 @@ fn list_of(alloc: Global, snapshot: &Snapshot) -> Result<Vec<SegmentValue>, Allo
     Ok(values)
 }
 
-/// The reply to a scan: the number and the value of each segment, all of one moment. It takes no
-/// lock and waits for nobody. What it found is kept in the scanner's room, so that the next scan
-/// reads only the values that have changed.
+/// The reply to a scan: the number and the value of each segment, all of one moment, with all
+/// updates that stood in the history at the scan's first look. It takes no lock and waits for
+/// nobody. What it found is kept in the scanner's room, so that the next scan reads only the values
+/// that have changed.
 ///
 /// Refused with detail 0 as `Worn` where fewer looks are left than a scan might take; nothing changes
 /// then. As `NoMemory` where memory runs out for the room or the list.

@@ -6,6 +6,7 @@ use Rattle.snap_register.specs.declared.plan.Plan.{Plan}
 use Rattle.snap_register.specs.History.{starts}
 use Rattle.snap_register.specs.Rule.{segments}
 use Rattle.snap_register.specs.Seat.{Known, Grows, IsMemory}
+use Rattle.snap_memory.specs.Scans.{BeginsFresh}
 use Rattle.snap_frame.specs.declared.request.Request.{Request}
 use Rattle.snap_frame.specs.declared.request.Request.TheVariants as request
 use Rattle.snap_frame.specs.declared.reply.Reply.{Reply}
@@ -85,11 +86,11 @@ stored a b i k n v h (Settled inside short is grows) seen = (
 
 pub snapshot : (a b : Known) (values : _) (h : List Update) → AnswersScan a (Snapshot values) b
     → IsBeginning b.seen h
-    → (part : List Update) × IsBeginning a.seen part × IsBeginning part h
+    → (part : List Update) × IsBeginning a.seen part × BeginsFresh a b part × IsBeginning part h
     × IsMemory b part (map pair_of values.items)
 snapshot a b values h is seen =
     let s = is.0 in
-    (s.part, s.begins, beginning-trans s.part b.seen h s.within seen, s.is_memory)
+    (s.part, s.begins, s.fresh, beginning-trans s.part b.seen h s.within seen, s.is_memory)
 
 pub replied : (a b : Known) (q : Request) (r : Reply) (h : List Update) → Answers a q r b
     → IsBeginning b.seen h → Stands (segments b.plan) (starts b.plan) h q r
@@ -99,7 +100,7 @@ replied a b (request.Update i k v) (Status statuses) h is seen = tt
 replied a b (request.Update i k v) (Refused why detail) h is seen = tt
 replied a b request.Scan (Snapshot values) h is seen =
     let s = snapshot a b values h is seen in
-    (s.0, s.2, record { size = s.3.size; each = s.3.each })
+    (s.0, s.3, record { size = s.4.size; each = s.4.each })
 replied a b request.Scan (Stored n) h is seen = tt
 replied a b request.Scan (Status statuses) h is seen = tt
 replied a b request.Scan (Refused why detail) h is seen = tt

@@ -9,6 +9,7 @@ use Rattle.snap_register.specs.declared.plan.SeatView.{SeatView}
 use Rattle.snap_register.specs.History.{starts, updates}
 use Rattle.snap_register.specs.Rule.{segments, Kept}
 use Rattle.snap_register.specs.Seat.{Known, IsMemory}
+use Rattle.snap_memory.specs.Scans.{BeginsFresh}
 use Rattle.snap_writer.specs.Writer.{WriterState}
 use Rattle.snap_writer.specs.Life.{Place, CrashLeaves}
 use Rattle.snap_frame.specs.declared.request.Request.{Request}
@@ -33,11 +34,11 @@ StoredLaw = (a b : Known) (i k n : ℕ) (v : List ℕ) (h : List Update)
     → (i < segments b.plan) × (n ≡ k) × Has (starts b.plan) h i k v
 
 -- the values are the memory after a beginning of it, which begins with what the service had seen
--- before the request
+-- before the request, and at the first look of its scan
 abbrev pub ScannedLaw : Type 0
 ScannedLaw = (a b : Known) (values : _) (h : List Update)
     → AnswersScan a (Snapshot values) b → IsBeginning b.seen h
-    → (part : List Update) × IsBeginning a.seen part × IsBeginning part h
+    → (part : List Update) × IsBeginning a.seen part × BeginsFresh a b part × IsBeginning part h
     × IsMemory b part (map pair_of values.items)
 
 -- whatever the request, what it was replied stands there

@@ -19,7 +19,8 @@ use snap_disk::Disk;
 use std::io::{Read, Write};
 
 /// An update that was replied `stored`, and the memory that a scan was replied, stand in each history
-/// that begins with what the service's scanner had seen when it replied.
+/// that begins with what the service's scanner had seen when it replied. And the memory has all that
+/// the scanner saw at the first look of the scan.
 pub fn reply_laws()
     ensures stored { StoredLaw }
     ensures scanned { ScannedLaw }

@@ -59,6 +59,12 @@ pub(crate) fn blank(rt: &impl AllocGlobal) -> Result<MemDisk, Fail> {
     Ok(MemDisk::zeroed(rt.alloc(), FILE_LEN as usize)?)
 }
 
+/// A device full of old bytes: an unformatted one, none of whose bytes is one of a new file.
+pub(crate) fn littered(rt: &(impl Abort + AllocGlobal)) -> Result<MemDisk, Fail> {
+    let bytes = vec![in rt.alloc(); 0x77u8; 28_672]?;
+    written(rt, &bytes, 28_672)
+}
+
 pub(crate) fn fresh(rt: &(impl Abort + AllocGlobal)) -> Result<MemDisk, Fail> {
     let mut disk = blank(rt)?;
     formats(rt, &mut disk, Ok(()));

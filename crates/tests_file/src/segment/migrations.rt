@@ -1,13 +1,16 @@
 //! Files of the old format that are carried over to new ones.
 use crate::segment::devices::{
-    GATE_0, GATE_1, HEADER_GATE, Part, after_crash, blank, failing, filled, finds, fresh, holds,
-    made, written,
+    GATE_0, GATE_1, HEADER, HEADER_GATE, Part, after_crash, blank, failing, filled, finds, fresh,
+    has_bytes, holds, littered, made, written,
 };
 use snap_devices::MemDisk;
 use snap_disk::{Disk, Fill, Refusal};
 use snap_segment::{OLD_FILE_LEN, Which, migrate};
 use std::process::Abort;
 use std::test::Fail;
+
+/// Number 1 with the value `hi`, where both formats have it.
+const BODY_1: Part = (16_384, b"\0\0\0\0\0\0\0\x01\0\0\0\x02\0\0\0\0\x68\x69");
 
 /// A device that holds a file of the old format, with no open place: number 0 with the empty value
 /// and number 1 with `hi`, both open.
@@ -17,7 +20,7 @@ fn old_file(rt: &(impl Abort + AllocGlobal)) -> Result<MemDisk, Fail> {
         HEADER_GATE,
         GATE_0,
         GATE_1,
-        (16_384, b"\0\0\0\0\0\0\0\x01\0\0\0\x02\0\0\0\0\x68\x69"),
+        BODY_1,
     ];
     let bytes = filled(rt, 20_480, &parts)?;
     written(rt, &bytes, OLD_FILE_LEN as usize)
@@ -55,6 +58,14 @@ fn migrates(rt: HostRuntime) -> Result<(), Fail> {
     carries(&rt, &mut old, &mut new, 1, again);
     holds(&rt, new, 1, b"hi")?;
     Ok(())
+}
+
+#[test]
+fn migration_leaves_no_old_byte_of_the_new_file(rt: HostRuntime) -> Result<(), Fail> {
+    let mut old = old_file(&rt)?;
+    let mut new = littered(&rt)?;
+    carries(&rt, &mut old, &mut new, 1, Ok(1));
+    has_bytes(&rt, &new, &[HEADER, HEADER_GATE, GATE_1, BODY_1])
 }
 
 #[test]

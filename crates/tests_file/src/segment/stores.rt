@@ -1,7 +1,7 @@
 //! Worked examples of formats, stores and crashes, and the bytes of a file.
 use crate::segment::devices::{
     GATE_0, GATE_1, HEADER, HEADER_GATE, Part, after_crash, blank, crashed, device, failing, finds,
-    formats, fresh, has_bytes, holds, made, opened, stored, stores,
+    formats, fresh, has_bytes, holds, littered, made, opened, stored, stores,
 };
 use snap_devices::{FaultPlan, MemDisk};
 use snap_disk::{Disk, Fill, Refusal};
@@ -61,6 +61,13 @@ fn bytes_of_a_file(rt: HostRuntime) -> Result<(), Fail> {
     let body: Part = (16_384, b"\0\0\0\0\0\0\0\x01\0\0\0\x02\0\0\0\0\x68\x69");
     let parts = [header, HEADER_GATE, GATE_0, GATE_1, body];
     has_bytes(&rt, &segment.into_device(), &parts)
+}
+
+#[test]
+fn format_leaves_no_old_byte(rt: HostRuntime) -> Result<(), Fail> {
+    let mut disk = littered(&rt)?;
+    formats(&rt, &mut disk, Ok(()));
+    has_bytes(&rt, &disk, &[HEADER, HEADER_GATE, GATE_0])
 }
 
 #[test]
