@@ -28,6 +28,6 @@ pub use background::{Background, Done};
 pub use connection::{Ended, Ending};
 pub use fault::{RunFault, ServerFault};
 pub use gate::{Gate, NoGate};
-pub use listen::{Arrival, Listen, Tcp, Unaccepted};
+pub use listen::{Arrival, Listen, Locate, Tcp, Unaccepted};
 pub use note::Note;
 pub use server::{Limits, run};
