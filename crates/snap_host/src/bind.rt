@@ -8,7 +8,7 @@ use std::net::{Net, ToSocketAddrs};
 
 /// Binds an address.
 pub trait Bind {
-    /// What gives the connections that come to the address, and tells which one is really bound.
+    /// What gives the connections that come to the address, and tells which one is bound.
     type Listener: Listen + Locate;
 
     // Which listeners may be bound to a text.

@@ -52,9 +52,9 @@ pub struct Edge<'a, B, G, N, H, C> {
 /// ends.
 ///
 /// All files are opened first. Then the report of the opening is written, and the address is bound.
-/// Once all threads are there, `listening ADDRESS` is written and flushed, with the address that is
-/// really bound; then as many connections are served as the order says, or without end; and at the
-/// end `served K` is written.
+/// Once all threads are there, `listening ADDRESS` is written and flushed, with the address that the
+/// listener which is served on tells of itself; then as many connections are served as the order says,
+/// or without end; and at the end `served K` is written.
 /// Nothing is served before the report and the line are out.
 ///
 /// Why it ended early goes to `errors`, as one line that begins `snapd: `; behind the line of a

@@ -22,6 +22,7 @@ mod sessions;
 mod silence;
 mod socket;
 mod worker;
+mod working;
 
 pub use announce::{Announce, NoAnnouncement};
 pub use background::{Background, Done};
