@@ -30,28 +30,33 @@ use Rattle.snap_host.specs.Hosting.{
   served_line,
 }
 
-pub report_failed : {L : Type 0} (listens : L → SocketAddr → Type 0) (refused : Error → Type 0) (deaf : L → Type 0)
-    (has_come : L → ℕ → Type 0)
-    (connections : Option ℕ) (r : Report) (o n : Option (List ℕ)) (failure : HostFailure)
+pub report_failed : {L : Type 0} (listens : L → SocketAddr → Type 0) (refused : Error → Type 0)
+    (deaf : L → Type 0) (has_come : L → ℕ → Type 0) (connections : Option ℕ) (r : Report)
+    (o n : Option (List ℕ)) (failure : HostFailure)
     → PrintFails o n (report_text r) failure
     → EndsServing listens refused deaf has_come connections r o n (Err failure)
 report_failed listens refused deaf has_come connections r o n (Output error) fails = inl fails
 report_failed listens refused deaf has_come connections r o n NoMemory fails = inl fails
-report_failed listens refused deaf has_come connections r o n (Refused segment why) fails = absurd fails
+report_failed listens refused deaf has_come connections r o n (Refused segment why) fails =
+    absurd fails
 report_failed listens refused deaf has_come connections r o n (Address error) fails = absurd fails
 report_failed listens refused deaf has_come connections r o n (Server fault) fails = absurd fails
 
-pub listen_failed : {L : Type 0} (listens : L → SocketAddr → Type 0) (refused : Error → Type 0) (deaf : L → Type 0)
-    (has_come : L → ℕ → Type 0)
-    (connections : Option ℕ) (r : Report) (o n : Option (List ℕ)) (failure : HostFailure)
+pub listen_failed : {L : Type 0} (listens : L → SocketAddr → Type 0) (refused : Error → Type 0)
+    (deaf : L → Type 0) (has_come : L → ℕ → Type 0) (connections : Option ℕ) (r : Report)
+    (o n : Option (List ℕ)) (failure : HostFailure)
     → Appends o n (report_text r) → ListenFails listens refused failure
     → EndsServing listens refused deaf has_come connections r o n (Err failure)
-listen_failed listens refused deaf has_come connections r o n (Address error) came fails = (fails, came)
+listen_failed listens refused deaf has_come connections r o n (Address error) came fails =
+    (fails, came)
 listen_failed listens refused deaf has_come connections r o n NoMemory came fails =
     inr (fails.0, fails.1, fails.2, inl came)
-listen_failed listens refused deaf has_come connections r o n (Output error) came fails = absurd fails
-listen_failed listens refused deaf has_come connections r o n (Refused segment why) came fails = absurd fails
-listen_failed listens refused deaf has_come connections r o n (Server fault) came fails = absurd fails
+listen_failed listens refused deaf has_come connections r o n (Output error) came fails =
+    absurd fails
+listen_failed listens refused deaf has_come connections r o n (Refused segment why) came fails =
+    absurd fails
+listen_failed listens refused deaf has_come connections r o n (Server fault) came fails =
+    absurd fails
 
 -- this line names the address at which it listens
 abbrev IsNamed : {L : Type 0} (listens : L → SocketAddr → Type 0) (l : L) (line : List ℕ) → Type 0
@@ -81,14 +86,16 @@ listening listens l r o m n line came named said = record {
 }
 
 -- the threads were not started, or ended early, for this reason; `contents` is what a writer holds
-pub ended_early : {W L : Type 0} (contents : W → Option (List ℕ)) (listens : L → SocketAddr → Type 0)
-    (refused : Error → Type 0) (deaf : L → Type 0) (has_come : L → ℕ → Type 0)
-    (connections : Option ℕ) (r : Report) (o : Option (List ℕ)) (old new : W) (l : L) (line : List ℕ)
-    (why : RunFault) → Appends o (contents old) (report_text r) → IsNamed listens l line
+pub ended_early : {W L : Type 0} (contents : W → Option (List ℕ))
+    (listens : L → SocketAddr → Type 0) (refused : Error → Type 0) (deaf : L → Type 0)
+    (has_come : L → ℕ → Type 0) (connections : Option ℕ) (r : Report) (o : Option (List ℕ))
+    (old new : W) (l : L) (line : List ℕ) (why : RunFault)
+    → Appends o (contents old) (report_text r) → IsNamed listens l line
     → Announced (λ x y. Appends (contents x) (contents y) line)
     (λ x y. AppendsBeginning (contents x) (contents y) line) old (Err why) new
     → (why ≡ run.Server faults.AcceptFailed → deaf l)
-    → EndsServing listens refused deaf has_come connections r o (contents new) (Err (failure_of why))
+    → EndsServing listens refused deaf has_come connections r o (contents new)
+    (Err (failure_of why))
 ended_early contents listens refused deaf has_come connections r o old new l line
     (run.Announcement error) came named has is_deaf = inr (
       l,

@@ -118,15 +118,16 @@ ListensAt bound is_at l a = bound l × is_at l a
 -- none was bound, for this reason, or one that was didn't tell where
 abbrev pub IsRefused : {L : Type 0} (bound : L → Type 0) (refuses : Error → Type 0)
     (is_untold : L → Error → Type 0) → Error → Type 0
-IsRefused {L} bound refuses is_untold error = refuses error ⊎ ((l : L) × bound l × is_untold l error)
+IsRefused {L} bound refuses is_untold error =
+    refuses error ⊎ ((l : L) × bound l × is_untold l error)
 
 -- so many connections were accepted from this listener, one after another
 abbrev pub HaveCome : {L : Type 0} → (accepts : L → Result Arrival Unaccepted → L → Type 0) → L
     → ℕ → Type 0
 HaveCome {L} accepts l k = (last : L) × GivesSoMany accepts k l last
 
--- Of the text no more than a beginning was written: no address but that of the server's listener, and
--- no number but the one that was asked for and has come from it.
+-- Of the text no more than a beginning was written: no address but that of the server's listener,
+-- and no number but the one that was asked for and has come from it.
 abbrev pub IsCutShort : {L : Type 0} (listens : L → SocketAddr → Type 0) (came : L → ℕ → Type 0)
     (connections : Option ℕ) → Report → (out out' : Option (List ℕ)) → Type 0
 IsCutShort {L} listens came connections report out out' =
@@ -151,10 +152,10 @@ IsFaulted report a out out' faults.NoPoll = Appends out out' (report_text report
 IsFaulted report a out out' faults.NoThread = Appends out out' (report_text report)
 IsFaulted report a out out' faults.NoMemory = ⊥
 
--- The server opened its files and then ended so. `listens` says which listener may be its own and at
--- which address that is, `refused` why it has none or can't tell where, `deaf` that this listener may
--- refuse connections, `came` that so many came from it, and `out` and `out'` what the writer held before
--- and after.
+-- The server opened its files and then ended so. `listens` says which listener may be its own and
+-- at which address that is, `refused` why it has none or can't tell where, `deaf` that this listener
+-- may refuse connections, `came` that so many came from it, and `out` and `out'` what the writer
+-- held before and after.
 abbrev pub EndsServing : {L : Type 0} (listens : L → SocketAddr → Type 0) (refused : Error → Type 0)
     (deaf : L → Type 0) (came : L → ℕ → Type 0) (connections : Option ℕ) → Report
     → (out out' : Option (List ℕ)) → End → Type 0
@@ -177,7 +178,8 @@ EndsServing {L} listens refused deaf came connections report out out' (Err (Serv
 abbrev pub EndsHost : {L : Type 0} (IsReport : Report → Type 0) (IsStop : ℕ → Refusal → Type 0)
     (listens : L → SocketAddr → Type 0) (refused : Error → Type 0) (deaf : L → Type 0)
     (came : L → ℕ → Type 0) (connections : Option ℕ) (out out' : Option (List ℕ)) → End → Type 0
-EndsHost IsReport IsStop listens refused deaf came connections out out' (Err (Refused segment why)) =
+EndsHost IsReport IsStop listens refused deaf came connections out out'
+    (Err (Refused segment why)) =
     IsStop segment why × Keeps out out'
 EndsHost IsReport IsStop listens refused deaf came connections out out' end =
     (report : Report) × IsReport report

@@ -1,5 +1,29 @@
 -- How the calls of a listener follow one another.
-use Rattle.std.proofs.Common.{◌≡◌, ◌⊎◌, ℕ, zero, suc, nat_lt, if◌then◌else◌, Bool, true, false, List, [], ◌∷◌, length, Result, Ok, Err, IfOk, inl, inr, refl, sym, subst}
+use Rattle.std.proofs.Common.{
+  ◌≡◌,
+  ◌⊎◌,
+  ℕ,
+  zero,
+  suc,
+  nat_lt,
+  if◌then◌else◌,
+  Bool,
+  true,
+  false,
+  List,
+  [],
+  ◌∷◌,
+  length,
+  Result,
+  Ok,
+  Err,
+  IfOk,
+  inl,
+  inr,
+  refl,
+  sym,
+  subst,
+}
 use Rattle.snap_server.specs.declared.listen.Arrival.{Arrival}
 use Rattle.snap_server.specs.declared.listen.Unaccepted.{Unaccepted}
 use Rattle.snap_server.specs.Dealing.{
