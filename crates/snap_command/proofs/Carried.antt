@@ -24,7 +24,7 @@ use Rattle.snap_disk.specs.declared.refusal.Refusal.TheVariants.{
 use Rattle.snap_slot.specs.Layout.{IsUnformatted}
 use Rattle.snap_slot.specs.States.{IsAtRest}
 use Rattle.snap_old_slot.specs.Old.{OldHead, OldHolds}
-use Rattle.snap_segment.specs.Making.{IsMadeOrLeft}
+use Rattle.snap_segment.specs.Making.{IsMadeOrLeft, new_file}
 use Rattle.snap_segment.specs.Migration.{IsPast}
 use Rattle.snap_segment.specs.Refusals.{IsMigrationRefusal}
 use Rattle.snap_segment.specs.declared.migration.Which.{Which}
@@ -107,8 +107,9 @@ pub migrated : (i n number : ℕ) (old new new' : Device) → IsOldFile i n old.
     → IsUnformatted new.bytes
     → ((k : ℕ) (v : List ℕ) → OldHolds old.bytes k v
     → (number ≡ k) × IsAtRest i n k v false new')
+    → ((k : ℕ) (v : List ℕ) → OldHolds old.bytes k v → new'.bytes ≡ new_file i n k v)
     → IsMigrated i n number old new new'
-migrated i n number old new new' file unformatted rests =
+migrated i n number old new new' file unformatted rests bytes =
     let k = file.1.0 in
     let v = file.1.1 in
     let holds = file.1.2 in
@@ -119,6 +120,7 @@ migrated i n number old new new' file unformatted rests =
       held = subst (λ (x : ℕ). OldHolds old.bytes x v) (sym end.0) holds;
       unformatted = unformatted;
       rests = subst (λ (x : ℕ). IsAtRest i n x v false new') (sym end.0) end.1;
+      bytes = subst (λ (x : ℕ). new'.bytes ≡ new_file i n x v) (sym end.0) (bytes k v holds);
     }
 
 -- what a refused migration leaves of the old file

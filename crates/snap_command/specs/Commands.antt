@@ -29,7 +29,7 @@ use Rattle.snap_disk.specs.declared.refusal.Refusal.{Refusal}
 use Rattle.snap_disk.specs.declared.refusal.Refusal.TheVariants as refusal
 use Rattle.snap_slot.specs.declared.layout.TheConstants.{FILE_LEN}
 use Rattle.snap_history.specs.declared.limits.TheConstants.{MAX_VALUE_LEN, LAST_NUMBER}
-use Rattle.snap_slot.specs.Layout.{Head, Holds, IsUnformatted, IsFormatted, IsFileOf}
+use Rattle.snap_slot.specs.Layout.{fresh_file, Head, Holds, IsUnformatted, IsFormatted, IsFileOf}
 use Rattle.snap_slot.specs.States.{IsAtRest, IsEither}
 use Rattle.snap_slot.specs.Findings.{AreFindings, IsNoOpening}
 use Rattle.snap_slot.specs.Text.{findings_text}
@@ -74,9 +74,11 @@ stored_line k = codes "stored " ++ (decimal k ++ codes "\n")
 
 -- ---- format
 
--- the file was unformatted, and is that of segment i of n with number 0 and the empty value
+-- the file was unformatted, and is that of segment i of n with number 0 and the empty value, in each
+-- of its bytes
 abbrev pub IsNewlyFormatted : ℕ → ℕ → Device → Device → Type 0
 IsNewlyFormatted i n old new = IsUnformatted old.bytes × IsAtRest i n 0 [] false new
+    × (new.bytes ≡ fresh_file i n)
 
 -- why a file was not formatted, where its bytes are the reason
 abbrev pub IsNoFormat : List ℕ → Refusal → Type 0

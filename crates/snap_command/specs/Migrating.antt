@@ -26,6 +26,7 @@ use Rattle.snap_slot.specs.Layout.{IsFileOf, IsFormatted, IsUnformatted}
 use Rattle.snap_slot.specs.States.{IsAtRest}
 use Rattle.snap_old_slot.specs.Old.{OldHead, OldHolds}
 use Rattle.snap_old_slot.specs.Reading.{IsNoOldOpening}
+use Rattle.snap_segment.specs.Making.{new_file}
 use Rattle.snap_segment.specs.Migration.{CountsFault}
 use Rattle.snap_segment.specs.declared.migration.Which.TheVariants.{Old, New}
 use Rattle.snap_stream.specs.Streams.{AppendsBeginning, SaysLines, file_line, refused_line}
@@ -111,13 +112,15 @@ MigrationKeeps end same_old same_new kept = Unit {0}
 abbrev pub IsOldFile : ℕ → ℕ → List ℕ → Type 0
 IsOldFile i n b = OldHead b i n × ((k : ℕ) × (v : List ℕ) × OldHolds b k v)
 
--- the old file held number k, and the new one, which was unformatted, holds it with its value
+-- the old file held number k, and the new one, which was unformatted, holds it with its value, and
+-- nothing of what stood there before
 pub record IsMigrated (i n k : ℕ) (old new new' : Device) : Type 0 where
   pub value : List ℕ
   pub head : OldHead old.bytes i n
   pub held : OldHolds old.bytes k value
   pub unformatted : IsUnformatted new.bytes
   pub rests : IsAtRest i n k value false new'
+  pub bytes : new'.bytes ≡ new_file i n k value
 
 -- why the new file could not be made
 abbrev pub IsNoMaking : (old new : List ℕ) → Refusal → Type 0

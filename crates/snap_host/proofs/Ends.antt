@@ -19,18 +19,24 @@ use Rattle.snap_host.specs.declared.failure.HostFailure.TheVariants.{
 }
 use Rattle.snap_host.specs.Hosting.{End, EndsHost, EndsServing, IsReportOf}
 
-pub ends_opened : (IsReport : Report → Type 0) (IsStop : ℕ → Refusal → Type 0)
-    (bound : SocketAddr → Type 0) (refused : Error → Type 0) (deaf : Type 0) (has_come : ℕ → Type 0)
-    (connections : Option ℕ) (r : Report) (o n : Option (List ℕ)) (end : End) → IsReport r
-    → EndsServing bound refused deaf has_come connections r o n end
-    → EndsHost IsReport IsStop bound refused deaf has_come connections o n end
-ends_opened IsReport IsStop bound refused deaf has_come connections r o n (Ok k) is ends = (r, is, ends)
-ends_opened IsReport IsStop bound refused deaf has_come connections r o n (Err (Refused segment why)) is ends =
-    absurd ends
-ends_opened IsReport IsStop bound refused deaf has_come connections r o n (Err NoMemory) is ends = (r, is, ends)
-ends_opened IsReport IsStop bound refused deaf has_come connections r o n (Err (Address error)) is ends = (r, is, ends)
-ends_opened IsReport IsStop bound refused deaf has_come connections r o n (Err (Output error)) is ends = (r, is, ends)
-ends_opened IsReport IsStop bound refused deaf has_come connections r o n (Err (Server fault)) is ends = (r, is, ends)
+pub ends_opened : {L : Type 0} (IsReport : Report → Type 0) (IsStop : ℕ → Refusal → Type 0)
+    (listens : L → SocketAddr → Type 0) (refused : Error → Type 0) (deaf : L → Type 0)
+    (has_come : L → ℕ → Type 0) (connections : Option ℕ) (r : Report) (o n : Option (List ℕ))
+    (end : End) → IsReport r
+    → EndsServing listens refused deaf has_come connections r o n end
+    → EndsHost IsReport IsStop listens refused deaf has_come connections o n end
+ends_opened IsReport IsStop listens refused deaf has_come connections r o n (Ok k) is ends =
+    (r, is, ends)
+ends_opened IsReport IsStop listens refused deaf has_come connections r o n
+    (Err (Refused segment why)) is ends = absurd ends
+ends_opened IsReport IsStop listens refused deaf has_come connections r o n
+    (Err NoMemory) is ends = (r, is, ends)
+ends_opened IsReport IsStop listens refused deaf has_come connections r o n
+    (Err (Address error)) is ends = (r, is, ends)
+ends_opened IsReport IsStop listens refused deaf has_come connections r o n
+    (Err (Output error)) is ends = (r, is, ends)
+ends_opened IsReport IsStop listens refused deaf has_come connections r o n
+    (Err (Server fault)) is ends = (r, is, ends)
 
 pub reported : {D : Type 0} (device : D → Device) (failures : D → ℕ) (honest : D → Type 0)
     (clock : D → ℕ) (might_have_left : D → ℕ → List ℕ → Type 0) (devices : List D)

@@ -110,25 +110,37 @@ IsStopOf device failures honest clock might_have_left devices segment why =
     × IsStopped device failures honest clock might_have_left devices news why segment
     × StayKept device honest clock might_have_left devices news
 
--- so many connections were accepted from a listener of this kind, one after another
-abbrev pub HaveCome : {L : Type 0} → (accepts : L → Result Arrival Unaccepted → L → Type 0) → ℕ
-    → Type 0
-HaveCome {L} accepts k = (first : L) × (last : L) × GivesSoMany accepts k first last
+-- a listener that was bound, at the address that it tells itself
+abbrev pub ListensAt : {L : Type 0} (bound : L → Type 0) (is_at : L → SocketAddr → Type 0) → L
+    → SocketAddr → Type 0
+ListensAt bound is_at l a = bound l × is_at l a
 
--- Of the text no more than a beginning was written: no address that isn't bound, and no number but
--- the one that was asked for and has come.
-abbrev pub IsCutShort : (bound : SocketAddr → Type 0) (came : ℕ → Type 0) (connections : Option ℕ)
-    → Report → (out out' : Option (List ℕ)) → Type 0
-IsCutShort bound came connections report out out' = AppendsBeginning out out' (report_text report)
-    ⊎ ((a : SocketAddr) × bound a × (AppendsBeginning out out' (opening_text report a)
-    ⊎ ((k : ℕ) × (connections ≡ Some k) × came k
+-- none was bound, for this reason, or one that was didn't tell where
+abbrev pub IsRefused : {L : Type 0} (bound : L → Type 0) (refuses : Error → Type 0)
+    (is_untold : L → Error → Type 0) → Error → Type 0
+IsRefused {L} bound refuses is_untold error =
+    refuses error ⊎ ((l : L) × bound l × is_untold l error)
+
+-- so many connections were accepted from this listener, one after another
+abbrev pub HaveCome : {L : Type 0} → (accepts : L → Result Arrival Unaccepted → L → Type 0) → L
+    → ℕ → Type 0
+HaveCome {L} accepts l k = (last : L) × GivesSoMany accepts k l last
+
+-- Of the text no more than a beginning was written: no address but that of the server's listener,
+-- and no number but the one that was asked for and has come from it.
+abbrev pub IsCutShort : {L : Type 0} (listens : L → SocketAddr → Type 0) (came : L → ℕ → Type 0)
+    (connections : Option ℕ) → Report → (out out' : Option (List ℕ)) → Type 0
+IsCutShort {L} listens came connections report out out' =
+    AppendsBeginning out out' (report_text report)
+    ⊎ ((l : L) × (a : SocketAddr) × listens l a × (AppendsBeginning out out' (opening_text report a)
+    ⊎ ((k : ℕ) × (connections ≡ Some k) × came l k
     × AppendsBeginning out out' (whole_text report a k))))
 
 -- want of memory cuts no line short, and comes before the last one
-abbrev pub IsStarved : (bound : SocketAddr → Type 0) → Report → (out out' : Option (List ℕ))
-    → Type 0
-IsStarved bound report out out' = Keeps out out'
-    ⊎ ((a : SocketAddr) × bound a × (Appends out out' (report_text report)
+abbrev pub IsStarved : {L : Type 0} (listens : L → SocketAddr → Type 0) → Report
+    → (out out' : Option (List ℕ)) → Type 0
+IsStarved {L} listens report out out' = Keeps out out'
+    ⊎ ((l : L) × (a : SocketAddr) × listens l a × (Appends out out' (report_text report)
     ⊎ Appends out out' (opening_text report a)))
 
 -- What was written of a server whose threads or sockets failed: it said that it listens once it had
@@ -140,35 +152,38 @@ IsFaulted report a out out' faults.NoPoll = Appends out out' (report_text report
 IsFaulted report a out out' faults.NoThread = Appends out out' (report_text report)
 IsFaulted report a out out' faults.NoMemory = ⊥
 
--- The server opened its files and then ended so. `bound` says which addresses its own may be bound
--- to, `refused` why it may not be, `deaf` that connections there may be refused, `came` that so many
--- came, and `out` and `out'` what the writer held before and after.
-abbrev pub EndsServing : (bound : SocketAddr → Type 0) (refused : Error → Type 0) (deaf : Type 0)
-    (came : ℕ → Type 0) (connections : Option ℕ) → Report → (out out' : Option (List ℕ)) → End → Type 0
-EndsServing bound refused deaf came connections report out out' (Ok k) =
-    (a : SocketAddr) × bound a × (connections ≡ Some k) × came k
+-- The server opened its files and then ended so. `listens` says which listener may be its own and
+-- at which address that is, `refused` why it has none or can't tell where, `deaf` that this listener
+-- may refuse connections, `came` that so many came from it, and `out` and `out'` what the writer
+-- held before and after.
+abbrev pub EndsServing : {L : Type 0} (listens : L → SocketAddr → Type 0) (refused : Error → Type 0)
+    (deaf : L → Type 0) (came : L → ℕ → Type 0) (connections : Option ℕ) → Report
+    → (out out' : Option (List ℕ)) → End → Type 0
+EndsServing {L} listens refused deaf came connections report out out' (Ok k) =
+    (l : L) × (a : SocketAddr) × listens l a × (connections ≡ Some k) × came l k
     × Appends out out' (whole_text report a k)
-EndsServing bound refused deaf came connections report out out' (Err (Refused segment why)) = ⊥
-EndsServing bound refused deaf came connections report out out' (Err NoMemory) =
-    IsStarved bound report out out'
-EndsServing bound refused deaf came connections report out out' (Err (Address error)) =
+EndsServing listens refused deaf came connections report out out' (Err (Refused segment why)) = ⊥
+EndsServing listens refused deaf came connections report out out' (Err NoMemory) =
+    IsStarved listens report out out'
+EndsServing listens refused deaf came connections report out out' (Err (Address error)) =
     refused error × Appends out out' (report_text report)
-EndsServing bound refused deaf came connections report out out' (Err (Output error)) =
-    IsCutShort bound came connections report out out'
-EndsServing bound refused deaf came connections report out out' (Err (Server fault)) =
-    (fault ≡ faults.AcceptFailed → deaf)
-    × ((a : SocketAddr) × bound a × IsFaulted report a out out' fault)
+EndsServing listens refused deaf came connections report out out' (Err (Output error)) =
+    IsCutShort listens came connections report out out'
+EndsServing {L} listens refused deaf came connections report out out' (Err (Server fault)) =
+    (l : L) × (a : SocketAddr) × listens l a × (fault ≡ faults.AcceptFailed → deaf l)
+    × IsFaulted report a out out' fault
 
 -- The same from the opening on. `IsReport` says which reports are of its devices, and `IsStop`
 -- where and why their opening may be refused.
-abbrev pub EndsHost : (IsReport : Report → Type 0) (IsStop : ℕ → Refusal → Type 0)
-    (bound : SocketAddr → Type 0) (refused : Error → Type 0) (deaf : Type 0)
-    (came : ℕ → Type 0) (connections : Option ℕ) (out out' : Option (List ℕ)) → End → Type 0
-EndsHost IsReport IsStop bound refused deaf came connections out out' (Err (Refused segment why)) =
+abbrev pub EndsHost : {L : Type 0} (IsReport : Report → Type 0) (IsStop : ℕ → Refusal → Type 0)
+    (listens : L → SocketAddr → Type 0) (refused : Error → Type 0) (deaf : L → Type 0)
+    (came : L → ℕ → Type 0) (connections : Option ℕ) (out out' : Option (List ℕ)) → End → Type 0
+EndsHost IsReport IsStop listens refused deaf came connections out out'
+    (Err (Refused segment why)) =
     IsStop segment why × Keeps out out'
-EndsHost IsReport IsStop bound refused deaf came connections out out' end =
+EndsHost IsReport IsStop listens refused deaf came connections out out' end =
     (report : Report) × IsReport report
-    × EndsServing bound refused deaf came connections report out out' end
+    × EndsServing listens refused deaf came connections report out out' end
 
 -- ---- the steps
 
@@ -178,12 +193,12 @@ PrintFails out out' text (Output error) = AppendsBeginning out out' text
 PrintFails out out' text NoMemory = Keeps out out'
 PrintFails out out' text failure = ⊥
 
--- the address was not bound, or there was no memory for the line that names it
-abbrev pub ListenFails : (bound : SocketAddr → Type 0) (refused : Error → Type 0) → HostFailure
-    → Type 0
-ListenFails bound refused (Address error) = refused error
-ListenFails bound refused NoMemory = (a : SocketAddr) × bound a
-ListenFails bound refused failure = ⊥
+-- the address was not bound or not told, or there was no memory for the line that names it
+abbrev pub ListenFails : {L : Type 0} (listens : L → SocketAddr → Type 0) (refused : Error → Type 0)
+    → HostFailure → Type 0
+ListenFails listens refused (Address error) = refused error
+ListenFails {L} listens refused NoMemory = (l : L) × (a : SocketAddr) × listens l a
+ListenFails listens refused failure = ⊥
 
 -- what the program ends with where its server ended so
 abbrev pub failure_of : RunFault → HostFailure

@@ -4,7 +4,7 @@ ghost use Rattle.std.specs.declared.net.socket_addr.SocketAddr.{SocketAddr};
 ghost use Rattle.snap_order.specs.Order.{IsServable};
 ghost use Rattle.snap_restart.specs.Closed.{AreBack};
 ghost use Rattle.snap_host.specs.Hosting.{End, EndsHost, EndsServing, IsReportOf, IsStopOf};
-ghost use Rattle.snap_host.specs.Hosting.{HaveCome, ListenFails, SaysEnd, failure_of, listening_line, status_at};
+ghost use Rattle.snap_host.specs.Hosting.{HaveCome, IsRefused, ListenFails, ListensAt, SaysEnd, failure_of, listening_line, status_at};
 
 use crate::announcing::Announcement;
 use crate::bind::Bind;
@@ -15,7 +15,7 @@ use crate::watch::Watch;
 use snap_disk::Disk;
 use snap_order::{Ended, Serving, Status};
 use snap_restart::{Report, Store, open_all};
-use snap_server::{Gate, Limits, Note, RunFault, ServerFault};
+use snap_server::{Gate, Limits, Locate, Note, RunFault, ServerFault};
 use snap_stream::Cause;
 use std::alloc::Global;
 use std::io::Write;
@@ -52,9 +52,9 @@ pub struct Edge<'a, B, G, N, H, C> {
 /// ends.
 ///
 /// All files are opened first. Then the report of the opening is written, and the address is bound.
-/// Once all threads are there, `listening ADDRESS` is written and flushed, with the address that is
-/// really bound; then as many connections are served as the order says, or without end; and at the
-/// end `served K` is written.
+/// Once all threads are there, `listening ADDRESS` is written and flushed, with the address that the
+/// listener which is served on tells of itself; then as many connections are served as the order says,
+/// or without end; and at the end `served K` is written.
 /// Nothing is served before the report and the line are out.
 ///
 /// Why it ended early goes to `errors`, as one line that begins `snapd: `; behind the line of a
@@ -90,10 +90,11 @@ where
         (E.contents errors.old) (E.contents errors.new)
         × EndsHost (IsReportOf D.device D.failure_count D.is_honest D.clock D.might_have_left
         devices.items) (IsStopOf D.device D.failure_count D.is_honest D.clock D.might_have_left
-        devices.items) (B.binds edge.entry.bind.now order.now.address.now)
-        (B.refuses edge.entry.bind.now order.now.address.now)
-        ((l : B.Listener) × B.Listener.refuses l) (HaveCome B.Listener.accepts)
-        order.now.connections
+        devices.items)
+        (ListensAt (B.binds edge.entry.bind.now order.now.address.now) B.Listener.is_at)
+        (IsRefused (B.binds edge.entry.bind.now order.now.address.now)
+        (B.refuses edge.entry.bind.now order.now.address.now) B.Listener.is_untold)
+        B.Listener.refuses (HaveCome B.Listener.accepts) order.now.connections
         (W.contents writer.old) (W.contents writer.new) end }
 {
     let causes = edge.causes;
@@ -131,10 +132,11 @@ where
     requires note { N.IsAlwaysCallable edge.note.now }
     ensures { EndsHost (IsReportOf D.device D.failure_count D.is_honest D.clock D.might_have_left
         devices.items) (IsStopOf D.device D.failure_count D.is_honest D.clock D.might_have_left
-        devices.items) (B.binds edge.entry.bind.now order.now.address.now)
-        (B.refuses edge.entry.bind.now order.now.address.now)
-        ((l : B.Listener) × B.Listener.refuses l) (HaveCome B.Listener.accepts)
-        order.now.connections
+        devices.items)
+        (ListensAt (B.binds edge.entry.bind.now order.now.address.now) B.Listener.is_at)
+        (IsRefused (B.binds edge.entry.bind.now order.now.address.now)
+        (B.refuses edge.entry.bind.now order.now.address.now) B.Listener.is_untold)
+        B.Listener.refuses (HaveCome B.Listener.accepts) order.now.connections
         (W.contents writer.old) (W.contents writer.new) result }
 {
     match open_all(alloc, devices, usize::from(order.scanners)) {
@@ -169,10 +171,11 @@ where
     W: Write,
     requires back { AreBack store.writers.items store.scanners.items }
     requires note { N.IsAlwaysCallable edge.note.now }
-    ensures { EndsServing (B.binds edge.entry.bind.now order.now.address.now)
-        (B.refuses edge.entry.bind.now order.now.address.now)
-        ((l : B.Listener) × B.Listener.refuses l) (HaveCome B.Listener.accepts)
-        order.now.connections
+    ensures { EndsServing
+        (ListensAt (B.binds edge.entry.bind.now order.now.address.now) B.Listener.is_at)
+        (IsRefused (B.binds edge.entry.bind.now order.now.address.now)
+        (B.refuses edge.entry.bind.now order.now.address.now) B.Listener.is_untold)
+        B.Listener.refuses (HaveCome B.Listener.accepts) order.now.connections
         report.now (W.contents writer.old) (W.contents writer.new) result }
 {
     match print_report(alloc, report, writer) {
@@ -229,7 +232,7 @@ fn failure_of(fault: RunFault) -> HostFailure
     }
 }
 
-/// Binds the address, and makes the line that says where it really is.
+/// Binds the address, and makes the line that says where the listener really is.
 fn listen<B: Bind>(
     alloc: Global,
     address: &str,
@@ -237,12 +240,19 @@ fn listen<B: Bind>(
 ) -> Result<(B::Listener, Announcement), HostFailure>
 where
     B::Listener: Drop,
-    ensures bound { IfOk result (λ made. (a : SocketAddr) × B.binds bind.now address.now a
+    ensures bound { IfOk result (λ made. (a : SocketAddr)
+        × ListensAt (B.binds bind.now address.now) B.Listener.is_at made.0 a
         × (string_bytes made.1.line ≡ listening_line a)) }
     ensures failed { IfErr result
-        (ListenFails (B.binds bind.now address.now) (B.refuses bind.now address.now)) }
+        (ListenFails (ListensAt (B.binds bind.now address.now) B.Listener.is_at)
+        (IsRefused (B.binds bind.now address.now) (B.refuses bind.now address.now)
+        B.Listener.is_untold)) }
 {
-    let (listener, bound) = match bind.bind(address) {
+    let listener = match bind.bind(address) {
+        Ok(listener) => listener,
+        Err(error) => return Err(HostFailure::Address(error)),
+    };
+    let bound = match listener.address() {
         Ok(bound) => bound,
         Err(error) => return Err(HostFailure::Address(error)),
     };

@@ -1,5 +1,29 @@
 -- How the calls of a listener follow one another.
-use Rattle.std.proofs.Common.{◌≡◌, ◌⊎◌, ℕ, zero, suc, nat_lt, if◌then◌else◌, Bool, true, false, List, [], ◌∷◌, length, Result, Err, inl, inr, refl, sym, subst}
+use Rattle.std.proofs.Common.{
+  ◌≡◌,
+  ◌⊎◌,
+  ℕ,
+  zero,
+  suc,
+  nat_lt,
+  if◌then◌else◌,
+  Bool,
+  true,
+  false,
+  List,
+  [],
+  ◌∷◌,
+  length,
+  Result,
+  Ok,
+  Err,
+  IfOk,
+  inl,
+  inr,
+  refl,
+  sym,
+  subst,
+}
 use Rattle.snap_server.specs.declared.listen.Arrival.{Arrival}
 use Rattle.snap_server.specs.declared.listen.Unaccepted.{Unaccepted}
 use Rattle.snap_server.specs.Dealing.{
@@ -60,3 +84,11 @@ module _ {L : Type 0} (accepts : L → Result Arrival Unaccepted → L → Type 
   deals_accepted takes doors zero a b same = same
   deals_accepted takes doors (suc k) a b (mid, arrival, door, before, gives, turn, taken) =
       (mid, arrival, deals_accepted takes doors k a mid before, gives)
+
+  -- the same, where so many are known at its end
+  pub dealt_accepted : {H E : Type 0} (takes : H → Arrival → Type 0) (doors : List H) (first : L)
+      (end : Result ℕ E) → IfOk end (λ k. (left : L) × Deals accepts takes doors k first left)
+      → IfOk end (λ k. (left : L) × GivesSoMany accepts k first left)
+  dealt_accepted takes doors first (Ok k) (left, deals) =
+      (left, deals_accepted takes doors k first left deals)
+  dealt_accepted takes doors first (Err why) deals = tt

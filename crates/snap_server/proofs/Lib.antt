@@ -1,5 +1,4 @@
 mod Sharing
 mod Listing
 mod Made
-mod Announcing
 mod Dealing

@@ -3,3 +3,4 @@ pub mod Sharing
 pub mod Listing
 pub mod Standing
 pub mod Announced
+pub mod Working

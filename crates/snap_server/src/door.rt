@@ -25,14 +25,20 @@ pub enum Mail<O: Drop> {
     Stop,
 }
 
-/// Takes connections in for a worker.
+/// Takes connections and mail in for a worker.
 pub trait Hand {
+    /// What becomes of a request that the worker's service handed over.
+    type Outcome: Drop;
+
     /// That this connection was handed over.
     ghost takes: { Self → Arrival → Type 0 };
 
     /// Hands a connection over and wakes the worker; `false` where it has ended.
     fn hand<X: Wait + Clock>(&self, rt: &X, arrival: Arrival) -> bool
         ensures { result ≡ true → takes self.now arrival };
+
+    /// Sends mail and wakes the worker; `false` where it has ended.
+    fn post<X: Wait + Clock>(&self, rt: &X, mail: Mail<Self::Outcome>) -> bool;
 }
 
 /// Where connections and mail for a worker are put, apart, so that no outcome waits behind those that
@@ -67,19 +73,20 @@ impl<O: Drop> Door<O> {
         };
         Ok((door, inbox))
     }
-
-    /// Sends mail and wakes the worker; `false` where it has ended.
-    pub fn post<X: Wait + Clock>(&self, rt: &X, mail: Mail<O>) -> bool {
-        sent(rt, &self.mail, mail) && self.waker.wake().is_ok()
-    }
 }
 
 impl<O: Drop> Hand for Door<O> {
+    type Outcome = O;
+
     // Of what goes through a channel nothing is known.
     ghost takes = { λ _ _. Unit {0} };
 
     fn hand<X: Wait + Clock>(&self, rt: &X, arrival: Arrival) -> bool {
         sent(rt, &self.arrivals, arrival) && self.waker.wake().is_ok()
+    }
+
+    fn post<X: Wait + Clock>(&self, rt: &X, mail: Mail<O>) -> bool {
+        sent(rt, &self.mail, mail) && self.waker.wake().is_ok()
     }
 }
 

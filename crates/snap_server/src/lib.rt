@@ -22,12 +22,13 @@ mod sessions;
 mod silence;
 mod socket;
 mod worker;
+mod working;
 
 pub use announce::{Announce, NoAnnouncement};
 pub use background::{Background, Done};
 pub use connection::{Ended, Ending};
 pub use fault::{RunFault, ServerFault};
 pub use gate::{Gate, NoGate};
-pub use listen::{Arrival, Listen, Tcp, Unaccepted};
+pub use listen::{Arrival, Listen, Locate, Tcp, Unaccepted};
 pub use note::Note;
 pub use server::{Limits, run};

@@ -1,5 +1,7 @@
 //! Where connections come from.
-ghost use Rattle.std.specs.Prelude.{◌≡◌, IfErr, Result};
+ghost use Rattle.std.specs.Prelude.{◌≡◌, IfErr, IfOk, Result};
+ghost use Rattle.std.specs.declared.io.Error.{Error};
+ghost use Rattle.std.specs.declared.net.socket_addr.SocketAddr.{SocketAddr};
 ghost use Rattle.snap_server.specs.declared.listen.Arrival.{Arrival};
 ghost use Rattle.snap_server.specs.declared.listen.Unaccepted.{Unaccepted};
 
@@ -50,6 +52,20 @@ pub trait Listen {
     fn close(&self);
 }
 
+/// Tells where it listens.
+pub trait Locate {
+    /// That it listens at this address.
+    ghost is_at: { Self → SocketAddr → Type 0 };
+
+    /// Why it may not tell where.
+    ghost is_untold: { Self → Error → Type 0 } = { λ _ _. Unit {0} };
+
+    /// The address at which it gives connections.
+    fn address(&self) -> io::Result<SocketAddr>
+        ensures told { IfOk result (λ address. is_at self.now address) }
+        ensures untold { IfErr result (λ error. is_untold self.now error) };
+}
+
 /// The system's errors that say that it has no descriptor or no memory for a socket: Linux's ENFILE,
 /// EMFILE, ENOMEM and ENOBUFS.
 const NO_ROOM: [i32; 4] = [23, 24, 12, 105];
@@ -68,18 +84,13 @@ pub struct Tcp {
 
 impl Tcp {
     /// Listens at an address, with the longest queue of connections that the system allows. At
-    /// port 0 the system picks one, which [`address`](Tcp::address) tells. An error is the
+    /// port 0 the system picks one, which [`address`](Locate::address) tells. An error is the
     /// system's.
     pub fn bind(net: &impl Net, address: SocketAddr) -> io::Result<Tcp> {
         let listener = TcpListener::from(mio::net::TcpListener::bind(net, address)?);
         listener.set_nonblocking(false)?;
         ask_silent_peers(&listener);
         Ok(Tcp { listener })
-    }
-
-    /// The address that is really bound.
-    pub fn address(&self) -> io::Result<SocketAddr> {
-        self.listener.local_addr()
     }
 
     /// Waits for the next connection.
@@ -108,6 +119,16 @@ impl Listen for Tcp {
     /// Its descriptor stays open, and is no listener's any more.
     fn close(&self) {
         net::shutdown(self.listener.as_raw_fd(), net::SHUT_RDWR);
+    }
+}
+
+impl Locate for Tcp {
+    /// The premise: its socket is bound where the system says (`getsockname`). The kit has no word
+    /// for that.
+    ghost is_at = { λ _ _. Unit {0} };
+
+    fn address(&self) -> io::Result<SocketAddr> {
+        self.listener.local_addr()
     }
 }
 

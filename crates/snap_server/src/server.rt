@@ -1,12 +1,12 @@
 //! All threads of a server.
-ghost use Rattle.std.specs.Prelude.{◌≡◌, ◌⊎◌, IfOk, IfErr, Some, map, vec_len};
+ghost use Rattle.std.specs.Prelude.{◌≡◌, ◌⊎◌, [], All, IfOk, IfErr, OnOk, Some, map, true, vec_len};
 ghost use Rattle.std.specs.Thread.{IsSync, IsSend};
 ghost use Rattle.snap_server.specs.Announced.{Announced, end_of, was_announced};
 ghost use Rattle.snap_server.specs.Dealing.{Deals, GivesSoMany};
 
 use crate::accepting::Dealer;
 use crate::announce::Announce;
-use crate::background::{Background, Done};
+use crate::background::Background;
 use crate::door::{Door, Hand, Mail};
 use crate::fault::{RunFault, ServerFault};
 use crate::gate::{Gate, Gated};
@@ -16,14 +16,14 @@ use crate::note::Note;
 use crate::room::Room;
 use crate::silence::Silence;
 use crate::worker::Worker;
+use crate::working::{Work, have_served, start_backgrounds, start_workers};
 use snap_session::Service;
 use std::alloc::Global;
 use std::net::Net;
 use std::rt::Clock;
 use std::sync::Wait;
-use std::sync::atomic::{AtomicBool, Ordering};
 use std::thread;
-use std::thread::{Scope, Threads};
+use std::thread::Threads;
 use std::time::Duration;
 
 /// How much a server takes in.
@@ -41,30 +41,9 @@ pub struct Limits {
     pub idle: Option<Duration>,
 }
 
-/// Tells the workers what is done, until no more will be.
-fn tell_all<X: Wait + Clock, B: Background + Drop>(
-    rt: &X,
-    mut background: B,
-    doors: &[Door<B::Outcome>],
-) {
-    for _ in rt.forever() {
-        let Some(done) = background.next_done() else {
-            return;
-        };
-        let Done {
-            worker,
-            key,
-            outcome,
-        } = done;
-        if let Some(door) = doors.get(worker) {
-            door.post(rt, Mail::Done { key, outcome });
-        }
-    }
-}
-
 /// Tells the workers that no more connections come: they serve those that they have to their end, or
 /// let go of them where the server has failed.
-fn close_all<X: Wait + Clock, O: Drop>(rt: &X, doors: &[Door<O>], has_served: bool) {
+fn close_all<X: Wait + Clock, H: Hand>(rt: &X, doors: &[H], has_served: bool) {
     for door in doors {
         let mail = if has_served { Mail::Close } else { Mail::Stop };
         door.post(rt, mail);
@@ -132,13 +111,6 @@ where
     open_workers(net, alloc, services, idle)
 }
 
-/// Whether there is a thread for this work.
-fn starts<'s, E, F: FnOnce() + Send + Drop + 's>(scope: &Scope<'s, E>, work: F) -> bool
-    requires { F.pre work }
-{
-    scope.spawn(work).is_ok()
-}
-
 /// Announces the server where it has all its threads, and then accepts and deals so many
 /// connections, or without end.
 fn accept_announced<X, L, H, N, T, A>(
@@ -160,6 +132,7 @@ where
     requires none { dealer.dealt ≡ 0 }
     requires first { dealer.next ≡ 0 }
     requires note { N.IsAlwaysCallable note.now }
+    ensures whole { OnOk result (is_whole ≡ true) }
     ensures asked { IfOk result (λ k. connections ≡ Some k) }
     ensures deals { IfOk result (λ k. Deals L.accepts H.takes dealer.entry.doors.now k
         listener.old listener.new) }
@@ -182,15 +155,16 @@ where
 }
 
 /// Runs the threads of all workers and backgrounds. Once all are there it announces the server, and
-/// accepts on this one.
-fn run_threads<X, L, S, B, N, T, A>(
+/// accepts on this one. It has served only where each worker says so, and each connection was handed
+/// to the door whose turn it was.
+fn run_threads<X, L, K, H, B, N, T, A>(
     rt: &X,
+    alloc: Global,
     listener: L,
-    workers: Vec<Worker<S>>,
-    doors: &[Door<S::Outcome>],
+    workers: Vec<K>,
+    doors: &[H],
     backgrounds: Vec<B>,
     limits: Limits,
-    failed: &AtomicBool,
     note: &N,
     announce: &A,
     to: &mut T,
@@ -198,15 +172,17 @@ fn run_threads<X, L, S, B, N, T, A>(
 where
     X: Threads + Wait + Clock + Sync,
     L: Listen + Drop,
-    S: Service + Send + Drop,
-    S::Outcome: Send + Drop,
-    B: Background<Outcome = S::Outcome> + Send + Drop,
+    K: Work + Send + Drop,
+    H: Hand + Sync,
+    H::Outcome: Send + Drop,
+    B: Background<Outcome = H::Outcome> + Send + Drop,
     N: Fn(&Note) + Sync,
     A: Announce<T>,
     requires { N.IsAlwaysCallable note.now }
     ensures asked { IfOk result (λ k. limits.connections ≡ Some k) }
-    ensures accepted { IfOk result (λ k.
-        (left : L) × GivesSoMany L.accepts k listener left) }
+    ensures deals { IfOk result (λ k.
+        (left : L) × Deals L.accepts H.takes doors.now k listener left) }
+    ensures served { OnOk result (All K.serves workers.items) }
     ensures deaf { IfErr result (λ why.
         why ≡ RunFault.Server ServerFault.AcceptFailed → L.refuses listener) }
     ensures announced { Announced (A.announces announce.now) (A.fails announce.now)
@@ -214,40 +190,28 @@ where
 {
     let room = Room::new(limits.clients);
     let room = &room;
-    let (accepted, _to) = thread::scope(
+    let Ok(threads) = Vec::with_capacity(alloc, workers.len()) else {
+        return Err(RunFault::Server(ServerFault::NoMemory));
+    };
+    let (ended, _to) = thread::scope(
         thread::scope_env(),
         rt,
         move |scope| -> (Result<u64, RunFault>, &mut T)
-            requires { IsSync X.row × IsSync N.row × IsSend S.row × N.IsAlwaysCallable note.now }
+            requires { IsSync X.row × IsSync N.row × IsSync H.row × IsSend K.row
+                × N.IsAlwaysCallable note.now × (threads.items ≡ []) }
             ensures asked { IfOk result.0 (λ k. limits.connections ≡ Some k) }
-            ensures accepted { IfOk result.0 (λ k.
-                (left : L) × GivesSoMany L.accepts k listener left) }
+            ensures deals { IfOk result.0 (λ k.
+                (left : L) × Deals L.accepts H.takes doors.entry.now k listener left) }
+            ensures served { OnOk result.0 (All K.serves workers.items) }
             ensures deaf { IfErr result.0 (λ why.
                 why ≡ RunFault.Server ServerFault.AcceptFailed → L.refuses listener) }
             ensures announced { Announced (A.announces announce.entry.now)
                 (A.fails announce.entry.now) to.entry.now result.0 result.1.now }
             ensures same { result.1.ghost_name ≡ to.entry.ghost_name }
         {
-            let mut is_whole = true;
-            for background in backgrounds {
-                let told = move ||
-                    requires { IsSync X.row }
-                {
-                    tell_all(rt, background, doors);
-                };
-                is_whole &= starts(scope, told);
-            }
-            for worker in workers {
-                let served = move ||
-                    requires { IsSync X.row × IsSync N.row × IsSend S.row × N.IsAlwaysCallable note.now }
-                {
-                    let mut worker = worker;
-                    if worker.work(rt, room, note).is_err() {
-                        failed.store(true, Ordering::SeqCst);
-                    }
-                };
-                is_whole &= starts(scope, served);
-            }
+            let mut threads = threads;
+            let is_told = start_backgrounds(scope, rt, doors, backgrounds);
+            let is_worked = start_workers(scope, rt, room, note, workers, &mut threads);
             let mut listener = listener;
             let dealer = Dealer::new(Intake::new(room, limits.fault_rest), doors);
             let asked = limits.connections;
@@ -255,7 +219,7 @@ where
                 rt,
                 &mut listener,
                 dealer,
-                is_whole,
+                is_told && is_worked,
                 asked,
                 note,
                 announce,
@@ -265,10 +229,10 @@ where
             listener.close();
             close_all(rt, doors, accepted.is_ok());
             // Handed back: of what a closure that was given away has changed, nothing is known.
-            (accepted, to)
+            (end_of(accepted, !have_served(rt, threads)), to)
         },
     );
-    accepted
+    ended
 }
 
 /// Serves the connections that the listener gives, dealt in turn to one worker for each service,
@@ -331,20 +295,18 @@ where
         Ok(opened) => opened,
         Err(fault) => return Err(RunFault::Server(fault)),
     };
-    let failed = AtomicBool::new(false);
-    let served = run_threads(
+    run_threads(
         rt,
+        alloc,
         listener,
         workers,
         doors.as_slice(),
         backgrounds,
         limits,
-        &failed,
         note,
         announce,
         to,
-    );
-    end_of(served, failed.load(Ordering::SeqCst))
+    )
 }
 
 /// How a server ended whose threads ended so: where one of them could wait no longer, that is why,

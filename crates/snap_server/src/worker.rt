@@ -11,6 +11,7 @@ use crate::note::Note;
 use crate::room::Room;
 use crate::sessions::Sessions;
 use crate::silence::{Look, Silence};
+use crate::working::Work;
 use mio::{Events, Poll, Token, Waker};
 use snap_patience::Patience;
 use snap_session::{End, Service};
@@ -348,5 +349,22 @@ where
             }
         }
         unreachable!()
+    }
+}
+
+impl<S: Service + Drop> Work for Worker<S>
+where
+    S::Outcome: Drop,
+{
+    ghost use Rattle.snap_server.specs.Working.{HasServed};
+
+    ghost serves = { λ worker. (last : _) × HasServed S.gives worker last };
+
+    fn work_off<X: Wait + Clock, N: Fn(&Note)>(self, rt: &X, room: &Room, note: &N) -> bool {
+        let mut worker = self;
+        match worker.work(rt, room, note) {
+            Ok(()) => true,
+            Err(_) => false,
+        }
     }
 }

@@ -1,11 +1,12 @@
 //! Servers over two segments in memory.
+ghost use Rattle.std.specs.Prelude.{◌≡◌};
 
 use snap_devices::{Held, MemDisk};
 use snap_disk::Disk;
 use snap_host::{Bind, Edge, NoWatch, host};
 use snap_order::{Level, Serving, Status};
 use snap_segment::format;
-use snap_server::{Arrival, Gate, Listen, Note, Tcp, Unaccepted};
+use snap_server::{Arrival, Gate, Listen, Locate, Note, Tcp, Unaccepted};
 use snap_slot::FILE_LEN;
 use snap_stream::Unknown;
 use std::alloc::{AllocError, Global};
@@ -24,10 +25,11 @@ pub(crate) struct Ready<'a> {
     address: SocketAddr,
 }
 
-/// The connections of another listener.
+/// The connections of another listener, which is at this address.
 #[derive(Drop)]
 pub(crate) struct Shared<'a> {
     tcp: &'a Tcp,
+    address: SocketAddr,
 }
 
 impl<'a> Ready<'a> {
@@ -48,11 +50,22 @@ impl Listen for Shared<'_> {
     }
 }
 
+impl Locate for Shared<'_> {
+    ghost is_at = { λ shared address. address ≡ shared.address };
+
+    fn address(&self) -> io::Result<SocketAddr> {
+        Ok(self.address)
+    }
+}
+
 impl<'a> Bind for Ready<'a> {
     type Listener = Shared<'a>;
 
-    fn bind(&self, _address: &str) -> io::Result<(Shared<'a>, SocketAddr)> {
-        Ok((Shared { tcp: self.tcp }, self.address))
+    fn bind(&self, _address: &str) -> io::Result<Shared<'a>> {
+        Ok(Shared {
+            tcp: self.tcp,
+            address: self.address,
+        })
     }
 }
 

@@ -52,7 +52,8 @@ returns-in-Ok-write_whole-clause-ends g c =
       (λ old_honest new_honest. migrated c.args.order.now.index c.args.order.now.count
           c.in-Ok-migrate.number (g.O.Disk.device c.args.old) (g.N.Disk.device c.args.new)
           (g.N.Disk.device c.migrate.new.new) (answer.old_read old_honest tt)
-          (answer.unformatted new_honest) (answer.last old_honest new_honest)),
+          (answer.unformatted new_honest) (answer.last old_honest new_honest)
+          (answer.bytes old_honest new_honest)),
       subst (λ (l : List ℕ). Appends (g.W.Write.contents c.args.writer.now)
           (g.W.Write.contents c.write_whole.new.writer) l) line c.in-Ok-write_whole.ensures.whole,
     )
@@ -78,7 +79,8 @@ returns-clause-ends g c =
       (λ old_honest new_honest. migrated c.args.order.now.index c.args.order.now.count
           c.in-Ok-migrate.number (g.O.Disk.device c.args.old) (g.N.Disk.device c.args.new)
           (g.N.Disk.device c.migrate.new.new) (answer.old_read old_honest tt)
-          (answer.unformatted new_honest) (answer.last old_honest new_honest)),
+          (answer.unformatted new_honest) (answer.last old_honest new_honest)
+          (answer.bytes old_honest new_honest)),
       subst (λ (l : List ℕ). AppendsBeginning (g.W.Write.contents c.args.writer.now)
           (g.W.Write.contents c.write_whole.new.writer) l) line c.write_whole.ensures.beginning,
     )
