@@ -8,7 +8,7 @@ use Rattle.snap_segment.specs.Segment.{SegmentState}
 use Rattle.snap_register.specs.declared.plan.Plan.{Plan}
 use Rattle.snap_writer.specs.Writer.{WriterState}
 use Rattle.snap_writer.specs.Life.{Stores, Does, Lived, IsWriterOf}
-use Rattle.snap_cut.specs.Staying.{Gave, Always, Keeps, Stays}
+use Rattle.snap_cut.specs.Staying.{Gave, Keeps, Stays}
 use Rattle.snap_cut.proofs.Living.{does_is}
 
 -- a writer of a segment is one wherever its life brings it
@@ -22,6 +22,24 @@ lived_is device honest clock might_have_left plan n i a z [] is lived =
 lived_is device honest clock might_have_left plan n i a z (b ∷ life) is lived =
     lived_is device honest clock might_have_left plan n i b z life
     (does_is device honest clock might_have_left plan n i a b is lived.0) lived.1
+
+module _ {D : Type 0} (device : D → Device) (honest : D → Type 0) (clock : D → ℕ)
+    (might_have_left : D → ℕ → List ℕ → Type 0) where
+  -- a device that is honest now was so before
+  honest_before : (a b : WriterState D) → Does device honest clock might_have_left a b
+      → honest b.segment.device → honest a.segment.device
+  honest_before a b (inl sees) hon =
+      subst (λ (s : SegmentState D). honest s.device) sees.segment_is hon
+  honest_before a b (inr (inl stores)) hon = stores.1.honest_then hon
+  honest_before a b (inr (inr shows)) hon =
+      subst (λ (s : SegmentState D). honest s.device) shows.segment_is hon
+
+  honest_all : (a z : WriterState D) (life : List (WriterState D))
+      → Lived device honest clock might_have_left a life z → honest z.segment.device
+      → honest a.segment.device
+  honest_all a z [] lived hon = subst (λ (w : WriterState D). honest w.segment.device) lived hon
+  honest_all a z (b ∷ life) lived hon =
+      honest_before a b lived.0 (honest_all b z life lived.1 hon)
 
 module _ {D : Type 0} (device : D → Device) (honest : D → Type 0) (clock : D → ℕ)
     (might_have_left : D → ℕ → List ℕ → Type 0) (plan : Plan) (n i : ℕ) (a : WriterState D)
@@ -170,31 +188,32 @@ module _ {D : Type 0} (device : D → Device) (honest : D → Type 0) (clock : D
 
   -- the rest of its life
   walk : (m z : WriterState D) (rest : List (WriterState D))
-      → ((j : ℕ) (w : WriterState D) → slice_get (m ∷ rest) j ≡ Some w
-      → InLife w × honest w.segment.device)
-      → Lived device honest clock might_have_left m rest z → CameTo m → Left m
-      → Stays device honest clock might_have_left n i a life z
-  walk m z [] each lived came left =
+      → ((j : ℕ) (w : WriterState D) → slice_get (m ∷ rest) j ≡ Some w → InLife w)
+      → Lived device honest clock might_have_left m rest z → honest z.segment.device
+      → CameTo m → Left m → Stays device honest clock might_have_left n i a life z
+  walk m z [] each lived hon came left =
       subst (Stays device honest clock might_have_left n i a life) (sym lived) (
-      record { any_time = left; now = between m came (each 0 m refl).1 })
-  walk m z (b ∷ rest) each lived came left =
-      let here = each 1 b refl in
-      let next = step_left m b came here.0 here.1 lived.0 left in
-      walk b z rest (λ j w e. each (suc j) w e) lived.1 next.0 next.1
+      record {
+        any_time = left;
+        now = between m came (honest_all device honest clock might_have_left m z [] lived hon);
+      })
+  walk m z (b ∷ rest) each lived hon came left =
+      let b_honest = honest_all device honest clock might_have_left b z rest lived.1 hon in
+      let next = step_left m b came (each 1 b refl) b_honest lived.0 left in
+      walk b z rest (λ j w e. each (suc j) w e) lived.1 hon next.0 next.1
 
   pub stays : (z : WriterState D)
       → ((d : D) (b : List ℕ) → honest d → might_have_left d (clock d) b → MayLeave (device d) b)
-      → Is a → Lived device honest clock might_have_left a life z
-      → Always (a ∷ life) (λ w. honest w.segment.device)
+      → Is a → Lived device honest clock might_have_left a life z → honest z.segment.device
       → Stays device honest clock might_have_left n i a life z
   stays z only_now is lived hon =
+      let first = honest_all device honest clock might_have_left a z life lived hon in
       let came : CameTo a = record {
         is = is;
         at = (0, refl);
         no_less = omega arith;
         same_value = λ e. refl;
       } in
-      walk a z life (λ j w e. ((j, e), hon j w e)) lived came
+      walk a z life (λ j w e. (j, e)) lived hon came
       (started clock might_have_left a.segment.device (Keeps n i a life)
-      (λ x left. between a came (hon 0 a refl) x
-      (only_now a.segment.device x (hon 0 a refl) left)))
+      (λ x left. between a came first x (only_now a.segment.device x first left)))

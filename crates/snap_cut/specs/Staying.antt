@@ -15,10 +15,6 @@ Gave k v w = ((k ≡ w.segment.number) × (v ≡ w.segment.value))
 abbrev pub Once : {D : Type 0} → List (WriterState D) → (WriterState D → Type 0) → Type 0
 Once {D} life P = (j : ℕ) × (w : WriterState D) × (slice_get life j ≡ Some w) × P w
 
--- and at each of them
-abbrev pub Always : {D : Type 0} → List (WriterState D) → (WriterState D → Type 0) → Type 0
-Always {D} life P = (j : ℕ) (w : WriterState D) → slice_get life j ≡ Some w → P w
-
 -- These bytes are the file of segment i of n, and nothing that the writer had stored when it was at
 -- a is lost: it holds the number that was stored there, with the value that was, or a later number,
 -- with the value that the writer gave to it in its life since.
@@ -40,10 +36,9 @@ module _ {D : Type 0} (device : D → Device) (honest : D → Type 0) (clock : D
         (Keeps n i a life)
     pub now : (b : List ℕ) → MayLeave (device z.segment.device) b → Keeps n i a life b
 
-  -- so it is wherever a writer has come to by its life, on a device that was honest all the time
+  -- so it is wherever a writer has come to by its life
   abbrev pub StaysLaw : Type 0
   StaysLaw = (plan : Plan) (n i : ℕ) (a z : WriterState D) (life : List (WriterState D))
       → IsWriterOf device honest clock might_have_left plan n i a
       → Lived device honest clock might_have_left a life z
-      → Always (a ∷ life) (λ w. honest w.segment.device)
-      → Stays n i a life z
+      → honest z.segment.device → Stays n i a life z

@@ -1,9 +1,9 @@
 -- What the writers of an opening have stored stays.
-use Rattle.std.specs.Prelude.{◌≡◌, ℕ, List, ◌∷◌, length, Some, slice_get}
+use Rattle.std.specs.Prelude.{◌≡◌, ℕ, List, length, Some, slice_get}
 use Rattle.snap_disk.specs.Device.{Device}
 use Rattle.snap_writer.specs.Writer.{WriterState}
 use Rattle.snap_writer.specs.Life.{Lived}
-use Rattle.snap_cut.specs.Staying.{Always, Stays}
+use Rattle.snap_cut.specs.Staying.{Stays}
 
 module _ {D : Type 0} (device : D → Device) (honest : D → Type 0) (clock : D → ℕ)
     (might_have_left : D → ℕ → List ℕ → Type 0) where
@@ -15,5 +15,5 @@ module _ {D : Type 0} (device : D → Device) (honest : D → Type 0) (clock : D
       → slice_get writers i ≡ Some w
       → Lived device honest clock might_have_left w before a
       → Lived device honest clock might_have_left a life z
-      → Always (a ∷ life) (λ m. honest m.segment.device)
+      → honest z.segment.device
       → Stays device honest clock might_have_left (length writers) i a life z

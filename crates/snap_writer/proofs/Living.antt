@@ -50,12 +50,12 @@ module _ {D : Type 0} (device : D → Device) (honest : D → Type 0) (clock : D
     between = record { segment = z.segment; seat = a.seat }
 
     pub advanced : IsShown a → a.segment.begun ≡ None → IsSameSeat a.seat z.seat → Advances a z v
-        → AnyTime
+        → (honest z.segment.device → honest a.segment.device) → AnyTime
         → (honest z.segment.device → (x : List ℕ) → MayLeave (device z.segment.device) x
         → IsFileOf a.segment.index a.segment.count (number_of a + 1) v x)
         → First v a z
     unfolding between
-    advanced shown unfenced seat adv any last =
+    advanced shown unfenced seat adv honest_then any last =
         let is = adv.stored in
         let index : a.segment.index ≡ z.segment.index =
         sym (ap (λ (s : SegmentState D). s.index) is) in
@@ -72,6 +72,7 @@ module _ {D : Type 0} (device : D → Device) (honest : D → Type 0) (clock : D
           rests = λ hon x left. inl (subst (λ (y : ℕ × ℕ × ℕ × List ℕ).
               IsFileOf y.0 y.1 y.2 y.3 x)
               (λ t. (index t, count t, sym number t, sym value t)) (last hon x left));
+          honest_then = honest_then;
           any_time = any_time_stored shown any;
         } in
         let shows : Shows device honest clock might_have_left between z = record {
@@ -82,12 +83,13 @@ module _ {D : Type 0} (device : D → Device) (honest : D → Type 0) (clock : D
         } in
         (between, stores, inl shows)
 
-    pub failed : IsShown a → a.segment.begun ≡ None → Fails a z v → AnyTime
+    pub failed : IsShown a → a.segment.begun ≡ None → Fails a z v
+        → (honest z.segment.device → honest a.segment.device) → AnyTime
         → (honest z.segment.device → (x : List ℕ) → MayLeave (device z.segment.device) x
         → IsEither a.segment.index a.segment.count (number_of a) (value_of a) v x)
         → First v a z
     unfolding between
-    failed shown unfenced f any either =
+    failed shown unfenced f honest_then any either =
         let is = f.fenced in
         let index : a.segment.index ≡ z.segment.index =
         sym (ap (λ (s : SegmentState D). s.index) is) in
@@ -112,6 +114,7 @@ module _ {D : Type 0} (device : D → Device) (honest : D → Type 0) (clock : D
                     (λ t. (index t, count t, number t)) new,
               ))
               (either hon x left);
+          honest_then = honest_then;
           any_time = any_time_stored shown any;
         } in
         let sees : Sees device honest clock might_have_left between z =
@@ -132,6 +135,7 @@ module _ {D : Type 0} (device : D → Device) (honest : D → Type 0) (clock : D
   pub went_on : (k : ℕ) (v : List ℕ) (a z : WriterState D) (result : Result ℕ Refusal)
       → IsShown a → a.segment.begun ≡ None → k ≡ number_of a + 1 → IsSameSeat a.seat z.seat
       → OnOk result (Advances a z v) → OnErr result (Fails a z v)
+      → (honest z.segment.device → honest a.segment.device)
       → (honest z.segment.device → LeavesOnly clock might_have_left a.segment.device
       z.segment.device (IsEither a.segment.index a.segment.count (number_of a) (value_of a) v))
       → (honest z.segment.device → OnOk result (IsSettled (device z.segment.device)
@@ -141,12 +145,12 @@ module _ {D : Type 0} (device : D → Device) (honest : D → Type 0) (clock : D
       → MayLeave (device z.segment.device) x
       → IsEither a.segment.index a.segment.count (number_of a) (value_of a) v x))
       → First v a z
-  went_on k v a z (Ok n) shown unfenced next seat advances fails any last either =
-      advanced a z v shown unfenced seat advances any
+  went_on k v a z (Ok n) shown unfenced next seat advances fails then any last either =
+      advanced a z v shown unfenced seat advances then any
       (λ hon x left. subst (λ (m : ℕ). IsFileOf a.segment.index a.segment.count m v x) next
       ((last hon).1 x left))
-  went_on k v a z (Err why) shown unfenced next seat advances fails any last either =
-      failed a z v shown unfenced fails any either
+  went_on k v a z (Err why) shown unfenced next seat advances fails then any last either =
+      failed a z v shown unfenced fails then any either
 
   pub met : (a z : WriterState D) → z.segment ≡ a.segment → Meets a.seat z.seat → Past a z
   met a z segment meets =

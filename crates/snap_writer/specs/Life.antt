@@ -78,6 +78,7 @@ module _ {D : Type 0} (device : D → Device) (honest : D → Type 0) (clock : D
       spare_open = true;
     }) ⊎ (b.segment ≡ record a.segment { device = b.segment.device; begun = Some v })
     pub rests : Rests b
+    pub honest_then : honest b.segment.device → honest a.segment.device
     pub any_time : honest b.segment.device
         → LeavesOnly clock might_have_left a.segment.device b.segment.device
         (IsEither a.segment.index a.segment.count a.segment.number a.segment.value v)

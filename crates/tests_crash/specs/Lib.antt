@@ -1,2 +1,3 @@
 pub mod Worked
 pub mod Together
+pub mod Staying

@@ -9,7 +9,9 @@ ghost use Rattle.snap_writer.specs.Judge.{IsJudged};
 ghost use Rattle.snap_writer.specs.Life.{in_store};
 ghost use Rattle.tests_crash.specs.Worked.{IsRecoveredNow};
 ghost use Rattle.tests_crash.specs.Together.{AreTwo, IsRecoveredAt, stored_unshown};
+ghost use Rattle.tests_crash.specs.Staying.{IsAWriter, LosesNothing};
 
+use snap_cut::life_laws;
 use snap_disk::Disk;
 use snap_history::LAST_NUMBER;
 use snap_restart::{Stopped, open_all};
@@ -76,4 +78,33 @@ pub fn open_two<D: Disk + Drop>(alloc: Global, devices: Vec<D>, value: &[u8], ot
         return;
     }
     two_at_once(&mut first, &mut second, one + 1, value, two + 1, other);
+}
+
+/// Two updates of one writer, whatever they are answered. A crash at any time since before the first
+/// of them leaves the number that was stored then, with its value, or a later number.
+pub fn goes_on<D: Disk>(writer: &mut Writer<D>, one: u64, value: &[u8], two: u64, other: &[u8])
+    requires { IsAWriter D.device D.is_honest D.clock D.might_have_left writer.old }
+    ensures { LosesNothing D.device D.is_honest D.clock D.might_have_left writer.old writer.new }
+{
+    life_laws::<D>();
+    let _ = writer.update(one, value);
+    let _ = writer.update(two, other);
+}
+
+/// Opens all files, takes the last writer and goes on once an update of it was answered: so the premise
+/// of [`goes_on`] is met by real calls.
+pub fn open_and_go_on<D: Disk + Drop>(alloc: Global, devices: Vec<D>, number: u64, value: &[u8])
+    requires count { (0 < length devices.items) × (length devices.items ≤ MAX_COUNT) }
+    requires headroom { All (λ d. D.failure_count d < 2 ^ 64 - 1) devices.items }
+{
+    let Ok((mut store, _)) = open_all(alloc, devices, 1) else {
+        return;
+    };
+    let Some(mut writer) = store.writers.pop() else {
+        return;
+    };
+    if writer.update(number, value).is_err() {
+        return;
+    }
+    goes_on(&mut writer, number, value, number, b"");
 }

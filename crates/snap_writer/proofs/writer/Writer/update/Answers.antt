@@ -90,7 +90,8 @@ returns-in-Go-clause-stored_first g c = λ judged.
     went_on g.D.Disk.device g.D.Disk.is_honest g.D.Disk.clock g.D.Disk.might_have_left _
     c.args.value.now c.args.self.now c.advance.new.self c.advance.result c.judge.ensures.shown
     unfenced refl c.advance.ensures.same_seat c.advance.ensures.advances c.advance.ensures.fails
-    c.advance.ensures.any_time c.advance.ensures.last c.advance.ensures.either
+    c.advance.ensures.honest c.advance.ensures.any_time c.advance.ensures.last
+    c.advance.ensures.either
 
 pub returns-in-Go-clause-lived : goal.returns-in-Go-clause-lived
 returns-in-Go-clause-lived g c =

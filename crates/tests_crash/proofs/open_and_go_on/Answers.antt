@@ -1,0 +1,9 @@
+use Rattle.tests_crash.proofs.Staying.{is_a_writer}
+use Rattle.tests_crash.proofs.open_and_go_on.Goals as goal
+
+pub goes_on-requires : goal.goes_on-requires
+goes_on-requires g c =
+    is_a_writer g.D.Disk.device g.D.Disk.is_honest g.D.Disk.clock g.D.Disk.might_have_left
+    c.args.devices.items c.in-Ok.store.writers.items _ c.pop.result c.in-Some.writer
+    c.update.new.self c.in-Ok.ensures.crash c.pop.ensures.items c.in-Some.is
+    c.update.ensures.lived
