@@ -1,7 +1,8 @@
 //! The end of a run: what its workers know, and the store that is closed with them.
 ghost use Rattle.std.specs.Prelude.{◌≡◌, ℕ, ◌+◌, List, map, slice_get, Some, IfOk};
 ghost use Rattle.snap_history.specs.History.{Update};
-ghost use Rattle.snap_restart.specs.Closed.{IsSeatAt, IsHistory};
+ghost use Rattle.snap_devices.specs.MemDisk.{memory_device};
+ghost use Rattle.snap_restart.specs.Closed.{IsSeatAt, IsHistory, HoldsAfter};
 
 use crate::threads::generation::{Outcome, Workers, stored_by};
 use crate::threads::seats::SeatedWatcher;
@@ -93,9 +94,14 @@ fn close<M: Memory>(
     store: Store<MemDisk>,
     workers: Workers<M>,
 ) -> io::Result<Vec<MemDisk>>
-    // What the writers and the scanners have seen in their threads are beginnings of one history.
+    // What the writers and the scanners have seen in their threads are beginnings of one history, and
+    // each device holds the number and the value of its segment after it.
     ensures history { IfOk result (λ _. (h : List Update)
-        × IsHistory h (map (λ c. c.writer) workers.clients.items) workers.watchers.items) }
+        × IsHistory h (map (λ c. c.writer) workers.clients.items) workers.watchers.items
+        × ((i : ℕ) (w : _) → slice_get (map (λ c. c.writer) workers.clients.items) i ≡ Some w
+        → HoldsAfter memory_device (λ _. Unit {0}) h i w)) }
+    ensures devices { IfOk result (λ devices. devices.items
+        ≡ map (λ w. w.segment.device) (map (λ c. c.writer) workers.clients.items)) }
 {
     let mut store = store;
     store.writers = writers_of(alloc, workers.clients)?;
