@@ -34,7 +34,7 @@ def test_clauses_stand_at_the_functions_that_are_named(snapd, random):
             source = (document.parent / target).read_text()
             name = name.rpartition("::")[2]
             if name[0].isupper():
-                assert re.search(rf"\b(trait|struct|enum) {name}\b", source), f"{document.name}: {target} has no {name}"
+                assert re.search(rf"\b(trait|struct|enum|const) {name}\b", source), f"{document.name}: {target} has no {name}"
                 continue
             at = re.search(rf"\bfn {name}\b.*?(?=^\s*(?:pub(?:\([a-z]+\))? )?(?:const )?fn |\Z)", source, re.S | re.M)
             assert at, f"{document.name}: there is no function {name} in {target}"
@@ -88,3 +88,61 @@ def test_what_no_clause_says_has_a_test_or_says_that_it_has_none(snapd, random):
     # The tests that were written for such rows stand in them.
     for name in re.findall(r"^def (test_\w+)", (TOP / "tests" / "test_unsaid.py").read_text(), re.M):
         assert ("../tests/test_unsaid.py", name) in shown, f"{name} is in no row"
+
+
+# ---- the tables of docs/ARCHITECTURE.md ----
+
+ARCHITECTURE = TOP / "docs" / "ARCHITECTURE.md"
+
+
+def table(heading):
+    """The rows of the first table below this heading, without its head."""
+    chapter = ARCHITECTURE.read_text().split(f"\n## {heading}\n")[1].split("\n## ")[0]
+    rows = [[cell.strip() for cell in line.strip("|").split(" | ")] for line in chapter.splitlines() if line.startswith("|")]
+    assert len(rows) > 2 and all(len(row) == len(rows[0]) for row in rows[2:]), heading
+    return rows[2:]
+
+
+def test_each_crate_stands_in_one_room(snapd, random):
+    assert ARCHITECTURE.read_text().startswith("# Architecture\n\n## Rooms\n\n| ")
+    told = {room: re.findall(r"`(\w+)`", crates) for room, _, crates in table("Rooms")}
+    listed = {}
+    for line in (TOP / "crates.txt").read_text().splitlines():
+        if heading := re.match(r"# (\w+): ", line):
+            listed[heading[1]] = []
+        elif crate := re.match(r"\w+", line):
+            listed[list(listed)[-1]].append(crate[0])
+    assert list(told.items()) == list(listed.items())
+    crates = sum(listed.values(), [])
+    assert sorted(crates) == sorted(it.parent.name for it in (TOP / "crates").glob("*/src")), "a crate twice or in no room"
+
+
+def constant(name, file):
+    """The number that a constant of this file stands for. Another one that it names stands in the same crate."""
+    stated = re.search(rf"\bconst {name}: \w+ = ([^;]+);", file.read_text())
+    assert stated, f"{file} has no number {name}"
+
+    def beside(word):
+        return str(next(constant(word[0], it) for it in file.parent.glob("*.rt") if f"const {word[0]}: " in it.read_text()))
+
+    return eval(re.sub(r"[A-Z][A-Z_]+", beside, stated[1]))
+
+
+def test_limits_are_those_of_the_code(snapd, random):
+    rows = table("Limits")
+    for what, limit, where, _ in rows:
+        number = re.match(r"[\d,]+( ?[\^*-] ?\d+)*", limit)[0].replace(",", "").replace("^", "**")
+        [(name, target)] = LINK.findall(where)
+        assert constant(name.strip("`"), TOP / "docs" / target) == eval(number), (what, limit)
+    assert len({where for _, _, where, _ in rows}) == len(rows) > 40
+
+
+def test_words_stand_for_what_is_there(snapd, random):
+    rows = table("Words")
+    assert [word for word, _, _ in rows] == sorted({word for word, _, _ in rows}), "a word twice, or not in order"
+    for word, meaning, where in rows:
+        assert named_in(where), f"{word} names no code"
+        for name, target, source in named_in(where):
+            defined = rf"(trait|struct|enum|const) {name}\b|^ *(pub )?(abbrev |record |data )(pub )?{name}(?= |$)"
+            assert re.search(defined, source, re.M), f"{word}: {target} has no {name}"
+        assert meaning.count("(1)") == where.count("(1)"), word

@@ -1,5 +1,7 @@
 //! Who reads the scans, in a thread of its own.
-ghost use Rattle.std.specs.Prelude.{◌<◌};
+ghost use Rattle.std.specs.Prelude.{◌≡◌, ◌<◌, IfOk, IsTrue};
+ghost use Rattle.snap_register.specs.Seat.{Grows};
+ghost use Rattle.snap_memory.specs.Scans.{IsSnapshot};
 
 use crate::values::{Numbers, SEGMENTS, is_value_of};
 use snap_memory::{Scanner, Snapshot};
@@ -20,7 +22,9 @@ pub struct Watcher {
 
 impl Watcher {
     /// Who reads the scans of this scanner, after one that showed these numbers.
-    pub fn new(alloc: Global, scanner: Scanner, shown: Numbers) -> Result<Watcher, AllocError> {
+    pub fn new(alloc: Global, scanner: Scanner, shown: Numbers) -> Result<Watcher, AllocError>
+        ensures scanner { IfOk result (λ w. w.scanner ≡ scanner) }
+    {
         Ok(Watcher {
             scanner,
             snapshot: Snapshot::new(alloc, SEGMENTS)?,
@@ -29,8 +33,12 @@ impl Watcher {
         })
     }
 
-    /// One scan.
-    pub fn scan(&mut self) {
+    /// One scan. Its snapshot is the memory of one moment of what the scanner has seen then.
+    pub fn scan(&mut self)
+        ensures seen { Grows self.old.scanner self.new.scanner }
+        ensures snapshot { IsTrue self.new.is_right
+            → IsSnapshot self.old.scanner self.new.scanner self.new.snapshot }
+    {
         if self.snapshot.len() != self.scanner.segments() || self.snapshot.len() != SEGMENTS {
             self.is_right = false;
             return;
@@ -44,6 +52,9 @@ impl Watcher {
     /// The number and the value of one segment.
     fn read(&mut self, segment: usize)
         requires { segment < SEGMENTS }
+        ensures scanner { self.new.scanner ≡ self.old.scanner }
+        ensures snapshot { self.new.snapshot ≡ self.old.snapshot }
+        ensures right { IsTrue self.new.is_right → IsTrue self.old.is_right }
     {
         if segment >= self.snapshot.len() {
             return;

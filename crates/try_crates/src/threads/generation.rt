@@ -1,17 +1,24 @@
 //! One run between an opening of all files and the crash that ends it.
-ghost use Rattle.std.specs.Prelude.{◌<◌};
+ghost use Rattle.std.specs.Prelude.{◌≡◌, ℕ, ◌+◌, ◌<◌, slice_get, Some};
+ghost use Rattle.snap_restart.specs.Closed.{IsSeatAt};
 
-use crate::threads::worker::{Client, Worker, work};
+use crate::threads::seats::{SeatedWatcher, SeatedWriter};
+use crate::threads::worker::{Client, scan_all, update_all};
 use snap_devices::MemDisk;
 use snap_memory::Scanner;
+use snap_restart::Store;
+use snap_service::Memory;
 use snap_writer::Writer;
-use std::alloc::Global;
-use std::io;
+use std::alloc::{AllocError, Global};
 use std::sync::atomic::AtomicU64;
-use std::thread::{Threads, for_each_mut};
-use try_parts::{Draw, Numbers, SEGMENTS, Watcher, is_value_of, opened_all};
+use std::thread::{Threads, for_each_mut, join};
+use std::{io, mem};
+use try_parts::{Draw, Numbers, SEGMENTS, is_value_of};
 
-const SCANNERS: usize = 2;
+pub(crate) const SCANNERS: usize = 2;
+
+/// How many threads work at once.
+const WORKERS: u64 = (SEGMENTS + SCANNERS) as u64;
 
 /// What the clients and whoever read the scans know when the machine crashes.
 #[derive(Clone, Copy)]
@@ -44,116 +51,116 @@ fn is_recovered(writer: &Writer<MemDisk>, segment: usize, last: &Outcome) -> boo
         && is_value_of(segment, number, writer.value())
 }
 
-/// A client at each writer.
-fn clients_of(
-    workers: &mut Vec<Worker>,
+/// A client at each writer, in order of the segments.
+fn clients_of<M: Memory>(
+    alloc: Global,
     writers: Vec<Writer<MemDisk>>,
     last: &Outcome,
-) -> io::Result<()> {
-    for (segment, writer) in writers.into_iter().enumerate() {
+) -> io::Result<Vec<Client<M>>>
+    requires seats { (i : ℕ) (w : _) → slice_get writers.items i ≡ Some w
+        → IsSeatAt M.table M.plan i (i + 1) w.seat }
+{
+    let mut clients = Vec::new(alloc);
+    'writers: for writer in writers {
+        let segment = clients.len();
         if segment >= SEGMENTS || !is_recovered(&writer, segment, last) {
             return Err(io::Error::other("a crash left what it could not leave"));
         }
-        workers.push(Worker::Client(Client {
-            stored: writer.number(),
-            writer,
-            segment,
-            has_begun: false,
-            is_right: true,
-        }))?;
+        clients.push(Client::new(SeatedWriter::new(writer, segment)))?;
     }
-    Ok(())
+    Ok(clients)
 }
 
 /// Who reads the scans of each scanner.
-fn watchers_of(
+fn watchers_of<M: Memory>(
     alloc: Global,
-    workers: &mut Vec<Worker>,
     scanners: Vec<Scanner>,
     last: &Outcome,
-) -> io::Result<()> {
-    for scanner in scanners {
-        workers.push(Worker::Watcher(Watcher::new(alloc, scanner, last.shown)?))?;
+) -> Result<Vec<SeatedWatcher<M>>, AllocError>
+    requires seats { (k : ℕ) (b : _) → slice_get scanners.items k ≡ Some b
+        → IsSeatAt M.table M.plan 0 0 b }
+{
+    let mut watchers = Vec::new(alloc);
+    'scanners: for scanner in scanners {
+        watchers.push(SeatedWatcher::new(alloc, scanner, last.shown)?)?;
     }
-    Ok(())
+    Ok(watchers)
 }
 
-/// Opens all files, and puts a worker at each writer and each scanner.
-pub(crate) fn open(
+/// All clients and watchers, taken out of their store.
+#[derive(Drop)]
+pub struct Workers<M: Memory> {
+    pub clients: Vec<Client<M>>,
+    pub watchers: Vec<SeatedWatcher<M>>,
+}
+
+/// Takes the writers and the scanners out of the store, and puts a client or a watcher at each.
+pub(crate) fn take_out<M: Memory>(
     alloc: Global,
-    devices: Vec<MemDisk>,
+    store: &mut Store<MemDisk>,
     last: &Outcome,
-) -> io::Result<Vec<Worker>> {
-    let store = opened_all(alloc, devices, SCANNERS)?;
-    let mut workers = Vec::new(alloc);
-    clients_of(&mut workers, store.writers, last)?;
-    watchers_of(alloc, &mut workers, store.scanners, last)?;
-    Ok(workers)
+) -> io::Result<Workers<M>>
+    requires writers { (i : ℕ) (w : _) → slice_get store.old.writers.items i ≡ Some w
+        → IsSeatAt M.table M.plan i (i + 1) w.seat }
+    requires scanners { (k : ℕ) (b : _) → slice_get store.old.scanners.items k ≡ Some b
+        → IsSeatAt M.table M.plan 0 0 b }
+{
+    let writers = mem::replace(&mut store.writers, Vec::new(alloc));
+    let scanners = mem::replace(&mut store.scanners, Vec::new(alloc));
+    Ok(Workers {
+        clients: clients_of(alloc, writers, last)?,
+        watchers: watchers_of(alloc, scanners, last)?,
+    })
+}
+
+/// All clients make their updates, each in a thread of its own.
+fn update_at_once<M: Memory + Send, R: Threads + Sync>(
+    rt: &R,
+    clients: &mut [Client<M>],
+    arrived: &AtomicU64,
+) {
+    for_each_mut(
+        rt,
+        clients,
+        SEGMENTS,
+        &|_, client| update_all(client, arrived, WORKERS),
+    );
+}
+
+/// All watchers make their scans, each in a thread of its own.
+fn scan_at_once<M: Memory + Send, R: Threads + Sync>(
+    rt: &R,
+    watchers: &mut [SeatedWatcher<M>],
+    arrived: &AtomicU64,
+) {
+    for_each_mut(
+        rt,
+        watchers,
+        SCANNERS,
+        &|_, watcher| scan_all(watcher, arrived, WORKERS),
+    );
 }
 
 /// All work at once.
-pub(crate) fn work_all<R: Threads + Sync>(rt: &R, workers: &mut Vec<Worker>) {
+pub(crate) fn work_all<M: Memory + Send, R: Threads + Sync>(rt: &R, workers: &mut Workers<M>) {
     let arrived = AtomicU64::new(0);
-    let count = SEGMENTS + SCANNERS;
-    for_each_mut(
+    let clients = workers.clients.as_mut_slice();
+    let watchers = workers.watchers.as_mut_slice();
+    join(
         rt,
-        workers.as_mut_slice(),
-        count,
-        &|_, worker| work(worker, &arrived, count as u64),
+        || update_at_once(rt, clients, &arrived),
+        || scan_at_once(rt, watchers, &arrived),
     );
 }
 
 /// The numbers that the files start with, or end with.
-pub(crate) fn stored_by(workers: &Vec<Worker>) -> Numbers {
+pub(crate) fn stored_by<M: Memory>(clients: &Vec<Client<M>>) -> Numbers {
     let mut stored = [0; SEGMENTS];
-    for worker in workers {
-        if let Worker::Client(client) = worker {
-            if client.segment < SEGMENTS {
-                stored[client.segment] = client.stored;
-            }
+    for client in clients {
+        let segment = client.writer.segment();
+        if segment < SEGMENTS {
+            stored[segment] = client.stored;
         }
     }
     stored
-}
-
-/// What each client and each scan says. One scan more, behind all updates, has all of them.
-fn outcome_of(workers: &mut Vec<Worker>) -> io::Result<Outcome> {
-    let stored = stored_by(workers);
-    let mut most = stored;
-    for worker in workers.iter_mut() {
-        let is_right = match worker {
-            Worker::Client(client) => {
-                if client.has_begun && client.segment < SEGMENTS {
-                    most[client.segment] = client.stored.saturating_add(1);
-                }
-                client.is_right
-            }
-            Worker::Watcher(watcher) => {
-                watcher.scan();
-                watcher.is_right && watcher.shown == stored
-            }
-        };
-        if !is_right {
-            return Err(io::Error::other("an answer was wrong"));
-        }
-    }
-    Ok(Outcome {
-        stored,
-        most,
-        shown: stored,
-    })
-}
-
-/// All work has ended: the devices, in order, and what is known.
-pub(crate) fn end(alloc: Global, workers: Vec<Worker>) -> io::Result<(Vec<MemDisk>, Outcome)> {
-    let mut workers = workers;
-    let outcome = outcome_of(&mut workers)?;
-    let mut devices = Vec::new(alloc);
-    for worker in workers {
-        if let Worker::Client(client) = worker {
-            let (segment, _) = client.writer.into_parts();
-            devices.push(segment.into_device())?;
-        }
-    }
-    Ok((devices, outcome))
 }

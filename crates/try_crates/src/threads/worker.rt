@@ -1,10 +1,13 @@
 //! What the writers and the scanners do, each in a thread of its own, and what came of it.
+ghost use Rattle.std.specs.Prelude.{◌≡◌};
+
+use crate::threads::seats::{SeatedWatcher, SeatedWriter};
 use snap_devices::MemDisk;
 use snap_disk::Refusal;
-use snap_writer::Writer;
+use snap_service::Memory;
 use std::sync::atomic::AtomicU64;
 use std::thread::yield_now;
-use try_parts::{Watcher, value_of, wait_for_all};
+use try_parts::{value_of, wait_for_all};
 
 /// How many updates a writer makes, if none fails.
 const UPDATES: u64 = 10;
@@ -17,9 +20,8 @@ const TURNS: u64 = 10_000;
 
 /// A writer, and what was acknowledged to its client.
 #[derive(Drop)]
-pub struct Client {
-    pub writer: Writer<MemDisk>,
-    pub segment: usize,
+pub struct Client<M: Memory> {
+    pub writer: SeatedWriter<M, MemDisk>,
     /// The number of the last update that was answered.
     pub stored: u64,
     /// Whether the one behind it was begun and refused.
@@ -28,24 +30,30 @@ pub struct Client {
     pub is_right: bool,
 }
 
-/// Who works in a thread of its own.
-#[derive(Drop)]
-pub enum Worker {
-    Client(Client),
-    Watcher(Watcher),
-}
+impl<M: Memory> Client<M> {
+    /// The client of this writer, to which nothing was answered yet.
+    pub fn new(writer: SeatedWriter<M, MemDisk>) -> Client<M>
+        ensures writer { result.writer ≡ writer }
+    {
+        Client {
+            stored: writer.number(),
+            writer,
+            has_begun: false,
+            is_right: true,
+        }
+    }
 
-impl Client {
     /// Sends the last update again, which is answered as before, and then the next one. Whether it
     /// was stored.
     fn send(&mut self) -> bool {
+        let segment = self.writer.segment();
         let number = self.writer.number();
         if number > 0 {
-            let again = self.writer.update(number, &value_of(self.segment, number));
+            let again = self.writer.update(number, &value_of(segment, number));
             self.is_right &= again == Ok(number);
         }
         let next = number.saturating_add(1);
-        match self.writer.update(next, &value_of(self.segment, next)) {
+        match self.writer.update(next, &value_of(segment, next)) {
             Ok(stored) => {
                 self.is_right &= stored == next;
                 self.stored = next;
@@ -63,8 +71,9 @@ impl Client {
     fn work(&mut self) {
         for _ in 0..UPDATES {
             if !self.send() {
+                let segment = self.writer.segment();
                 let next = self.writer.number().saturating_add(1);
-                let again = self.writer.update(next, &value_of(self.segment, next));
+                let again = self.writer.update(next, &value_of(segment, next));
                 self.is_right &= again == Err(Refusal::Fenced);
                 return;
             }
@@ -73,16 +82,21 @@ impl Client {
     }
 }
 
-/// Does all that is one worker's, once all of them are there.
-pub(crate) fn work(worker: &mut Worker, arrived: &AtomicU64, workers: u64) {
+/// Makes all updates of one client, once all workers are there.
+pub(crate) fn update_all<M: Memory>(client: &mut Client<M>, arrived: &AtomicU64, workers: u64) {
     wait_for_all(arrived, workers, TURNS);
-    match worker {
-        Worker::Client(client) => client.work(),
-        Worker::Watcher(watcher) => {
-            for _ in 0..SCANS {
-                watcher.scan();
-                yield_now();
-            }
-        }
+    client.work();
+}
+
+/// Makes all scans of one watcher, once all workers are there.
+pub(crate) fn scan_all<M: Memory>(
+    watcher: &mut SeatedWatcher<M>,
+    arrived: &AtomicU64,
+    workers: u64,
+) {
+    wait_for_all(arrived, workers, TURNS);
+    for _ in 0..SCANS {
+        watcher.scan();
+        yield_now();
     }
 }
