@@ -29,7 +29,7 @@ new-edits:
 
 # The programs that tests and benchmarks run beside snapd.
 programs:
-	python3 verification/build.py try_crates try_plug
+	python3 verification/build.py try_faults try_bench
 
 # The end-to-end tests alone.
 tests: programs

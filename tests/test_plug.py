@@ -1,28 +1,25 @@
-"""The plug is pulled on threads thousands of times, by `try_plug`, and each crash leaves what it may leave.
+"""The plug is pulled on threads thousands of times, by `try_faults plug`, and each crash leaves what it may leave.
 
 Which call pulls it and what the crashes fill are drawn from the seed. Where the threads are then is no one's choice, so what is
 asked here is that each case occurs."""
 
-import pathlib
 import re
 import subprocess
 
-from program import Skipped
+from trials import faults
 from waiting import PATIENCE
 
-PROGRAM = pathlib.Path(__file__).resolve().parent.parent / "crates" / "try_plug" / "out" / "try_plug"
 COUNTS = re.compile(
     r"the plug was pulled in (?P<rounds>\d+) rounds: (?P<at_rest>\d+) found a writer at rest, (?P<in_store>\d+) inside a store, "
     r"(?P<before_answer>\d+) between its store and the answer\n"
     r"of the cut stores (?P<old>\d+) left the old value and (?P<new>\d+) the new one; (?P<openings>\d+) openings were cut too\n"
+    r"crashes left the bytes of (?P<kept>\d+) files, one byte at the open places of (?P<alike>\d+), and tore (?P<torn>\d+)\n"
 )
 
 
 def pull(rounds, seed):
     """Pulls the plug so often, and says how often each case occurred."""
-    if not PROGRAM.is_file():
-        raise Skipped(f"{PROGRAM.name} isn't built")
-    run = subprocess.run([PROGRAM, str(rounds), str(seed)], capture_output=True, text=True, timeout=10 * PATIENCE)
+    run = subprocess.run(faults("plug", rounds, seed), capture_output=True, text=True, timeout=10 * PATIENCE)
     assert run.returncode == 0, run
     assert run.stdout == f"{rounds} rounds from seed {seed}: each crash left what it may leave\n", run
     found = COUNTS.fullmatch(run.stderr)

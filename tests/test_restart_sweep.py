@@ -1,10 +1,10 @@
-"""The table of faults and stops of an opening, and of random bytes, that `try_crates restart-sweep` prints is the one that an independent model prints."""
+"""The table of faults and stops of an opening, and of random bytes, that `try_faults restart-sweep` prints is the one that an independent model prints."""
 
 import pathlib
 import subprocess
 import sys
 
-from try_crates import stored
+from trials import stored
 
 TOP = pathlib.Path(__file__).resolve().parent.parent
 

@@ -1,10 +1,10 @@
-"""The numbers that `try_crates restart-threads` prints, after each of 200 crashes, are those that an independent model prints."""
+"""The numbers that `try_faults restart-threads` prints, after each of 200 crashes, are those that an independent model prints."""
 
 import pathlib
 import subprocess
 import sys
 
-from try_crates import stored
+from trials import stored
 
 TOP = pathlib.Path(__file__).resolve().parent.parent
 

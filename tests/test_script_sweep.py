@@ -1,11 +1,11 @@
 """Every call of a store and of a restart fails in a world, or is the last before a crash, with each fill that matters. What
-the next restart serves is compared with the table of the segment crate's sweep (what `try_crates segment-sweep` prints), which an
+the next restart serves is compared with the table of the segment crate's sweep (what `try_faults segment-sweep` prints), which an
 independent model prints, and for a restart's own calls with the rule of the disk model."""
 
 import itertools
 import re
 
-from try_crates import stored
+from trials import stored
 
 FILLS = ("keep", "00", "a5")
 VALUES = {"empty": "-", "hi": "6869", "yo": "796f"}
