@@ -41,7 +41,7 @@ pub record IsPrinted (how : Status) (text : List ℕ) (ended : Ended)
   pub whole : Appends out out' text
   pub silent : Keeps errs errs'
 
--- standard output failed behind a beginning of the text, which one line on standard error says
+-- standard output failed behind a beginning of the text, which a complaint says
 pub record IsCutShort (text : List ℕ) (ended : Ended) (out out' errs errs' : Option (List ℕ))
     : Type 0 where
   pub status : ended.status ≡ status.Failed
@@ -65,7 +65,7 @@ IsRead (reply.Snapshot values) = Unit {0}
 IsRead (reply.Status statuses) = Unit {0}
 IsRead reply = ⊥
 
--- there is no answer, which one line says
+-- there is no answer, which a complaint says
 pub record GivesUp (ended : Ended) (errs errs' : Option (List ℕ)) : Type 0 where
   pub status : ended.status ≡ status.Failed
   pub said : Complains None ended.is_told errs errs'

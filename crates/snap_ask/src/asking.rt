@@ -20,15 +20,17 @@ use std::alloc::Global;
 use std::io::{Read, Write};
 
 /// Asks a server what the order says, prints the answer on `writer`, and says how the program
-/// ends: of a server's health as [`Status::Refused`] where a segment is fenced. `connect` gives a reader and a writer, or `None` where no connection can be made; it is
-/// called once at least and as often as the order has tries at most, and only again where the same
-/// request may be answered on another connection.
+/// ends: of a server's health as [`Status::Refused`] where a segment is fenced. `connect` gives a
+/// reader and a writer, or `None` where no connection can be made; it is called once at least and as
+/// often as the order has tries at most, and only again where the same request may be answered on
+/// another connection.
 ///
-/// A refusal by the server and want of memory are one line on `errors`, and the status
+/// A refusal by the server and want of memory are a complaint on `errors`, and the status
 /// [`Status::Refused`]; nothing is printed then. What was answered of an update is said without
-/// memory, so that none is wanting behind a reply but for the values and fences of a read. A connection that fails and a `writer` that does
-/// are one line too, and the status [`Status::Failed`]; of a reply that couldn't be printed whole,
-/// `writer` got a beginning.
+/// memory, so that none is wanting behind a reply but for the values and fences of a read. A
+/// connection that fails and a `writer` that does are a complaint too, and the status
+/// [`Status::Failed`]; of a reply that couldn't be printed whole, `writer` got a beginning. A
+/// complaint is one line, but for line feeds in the address.
 pub fn ask<R: Read + Drop, C: Write + Drop, F: FnMut() -> Option<(R, C)>, W: Write, E: Write>(
     alloc: Global,
     order: &Calling<'_>,

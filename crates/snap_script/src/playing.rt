@@ -12,7 +12,7 @@ use std::io::{Read, Write};
 use std::sync::Wait;
 
 impl ScriptEnd {
-    /// Says on standard error why the script ended early, as one line that begins `snapd: `. That
+    /// Says on standard error why the script ended early, as a complaint, which begins `snapd: `. That
     /// memory was wanting is said without taking any.
     pub fn report<E: Write>(&self, alloc: Global, errors: &mut E) -> Ended
         ensures status { result.status ≡ status_of self.now }

@@ -57,9 +57,9 @@ so there is one server on its files, and `put` on one of them says that it is in
 
 It recovers all files, prints `segment I number K length L spare closed` (or `open`) for each and
 `segments N`, binds ADDR, and prints `listening ADDRESS`, with the port that it got where ADDR has
-port 0. From then on it answers `snapd call` and other clients, and says of each connection that
-ends how it ended, as one line on standard error. It runs until it is killed, or until K
-connections have ended; then it prints `served K`.
+port 0. From then on it answers `snapd call` and other clients, and logs on standard error what
+an operator should know, with `--log debug` also how each connection ended. It runs until it is
+killed, or until K connections have ended; then it prints `served K`.
 
 As many clients may be connected as the process may open files, less some fifty, or N of them:
 then callers wait. A scanner answers one request after the other, so as many requests are answered
