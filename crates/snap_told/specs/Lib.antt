@@ -1,2 +1,3 @@
 pub mod Told
 pub mod Laws
+pub mod Ever
