@@ -1,3 +1,4 @@
 pub mod Working
 pub mod Together
 pub mod Staying
+pub mod Again
