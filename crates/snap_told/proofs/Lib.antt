@@ -5,3 +5,4 @@ pub mod Calling
 pub mod Standing
 pub mod Answering
 pub mod Ever
+pub mod Hearing

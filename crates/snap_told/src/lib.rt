@@ -15,6 +15,7 @@ ghost use Rattle.snap_told.specs.Laws.{
   PlugLaw,
 };
 ghost use Rattle.snap_told.specs.Ever.{EverLaw};
+ghost use Rattle.snap_told.specs.Heard.{HeardLaw, FirstHeard};
 
 use snap_disk::Disk;
 use std::io::{Read, Write};
@@ -50,4 +51,11 @@ pub fn client_laws<R: Read, W: Write>()
 pub fn plug_laws<D: Disk, R: Read, W: Write>()
     ensures plug { PlugLaw D.device D.is_honest D.clock D.might_have_left R.remaining W.contents }
     ensures ever { EverLaw D.device D.is_honest D.clock D.might_have_left R.remaining W.contents }
+{}
+
+/// The premises of these laws are met. Whatever a service answers, a client may have answered its
+/// caller over an honest connection; and so one has heard that a file's first update is stored.
+pub fn heard_laws()
+    ensures heard { HeardLaw }
+    ensures first { FirstHeard }
 {}
