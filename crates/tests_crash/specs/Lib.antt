@@ -2,3 +2,4 @@ pub mod Worked
 pub mod Together
 pub mod Staying
 pub mod Again
+pub mod Moment

@@ -11,6 +11,7 @@ ghost use Rattle.tests_crash.specs.Worked.{IsRecoveredNow};
 ghost use Rattle.tests_crash.specs.Together.{AreTwo, IsRecoveredAt, stored_unshown};
 ghost use Rattle.tests_crash.specs.Staying.{IsAWriter, LosesNothing};
 ghost use Rattle.tests_crash.specs.Again.{AreOfOne, GoOnBehind};
+ghost use Rattle.tests_crash.specs.Moment.{AtOnceLaw, OverLaw};
 ghost use Rattle.snap_register.specs.declared.plan.Plan.{Plan};
 ghost use Rattle.snap_restart.specs.Closed.{AreBack};
 
@@ -138,3 +139,11 @@ pub fn open_and_go_on<D: Disk + Drop>(alloc: Global, devices: Vec<D>, number: u6
     }
     goes_on(&mut writer, number, value, number, b"");
 }
+
+/// The registers as an opening made them keep their rule, so there is a moment at which a crash may
+/// come before anything is shown, wherever the writers are by then: before their first stores, inside
+/// them, or behind them. And files come over it to the next opening.
+pub fn moment_laws<D: Disk>()
+    ensures at_once { AtOnceLaw D.device D.is_honest D.clock D.might_have_left }
+    ensures over { OverLaw D.device D.is_honest D.clock D.might_have_left }
+{}
