@@ -1,5 +1,6 @@
 -- What stands in a history stands in each longer one, and in one that began earlier.
-use Rattle.std.proofs.Common.{ℕ, List, [], ◌∷◌, ◌++◌, Some, ap, sym, ◌∙◌, append_assoc}
+use Rattle.std.proofs.Common.{◌≡◌, ℕ, zero, suc, List, [], ◌∷◌, ◌++◌, Some, slice_get, ap, sym, subst, ◌∙◌, append_assoc}
+use Rattle.std.proofs.lemmas.Option.{same_Some}
 use Rattle.snap_history.specs.History.{Update, Start, IsBeginning}
 use Rattle.snap_history.proofs.Beginnings.{beginning-trans}
 use Rattle.snap_frame.specs.declared.request.Request.{Request}
@@ -7,7 +8,8 @@ use Rattle.snap_frame.specs.declared.request.Request.TheVariants as request
 use Rattle.snap_frame.specs.declared.reply.Reply.{Reply}
 use Rattle.snap_frame.specs.declared.reply.Reply.TheVariants.{Stored, Snapshot, Status, Refused}
 use Rattle.snap_cut.proofs.Lasting.{StartsAfter, number_on, value_on}
-use Rattle.snap_told.specs.Told.{Stands, AreTold}
+use Rattle.snap_told.specs.Told.{Stands, IsTold, AreTold}
+use Rattle.snap_told.specs.Laws.{AllStand}
 
 -- ---- longer
 
@@ -84,3 +86,33 @@ module _ (n : ℕ) (start : Start) (base : List Update) (next : Start)
     λ q r number asks says. stands_earlier h q r (told.0 q r number asks says),
     told_earlier h xs ys told.1,
   )
+
+  pub all_earlier : (h : List Update) (qs : List Request) (rs : List Reply)
+      → AllStand n next h qs rs → AllStand n start (base ++ h) qs rs
+  all_earlier h [] [] all = tt
+  all_earlier h [] (r ∷ rs) all = absurd all
+  all_earlier h (q ∷ qs) [] all = absurd all
+  all_earlier h (q ∷ qs) (r ∷ rs) all =
+      (stands_earlier h q r all.0, all_earlier h qs rs all.1)
+
+-- ---- one of them
+
+module _ (n : ℕ) (start : Start) (h : List Update) where
+  pub told_at : (xs ys : List (List ℕ)) (j : ℕ) (x y : List ℕ) → AreTold n start h xs ys
+      → slice_get xs j ≡ Some x → slice_get ys j ≡ Some y → IsTold n start h x y
+  told_at [] ys j x y told ex ey = absurd (cc ex)
+  told_at (a ∷ xs) [] j x y told ex ey = absurd told
+  told_at (a ∷ xs) (b ∷ ys) zero x y told ex ey =
+      subst (λ (z : List ℕ × List ℕ). IsTold n start h z.0 z.1)
+      (λ t. (same_Some a x ex t, same_Some b y ey t)) told.0
+  told_at (a ∷ xs) (b ∷ ys) (suc j) x y told ex ey = told_at xs ys j x y told.1 ex ey
+
+  pub all_at : (qs : List Request) (rs : List Reply) (j : ℕ) (q : Request) (r : Reply)
+      → AllStand n start h qs rs → slice_get qs j ≡ Some q → slice_get rs j ≡ Some r
+      → Stands n start h q r
+  all_at [] rs j q r all eq er = absurd (cc eq)
+  all_at (a ∷ qs) [] j q r all eq er = absurd all
+  all_at (a ∷ qs) (b ∷ rs) zero q r all eq er =
+      subst (λ (z : Request × Reply). Stands n start h z.0 z.1)
+      (λ t. (same_Some a q eq t, same_Some b r er t)) all.0
+  all_at (a ∷ qs) (b ∷ rs) (suc j) q r all eq er = all_at qs rs j q r all.1 eq er

@@ -94,15 +94,32 @@ AllStand n start h (q ∷ qs) (r ∷ rs) = Stands n start h q r × AllStand n st
 AllStand n start h [] (r ∷ rs) = ⊥
 AllStand n start h (q ∷ qs) [] = ⊥
 
+-- What some client asked and was answered, call by call, over an honest connection. The session at its
+-- other end is of a service that has come to the state b since.
+pub record WasAnswered {R W : Type 0} (remaining : R → Option (List ℕ))
+    (contents : W → Option (List ℕ)) (b : Known) (qs : List Request) (rs : List Reply)
+    : Type 0 where
+  pub reader : R
+  pub writer : W
+  pub now : ClientState R W
+  pub sendable : All IsSendable qs
+  pub converses : Converses remaining contents qs rs (fresh reader writer) now
+  pub began : Known
+  pub talk : Talk
+  pub read_old : Option (List ℕ)
+  pub read_new : Option (List ℕ)
+  pub written_old : Option (List ℕ)
+  pub written_new : Option (List ℕ)
+  pub turns : Turns (Moves Answers) Answers began b session.start read_old read_new written_old
+      written_new talk
+  pub connection : IsHonestConnection remaining contents (fresh reader writer) now turns.taken
+      turns.given
+
 -- what the client of such a connection answered its caller, call by call, stands there
 abbrev pub ClientLaw : {R W : Type 0} → (R → Option (List ℕ)) → (W → Option (List ℕ)) → Type 0
-ClientLaw {R} {W} remaining contents = (reader : R) (writer : W) (new : ClientState R W)
-    (qs : List Request) (rs : List Reply) (a b : Known) (talk : Talk)
-    (read_old read_new written_old written_new : Option (List ℕ)) (h : List Update)
-    → All IsSendable qs → Converses remaining contents qs rs (fresh reader writer) new
-    → (t : Turns (Moves Answers) Answers a b session.start read_old read_new written_old written_new talk)
-    → IsHonestConnection remaining contents (fresh reader writer) new t.taken t.given
-    → IsBeginning b.seen h → AllStand (segments b.plan) (starts b.plan) h qs rs
+ClientLaw remaining contents = (b : Known) (qs : List Request) (rs : List Reply) (h : List Update)
+    → WasAnswered remaining contents b qs rs → IsBeginning b.seen h
+    → AllStand (segments b.plan) (starts b.plan) h qs rs
 
 -- ---- a crash
 
@@ -110,12 +127,13 @@ ClientLaw {R} {W} remaining contents = (reader : R) (writer : W) (new : ClientSt
 abbrev pub WasSeenIn : List SeatView → List Update → Type 0
 WasSeenIn views seen = (later : List Update) × IsSeenIn views later × IsBeginning seen later
 
-module _ {D : Type 0} (device : D → Device) (honest : D → Type 0) (clock : D → ℕ)
-    (might_have_left : D → ℕ → List ℕ → Type 0) where
+module _ {D R W : Type 0} (device : D → Device) (honest : D → Type 0) (clock : D → ℕ)
+    (might_have_left : D → ℕ → List ℕ → Type 0) (remaining : R → Option (List ℕ))
+    (contents : W → Option (List ℕ)) where
   -- Pull the plug: files that were opened where a history goes on, a moment of their registers, and a
   -- crash of all devices there. It is recovered as the memory after the whole history, from the first
   -- start on, and in that history stands all that was told: what any session of this opening had
-  -- replied by then, and what was told before it.
+  -- replied by then, what any client of one had answered its caller, and what was told before it.
   abbrev pub PlugLaw : Type 0
   PlugLaw = (devices : List D) (writers : List (WriterState D)) (start : Start)
       (before : List Update) (earlier : List (Place D))
@@ -132,5 +150,8 @@ module _ {D : Type 0} (device : D → Device) (honest : D → Type 0) (clock : D
       → (t : Turns (Moves Answers) Answers a b session.start read_old read_new written_old written_new talk)
       → b.plan ≡ opened.plan → WasSeenIn s.views b.seen
       → AreTold (length writers) start whole t.goes.payloads (t.goes.replies ++ t.goes.unsaid))
+      × ((b : Known) (qs : List Request) (rs : List Reply) → WasAnswered remaining contents b qs rs
+      → b.plan ≡ opened.plan → WasSeenIn s.views b.seen
+      → AllStand (length writers) start whole qs rs)
       × ((q : Request) (r : Reply) → Stands (length writers) start before q r
       → Stands (length writers) start whole q r)

@@ -14,6 +14,8 @@ ghost use Rattle.snap_told.specs.Laws.{
   ClientLaw,
   PlugLaw,
 };
+ghost use Rattle.snap_told.specs.Ever.{EverLaw};
+ghost use Rattle.snap_told.specs.Heard.{HeardLaw, FirstHeard};
 
 use snap_disk::Disk;
 use std::io::{Read, Write};
@@ -41,7 +43,19 @@ pub fn client_laws<R: Read, W: Write>()
 
 /// What a crash of all devices leaves, at any moment of the registers of an opening, is the memory after
 /// the whole history, from the first start on, and some begun updates; and in that history stands all
-/// that was told: what any session of this opening had replied by then, and what was told before it.
-pub fn plug_laws<D: Disk>()
-    ensures { PlugLaw D.device D.is_honest D.clock D.might_have_left }
+/// that was told: what any session of this opening had replied by then, what any client over an honest
+/// connection to one had answered its caller, and what was told before it.
+///
+/// So it is over any number of crashes and starts: files keep the memory after one history, in which
+/// all stands that a session replied or a client answered in any opening, by the moment of its crash.
+pub fn plug_laws<D: Disk, R: Read, W: Write>()
+    ensures plug { PlugLaw D.device D.is_honest D.clock D.might_have_left R.remaining W.contents }
+    ensures ever { EverLaw D.device D.is_honest D.clock D.might_have_left R.remaining W.contents }
+{}
+
+/// The premises of these laws are met. Whatever a service answers, a client may have answered its
+/// caller over an honest connection; and so one has heard that a file's first update is stored.
+pub fn heard_laws()
+    ensures heard { HeardLaw }
+    ensures first { FirstHeard }
 {}

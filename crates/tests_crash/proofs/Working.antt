@@ -4,17 +4,20 @@ use Rattle.std.proofs.lemmas.List.{length-map}
 use Rattle.std.proofs.lemmas.Option.{same_Some}
 use Rattle.snap_disk.specs.Device.{Device}
 use Rattle.snap_history.specs.History.{Update, IsBeginning, updates_of}
+use Rattle.snap_history.specs.Pairs.{Pairs}
 use Rattle.snap_history.proofs.Beginnings.{beginning-self, number-beginning}
 use Rattle.snap_memory.proofs.Gathering.{grows_self}
+use Rattle.snap_register.specs.declared.plan.Plan.{Plan}
 use Rattle.snap_register.specs.History.{starts}
 use Rattle.snap_register.specs.Seat.{Known}
 use Rattle.snap_writer.specs.Writer.{WriterState}
 use Rattle.snap_writer.specs.Life.{Place, resting, seen_at, CrashLeaves}
-use Rattle.snap_cut.specs.Crash.{all_seen}
+use Rattle.snap_cut.specs.Crash.{all_seen, Recovers}
 use Rattle.snap_restart.specs.Closed.{IsHistory}
 use Rattle.snap_restart.specs.Crashing.{AreOpened, AnyCut}
 use Rattle.snap_restart.proofs.Crashing.{unmap}
-use Rattle.tests_crash.specs.Worked.{IsRecoveredNow}
+use Rattle.tests_crash.specs.Worked.{IsLeft, IsRecoveredNow}
+use Rattle.tests_crash.specs.Again.{AreOfOne}
 
 mapped : {A B : Type 0} (f : A → B) (xs : List A) (i : ℕ) (x : A) → slice_get xs i ≡ Some x
     → slice_get (map f xs) i ≡ Some (f x)
@@ -31,16 +34,21 @@ either_part (y ∷ xs) ys (suc j) x e = ⊎_elim (λ a. inl (suc a.0, a.1)) (λ 
 
 module _ {D : Type 0} (device : D → Device) (honest : D → Type 0) (clock : D → ℕ)
     (might_have_left : D → ℕ → List ℕ → Type 0) where
-  pub now : (h : List Update) (writers : List (WriterState D)) (scanners : List Known)
-      (olds devices : List D) → devices ≡ map (λ (w : WriterState D). w.segment.device) writers
-      → AreOpened device honest clock might_have_left olds writers → IsHistory h writers scanners
+  -- what a crash leaves of the devices of writers at rest, whatever these did
+  pub at_rest_recovers : (plan : Plan) (h : List Update) (writers : List (WriterState D))
+      (scanners : List Known) (devices : List D)
+      → devices ≡ map (λ (w : WriterState D). w.segment.device) writers
+      → AreOfOne device honest clock might_have_left plan writers → IsHistory h writers scanners
       → AnyCut device honest clock might_have_left h writers scanners
-      → IsRecoveredNow device honest devices
-  now h writers scanners olds devices theirs opened history cut =
+      → (files : List (List ℕ)) → Pairs (IsLeft device honest) devices files
+      → Recovers (length (map (λ (w : WriterState D). resting w) writers)) (starts plan) h
+      (map (λ (w : WriterState D). resting w) writers)
+      (map (λ (b : Known). b.seen) scanners) files
+  at_rest_recovers plan h writers scanners devices theirs are history cut files left =
       let at_rest : WriterState D → Place D = λ w. resting w in
       let saw : Known → List Update = λ b. b.seen in
       let device_of : WriterState D → D = λ w. w.segment.device in
-      let start = starts opened.plan in
+      let start = starts plan in
       let below : (j : ℕ) (x : List Update)
       → slice_get (all_seen (map at_rest writers) (map saw scanners)) j ≡ Some x
       → IsBeginning x h = λ j x e. ⊎_elim
@@ -53,54 +61,60 @@ module _ {D : Type 0} (device : D → Device) (honest : D → Type 0) (clock : D
       let s = unmap saw scanners b.0 x b.1 in
       subst (λ (y : List Update). IsBeginning y h) s.2 (history.scanners_saw b.0 s.0 s.1)))
       (either_part (map seen_at (map at_rest writers)) (map saw scanners) j x e) in
-      record {
-        plan = opened.plan;
-        history = h;
-        writers = writers;
-        scanners = scanners;
-        theirs = theirs;
-        recovered = λ files left. cut opened.plan (map at_rest writers) (map saw scanners) files
-            (length-map writers at_rest)
-            (λ i p e. (
-            let w = unmap at_rest writers i p e in (
-              w.0,
-              w.0,
-              [],
-              w.1,
-              opened.writers_are i w.0 w.1,
-              refl,
-              (
-                w.0,
-                record { segment_is = refl; grows = grows_self w.0.seat },
-                beginning-self w.0.seat.seen,
-                sym w.2,
-              ),
-            )))
-            (λ k x e. (
-            let s = unmap saw scanners k x e in (
-              k,
-              s.0,
-              s.1,
-              subst (λ (y : List Update). IsBeginning y s.0.seen) s.2
-                  (beginning-self s.0.seen),
-            )))
-            (λ j x e i p at. (
-            let w = unmap at_rest writers i p at in
-            let rises = number-beginning start x h i (below j x e) in
-            let all : updates_of i h ≡ updates_of i w.0.seat.seen =
-            (history.writers_saw i w.0 w.1).1 in
-            let same : updates_of i (seen_at p) ≡ updates_of i w.0.seat.seen =
-            ap (λ (q : Place D). updates_of i (seen_at q)) (sym w.2) in
-            omega (arith, rises, all, same)))
-            (record {
-              size = length-map writers at_rest ∙ sym (length-map writers device_of)
-                  ∙ ap (λ (l : List D). length l) (sym theirs) ∙ left.size;
-              each = λ i p b ep eb. (
-                  let w = unmap at_rest writers i p ep in
-                  let there : slice_get devices i ≡ Some w.0.segment.device =
-                  ap (λ (l : List D). slice_get l i) theirs
-                  ∙ mapped device_of writers i w.0 w.1 in
-                  subst (λ (q : Place D). CrashLeaves device honest clock might_have_left q b) w.2
-                  (left.each i w.0.segment.device b there eb));
-            });
-      }
+      cut plan (map at_rest writers) (map saw scanners) files (length-map writers at_rest)
+      (λ i p e. (
+      let w = unmap at_rest writers i p e in (
+        w.0,
+        w.0,
+        [],
+        w.1,
+        are i w.0 w.1,
+        refl,
+        (
+          w.0,
+          record { segment_is = refl; grows = grows_self w.0.seat },
+          beginning-self w.0.seat.seen,
+          sym w.2,
+        ),
+      )))
+      (λ k x e. (
+      let s = unmap saw scanners k x e in (
+        k,
+        s.0,
+        s.1,
+        subst (λ (y : List Update). IsBeginning y s.0.seen) s.2 (beginning-self s.0.seen),
+      )))
+      (λ j x e i p at. (
+      let w = unmap at_rest writers i p at in
+      let rises = number-beginning start x h i (below j x e) in
+      let all : updates_of i h ≡ updates_of i w.0.seat.seen =
+      (history.writers_saw i w.0 w.1).1 in
+      let same : updates_of i (seen_at p) ≡ updates_of i w.0.seat.seen =
+      ap (λ (q : Place D). updates_of i (seen_at q)) (sym w.2) in
+      omega (arith, rises, all, same)))
+      (record {
+        size = length-map writers at_rest ∙ sym (length-map writers device_of)
+            ∙ ap (λ (l : List D). length l) (sym theirs) ∙ left.size;
+        each = λ i p b ep eb. (
+            let w = unmap at_rest writers i p ep in
+            let there : slice_get devices i ≡ Some w.0.segment.device =
+            ap (λ (l : List D). slice_get l i) theirs
+            ∙ mapped device_of writers i w.0 w.1 in
+            subst (λ (q : Place D). CrashLeaves device honest clock might_have_left q b) w.2
+            (left.each i w.0.segment.device b there eb));
+      })
+
+  pub now : (h : List Update) (writers : List (WriterState D)) (scanners : List Known)
+      (olds devices : List D) → devices ≡ map (λ (w : WriterState D). w.segment.device) writers
+      → AreOpened device honest clock might_have_left olds writers → IsHistory h writers scanners
+      → AnyCut device honest clock might_have_left h writers scanners
+      → IsRecoveredNow device honest devices
+  now h writers scanners olds devices theirs opened history cut = record {
+    plan = opened.plan;
+    history = h;
+    writers = writers;
+    scanners = scanners;
+    theirs = theirs;
+    recovered = at_rest_recovers opened.plan h writers scanners devices theirs
+        opened.writers_are history cut;
+  }

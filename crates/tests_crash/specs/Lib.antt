@@ -1,3 +1,5 @@
 pub mod Worked
 pub mod Together
 pub mod Staying
+pub mod Again
+pub mod Moment

@@ -2,7 +2,7 @@
 //! empty.
 #![tactic(auto)]
 
-ghost use Rattle.std.specs.Prelude.{◌≡◌, ℕ, ◌-◌, ◌^◌, ◌<◌, ◌≤◌, [], ◌∷◌, length, All, IfOk};
+ghost use Rattle.std.specs.Prelude.{◌≡◌, ℕ, ◌-◌, ◌^◌, ◌<◌, ◌≤◌, [], ◌∷◌, length, map, All, IfOk};
 ghost use Rattle.snap_history.specs.declared.limits.TheConstants.{MAX_COUNT};
 ghost use Rattle.snap_history.specs.Limits.{IsShort};
 ghost use Rattle.snap_writer.specs.Judge.{IsJudged};
@@ -10,11 +10,15 @@ ghost use Rattle.snap_writer.specs.Life.{in_store};
 ghost use Rattle.tests_crash.specs.Worked.{IsRecoveredNow};
 ghost use Rattle.tests_crash.specs.Together.{AreTwo, IsRecoveredAt, stored_unshown};
 ghost use Rattle.tests_crash.specs.Staying.{IsAWriter, LosesNothing};
+ghost use Rattle.tests_crash.specs.Again.{AreOfOne, GoOnBehind};
+ghost use Rattle.tests_crash.specs.Moment.{AtOnceLaw, OverLaw};
+ghost use Rattle.snap_register.specs.declared.plan.Plan.{Plan};
+ghost use Rattle.snap_restart.specs.Closed.{AreBack};
 
 use snap_cut::life_laws;
 use snap_disk::Disk;
 use snap_history::LAST_NUMBER;
-use snap_restart::{Stopped, open_all};
+use snap_restart::{Stopped, Store, open_all};
 use snap_writer::{Judgement, Writer};
 use std::alloc::Global;
 
@@ -27,6 +31,33 @@ pub fn worked<D: Disk + Drop>(alloc: Global, devices: Vec<D>) -> Result<Vec<D>, 
     match open_all(alloc, devices, 1) {
         Ok((store, _)) => Ok(store.close()),
         Err(stopped) => Err(stopped),
+    }
+}
+
+/// Closes a store, whatever its writers did, and opens its files again. The writers of the second
+/// opening go on where those of the first one stopped.
+pub fn reopen<D: Disk + Drop>(alloc: Global, store: Store<D>) -> Result<Store<D>, Stopped<D>>
+    requires back { AreBack store.writers.items store.scanners.items }
+    requires writers { (plan : Plan) × AreOfOne D.device D.is_honest D.clock D.might_have_left
+        plan store.writers.items }
+    requires headroom { All (λ d. D.failure_count d < 2 ^ 64 - 1)
+        (map (λ w. w.segment.device) store.writers.items) }
+    ensures { IfOk result (λ r. GoOnBehind D.device D.is_honest D.clock D.might_have_left
+        store.writers.items store.scanners.items r.writers.items) }
+{
+    match open_all(alloc, store.close(), 1) {
+        Ok((store, _)) => Ok(store),
+        Err(stopped) => Err(stopped),
+    }
+}
+
+/// Opens all files and opens them again: so the premises of [`reopen`] are met by a real call.
+pub fn open_twice<D: Disk + Drop>(alloc: Global, devices: Vec<D>)
+    requires count { (0 < length devices.items) × (length devices.items ≤ MAX_COUNT) }
+    requires headroom { All (λ d. D.failure_count d < 2 ^ 64 - 1) devices.items }
+{
+    if let Ok((store, _)) = open_all(alloc, devices, 1) {
+        let _ = reopen(alloc, store);
     }
 }
 
@@ -108,3 +139,11 @@ pub fn open_and_go_on<D: Disk + Drop>(alloc: Global, devices: Vec<D>, number: u6
     }
     goes_on(&mut writer, number, value, number, b"");
 }
+
+/// The registers as an opening made them keep their rule, so there is a moment at which a crash may
+/// come before anything is shown, wherever the writers are by then: before their first stores, inside
+/// them, or behind them. And files come over it to the next opening.
+pub fn moment_laws<D: Disk>()
+    ensures at_once { AtOnceLaw D.device D.is_honest D.clock D.might_have_left }
+    ensures over { OverLaw D.device D.is_honest D.clock D.might_have_left }
+{}

@@ -1,0 +1,78 @@
+-- What was told over any number of crashes and starts.
+use Rattle.std.specs.Prelude.{◌≡◌, ◌⊎◌, ℕ, List, [], ◌∷◌, ◌++◌, Option, Some, slice_get}
+use Rattle.snap_disk.specs.Device.{Device}
+use Rattle.snap_history.specs.History.{Update, Start}
+use Rattle.snap_register.specs.declared.plan.Plan.{Plan}
+use Rattle.snap_register.specs.declared.plan.SeatView.{SeatView}
+use Rattle.snap_register.specs.Seat.{Known}
+use Rattle.snap_frame.specs.declared.request.Request.{Request}
+use Rattle.snap_frame.specs.declared.reply.Reply.{Reply}
+use Rattle.snap_frame.specs.Messages.{Asks, Says}
+use Rattle.snap_session.specs.Talk.{Talk, Moves}
+use Rattle.snap_session.specs.Talk as session
+use Rattle.snap_session.specs.Turns.{Turns}
+use Rattle.snap_service.specs.Answers.{Answers}
+use Rattle.snap_restart.specs.Restarts.{Restarts, First, Crashed, Interrupted, Last}
+use Rattle.snap_told.specs.Told.{Stands, HasNumber}
+use Rattle.snap_told.specs.Laws.{WasAnswered, WasSeenIn}
+
+-- Some session, of a service that has come to the state b since, gave out, or owed, bytes that say
+-- this reply to this request.
+pub record WasReplied (b : Known) (q : Request) (r : Reply) : Type 0 where
+  pub began : Known
+  pub talk : Talk
+  pub read_old : Option (List ℕ)
+  pub read_new : Option (List ℕ)
+  pub written_old : Option (List ℕ)
+  pub written_new : Option (List ℕ)
+  pub turns : Turns (Moves Answers) Answers began b session.start read_old read_new written_old
+      written_new talk
+  pub place : ℕ
+  pub payload : List ℕ
+  pub payload_is : slice_get turns.goes.payloads place ≡ Some payload
+  pub reply : List ℕ
+  pub reply_is : slice_get (turns.goes.replies ++ turns.goes.unsaid) place ≡ Some reply
+  pub number : HasNumber q
+  pub asks : Asks payload q
+  pub says : Says reply r
+
+-- Some client over an honest connection to such a session answered its caller so.
+pub record WasHeard {R W : Type 0} (remaining : R → Option (List ℕ))
+    (contents : W → Option (List ℕ)) (b : Known) (q : Request) (r : Reply) : Type 0 where
+  pub asked : List Request
+  pub answers : List Reply
+  pub was_answered : WasAnswered remaining contents b asked answers
+  pub place : ℕ
+  pub asked_is : slice_get asked place ≡ Some q
+  pub answer_is : slice_get answers place ≡ Some r
+
+-- by this moment of an opening's registers somebody was told this: a session's peer, or a client's
+-- caller
+abbrev pub WasTold : {R W : Type 0} → (R → Option (List ℕ)) → (W → Option (List ℕ)) → Plan
+    → List SeatView → Request → Reply → Type 0
+WasTold remaining contents plan views q r = (b : Known) × (b.plan ≡ plan)
+    × WasSeenIn views b.seen × (WasReplied b q r ⊎ WasHeard remaining contents b q r)
+
+module _ {D R W : Type 0} (device : D → Device) (honest : D → Type 0) (clock : D → ℕ)
+    (might_have_left : D → ℕ → List ℕ → Type 0) (remaining : R → Option (List ℕ))
+    (contents : W → Option (List ℕ)) where
+  -- in some opening of these files somebody was told this, by the moment at which its crash came
+  abbrev pub WasEverTold : (n : ℕ) (start : Start) (moments : List (List Update))
+      (devices : List D) → Restarts device honest clock might_have_left n start moments devices
+      → Request → Reply → Type 0
+  WasEverTold n start [] _ (First devices kept) q r = ⊥
+  WasEverTold n start (_ ∷ _) _
+      (Crashed moments devices nexts writers crashed s past opened hon kept count each follow) q r =
+      WasTold remaining contents opened.plan s.views q r
+      ⊎ WasEverTold n start moments devices past q r
+  WasEverTold n start _ _ (Interrupted moments devices news nexts past stay follow) q r =
+      WasEverTold n start moments devices past q r
+
+  -- Over any number of crashes and starts: files keep the memory after one history, of the whole ones
+  -- of all moments at which a crash came, and in it stands all that anybody was told in any opening.
+  abbrev pub EverLaw : Type 0
+  EverLaw = (n : ℕ) (start : Start) (moments : List (List Update)) (devices : List D)
+      (past : Restarts device honest clock might_have_left n start moments devices)
+      → (last : Last device n start moments devices)
+      × ((q : Request) (r : Reply) → WasEverTold n start moments devices past q r
+      → Stands n start last.history q r)

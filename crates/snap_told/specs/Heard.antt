@@ -1,0 +1,59 @@
+-- Clients that hear what a service replies: so the premises of the laws are met.
+use Rattle.std.specs.Prelude.{ℕ, ◌^◌, List, [], ◌∷◌, Option, Some}
+use Rattle.snap_history.specs.History.{Update}
+use Rattle.snap_register.specs.declared.plan.Plan.{Plan}
+use Rattle.snap_register.specs.History.{starts}
+use Rattle.snap_register.specs.Seat.{Known}
+use Rattle.snap_frame.specs.declared.request.Request.{Request}
+use Rattle.snap_frame.specs.declared.request.Request.TheVariants as request
+use Rattle.snap_frame.specs.declared.reply.Reply.{Reply}
+use Rattle.snap_frame.specs.declared.reply.Reply.TheVariants.{Stored}
+use Rattle.snap_frame.specs.Messages.{IsInLimits}
+use Rattle.snap_service.specs.Answers.{Answers}
+use Rattle.snap_service.specs.Memory.{no_table}
+use Rattle.snap_client.specs.Calls as calls
+use Rattle.snap_cut.specs.Crash.{Has}
+use Rattle.snap_told.specs.Told.{IsSendable}
+use Rattle.snap_told.specs.Laws.{WasAnswered}
+
+-- a reader that has these bytes left, or a writer that has got them
+abbrev pub bytes_of : List ℕ → Option (List ℕ)
+bytes_of bytes = Some bytes
+
+-- Whatever a service answers to a request that a client may call, a client may have answered its
+-- caller, over an honest connection to a session of that service.
+abbrev pub HeardLaw : Type 0
+HeardLaw = (a b : Known) (q : Request) (r : Reply) → IsSendable q → IsInLimits r
+    → calls.Answers q r → Answers a q r b → WasAnswered bytes_of bytes_of b (q ∷ []) (r ∷ [])
+
+-- the registers of one file with number 0 and no bytes
+abbrev pub one_file : Plan
+one_file = record {
+  scanners = 1;
+  looks = 2 ^ 50;
+  block_words = 0;
+  start = record { number = 0; words = [] } ∷ [];
+}
+
+-- a scanner there that has seen these updates
+abbrev pub scanner_after : List Update → Known
+scanner_after seen = record {
+  table = no_table;
+  plan = one_file;
+  seen = seen;
+  low = 0;
+  high = 0;
+  pins = 0 ∷ [];
+  records = 0 ∷ [];
+  left = 2 ^ 50;
+  sights = [];
+}
+
+abbrev pub first_update : Update
+first_update = record { segment = 0; value = 7 ∷ [] }
+
+-- A client has heard that the first update of that file is stored, and so that it stands in the history.
+abbrev pub FirstHeard : Type 0
+FirstHeard = WasAnswered bytes_of bytes_of (scanner_after (first_update ∷ []))
+    (request.Update 0 1 (7 ∷ []) ∷ []) (Stored 1 ∷ [])
+    × Has (starts one_file) (first_update ∷ []) 0 1 (7 ∷ [])
