@@ -3,9 +3,10 @@
     python3 bench/compare.py BEFORE [AFTER] [--folder FOLDER] [--rounds N]
 
 BEFORE and AFTER are programs; AFTER is by default bin/snapd. In a round each does the same half second of work on files of its
-own, and who begins changes from round to round. A line has both medians, and the median of the rounds' ratios with their
-quartiles: a ratio of 1.02 says that AFTER takes a fiftieth longer. The files lie in FOLDER, by default a fresh folder beside this
-repository's own files, so that they are on a disk; in a folder of memory, as /dev/shm, more of an update is the program's own.
+own, or starts once, or does as many puts, and who begins changes from round to round. A line has both medians, and the median
+of the rounds' ratios with their quartiles: a ratio of 1.02 says that AFTER takes a fiftieth longer. The files lie in FOLDER, by
+default a fresh folder beside this repository's own files, so that they are on a disk; in a folder of memory, as /dev/shm, more
+of an update is the program's own. With one program as both, the quartiles say what the machine alone makes of a ratio.
 """
 
 import argparse
@@ -25,10 +26,12 @@ from server import SEGMENTS, Bench  # noqa: E402
 from serving import Server  # noqa: E402
 
 LENGTH = 1_000
+# The puts of a round, of each program.
+PUTS = 20
 
 
 class Comparison:
-    """Two programs, each with a bench of its own in a folder of its own: the same compiled load, other files."""
+    """Two programs, each with a bench of its own in a folder of its own: the same load, other files."""
 
     def __init__(self, folder, before, after, rounds):
         self.rounds = rounds
@@ -67,30 +70,34 @@ class Comparison:
                 self.show(label, "us", self.in_turn(measure))
 
     def starts(self):
-        """From the start of the process to its line `listening`."""
+        """From the start of the process to its first reply: what is done before its line `listening` and what behind it, a
+        program may have changed."""
         files = [bench.files("starts", LENGTH) for bench in self.sides]
 
         def measure(side):
             began = time.perf_counter()
-            with Server(self.sides[side].snapd, *files[side], scanners=16):
+            with Server(self.sides[side].snapd, *files[side], scanners=16) as server:
+                server.scan()
                 return (time.perf_counter() - began) * 1e3
 
         measure(0), measure(1)
-        self.show("start of 16 files to its line", "ms", self.in_turn(measure))
+        self.show("start of 16 files to a first reply", "ms", self.in_turn(measure))
 
     def puts(self):
-        """A whole process that stores one value."""
-        for bench in self.sides:
-            bench.snapd.formatted("F")
+        """A whole process that stores one value, each on the same file as it was at first."""
+        timer, value = self.sides[0].compiled("timer"), self.sides[0].folder / "value"
+        value.write_bytes(b"v" * LENGTH)
+        start = self.sides[0].snapd.formatted("start")
+        words = [[bench.snapd.path, "put", start.with_name("F")] for bench in self.sides]
 
-        def measure(side):
-            snapd = self.sides[side].snapd
-            began = time.perf_counter()
-            subprocess.run([snapd.path, "put", "F"], cwd=snapd.folder, input=b"v" * LENGTH, stdout=subprocess.PIPE, check=True)
-            return (time.perf_counter() - began) * 1e6
+        def pair(first, second):
+            line = [timer, PUTS, value, start.with_name("F"), start, *words[first], "--", *words[second]]
+            run = subprocess.run(list(map(str, line)), check=True, stdout=subprocess.PIPE, text=True)
+            return [int(it) / 1e3 for it in run.stdout.split()[:2]]
 
-        measure(0), measure(1)
-        self.show("put, a whole process", "us", self.in_turn(measure))
+        pair(0, 1)
+        pairs = [pair(0, 1) if turn % 2 else pair(1, 0)[::-1] for turn in range(self.rounds)]
+        self.show("put, a whole process", "us", pairs)
 
 
 def main():
@@ -100,6 +107,8 @@ def main():
     words.add_argument("--folder")
     words.add_argument("--rounds", type=int, default=24)
     words = words.parse_args()
+    if words.rounds < 2:
+        sys.exit("quartiles want 2 rounds at least")
     for it in (words.before, words.after):
         if not pathlib.Path(it).is_file():
             sys.exit(f"there is no program {it}")

@@ -1,7 +1,8 @@
 """Times `snapd serve` beside as little of a server as does the same work (`echo.c`), as ratios, in one run.
 
-    python3 bench/server.py [--folder FOLDER] [--rounds N] [--program bin/snapd]
+    python3 bench/server.py [--folder FOLDER] [--rounds N] [--program bin/snapd] [--only PART]
 
+PART is one of `updates`, `scans`, `starts`, `told`, `comers`, `memory`, `held` and `redis`, by default all of them in this order.
 Each figure is the median of the ratios of some rounds; in a round all that is compared runs in turn, for half a second each.
 The files lie in FOLDER, by default a fresh folder beside this repository's own files, so that they are on a disk and not in
 memory.
@@ -40,6 +41,7 @@ from preload import library  # noqa: E402
 from program import Program  # noqa: E402
 from serving import SCAN, Server, entries_of, reply, segments  # noqa: E402
 
+PARTS = ("updates", "scans", "starts", "told", "comers", "memory", "held", "redis")
 SEGMENTS, SPAN = 16, 500
 # Connections a second that come and go, beside which a median update was once 4 ms.
 FLOOD = 12_600
@@ -290,18 +292,13 @@ def main():
     words.add_argument("--folder")
     words.add_argument("--rounds", type=int, default=5)
     words.add_argument("--program", default=str(TOP / "bin" / "snapd"))
+    words.add_argument("--only", choices=PARTS)
     words = words.parse_args()
     with tempfile.TemporaryDirectory(prefix="bench-", dir=words.folder or TOP) as folder:
         bench = Bench(pathlib.Path(folder).resolve(), words.program, words.rounds)
         print(f"{'the server':<48} {'snapd':>12} {'yardstick':>12}   ratio")
-        bench.updates()
-        bench.scans()
-        bench.starts()
-        bench.told()
-        bench.comers()
-        bench.memory()
-        bench.held()
-        bench.redis()
+        for part in PARTS if words.only is None else (words.only,):
+            getattr(bench, part)()
 
 
 if __name__ == "__main__":
