@@ -137,7 +137,7 @@ static void serve_all(int length) {
     struct sockaddr_in place = {.sin_family = AF_INET, .sin_addr.s_addr = htonl(INADDR_LOOPBACK)};
     socklen_t size = sizeof place;
     int listener = socket(AF_INET, SOCK_STREAM, 0);
-    must(bind(listener, (struct sockaddr *)&place, size) == 0 && listen(listener, 1024) == 0, "listen");
+    must(bind(listener, (struct sockaddr *)&place, size) == 0 && listen(listener, 1 << 16) == 0, "listen");
     must(getsockname(listener, (struct sockaddr *)&place, &size) == 0, "getsockname");
     snapshot_length = 6 + (size_t)segments * (12 + length);
     put_number(snapshot, snapshot_length - 4, 4);

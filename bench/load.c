@@ -1,10 +1,12 @@
 /* Asks a server by many connections, each in a thread of its own that asks again once it is answered.
  *
- *     load PORT KIND SEGMENTS LENGTH WRITERS READERS MILLISECONDS
+ *     load PORT KIND SEGMENTS LENGTH WRITERS READERS MILLISECONDS [COMERS RATE]
  *
  * KIND is `snapd` or `redis`. Each writer updates its own segment, or key, by values of LENGTH bytes, and each reader scans all
- * of them. It prints two lines, `updates` and `scans`, each with how many there were a second, and the median and the 99th
- * percentile of their times in nanoseconds. The first tenth of the time counts for nothing.
+ * of them. Each comer, of whom there are none by default, connects, asks nothing, leaves, and comes again, all of them RATE times
+ * a second, or with RATE 0 as fast as they can. It prints three lines, `updates`, `scans` and `connections`, each with how many
+ * there were a second, and the median and the 99th percentile of their times in nanoseconds. The first tenth of the time counts
+ * for nothing.
  */
 #define _GNU_SOURCE
 #include <arpa/inet.h>
@@ -17,12 +19,12 @@
 #include <time.h>
 #include <unistd.h>
 
-enum { MOST_CONNECTIONS = 64, MOST_TIMES = 1 << 22, LONGEST = 1 << 17 };
+enum { MOST_CONNECTIONS = 64, MOST_TIMES = 1 << 22, LONGEST = 1 << 17, KINDS = 3 };
 
-static int port, is_redis, segments, length;
+static int port, is_redis, segments, length, comers, rate;
 static long long begin, end;
-static atomic_llong counts[2];
-static long long *times[2];
+static atomic_llong counts[KINDS];
+static long long *times[KINDS];
 
 static void must(int holds, const char *what) {
     if (holds) return;
@@ -159,6 +161,27 @@ static void *scan_on(void *of) {
     return NULL;
 }
 
+/* Rests until it is time to come. Who is late comes at once. */
+static void rest_until(long long due) {
+    struct timespec time = {.tv_sec = due / 1000000000LL, .tv_nsec = due % 1000000000LL};
+    if (rate > 0) clock_nanosleep(CLOCK_MONOTONIC, TIMER_ABSTIME, &time, NULL);
+}
+
+/* It waits for nothing that the server does, and leaves by a reset, so that no port is kept for a minute behind it. */
+static void *come_and_go(void *of) {
+    struct linger reset = {.l_onoff = 1, .l_linger = 0};
+    long long since = now(), due = since;
+    (void)of;
+    do {
+        rest_until(due);
+        if (rate > 0) due += comers * 1000000000LL / rate;
+        since = now();
+        int stream = connected();
+        must(setsockopt(stream, SOL_SOCKET, SO_LINGER, &reset, sizeof reset) == 0 && close(stream) == 0, "close");
+    } while (timed(2, since));
+    return NULL;
+}
+
 static int by_time(const void *a, const void *b) {
     long long first = *(const long long *)a, second = *(const long long *)b;
     return (first > second) - (first < second);
@@ -174,17 +197,20 @@ static void print(const char *name, int kind) {
 
 int main(int words, char **word) {
     pthread_t threads[MOST_CONNECTIONS];
-    must(words == 8, "load PORT KIND SEGMENTS LENGTH WRITERS READERS MILLISECONDS");
+    must(words == 8 || words == 10, "load PORT KIND SEGMENTS LENGTH WRITERS READERS MILLISECONDS [COMERS RATE]");
     port = atoi(word[1]), is_redis = strcmp(word[2], "redis") == 0, segments = atoi(word[3]), length = atoi(word[4]);
     int writers = atoi(word[5]), readers = atoi(word[6]), all = 0;
-    must(writers <= segments && writers + readers <= MOST_CONNECTIONS, "connections");
+    if (words == 10) comers = atoi(word[8]), rate = atoi(word[9]);
+    must(writers <= segments && writers + readers + comers <= MOST_CONNECTIONS, "connections");
     long long span = atoll(word[7]) * 1000000LL, start = now();
     begin = start + span / 10, end = start + span;
-    for (int kind = 0; kind < 2; kind++) times[kind] = malloc(MOST_TIMES * sizeof(long long));
+    for (int kind = 0; kind < KINDS; kind++) times[kind] = malloc(MOST_TIMES * sizeof(long long));
     for (long i = 0; i < writers; i++) must(pthread_create(&threads[all++], NULL, write_on, (void *)i) == 0, "thread");
     for (long i = 0; i < readers; i++) must(pthread_create(&threads[all++], NULL, scan_on, NULL) == 0, "thread");
+    for (long i = 0; i < comers; i++) must(pthread_create(&threads[all++], NULL, come_and_go, NULL) == 0, "thread");
     for (int i = 0; i < all; i++) pthread_join(threads[i], NULL);
     print("updates", 0);
     print("scans", 1);
+    print("connections", 2);
     return 0;
 }

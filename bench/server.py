@@ -1,7 +1,8 @@
 """Times `snapd serve` beside as little of a server as does the same work (`echo.c`), as ratios, in one run.
 
-    python3 bench/server.py [--folder FOLDER] [--rounds N] [--program bin/snapd]
+    python3 bench/server.py [--folder FOLDER] [--rounds N] [--program bin/snapd] [--only PART]
 
+PART is one of `updates`, `scans`, `starts`, `told`, `comers`, `memory`, `held` and `redis`, by default all of them in this order.
 Each figure is the median of the ratios of some rounds; in a round all that is compared runs in turn, for half a second each.
 The files lie in FOLDER, by default a fresh folder beside this repository's own files, so that they are on a disk and not in
 memory.
@@ -9,7 +10,11 @@ memory.
 An update is compared with its device calls alone (aim 1.1), and with the yardstick, which makes the same calls behind a socket
 (aim 1.3); updates a second of 1 and 16 writers with bare calls (aim 0.8); a scan with the yardstick's reply of the same size
 (aim 1.5), alone and beside 16 writers, and with a yardstick that copies what was stored last; the time to the line `listening` with
-16 files, with their bare opening (aim 20 ms more), beside the time to write as much memory and to copy it.
+16 files, with their bare opening (aim 20 ms more), beside the time to write as much memory and to copy it, and the same by what
+docs/RECIPES.md gives the C library of a service.
+
+An update of one writer beside connections that come and go, 12,600 a second and as fast as a thread can make them, is compared
+with the same while it is quiet (aim 300 us).
 
 Then come the memory resident, with 2,000 idle connections too, and a scan on one worker beside stores that are held 2 ms at each
 sync, which is to take as long as without them; the yardstick's scans have a thread of their own and ask nobody. Where
@@ -36,11 +41,22 @@ from preload import library  # noqa: E402
 from program import Program  # noqa: E402
 from serving import SCAN, Server, entries_of, reply, segments  # noqa: E402
 
+PARTS = ("updates", "scans", "starts", "told", "comers", "memory", "held", "redis")
 SEGMENTS, SPAN = 16, 500
+# Connections a second that come and go, beside which a median update was once 4 ms.
+FLOOD = 12_600
+# What the unit of docs/RECIPES.md tells the C library, one and both.
+PAGES, ARENAS = {"GLIBC_TUNABLES": "glibc.malloc.hugetlb=1"}, {"MALLOC_ARENA_MAX": "1"}
+TOLD = {"neither": {}, "GLIBC_TUNABLES": PAGES, "MALLOC_ARENA_MAX": ARENAS, "both": {**PAGES, **ARENAS}}
 
 
 def show(label, mine, other, unit, more):
     print(f"{label:<48} {mine:>9,.1f} {unit} {other:>9,.1f} {unit}   {more}")
+
+
+def page_faults(process):
+    """How many pages the system has given it so far."""
+    return int(pathlib.Path(f"/proc/{process}/stat").read_text().rpartition(")")[2].split()[7])
 
 
 class Yardstick:
@@ -76,9 +92,10 @@ class Bench:
         held = [(1, b"v" * length), (2, b"v" * length)]
         return segments(self.snapd, *[held] * count, folder=place)
 
-    def load(self, server, length, writers, readers, kind="snapd", count=SEGMENTS):
-        """Updates a second, their median and 99th percentile in microseconds, and the same of scans."""
-        words = [self.client, server.place[1], kind, count, length, writers, readers, SPAN]
+    def load(self, server, length, writers, readers, kind="snapd", count=SEGMENTS, comers=(0, 0)):
+        """Updates a second, their median and 99th percentile in microseconds, and the same of scans, and of connections that come and
+        go: so many at once, and so many a second."""
+        words = [self.client, server.place[1], kind, count, length, writers, readers, SPAN, *comers]
         run = subprocess.run(list(map(str, words)), check=True, stdout=subprocess.PIPE, text=True)
         lines = [line.split()[1:] for line in run.stdout.splitlines()]
         return [(float(rate), int(median) / 1e3, int(most) / 1e3) for rate, median, most in lines]
@@ -129,6 +146,43 @@ class Bench:
                     name = f"scan of 16 x {length:,} bytes" + (", beside 16 writers" if writers else "")
                     more = f"aim 1.5; with live values {beside_live:.3f}"
                     show(name, mine, bare, "us", f"{beside_echo:.3f}   ({more})")
+
+    def comers(self):
+        """An update of one writer beside connections that come and go."""
+        length = 1_000
+        for place in ("yardstick", "files"):
+            files = self.files(place, length)
+        with Server(self.snapd, *files, scanners=4) as server, self.yardstick(length) as echo:
+            for comers in ((2, FLOOD), (1, 0)):
+                found = []
+                for _ in range(self.rounds):
+                    times = []
+                    for it in (server, echo):
+                        quiet = self.load(it, length, 1, 0)[0][1]
+                        beside, _, came = self.load(it, length, 1, 0, comers=comers)
+                        times += [quiet, beside[1], came[0]]
+                    found.append(times)
+                quiet, beside, came, *_ = (statistics.median(each) for each in zip(*found))
+                mine, its = (statistics.median(it[at + 1] / it[at] for it in found) for at in (0, 3))
+                rate = statistics.median(it[5] for it in found)
+                name = f"update beside {came:,.0f} connections a second, quiet"
+                show(name, beside, quiet, "us", f"{mine:.3f}   (aim 300 us; the yardstick's {its:.3f} beside {rate:,.0f})")
+
+    def told(self):
+        """A start by what the unit of docs/RECIPES.md tells the C library, in times of one without."""
+        files = self.files("files", 1_000)
+        found = {name: [] for name in TOLD}
+        for _ in range(4 * self.rounds):
+            for name, env in TOLD.items():
+                began = time.perf_counter()
+                with Server(self.snapd, *files, scanners=4, env=env) as server:
+                    took = (time.perf_counter() - began) * 1e3
+                    found[name].append((took, page_faults(server.process.pid), server.memory()))
+        for name, rows in found.items():
+            took, faults, kilobytes = (statistics.median(each) for each in zip(*rows))
+            ratio = statistics.median(mine[0] / bare[0] for mine, bare in zip(rows, found["neither"]))
+            more = f"{ratio:.3f}   ({faults:,.0f} page faults, {kilobytes:,.0f} kB resident)"
+            show(f"start of 16 files by {name}, by neither", took, statistics.median(it[0] for it in found["neither"]), "ms", more)
 
     def starts(self):
         """From the start of the process to its line `listening`."""
@@ -238,16 +292,13 @@ def main():
     words.add_argument("--folder")
     words.add_argument("--rounds", type=int, default=5)
     words.add_argument("--program", default=str(TOP / "bin" / "snapd"))
+    words.add_argument("--only", choices=PARTS)
     words = words.parse_args()
     with tempfile.TemporaryDirectory(prefix="bench-", dir=words.folder or TOP) as folder:
         bench = Bench(pathlib.Path(folder).resolve(), words.program, words.rounds)
         print(f"{'the server':<48} {'snapd':>12} {'yardstick':>12}   ratio")
-        bench.updates()
-        bench.scans()
-        bench.starts()
-        bench.memory()
-        bench.held()
-        bench.redis()
+        for part in PARTS if words.only is None else (words.only,):
+            getattr(bench, part)()
 
 
 if __name__ == "__main__":

@@ -53,7 +53,8 @@ typedef enum {
     SNAPD_REFUSED,      /* the server said no: refusal and detail of the client say why */
     SNAPD_NOT_ANSWERED, /* no try had an answer: error of the client is the last errno, or 0 where the server hung up */
     SNAPD_TIMED_OUT,    /* the last try had no whole answer within the timeout */
-    SNAPD_BAD_REPLY,    /* what came isn't an answer: there is no snapd at the other end */
+    SNAPD_BAD_REPLY,    /* what came isn't an answer to the request, or says that another number was stored than was sent.
+                         * It isn't tried again: check the address, and scan */
     SNAPD_BAD_CALL      /* a value or an address that no message or socket can say; nothing was sent */
 } snapd_result;
 
