@@ -1,5 +1,5 @@
 -- What stands behind the line of a refusal.
-use Rattle.std.proofs.Common.{◌≡◌, ◌++◌, ℕ, List, [], refl, subst, Bool, Option, Some, None, IfSome, String, Global, string_bytes}
+use Rattle.std.proofs.Common.{◌≡◌, ◌++◌, ℕ, List, [], refl, subst, Bool, Option, IfSome, String, Global, string_bytes}
 use Rattle.snap_disk.specs.declared.refusal.Refusal.{Refusal}
 use Rattle.snap_disk.specs.declared.refusal.Refusal.TheVariants.{
   Malformed,

@@ -1,5 +1,6 @@
 //! The line behind that of a refusal: which file it was, what the system said of it, and what to do.
-ghost use Rattle.std.specs.Prelude.{◌≡◌, ◌++◌, ℕ, List, Option, Some, None, IfOk, IfSome, string_bytes};
+ghost use Rattle.std.specs.Prelude.{◌≡◌, ◌++◌, ℕ, List, Option, Some, None};
+ghost use Rattle.std.specs.Prelude.{IfOk, IfSome, string_bytes};
 ghost use Rattle.snap_stream.specs.Streams.{file_line};
 ghost use Rattle.snap_order.specs.Order.{file_of};
 ghost use Rattle.snap_command.specs.Failure.{IsBehind};
@@ -36,7 +37,8 @@ pub(crate) fn line_behind<C: Cause>(
 }
 
 /// The line behind that of a refusal at one of a migration's files: the role that the file has there
-/// stands behind its name, and then what to do. `None` is want of memory.
+/// stands behind its name, and then the text, or what the system said of a device that failed. `None`
+/// is want of memory.
 pub(crate) fn line_behind_role<C: Cause>(
     alloc: Global,
     file: &str,
@@ -45,8 +47,7 @@ pub(crate) fn line_behind_role<C: Cause>(
     cause: &C,
     text: Result<String, AllocError>,
 ) -> Option<String>
-    ensures { (advice : List ℕ) → IfOk text (λ t. string_bytes t ≡ advice)
-        → (line : List ℕ)
+    ensures { (advice : List ℕ) → IfOk text (λ t. string_bytes t ≡ advice) → (line : List ℕ)
         × IsBehindRole role.now advice (C.may_give cause.now) file.now why line
         × IfSome result (λ more. string_bytes more ≡ line) }
 {
@@ -95,8 +96,8 @@ fn role_line(
     text: Result<String, AllocError>,
 ) -> Option<String>
     ensures { (advice : List ℕ) → IfOk text (λ t. string_bytes t ≡ advice)
-        → IfSome result (λ line.
-        string_bytes line ≡ file_line file.now (role.now ++ advice)) }
+        → IfSome result (λ line. string_bytes line
+        ≡ file_line file.now (role.now ++ advice)) }
 {
     match text {
         Ok(text) => whole_line(alloc, file, role, text.as_str()),

@@ -14,11 +14,7 @@ use snap_slot::FILE_LEN;
 use std::alloc::{AllocError, Global};
 
 /// Of a file that isn't the order's, by its length.
-pub(crate) fn of_wrong(
-    alloc: Global,
-    order: &FileOrder<'_>,
-    len: u64,
-) -> Result<String, AllocError>
+pub(crate) fn of_wrong(alloc: Global, order: &FileOrder<'_>, len: u64) -> Result<String, AllocError>
     ensures { IfOk result (λ text. string_bytes text ≡ wrong_text order.now len) }
 {
     match len {
