@@ -1,5 +1,5 @@
 -- What stands behind the line of a refusal.
-use Rattle.std.proofs.Common.{◌≡◌, ◌++◌, ℕ, List, [], refl, Bool, Option, Some, None, IfSome, String, Global, string_bytes}
+use Rattle.std.proofs.Common.{◌≡◌, ◌++◌, ℕ, List, [], refl, subst, Bool, Option, IfSome, String, Global, string_bytes}
 use Rattle.snap_disk.specs.declared.refusal.Refusal.{Refusal}
 use Rattle.snap_disk.specs.declared.refusal.Refusal.TheVariants.{
   Malformed,
@@ -20,9 +20,10 @@ use Rattle.snap_disk.specs.declared.refusal.Refusal.TheVariants.{
   NotNow,
   Worn,
 }
-use Rattle.snap_stream.specs.Streams.{NamesFile, file_line}
-use Rattle.snap_old_slot.specs.declared.layout.TheConstants.{OLD_FILE_LEN}
-use Rattle.snap_command.specs.Failure.{IsBehind, Says, SaysOf, failed_text, old_text}
+use Rattle.snap_stream.specs.Streams.{file_line}
+use Rattle.snap_order.specs.declared.order.FileOrder.{FileOrder}
+use Rattle.snap_command.specs.Failure.{IsBehind, Says, SaysOf}
+use Rattle.snap_command.specs.Remedy.{failed_text}
 use Rattle.snap_command.specs.Migrating.{IsBehindRole}
 use Rattle.snap_command.specs.declared.failure.Failure.{Failure}
 use Rattle.snap_command.specs.declared.failure.Failure.TheVariants.{Refused, Input, Output, Unsaid}
@@ -31,12 +32,17 @@ use Rattle.snap_command.specs.declared.failure.Failure.TheVariants.{Refused, Inp
 abbrev pub IsMade : (P : List ℕ → Type 0) → Option (String Global) → Type 0
 IsMade P made = (line : List ℕ) × P line × IfSome made (λ m. string_bytes m ≡ line)
 
--- a line of a file, with a role behind its name
-pub names : (file role : List ℕ) (made : Option (String Global))
-    → IfSome made (λ m. (text : List ℕ) × (string_bytes m ≡ file_line file (role ++ text)))
-    → IsMade (λ line. (text : List ℕ) × (line ≡ file_line file (role ++ text))) made
-names file role (Some m) is = (string_bytes m, is, refl)
-names file role None is = (file_line file (role ++ []), ([], refl), tt)
+-- the line that is known
+pub exactly : (line : List ℕ) (made : Option (String Global))
+    → IfSome made (λ m. string_bytes m ≡ line) → IsMade (λ l. l ≡ line) made
+exactly line made is = (line, refl, is)
+
+-- the same of a text about a file, which goes by two names that are one
+pub named : (text : List ℕ → List ℕ) (file name : List ℕ) (made : Option (String Global))
+    → file ≡ name → IfSome made (λ m. string_bytes m ≡ file_line file (text file))
+    → IsMade (λ l. l ≡ file_line name (text name)) made
+named text file name made same is = exactly (file_line name (text name)) made
+    (subst (λ (f : List ℕ). IfSome made (λ m. string_bytes m ≡ file_line f (text f))) same is)
 
 -- the line of a device that failed
 pub failed : (may_give : Option (List ℕ) → Type 0) (file role : List ℕ) (made : Option (String Global))
@@ -50,80 +56,57 @@ failed may_give file role made is = (
   is.2,
 )
 
--- the line of a file of the old format
-pub old : (file : List ℕ) (len : ℕ) (made : Option (String Global))
-    → IfSome made (λ m. string_bytes m ≡ file_line file (old_text file))
-    → IsMade (λ line. NamesFile file line
-    × (len ≡ OLD_FILE_LEN → line ≡ file_line file (old_text file))) made
-old file len made is = (
-  file_line file (old_text file),
-  ((old_text file, refl), λ _. refl),
-  is,
-)
-
--- the line of another wrong file
-pub wrong : (file : List ℕ) (len : ℕ) (made : Option (String Global)) → (len ≡ OLD_FILE_LEN → ⊥)
-    → IfSome made (λ m. NamesFile file (string_bytes m))
-    → IsMade (λ line. NamesFile file line
-    × (len ≡ OLD_FILE_LEN → line ≡ file_line file (old_text file))) made
-wrong file len made other is =
-    let line = names file [] made is in (
-      line.0,
-      (line.1, λ same. absurd (other same)),
-      line.2,
-    )
-
 -- nothing stands behind a refusal that isn't of the file
-pub nothing : (may_give : Option (List ℕ) → Type 0) (file : List ℕ) (len : ℕ) (why : Refusal)
+pub nothing : (may_give : Option (List ℕ) → Type 0) (order : FileOrder) (len : ℕ) (why : Refusal)
     → (why ≡ DeviceFailed → ⊥) → (why ≡ WrongFile → ⊥) → (why ≡ Unformatted → ⊥)
-    → (why ≡ Damaged → ⊥) → (why ≡ AlreadyFormatted → ⊥) → IsBehind may_give file len why []
-nothing may_give file len Malformed a b c d e = refl
-nothing may_give file len NoSegment a b c d e = refl
-nothing may_give file len TooLong a b c d e = refl
-nothing may_give file len Conflict a b c d e = refl
-nothing may_give file len OutOfStep a b c d e = refl
-nothing may_give file len Fenced a b c d e = refl
-nothing may_give file len Full a b c d e = refl
-nothing may_give file len NoMemory a b c d e = refl
-nothing may_give file len Exhausted a b c d e = refl
-nothing may_give file len Damaged a b c d e = absurd (d refl)
-nothing may_give file len Unformatted a b c d e = absurd (c refl)
-nothing may_give file len AlreadyFormatted a b c d e = absurd (e refl)
-nothing may_give file len DeviceFailed a b c d e = absurd (a refl)
-nothing may_give file len WrongFile a b c d e = absurd (b refl)
-nothing may_give file len TooLarge a b c d e = refl
-nothing may_give file len NotNow a b c d e = refl
-nothing may_give file len Worn a b c d e = refl
+    → (why ≡ Damaged → ⊥) → (why ≡ AlreadyFormatted → ⊥) → IsBehind may_give order len why []
+nothing may_give order len Malformed a b c d e = refl
+nothing may_give order len NoSegment a b c d e = refl
+nothing may_give order len TooLong a b c d e = refl
+nothing may_give order len Conflict a b c d e = refl
+nothing may_give order len OutOfStep a b c d e = refl
+nothing may_give order len Fenced a b c d e = refl
+nothing may_give order len Full a b c d e = refl
+nothing may_give order len NoMemory a b c d e = refl
+nothing may_give order len Exhausted a b c d e = refl
+nothing may_give order len Damaged a b c d e = absurd (d refl)
+nothing may_give order len Unformatted a b c d e = absurd (c refl)
+nothing may_give order len AlreadyFormatted a b c d e = absurd (e refl)
+nothing may_give order len DeviceFailed a b c d e = absurd (a refl)
+nothing may_give order len WrongFile a b c d e = absurd (b refl)
+nothing may_give order len TooLarge a b c d e = refl
+nothing may_give order len NotNow a b c d e = refl
+nothing may_give order len Worn a b c d e = refl
 
 -- a line with its file's role, of any refusal but that of a device that failed
-pub role_behind : (role : List ℕ) (may_give : Option (List ℕ) → Type 0) (file : List ℕ)
+pub role_behind : (role advice : List ℕ) (may_give : Option (List ℕ) → Type 0) (file : List ℕ)
     (why : Refusal) (made : Option (String Global)) → (why ≡ DeviceFailed → ⊥)
-    → IsMade (λ line. (text : List ℕ) × (line ≡ file_line file (role ++ text))) made
-    → IsMade (IsBehindRole role may_give file why) made
-role_behind role may_give file Malformed made other is = is
-role_behind role may_give file NoSegment made other is = is
-role_behind role may_give file TooLong made other is = is
-role_behind role may_give file Conflict made other is = is
-role_behind role may_give file OutOfStep made other is = is
-role_behind role may_give file Fenced made other is = is
-role_behind role may_give file Full made other is = is
-role_behind role may_give file NoMemory made other is = is
-role_behind role may_give file Exhausted made other is = is
-role_behind role may_give file Damaged made other is = is
-role_behind role may_give file Unformatted made other is = is
-role_behind role may_give file AlreadyFormatted made other is = is
-role_behind role may_give file DeviceFailed made other is = absurd (other refl)
-role_behind role may_give file WrongFile made other is = is
-role_behind role may_give file TooLarge made other is = is
-role_behind role may_give file NotNow made other is = is
-role_behind role may_give file Worn made other is = is
+    → IsMade (λ line. line ≡ file_line file (role ++ advice)) made
+    → IsMade (IsBehindRole role advice may_give file why) made
+role_behind role advice may_give file Malformed made other is = is
+role_behind role advice may_give file NoSegment made other is = is
+role_behind role advice may_give file TooLong made other is = is
+role_behind role advice may_give file Conflict made other is = is
+role_behind role advice may_give file OutOfStep made other is = is
+role_behind role advice may_give file Fenced made other is = is
+role_behind role advice may_give file Full made other is = is
+role_behind role advice may_give file NoMemory made other is = is
+role_behind role advice may_give file Exhausted made other is = is
+role_behind role advice may_give file Damaged made other is = is
+role_behind role advice may_give file Unformatted made other is = is
+role_behind role advice may_give file AlreadyFormatted made other is = is
+role_behind role advice may_give file DeviceFailed made other is = absurd (other refl)
+role_behind role advice may_give file WrongFile made other is = is
+role_behind role advice may_give file TooLarge made other is = is
+role_behind role advice may_give file NotNow made other is = is
+role_behind role advice may_give file Worn made other is = is
 
 -- a failure that is no refusal says the same of any file
-pub says_of_other : (failure : Failure) (may_give : Option (List ℕ) → Type 0) (file : List ℕ)
+pub says_of_other : (failure : Failure) (may_give : Option (List ℕ) → Type 0) (order : FileOrder)
     (len : ℕ) → ((why : Refusal) → failure ≡ Refused why → ⊥) → (is_told : Bool)
     (old new : Option (List ℕ)) → Says failure is_told old new
-    → SaysOf failure may_give file len is_told old new
-says_of_other (Refused why) may_give file len other is_told old new says = absurd (other why refl)
-says_of_other (Input error) may_give file len other is_told old new says = says
-says_of_other (Output error) may_give file len other is_told old new says = says
-says_of_other (Unsaid number error) may_give file len other is_told old new says = says
+    → SaysOf failure may_give order len is_told old new
+says_of_other (Refused why) may_give order len other is_told old new says = absurd (other why refl)
+says_of_other (Input error) may_give order len other is_told old new says = says
+says_of_other (Output error) may_give order len other is_told old new says = says
+says_of_other (Unsaid number error) may_give order len other is_told old new says = says

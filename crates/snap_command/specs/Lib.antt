@@ -1,3 +1,4 @@
+pub mod Remedy
 pub mod Failure
 pub mod Commands
 pub mod Keeping

@@ -33,9 +33,9 @@ use Rattle.snap_stream.specs.Streams.{AppendsBeginning, SaysLines, file_line, re
 use Rattle.snap_order.specs.declared.order.Migration.{Migration}
 use Rattle.snap_order.specs.declared.status.Status.{Status}
 use Rattle.snap_order.specs.declared.status.Status.TheVariants as status
-use Rattle.snap_command.specs.Failure.{Says, failed_text, status_of}
+use Rattle.snap_command.specs.Failure.{Says, status_of}
+use Rattle.snap_command.specs.Remedy.{failed_text, new_file_text, new_role, old_file_text, old_role}
 use Rattle.snap_command.specs.declared.failure.Failure.TheVariants.{Output, Refused}
-use Rattle.snap_command.specs.declared.migrating.TheConstants.{AS_NEW, AS_OLD}
 use Rattle.snap_command.specs.declared.migrating.MigrationFailure.{MigrationFailure}
 use Rattle.snap_command.specs.declared.migrating.MigrationFailure.TheVariants.{OfFile, Other}
 
@@ -61,21 +61,22 @@ migrated_line i n k = migrated_beginning i n ++ (decimal k ++ codes "\n")
 
 -- What stands behind the line of a refusal of one of the files: a line that names it, says which of
 -- the two it is, and then what to do. `may_give` says what the system may have said of its device.
-abbrev pub IsBehindRole : (role : List ℕ) (may_give : Option (List ℕ) → Type 0) (file : List ℕ)
-    → Refusal → List ℕ → Type 0
-IsBehindRole role may_give file refusal.DeviceFailed more =
+abbrev pub IsBehindRole : (role advice : List ℕ) (may_give : Option (List ℕ) → Type 0)
+    (file : List ℕ) → Refusal → List ℕ → Type 0
+IsBehindRole role advice may_give file refusal.DeviceFailed more =
     (said : Option (List ℕ)) × may_give said × (more ≡ file_line file (role ++ failed_text said))
-IsBehindRole role may_give file why more =
-    (text : List ℕ) × (more ≡ file_line file (role ++ text))
+IsBehindRole role advice may_give file why more = more ≡ file_line file (role ++ advice)
 
 -- what standard error got: nothing where the migration didn't end early
 abbrev pub SaysMigration : MigrationFailure → (old_may_give new_may_give : Option (List ℕ) → Type 0)
     → Migration → (is_told : Bool) (old new : Option (List ℕ)) → Type 0
 SaysMigration (OfFile Old why) old_may_give new_may_give order is_told old new =
-    (more : List ℕ) × IsBehindRole AS_OLD.now old_may_give order.old.now why more
+    (more : List ℕ)
+    × IsBehindRole old_role (old_file_text order why) old_may_give order.old.now why more
     × SaysLines (refused_line why ++ more) is_told old new
 SaysMigration (OfFile New why) old_may_give new_may_give order is_told old new =
-    (more : List ℕ) × IsBehindRole AS_NEW.now new_may_give order.new.now why more
+    (more : List ℕ)
+    × IsBehindRole new_role (new_file_text order why) new_may_give order.new.now why more
     × SaysLines (refused_line why ++ more) is_told old new
 SaysMigration (Other failure) old_may_give new_may_give order is_told old new =
     Says failure is_told old new

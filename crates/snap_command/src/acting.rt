@@ -14,7 +14,7 @@ ghost use Rattle.snap_command.specs.Commands.{CountsEnd, End, EndSays, EndsCheck
 ghost use Rattle.snap_command.specs.Commands.{EndsGet, EndsOrder, EndsPut, EndsStore, OrderLeaves};
 ghost use Rattle.snap_command.specs.Commands.{PutLeaves, StoreLeaves, status_at};
 ghost use Rattle.snap_command.specs.Keeping.{FormatKeeps, OrderKeeps, PutKeeps, StoreKeeps};
-ghost use Rattle.snap_order.specs.Order.{IsFileWithinLimits, file_of};
+ghost use Rattle.snap_order.specs.Order.{IsFileWithinLimits};
 
 use crate::Failure;
 use snap_disk::{Disk, Refusal};
@@ -49,7 +49,7 @@ pub fn act<D: Disk, C: Cause, R: Read, W: Write, E: Write>(
     // The status is that of an end which says what happened, what standard error got, and where
     // the device is as it was.
     ensures ends { (end : End) × (result.1.status ≡ status_at end)
-        × EndSays (C.may_give cause.now) (file_of order.now) (length (D.device disk).bytes) end
+        × EndSays (C.may_give cause.now) order.now (length (D.device disk).bytes) end
         result.1.is_told (E.contents errors.old) (E.contents errors.new)
         × CountsEnd end (D.failure_count disk) (D.failure_count result.0)
         × CountsOrder order.now end (D.clock disk) (D.clock result.0)

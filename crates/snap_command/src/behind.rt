@@ -1,14 +1,15 @@
 //! The line behind that of a refusal: which file it was, what the system said of it, and what to do.
-ghost use Rattle.std.specs.Prelude.{◌≡◌, ◌++◌, ℕ, List, Option, Some, None, IfSome, string_bytes};
+ghost use Rattle.std.specs.Prelude.{◌≡◌, ◌++◌, ℕ, List, Option, Some, None};
+ghost use Rattle.std.specs.Prelude.{IfOk, IfSome, string_bytes};
 ghost use Rattle.snap_stream.specs.Streams.{file_line};
 ghost use Rattle.snap_order.specs.Order.{file_of};
-ghost use Rattle.snap_command.specs.Failure.{IsBehind, failed_text, old_text};
+ghost use Rattle.snap_command.specs.Failure.{IsBehind};
 ghost use Rattle.snap_command.specs.Migrating.{IsBehindRole};
+ghost use Rattle.snap_command.specs.Remedy.{failed_text};
 
 use crate::remedy;
 use snap_disk::Refusal;
 use snap_order::FileOrder;
-use snap_segment::OLD_FILE_LEN;
 use snap_stream::Cause;
 use std::alloc::{AllocError, Global};
 
@@ -21,13 +22,12 @@ pub(crate) fn line_behind<C: Cause>(
     why: Refusal,
     cause: &C,
 ) -> Option<String>
-    ensures { (line : List ℕ) × IsBehind (C.may_give cause.now) (file_of order.now) len why line
+    ensures { (line : List ℕ) × IsBehind (C.may_give cause.now) order.now len why line
         × IfSome result (λ more. string_bytes more ≡ line) }
 {
     let file = order.file();
     match why {
         Refusal::DeviceFailed => failed_line(alloc, file, "", cause),
-        Refusal::WrongFile if len == OLD_FILE_LEN => old_line(alloc, file),
         Refusal::WrongFile => role_line(alloc, file, "", remedy::of_wrong(alloc, order, len)),
         Refusal::Unformatted => role_line(alloc, file, "", remedy::of_unformatted(alloc, order)),
         Refusal::Damaged => role_line(alloc, file, "", remedy::of_damaged(alloc, file)),
@@ -37,7 +37,8 @@ pub(crate) fn line_behind<C: Cause>(
 }
 
 /// The line behind that of a refusal at one of a migration's files: the role that the file has there
-/// stands behind its name, and then what to do. `None` is want of memory.
+/// stands behind its name, and then the text, or what the system said of a device that failed. `None`
+/// is want of memory.
 pub(crate) fn line_behind_role<C: Cause>(
     alloc: Global,
     file: &str,
@@ -46,7 +47,8 @@ pub(crate) fn line_behind_role<C: Cause>(
     cause: &C,
     text: Result<String, AllocError>,
 ) -> Option<String>
-    ensures { (line : List ℕ) × IsBehindRole role.now (C.may_give cause.now) file.now why line
+    ensures { (advice : List ℕ) → IfOk text (λ t. string_bytes t ≡ advice) → (line : List ℕ)
+        × IsBehindRole role.now advice (C.may_give cause.now) file.now why line
         × IfSome result (λ more. string_bytes more ≡ line) }
 {
     match why {
@@ -86,18 +88,6 @@ fn unknown_line(alloc: Global, file: &str, role: &str) -> Option<String>
     whole_line(alloc, file, role, text)
 }
 
-/// The line of a file that has the length of the old format.
-fn old_line(alloc: Global, file: &str) -> Option<String>
-    ensures { IfSome result (λ line. string_bytes line ≡ file_line file.now (old_text file.now)) }
-{
-    match format!(in alloc;
-        "it has the length of the old format: carry it over with snapd migrate {file} NEW"
-    ) {
-        Ok(text) => whole_line(alloc, file, "", text.as_str()),
-        Err(_) => None,
-    }
-}
-
 /// The line of a text about a file, where there was memory for it.
 fn role_line(
     alloc: Global,
@@ -105,8 +95,9 @@ fn role_line(
     role: &str,
     text: Result<String, AllocError>,
 ) -> Option<String>
-    ensures { IfSome result (λ line. (text : List ℕ)
-        × (string_bytes line ≡ file_line file.now (role.now ++ text))) }
+    ensures { (advice : List ℕ) → IfOk text (λ t. string_bytes t ≡ advice)
+        → IfSome result (λ line. string_bytes line
+        ≡ file_line file.now (role.now ++ advice)) }
 {
     match text {
         Ok(text) => whole_line(alloc, file, role, text.as_str()),

@@ -1,6 +1,5 @@
 //! Why a command did not do what was asked.
 ghost use Rattle.std.specs.Prelude.{◌≡◌};
-ghost use Rattle.snap_order.specs.Order.{file_of};
 ghost use Rattle.snap_command.specs.Failure.{Says, SaysOf, status_of};
 
 use crate::behind::line_behind;
@@ -71,7 +70,7 @@ impl Failure {
         errors: &mut E,
     ) -> Ended
         ensures status { result.status ≡ status_of self.now }
-        ensures says { SaysOf self.now (C.may_give cause.now) (file_of order.now) len
+        ensures says { SaysOf self.now (C.may_give cause.now) order.now len
             result.is_told (E.contents errors.old) (E.contents errors.new) }
     {
         match self {

@@ -1,5 +1,4 @@
 use Rattle.std.proofs.Common.{sym, subst}
-use Rattle.snap_order.specs.Order.{file_of}
 use Rattle.snap_command.specs.Failure.{SaysOf}
 use Rattle.snap_command.specs.declared.failure.Failure.{Failure}
 use Rattle.snap_command.proofs.Saying.{says_of_other}
@@ -9,12 +8,12 @@ pub returns-in-Refused-clause-says : goal.returns-in-Refused-clause-says
 returns-in-Refused-clause-says g c =
     let line = c.line_behind-more.ensures in
     let P : Failure → Type 0 = λ failure. SaysOf failure (g.C.Cause.may_give c.args.cause.now)
-    (file_of c.args.order.now) c.args.len c.complain_twice.result
+    c.args.order.now c.args.len c.complain_twice.result
     (g.E.Write.contents c.args.errors.now) (g.E.Write.contents c.complain_twice.new.errors) in
     subst P (sym c.in-Refused.is) (line.0, line.1, c.complain_twice.ensures.says line.0 line.2)
 
 pub returns-in_default-clause-says : goal.returns-in_default-clause-says
 returns-in_default-clause-says g c =
     says_of_other c.args.self.now (g.C.Cause.may_give c.args.cause.now)
-    (file_of c.args.order.now) c.args.len c.in_default.not-Refused c.report.result.is_told _ _
+    c.args.order.now c.args.len c.in_default.not-Refused c.report.result.is_told _ _
     c.report.ensures.says
