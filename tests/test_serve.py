@@ -1,6 +1,7 @@
 """`snapd serve` and `snapd call` from both ends: what they print, their statuses, and what they leave."""
 
 import os
+import pathlib
 import re
 import signal
 import socket
@@ -14,6 +15,10 @@ from waiting import PATIENCE, comes_to, is_read
 
 REPORT = "segment 0 number 1 length 2 spare open\nsegment 1 number 0 length 0 spare closed\nsegments 2\n"
 HELD = [(0, b""), (1, b"hi")]
+FORMATS = (pathlib.Path(__file__).resolve().parent.parent / "docs" / "FORMATS.md").read_text()
+# What stands behind the line of a file's refusal, by the refusal: the table of docs/FORMATS.md.
+REMEDIES = dict(re.findall(r"^\| (1\d(?:, [^|]+)?) \| `snapd: FILE: ([^`]+)` \|$",
+                           FORMATS.split("\n**A server.**")[1].split("\n**A call.**")[0], re.M))
 
 
 def two(snapd):
@@ -101,6 +106,12 @@ def test_addresses_that_the_system_does_not_take(snapd, _):
 
 # ---- files ----
 
+def remedy(refusal, file, index, count, fault=""):
+    """What is said of this file, of segment `index` of `count`, behind the line of that refusal."""
+    words = {"FILE": file, "I": str(index), "N": str(count), "CALL: REASON": fault}
+    return f"{file}: " + re.sub(r"\b(FILE|CALL: REASON|I|N)\b", lambda it: words[it[0]], REMEDIES[refusal])
+
+
 def file_faults(snapd):
     """Files that can't be served as segment 1 of 3, with the status and what is said of each."""
     place = {"index": 1, "count": 3}
@@ -114,11 +125,10 @@ def file_faults(snapd):
     return [
         ("missing", 1, ["missing: No such file or directory (os error 2)"]),
         ("folder", 1, ["folder: Is a directory (os error 21)"]),
-        ("damaged", 3, ["refused 10 Damaged", "damaged: it doesn't hold a segment's number: see snapd check damaged"]),
-        ("unformatted", 3, ["refused 11 Unformatted",
-                            "unformatted: it was never formatted, or its header is gone: keep a copy first, then snapd format unformatted --index 1 --count 3"]),
-        *[(name, 3, ["refused 14 WrongFile", f"{name}: it isn't the file of segment 1 of 3, or has the old format: see snapd check {name}"])
-          for name in ("empty", "short", "old", "another")],
+        ("damaged", 3, ["refused 10 Damaged", remedy("10", "damaged", **place)]),
+        ("unformatted", 3, ["refused 11 Unformatted", remedy("11", "unformatted", **place)]),
+        ("empty", 3, ["refused 14 WrongFile", remedy("14, no byte", "empty", **place)]),
+        *[(name, 3, ["refused 14 WrongFile", remedy("14, any other file", name, **place)]) for name in ("short", "old", "another")],
     ]
 
 
@@ -132,7 +142,20 @@ def test_files_that_cannot_be_served(snapd, _):
         if file == "old":
             # What the line says to look at knows the remedy.
             snapd("check", file).refused(14, "WrongFile", layout.advice(file))
+        if file in ("unformatted", "empty"):
+            # A command on this file alone says the same.
+            snapd("get", file, "--index", 1, "--count", 3).gave(status, errors=run.errors)
+        if file == "empty":
+            # What the line says to go on with makes it a file that is served.
+            snapd(*run.errors.rpartition("snapd ")[2].split()).gave(0, "formatted 1 of 3\n")
+            with Server(snapd, first, file, last) as server:
+                assert server.scan() == [(1, b"hi"), (0, b""), (0, b"")]
         assert before == {name: snapd.file(name).read_bytes() for name in (first, last)}
+
+
+def test_each_remedy_is_documented(snapd, _):
+    """The text of 13 is met by a start on a failing disk, the others by the files above."""
+    assert list(REMEDIES) == ["10", "11", "13", "14, no byte", "14, any other file"]
 
 
 def test_the_first_file_that_fails_is_named(snapd, _):

@@ -12,6 +12,7 @@ from preload import library
 from program import Skipped
 from serving import FRESH, SCAN, STATUS, Server, entries_of, received, refused, reply, segments, snapshot
 from serving import standings, stored, update
+from test_serve import remedy
 from waiting import PATIENCE, comes_to
 
 TWO = [(0, b""), (1, b"hi")]
@@ -89,7 +90,7 @@ def test_a_start_on_a_failing_disk(snapd, _):
     for call in ("sync", "read"):
         disk.says(f"S1 {call} fail {errno.EIO}")
         run = snapd("serve", "127.0.0.1:0", *files, env=disk.env)
-        run.refused(13, "DeviceFailed", f"S1: {call}: Input/output error (os error 5): look after its disk, and start again")
+        run.refused(13, "DeviceFailed", remedy("13", "S1", 1, 3, f"{call}: Input/output error (os error 5)"))
     disk.says()
     with Server(snapd, *files, env=disk.env) as server:
         assert server.scan() == [(1, b"hi")] * 3
@@ -230,18 +231,18 @@ def written_into(file, at, data):
 def test_a_file_is_damaged_while_it_serves(snapd, _):
     """It serves on what it knows. A restart refuses the file by name and leaves the others alone."""
     damages = [
-        (layout.gate_at(0) + 7, b"\1", 3, 10, "Damaged", "it doesn't hold a segment's number: see snapd check S0"),
-        (layout.HEADER_GATE, b"\0", 3, 11, "Unformatted", "it was never formatted, or its header is gone: keep a copy first, then snapd format S0 --index 0 --count 2"),
-        (9, b"\7", 0, 14, "WrongFile", "it isn't the file of segment 0 of 2, or has the old format: see snapd check S0"),
+        (layout.gate_at(0) + 7, b"\1", 3, 10, "Damaged", "10"),
+        (layout.HEADER_GATE, b"\0", 3, 11, "Unformatted", "11"),
+        (9, b"\7", 0, 14, "WrongFile", "14, any other file"),
     ]
-    for at, data, checked, number, name, advice in damages:
+    for at, data, checked, number, name, refusal in damages:
         files = segments(snapd, TWO, FRESH)
         with Server(snapd, *files) as server:
             written_into(snapd.file("S0"), at, data)
             server.ask(SCAN + update(1, 1, b"on"), snapshot((1, b"hi"), (0, b"")) + stored(1))
             server.ask(update(0, 1, b"hi"), stored(1))
         before = snapd.file("S0").read_bytes()
-        snapd("serve", "127.0.0.1:0", *files).refused(number, name, f"S0: {advice}")
+        snapd("serve", "127.0.0.1:0", *files).refused(number, name, remedy(refusal, "S0", 0, 2))
         assert snapd.file("S0").read_bytes() == before
         assert snapd("check", "S0").status == checked
         # A file from a backup in its place, and all goes on.
@@ -263,7 +264,7 @@ def test_a_file_is_gone_while_it_serves(snapd, _):
         if how == "removed":
             run.gave(1, errors="snapd: S0: No such file or directory (os error 2)\n")
         else:
-            run.refused(14, "WrongFile", "S0: it isn't the file of segment 0 of 2, or has the old format: see snapd check S0")
+            run.refused(14, "WrongFile", remedy("14, no byte", "S0", 0, 2))
         segments(snapd, FRESH, [(1, b"on")])
         with Server(snapd, *files) as server:
             assert server.scan() == [(0, b""), (1, b"on")]

@@ -19,7 +19,7 @@ use Rattle.snap_host.specs.declared.failure.HostFailure.TheVariants.{
 }
 use Rattle.snap_host.specs.Hosting.{End, EndsHost, EndsServing, IsReportOf}
 
-pub ends_opened : {L : Type 0} (IsReport : Report → Type 0) (IsStop : ℕ → Refusal → Type 0)
+pub ends_opened : {L : Type 0} (IsReport : Report → Type 0) (IsStop : ℕ → Refusal → ℕ → Type 0)
     (listens : L → SocketAddr → Type 0) (refused : Error → Type 0) (deaf : L → Type 0)
     (has_come : L → ℕ → Type 0) (connections : Option ℕ) (r : Report) (o n : Option (List ℕ))
     (end : End) → IsReport r
@@ -28,7 +28,7 @@ pub ends_opened : {L : Type 0} (IsReport : Report → Type 0) (IsStop : ℕ → 
 ends_opened IsReport IsStop listens refused deaf has_come connections r o n (Ok k) is ends =
     (r, is, ends)
 ends_opened IsReport IsStop listens refused deaf has_come connections r o n
-    (Err (Refused segment why)) is ends = absurd ends
+    (Err (Refused segment why len)) is ends = absurd ends
 ends_opened IsReport IsStop listens refused deaf has_come connections r o n
     (Err NoMemory) is ends = (r, is, ends)
 ends_opened IsReport IsStop listens refused deaf has_come connections r o n

@@ -37,7 +37,7 @@ pub report_failed : {L : Type 0} (listens : L → SocketAddr → Type 0) (refuse
     → EndsServing listens refused deaf has_come connections r o n (Err failure)
 report_failed listens refused deaf has_come connections r o n (Output error) fails = inl fails
 report_failed listens refused deaf has_come connections r o n NoMemory fails = inl fails
-report_failed listens refused deaf has_come connections r o n (Refused segment why) fails =
+report_failed listens refused deaf has_come connections r o n (Refused segment why len) fails =
     absurd fails
 report_failed listens refused deaf has_come connections r o n (Address error) fails = absurd fails
 report_failed listens refused deaf has_come connections r o n (Server fault) fails = absurd fails
@@ -53,7 +53,7 @@ listen_failed listens refused deaf has_come connections r o n NoMemory came fail
     inr (fails.0, fails.1, fails.2, inl came)
 listen_failed listens refused deaf has_come connections r o n (Output error) came fails =
     absurd fails
-listen_failed listens refused deaf has_come connections r o n (Refused segment why) came fails =
+listen_failed listens refused deaf has_come connections r o n (Refused segment why len) came fails =
     absurd fails
 listen_failed listens refused deaf has_come connections r o n (Server fault) came fails =
     absurd fails
@@ -156,7 +156,7 @@ served_failed listens refused deaf has_come connections r o m n l k NoMemory is 
       is.is_there,
       inr (Appends-kept o m n (opening_text r is.address) is.text fails),
     )
-served_failed listens refused deaf has_come connections r o m n l k (Refused segment why) is asked
+served_failed listens refused deaf has_come connections r o m n l k (Refused segment why len) is asked
     came fails = absurd fails
 served_failed listens refused deaf has_come connections r o m n l k (Address error) is asked came
     fails = absurd fails

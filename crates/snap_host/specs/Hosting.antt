@@ -64,7 +64,7 @@ abbrev pub End : Type 0
 End = Result ℕ HostFailure
 
 abbrev pub status_of : HostFailure → Status
-status_of (Refused segment why) = status.Refused
+status_of (Refused segment why len) = status.Refused
 status_of NoMemory = status.Refused
 status_of (Address error) = status.Failed
 status_of (Output error) = status.Failed
@@ -101,14 +101,22 @@ pub record IsReportOf {D : Type 0} (device : D → Device) (failures : D → ℕ
   pub theirs : segments ≡ map (λ (w : WriterState D). w.segment) writers
   pub crash : AreOpened device honest clock might_have_left devices writers
 
--- the opening of these devices was refused at this segment, and a crash leaves what one before could
+-- the device of this segment, where there is one, has so many bytes
+abbrev pub IsLengthAt : {D : Type 0} (device : D → Device) (devices : List D) (segment len : ℕ)
+    → Type 0
+IsLengthAt {D} device devices segment len = (d : D) → slice_get devices segment ≡ Some d
+    → len ≡ length (device d).bytes
+
+-- The opening of these devices was refused at this segment, and a crash leaves what one before could.
+-- The device that came back for the segment has so many bytes.
 abbrev pub IsStopOf : {D : Type 0} (device : D → Device) (failures : D → ℕ) (honest : D → Type 0)
     (clock : D → ℕ) (might_have_left : D → ℕ → List ℕ → Type 0) (devices : List D) → ℕ → Refusal
-    → Type 0
-IsStopOf device failures honest clock might_have_left devices segment why =
+    → ℕ → Type 0
+IsStopOf device failures honest clock might_have_left devices segment why len =
     (news : List _)
     × IsStopped device failures honest clock might_have_left devices news why segment
     × StayKept device honest clock might_have_left devices news
+    × IsLengthAt device news segment len
 
 -- a listener that was bound, at the address that it tells itself
 abbrev pub ListensAt : {L : Type 0} (bound : L → Type 0) (is_at : L → SocketAddr → Type 0) → L
@@ -162,7 +170,7 @@ abbrev pub EndsServing : {L : Type 0} (listens : L → SocketAddr → Type 0) (r
 EndsServing {L} listens refused deaf came connections report out out' (Ok k) =
     (l : L) × (a : SocketAddr) × listens l a × (connections ≡ Some k) × came l k
     × Appends out out' (whole_text report a k)
-EndsServing listens refused deaf came connections report out out' (Err (Refused segment why)) = ⊥
+EndsServing listens refused deaf came connections report out out' (Err (Refused segment why len)) = ⊥
 EndsServing listens refused deaf came connections report out out' (Err NoMemory) =
     IsStarved listens report out out'
 EndsServing listens refused deaf came connections report out out' (Err (Address error)) =
@@ -174,13 +182,13 @@ EndsServing {L} listens refused deaf came connections report out out' (Err (Serv
     × IsFaulted report a out out' fault
 
 -- The same from the opening on. `IsReport` says which reports are of its devices, and `IsStop`
--- where and why their opening may be refused.
-abbrev pub EndsHost : {L : Type 0} (IsReport : Report → Type 0) (IsStop : ℕ → Refusal → Type 0)
+-- where and why their opening may be refused, and how many bytes the file there has.
+abbrev pub EndsHost : {L : Type 0} (IsReport : Report → Type 0) (IsStop : ℕ → Refusal → ℕ → Type 0)
     (listens : L → SocketAddr → Type 0) (refused : Error → Type 0) (deaf : L → Type 0)
     (came : L → ℕ → Type 0) (connections : Option ℕ) (out out' : Option (List ℕ)) → End → Type 0
 EndsHost IsReport IsStop listens refused deaf came connections out out'
-    (Err (Refused segment why)) =
-    IsStop segment why × Keeps out out'
+    (Err (Refused segment why len)) =
+    IsStop segment why len × Keeps out out'
 EndsHost IsReport IsStop listens refused deaf came connections out out' end =
     (report : Report) × IsReport report
     × EndsServing listens refused deaf came connections report out out' end
@@ -208,20 +216,28 @@ failure_of (run.Server fault) = Server fault
 
 -- ---- standard error
 
--- of a refusal at this segment, what stands behind the refusal's line: a line that names its file,
--- save for want of memory
+-- what is said of a file without a byte, as that of this segment of so many
+abbrev pub cut_off_text : (file : List ℕ) (segment count : ℕ) → List ℕ
+cut_off_text file segment count =
+    codes "it has no byte: a format that was cut off: go on with snapd format "
+    ++ (file ++ (codes " --index " ++ (decimal segment ++ (codes " --count " ++ decimal count))))
+
+-- of a refusal at this segment, whose file has so many bytes, what stands behind the refusal's line: a
+-- line that names the file, save for want of memory, and of a file without a byte how to go on
 abbrev pub IsRemedy : {F : Type 0} (path : F → List ℕ) (files : List F) (segment : ℕ) → Refusal
-    → List ℕ → Type 0
-IsRemedy path files segment why more = (file : _) → slice_get files segment ≡ Some file
+    → (len : ℕ) → List ℕ → Type 0
+IsRemedy path files segment why len more = (file : _) → slice_get files segment ≡ Some file
     → why ≢ refusal.NoMemory → (text : List ℕ) × (more ≡ file_line (path file) text)
+    × (why ≡ refusal.WrongFile → len ≡ 0
+    → text ≡ cut_off_text (path file) segment (length files))
 
 -- what standard error got of the failure: of a refusal its line, and the remedy where it took all.
 -- Of the others it got a line that begins `snapd: `, with a text of the system in it.
 abbrev pub SaysFailure : {F : Type 0} (path : F → List ℕ) (files : List F) → HostFailure
     → (is_told : Bool) (old new : Option (List ℕ)) → Type 0
-SaysFailure path files (Refused segment why) is_told old new =
+SaysFailure path files (Refused segment why len) is_told old new =
     (more : List ℕ) × SaysLines (refused_line why ++ more) is_told old new
-    × (is_told ≡ true → IsRemedy path files segment why more)
+    × (is_told ≡ true → IsRemedy path files segment why len more)
 SaysFailure path files NoMemory is_told old new =
     SaysLines (refused_line refusal.NoMemory) is_told old new
 SaysFailure path files failure is_told old new = Complains None is_told old new

@@ -1,6 +1,6 @@
 //! Why a server did not serve.
 ghost use Rattle.std.specs.Prelude.{◌≡◌, IfSome, string_bytes};
-ghost use Rattle.snap_host.specs.Hosting.{IsRemedy, SaysFailure, status_of};
+ghost use Rattle.snap_host.specs.Hosting.{IsRemedy, SaysFailure, cut_off_text, status_of};
 ghost use Rattle.snap_stream.specs.Streams.{file_line};
 
 use snap_disk::Refusal;
@@ -13,8 +13,12 @@ use std::io::{self, Write};
 /// Why a server ended early.
 #[derive(Debug, Drop)]
 pub enum HostFailure {
-    /// The file of this segment was refused, or there was no memory at it.
-    Refused { segment: usize, why: Refusal },
+    /// The file of this segment, which has so many bytes, was refused, or there was no memory at it.
+    Refused {
+        segment: usize,
+        why: Refusal,
+        len: u64,
+    },
     /// No memory.
     NoMemory,
     /// The address couldn't be bound.
@@ -42,8 +46,8 @@ impl HostFailure {
     {
         let address = order.address;
         match self {
-            HostFailure::Refused { segment, why } => {
-                let more = remedy_line(alloc, &order.files, causes, *segment, *why);
+            HostFailure::Refused { segment, why, len } => {
+                let more = remedy_line(alloc, &order.files, causes, *segment, *why, *len);
                 Ended {
                     status: Status::Refused,
                     is_told: complain_twice(errors, *why, more),
@@ -81,27 +85,31 @@ fn failed(is_told: bool) -> Ended
     }
 }
 
-/// The line behind that of a refusal at this segment, or none for want of memory. It is empty where
-/// the refusal is want of memory.
+/// The line behind that of a refusal at this segment, whose file has so many bytes, or none for want
+/// of memory. It is empty where the refusal is want of memory.
 fn remedy_line<C: Cause>(
     alloc: Global,
     files: &Vec<&str>,
     causes: &[C],
     segment: usize,
     why: Refusal,
+    len: u64,
 ) -> Option<String>
     ensures { IfSome result (λ more.
-        IsRemedy (λ file. file.now) files.now.items segment why (string_bytes more)) }
+        IsRemedy (λ file. file.now) files.now.items segment why len (string_bytes more)) }
 {
     let Some(file) = files.get(segment) else {
         return Some(String::new(alloc));
     };
-    if why == Refusal::NoMemory {
-        return Some(String::new(alloc));
+    match why {
+        Refusal::NoMemory => Some(String::new(alloc)),
+        Refusal::WrongFile if len == 0 => cut_off_line(alloc, *file, segment, files.len()),
+        _ => {
+            let cause = cause_of(alloc, causes, segment);
+            let remedy = remedy_of(alloc, *file, segment, files.len(), why, cause)?;
+            line_of(alloc, *file, &remedy)
+        }
     }
-    let cause = cause_of(alloc, causes, segment);
-    let remedy = remedy_of(alloc, *file, segment, files.len(), why, cause)?;
-    line_of(alloc, *file, &remedy)
 }
 
 /// What the system said of this segment's device.
@@ -120,7 +128,20 @@ fn line_of(alloc: Global, file: &str, text: &String) -> Option<String>
     }
 }
 
-/// What to do about a file that was refused.
+/// The line of a file without a byte, which is what a `format` leaves that was cut off.
+fn cut_off_line(alloc: Global, file: &str, segment: usize, count: usize) -> Option<String>
+    ensures { IfSome result (λ line.
+        string_bytes line ≡ file_line file.now (cut_off_text file.now segment count)) }
+{
+    match format!(in alloc;
+        "it has no byte: a format that was cut off: go on with snapd format {file} --index {segment} --count {count}"
+    ) {
+        Ok(text) => line_of(alloc, file, &text),
+        Err(_) => None,
+    }
+}
+
+/// What to do about any other file that was refused.
 fn remedy_of(
     alloc: Global,
     file: &str,

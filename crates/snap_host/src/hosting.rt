@@ -3,7 +3,7 @@ ghost use Rattle.std.specs.Prelude.{◌≡◌, ◌-◌, ◌^◌, ◌<◌, length
 ghost use Rattle.std.specs.declared.net.socket_addr.SocketAddr.{SocketAddr};
 ghost use Rattle.snap_order.specs.Order.{IsServable};
 ghost use Rattle.snap_restart.specs.Closed.{AreBack};
-ghost use Rattle.snap_host.specs.Hosting.{End, EndsHost, EndsServing, IsReportOf, IsStopOf};
+ghost use Rattle.snap_host.specs.Hosting.{End, EndsHost, EndsServing, IsLengthAt, IsReportOf, IsStopOf};
 ghost use Rattle.snap_host.specs.Hosting.{HaveCome, IsRefused, ListenFails, ListensAt, SaysEnd, failure_of, listening_line, status_at};
 
 use crate::announcing::Announcement;
@@ -144,7 +144,18 @@ where
         Err(stopped) => Err(HostFailure::Refused {
             segment: stopped.segment,
             why: stopped.refusal,
+            len: length_at(&stopped.devices, stopped.segment),
         }),
+    }
+}
+
+/// How many bytes the device of this segment has, where there is one.
+fn length_at<D: Disk>(devices: &Vec<D>, segment: usize) -> u64
+    ensures { IsLengthAt D.device devices.now.items segment result }
+{
+    match devices.get(segment) {
+        Some(device) => device.len(),
+        None => 0,
     }
 }
 

@@ -1,8 +1,9 @@
 //! The program `snapd`, which keeps one value in each of its files, safe from crashes.
 //!
-//! `snap_words` reads the words, and `snap_command` and `snap_script` do what they ask for over any
-//! device, reader and writer. What is here only ties them to the system: its words, its files and
-//! its standard streams.
+//! `snap_words` reads the words. `snap_command` does what they ask for with files, `snap_host` as a
+//! server, `snap_ask` of a server and `snap_script` on a world, over any device, reader, writer,
+//! listener and connection. What is here only ties them to the system: its words, files, sockets and
+//! threads, and its standard streams, of which the last also gets a server's log (`snap_log`).
 #![tactic(auto)]
 
 ghost use Rattle.snap_order.specs.Order.{IsCallable, IsFileWithinLimits, IsPlace};

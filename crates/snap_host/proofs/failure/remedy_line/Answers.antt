@@ -17,6 +17,11 @@ use Rattle.std.proofs.Common.{
 }
 use Rattle.std.proofs.lemmas.Option.{IfSome_then, same_Some, slice_get_read, slice_get_within}
 use Rattle.snap_stream.specs.Streams.{file_line}
+use Rattle.snap_host.specs.Hosting.{cut_off_text}
+use Rattle.snap_host.proofs.failure.remedy_line.Goals.{
+  in_default-why-via-in-WrongFile+else-len-eq0,
+  in_default-why-via-in_default-why,
+}
 use Rattle.snap_host.proofs.failure.remedy_line.Goals as goal
 
 none_there : {A : Type 0} (xs ys : List A) (k : ℕ) (x : A) → xs ≡ ys → length xs ≤ k
@@ -33,9 +38,29 @@ pub returns-in_default : goal.returns-in_default
 returns-in_default g c = λ file at other. absurd (none_there c.deref.result.now _ _ file
     c.deref.ensures.value c.in_default.ensures.lookup.3 at)
 
-pub returns : goal.returns
-returns g c = IfSome_then c.line_of.result c.line_of.ensures (λ line is file at other.
+pub returns-in-WrongFile : goal.returns-in-WrongFile
+returns-in-WrongFile g c = IfSome_then c.cut_off_line.result c.cut_off_line.ensures (λ line is file at
+    other.
+    let files = c.args.files.now.items in
     let same = one_there c.deref.result.now _ _ c.in-Some.file.now file c.deref.ensures.value
     c.in-Some.ensures.lookup.3.0 c.in-Some.ensures.lookup.1 at in
-    let text = string_bytes c.in_ok-remedy.remedy in
-    (text, is ∙ ap (λ f. file_line f.now text) same))
+    let text = λ (n : ℕ). cut_off_text file.now c.args.segment n in (
+      text (length files),
+      is ∙ ap (λ f. file_line f.now (cut_off_text f.now c.args.segment c.len.result)) same
+          ∙ ap (λ n. file_line file.now (text n)) (c.len.ensures ∙ c.args.files.now.ok.0),
+      λ wrong none. refl,
+    ))
+
+pub returns-in_ok-remedy-in_default-why : goal.returns-in_ok-remedy-in_default-why
+returns-in_ok-remedy-in_default-why g c = IfSome_then c.line_of.result c.line_of.ensures (λ line is file
+    at other.
+    let same = one_there c.deref.result.now _ _ c.in-Some.file.now file c.deref.ensures.value
+    c.in-Some.ensures.lookup.3.0 c.in-Some.ensures.lookup.1 at in
+    let text = string_bytes c.in_ok-remedy-in_default-why.remedy in (
+      text,
+      is ∙ ap (λ f. file_line f.now text) same,
+      λ wrong none. elim c.in_default-why.branch [
+        | in_default-why-via-in-WrongFile+else-len-eq0 w ↦ absurd (w.if-len-eq0.false none)
+        | in_default-why-via-in_default-why w ↦ absurd (w.in_default-why.not-WrongFile wrong)
+      ],
+    ))

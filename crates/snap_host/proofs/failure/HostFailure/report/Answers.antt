@@ -13,5 +13,5 @@ returns-in-Refused-clause-says g c =
     files failure c.complain_twice.result old new in
     subst P (sym c.in-Refused.is)
     (remedied {F = Bor (List ℕ)} (λ file. file.now) files c.in-Refused.segment
-    c.in-Refused.why c.remedy_line-more.result c.complain_twice.result old new
+    c.in-Refused.why c.in-Refused.len c.remedy_line-more.result c.complain_twice.result old new
     c.remedy_line-more.ensures c.complain_twice.ensures.says c.complain_twice.ensures.none)
