@@ -11,23 +11,46 @@ use Rattle.snap_frame.specs.declared.request.Request.TheVariants as request
 abbrev pub next_count : ℕ → ℕ
 next_count k = (k + 1) % 2 ^ 64
 
--- a node's scanner, and how many updates the node did by the writers
+-- a node's scanner, how many locks of writers the node took, and how many updates it did by them
 pub record NodeState : Type 0 where
   pub scanner : Known
+  pub locks : ℕ
   pub updates : ℕ
+
+-- no lock was taken, and no update done
+pub record CountsNothing (old new : NodeState) : Type 0 where
+  pub locks : new.locks ≡ old.locks
+  pub updates : new.updates ≡ old.updates
+
+-- one look was taken at most
+abbrev pub LooksOnce : Known → Known → Type 0
+LooksOnce a b = a.left ≤ b.left + 1
 
 -- there is no segment i, or the value is too long
 abbrev pub IsMisplaced : Known → ℕ → List ℕ → Type 0
 IsMisplaced a i v = (segments a.plan ≤ i) ⊎ (MAX_VALUE_LEN < length v)
 
--- an update is done once by the writers, or not at all where its place is refused
+-- one lock was taken and one update done, with one look at most
+pub record CountsOne (old new : NodeState) : Type 0 where
+  pub locks : new.locks ≡ next_count old.locks
+  pub updates : new.updates ≡ next_count old.updates
+  pub looks : LooksOnce old.scanner new.scanner
+
+-- an update is done once by the writers, under one lock, or not at all where its place is refused
 abbrev pub CountsUpdate : NodeState → ℕ → List ℕ → NodeState → Type 0
 CountsUpdate old i v new =
-    (IsMisplaced old.scanner i v × (new.updates ≡ old.updates))
-    ⊎ ((i < segments old.scanner.plan) × IsShort v × (new.updates ≡ next_count old.updates))
+    (IsMisplaced old.scanner i v × (new ≡ old))
+    ⊎ ((i < segments old.scanner.plan) × IsShort v × CountsOne old new)
 
--- a request changes the writers by one update if it is one, and else not at all
+-- A request changes the writers by one update if it is one, and else not at all. A scan takes no
+-- lock.
 abbrev pub Counts : NodeState → Request → NodeState → Type 0
 Counts old (request.Update segment k v) new = CountsUpdate old segment v new
-Counts old request.Scan new = new.updates ≡ old.updates
+Counts old request.Scan new = CountsNothing old new
 Counts old request.Status new = new.updates ≡ old.updates
+
+-- an update takes one look at most, also where its writer isn't asked
+abbrev pub TakesFewLooks : Known → Request → Known → Type 0
+TakesFewLooks a (request.Update segment k v) b = LooksOnce a b
+TakesFewLooks a request.Scan b = Unit {0}
+TakesFewLooks a request.Status b = Unit {0}

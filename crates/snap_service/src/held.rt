@@ -6,43 +6,85 @@ ghost use Rattle.snap_register.specs.Seat.{own_of};
 ghost use Rattle.snap_frame.specs.Messages.{IsInLimits, IsStatus};
 ghost use Rattle.snap_writer.specs.Writer.{number_of};
 ghost use Rattle.snap_service.specs.Memory.{IsOf};
-ghost use Rattle.snap_service.specs.Answers.{AnswersUpdate};
+ghost use Rattle.snap_service.specs.Answers.{AnswersUpdate, AnswersScan};
 ghost use Rattle.snap_service.specs.Updated.{IsUpdatedAndTold};
-ghost use Rattle.snap_service.specs.Counted.{next_count};
+ghost use Rattle.snap_service.specs.Counted.{next_count, CountsNothing, LooksOnce};
 
 use crate::judging::answer_by_look;
 use crate::memory::{Memory, WriterOf};
+use crate::scanning::answer_scan;
 use snap_disk::Disk;
 use snap_frame::{Reply, SegmentStatus};
 use snap_memory::Scanner;
+use std::alloc::Global;
 use std::marker::Model;
 
-/// What a node updates by. Its value is how many updates were done by it, from 0 again behind the largest
-/// number. No writer under a lock changes without it.
+/// A node's scanner, and how many locks the node took and how many updates it did, each from 0 again
+/// behind the largest number. No lock is taken and no writer under one changes without a pen, and
+/// one is made of a scanner alone: so a node has this one, and can have no other beside it.
 #[derive(Drop)]
 pub(crate) struct Pen {
+    scanner: Scanner,
+    locks: u64,
     updates: u64,
 }
 
 impl Model for Pen {
-    ghost use Rattle.std.specs.Prelude.{ℕ};
+    ghost use Rattle.snap_service.specs.Counted.{NodeState};
 
-    ghost Value = { ℕ };
+    ghost Value = { NodeState };
 
-    ghost view = { λ p. p.updates };
+    ghost view = { λ p. record { scanner = p.scanner; locks = p.locks; updates = p.updates } };
 }
 
 impl Pen {
-    /// No update was done by it yet.
-    pub(crate) fn new() -> Pen
-        ensures { result ≡ 0 }
+    /// The pen of this scanner, by which nothing was done yet.
+    pub(crate) fn of(scanner: Scanner) -> Pen
+        ensures { result ≡ record { scanner = scanner; locks = 0; updates = 0 } }
     {
-        Pen { updates: 0 }
+        Pen {
+            scanner,
+            locks: 0,
+            updates: 0,
+        }
+    }
+
+    /// Its scanner.
+    pub(crate) fn scanner(&self) -> &Scanner
+        ensures { result.now ≡ self.now.scanner }
+    {
+        &self.scanner
+    }
+
+    /// Its scanner, as it is.
+    pub(crate) fn into_scanner(self) -> Scanner
+        ensures { result ≡ self.scanner }
+    {
+        self.scanner
+    }
+
+    /// The reply to a scan, as [`answer_scan`](crate::answer_scan) gives it. No lock is taken, and no
+    /// writer changes.
+    pub(crate) fn scan(&mut self, alloc: Global) -> Reply
+        ensures answer { AnswersScan self.old.scanner result self.new.scanner }
+        ensures limits { IsInLimits result }
+        ensures table { self.new.scanner.table ≡ self.old.scanner.table }
+        ensures plan { self.new.scanner.plan ≡ self.old.scanner.plan }
+        ensures counts { CountsNothing self.old self.new }
+    {
+        answer_scan(alloc, &mut self.scanner)
+    }
+
+    /// One more lock is taken by it.
+    pub(crate) fn count_lock(&mut self)
+        ensures { self.new ≡ record self.old { locks = next_count self.old.locks } }
+    {
+        self.locks = self.locks.wrapping_add(1);
     }
 
     /// One more update is done by it.
-    fn count(&mut self)
-        ensures { self.new ≡ next_count self.old }
+    fn count_update(&mut self)
+        ensures { self.new ≡ record self.old { updates = next_count self.old.updates } }
     {
         self.updates = self.updates.wrapping_add(1);
     }
@@ -89,30 +131,32 @@ impl<M: Memory, D: Disk> Held<M, D> {
         }
     }
 
-    /// An update of this segment by the writer, which replies what it told. The writer of another segment
-    /// stays as it is, and a look answers.
+    /// An update of this segment by the writer, which replies what it told. The writer of another
+    /// segment stays as it is, and a look answers.
     pub(crate) fn update(
         &mut self,
         pen: &mut Pen,
-        scanner: &mut Scanner,
         segment: usize,
         number: u64,
         value: &[u8],
     ) -> Reply
-        requires memory { IsOf M.table M.plan scanner.old }
-        requires segment { segment < segments scanner.old.plan }
+        requires memory { IsOf M.table M.plan pen.old.scanner }
+        requires segment { segment < segments pen.old.scanner.plan }
         requires size { IsShort value.now }
-        ensures answer { AnswersUpdate scanner.old segment number value.now result scanner.new }
+        ensures answer { AnswersUpdate pen.old.scanner segment number value.now result
+            pen.new.scanner }
+        ensures looks { LooksOnce pen.old.scanner pen.new.scanner }
         ensures limits { IsInLimits result }
         ensures own { own_of self.old.seat ≡ segment → IsUpdatedAndTold D.device D.failure_count
             D.is_honest D.clock D.might_have_left self.old self.new number value.now result }
         ensures other { own_of self.old.seat ≢ segment → self.new ≡ self.old }
-        ensures counts { pen.new ≡ next_count pen.old }
+        ensures locks { pen.new.locks ≡ pen.old.locks }
+        ensures counts { pen.new.updates ≡ next_count pen.old.updates }
     {
-        pen.count();
+        pen.count_update();
         if self.writer.segment() != segment {
-            return answer_by_look(scanner, segment, number, value);
+            return answer_by_look(&mut pen.scanner, segment, number, value);
         }
-        self.writer.settle(scanner, segment, number, value)
+        self.writer.settle(&mut pen.scanner, segment, number, value)
     }
 }

@@ -49,6 +49,8 @@ pub fn answer_by_look(scanner: &mut Scanner, segment: usize, number: u64, value:
     requires size { IsShort value.now }
     ensures answer { AnswersUpdate scanner.old segment number value.now result scanner.new }
     ensures worn { scanner.old.left ≡ 0 → result ≡ Reply.Refused Refusal.Worn 0 }
+    ensures unchanged { scanner.old.left ≡ 0 → scanner.new ≡ scanner.old }
+    ensures one_look { 0 < scanner.old.left → scanner.new.left + 1 ≡ scanner.old.left }
     ensures looked { 0 < scanner.old.left
         → IsReplyByLook scanner.new segment number value.now result }
     ensures limits { IsInLimits result }

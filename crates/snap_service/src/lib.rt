@@ -9,6 +9,7 @@
 
 mod held;
 mod judging;
+mod lock;
 mod memory;
 mod node;
 mod scanning;

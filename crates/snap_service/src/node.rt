@@ -1,9 +1,9 @@
 //! A service over writers that stand under locks.
-ghost use Rattle.std.specs.Prelude.{◌≡◌, length, All, IfOk};
+ghost use Rattle.std.specs.Prelude.{◌≡◌, length};
 ghost use Rattle.snap_register.specs.Rule.{segments};
-ghost use Rattle.snap_frame.specs.Messages.{IsInLimits, IsStatus};
+ghost use Rattle.snap_frame.specs.Messages.{IsInLimits};
 ghost use Rattle.snap_service.specs.Memory.{IsOf};
-ghost use Rattle.snap_service.specs.Counted.{Counts, CountsUpdate};
+ghost use Rattle.snap_service.specs.Counted.{Counts, CountsNothing, CountsUpdate};
 ghost use Rattle.snap_service.specs.Answers.{
   Answers,
   AnswersUpdate,
@@ -14,10 +14,9 @@ ghost use Rattle.snap_service.specs.Answers.{
 use crate::held::Pen;
 use crate::judging::refuse_place;
 use crate::memory::Memory;
-use crate::scanning::answer_scan;
 use crate::shared::Shared;
 use snap_disk::{Disk, Refusal};
-use snap_frame::{Reply, Request, SegmentStatus};
+use snap_frame::{Reply, Request};
 use snap_memory::{Scanner, Snapshot};
 use snap_session::Service;
 use std::alloc::{AllocError, Global};
@@ -25,18 +24,16 @@ use std::marker::Model;
 use std::sync::Wait;
 
 /// A scanner and the writers that all nodes share: a [`Service`] that hands nothing over. Its state
-/// is what its scanner knows, and how many updates it did by the writers: an update is done once, and
-/// scans and statuses change no writer.
+/// is what its scanner knows, how many locks of writers it took, and how many updates it did by them.
 ///
-/// An update locks its own segment, a status locks the segments one after the other, and a scan locks
-/// nothing.
+/// An update locks its own segment, once, and is done once; a status locks the segments one after the
+/// other and changes no writer; and a scan locks nothing and changes no writer.
 #[derive(Drop)]
 pub struct Node<'a, R: Wait, M: Memory, D: Disk + Drop> {
     rt: &'a R,
     alloc: Global,
     shared: &'a Shared<M, D>,
     pen: Pen,
-    scanner: Scanner,
 }
 
 impl<'a, R: Wait, M: Memory, D: Disk + Drop> Model for Node<'a, R, M, D> {
@@ -45,9 +42,9 @@ impl<'a, R: Wait, M: Memory, D: Disk + Drop> Model for Node<'a, R, M, D> {
 
     ghost Value = { NodeState };
 
-    ghost view = { λ n. record { scanner = n.scanner; updates = n.pen } };
+    ghost view = { λ n. n.pen };
 
-    ghost invariant = { λ n. IsOf M.table M.plan n.scanner };
+    ghost invariant = { λ n. IsOf M.table M.plan n.pen.scanner };
 }
 
 impl<'a, R: Wait, M: Memory, D: Disk + Drop> Node<'a, R, M, D> {
@@ -61,14 +58,13 @@ impl<'a, R: Wait, M: Memory, D: Disk + Drop> Node<'a, R, M, D> {
     ) -> Node<'a, R, M, D>
         requires memory { IsOf M.table M.plan scanner }
         requires room { length snapshot ≡ segments M.plan }
-        ensures { result ≡ record { scanner = scanner; updates = 0 } }
+        ensures { result ≡ record { scanner = scanner; locks = 0; updates = 0 } }
     {
         Node {
             rt,
             alloc,
             shared,
-            pen: Pen::new(),
-            scanner: scanner.with_room(snapshot),
+            pen: Pen::of(scanner.with_room(snapshot)),
         }
     }
 
@@ -79,23 +75,11 @@ impl<'a, R: Wait, M: Memory, D: Disk + Drop> Node<'a, R, M, D> {
         ensures limits { IsInLimits result }
         ensures counts { CountsUpdate self.old segment value.now self.new }
     {
-        if let Some(reply) = refuse_place(&self.scanner, segment, value) {
+        if let Some(reply) = refuse_place(self.pen.scanner(), segment, value) {
             return reply;
         }
-        let mut writer = self.shared.writers[segment].lock(self.rt);
-        writer.update(&mut self.pen, &mut self.scanner, segment, number, value)
-    }
-
-    /// The number and the fence of each segment, under its lock.
-    fn list_statuses(&self) -> Result<Vec<SegmentStatus>, AllocError>
-        ensures count { IfOk result (λ s. length s.items ≡ segments self.now.scanner.plan) }
-        ensures limits { IfOk result (λ s. All IsStatus s.items) }
-    {
-        let mut statuses = Vec::new(self.alloc);
-        for writer in &self.shared.writers {
-            statuses.push(writer.lock(self.rt).status())?;
-        }
-        Ok(statuses)
+        let shared = self.shared;
+        shared.update(self.rt, &mut self.pen, segment, number, value)
     }
 
     /// A status: each segment as it was while its lock was held. No writer changes.
@@ -105,8 +89,9 @@ impl<'a, R: Wait, M: Memory, D: Disk + Drop> Node<'a, R, M, D> {
         ensures counts { self.new.updates ≡ self.old.updates }
     {
         // how many segments there are
-        let _segments = self.scanner.segments();
-        match self.list_statuses() {
+        let _segments = self.pen.scanner().segments();
+        let shared = self.shared;
+        match shared.list_statuses(self.rt, self.alloc, &mut self.pen) {
             Ok(statuses) => Reply::Status(statuses),
             Err(AllocError) => Reply::Refused {
                 why: Refusal::NoMemory,
@@ -115,13 +100,13 @@ impl<'a, R: Wait, M: Memory, D: Disk + Drop> Node<'a, R, M, D> {
         }
     }
 
-    /// A scan. No writer changes.
+    /// A scan. No lock is taken, and no writer changes.
     fn scan(&mut self) -> Reply
         ensures answer { AnswersScan self.old.scanner result self.new.scanner }
         ensures limits { IsInLimits result }
-        ensures counts { self.new.updates ≡ self.old.updates }
+        ensures counts { CountsNothing self.old self.new }
     {
-        answer_scan(self.alloc, &mut self.scanner)
+        self.pen.scan(self.alloc)
     }
 
     /// The reply to any request.
@@ -146,7 +131,7 @@ impl<'a, R: Wait, M: Memory, D: Disk + Drop> Node<'a, R, M, D> {
         ensures scanner { result ≡ self.entry.scanner }
         ensures memory { IsOf M.table M.plan result }
     {
-        self.scanner
+        self.pen.into_scanner()
     }
 }
 

@@ -1,19 +1,25 @@
 //! The writers that all nodes share, each under a lock of its own.
-ghost use Rattle.std.specs.Prelude.{◌≡◌, ◌<◌, ◌≤◌, [], length, vec_capacity, IfOk, IfErr};
+ghost use Rattle.std.specs.Prelude.{◌≡◌, ◌<◌, ◌≤◌, [], length, vec_capacity, All, IfOk, IfErr};
+ghost use Rattle.snap_history.specs.Limits.{IsShort};
 ghost use Rattle.snap_register.specs.Rule.{segments};
-ghost use Rattle.snap_service.specs.Memory.{AreWriters, AreDisplaced};
+ghost use Rattle.snap_frame.specs.Messages.{IsInLimits, IsStatus};
+ghost use Rattle.snap_service.specs.Memory.{IsOf, AreWriters, AreDisplaced};
+ghost use Rattle.snap_service.specs.Answers.{AnswersUpdate};
+ghost use Rattle.snap_service.specs.Counted.{CountsOne};
 
-use crate::held::Held;
+use crate::held::Pen;
+use crate::lock::Lock;
 use crate::memory::{Memory, WriterOf};
 use snap_disk::Disk;
+use snap_frame::{Reply, SegmentStatus};
 use snap_writer::Writer;
-use std::alloc::Global;
-use std::sync::Mutex;
+use std::alloc::{AllocError, Global};
+use std::sync::Wait;
 
 /// The writers of all segments of the memory `M`, in order, each under a lock of its own.
 #[derive(Drop)]
 pub struct Shared<M: Memory, D: Disk + Drop> {
-    pub(crate) writers: Vec<Mutex<Held<M, D>>>,
+    writers: Vec<Lock<M, D>>,
     ghost all: { length writers.items ≡ segments M.plan },
 }
 
@@ -29,12 +35,51 @@ impl<M: Memory, D: Disk + Drop> Shared<M, D> {
         };
         'writers: for writer in writers {
             let segment = locks.len();
-            match locks.push(Mutex::new(Held::of(WriterOf::new(writer, segment)))) {
+            match locks.push(Lock::of(WriterOf::new(writer, segment))) {
                 Ok(()) => {}
                 Err(_) => unreachable!(),
             }
         }
         Ok(Shared { writers: locks })
+    }
+
+    /// An update of this segment by its writer, under its lock.
+    pub(crate) fn update<R: Wait>(
+        &self,
+        rt: &R,
+        pen: &mut Pen,
+        segment: usize,
+        number: u64,
+        value: &[u8],
+    ) -> Reply
+        requires memory { IsOf M.table M.plan pen.old.scanner }
+        requires segment { segment < segments M.plan }
+        requires size { IsShort value.now }
+        ensures answer { AnswersUpdate pen.old.scanner segment number value.now result
+            pen.new.scanner }
+        ensures limits { IsInLimits result }
+        ensures counts { CountsOne pen.old pen.new }
+    {
+        self.writers[segment].update(rt, pen, segment, number, value)
+    }
+
+    /// The number and the fence of each segment, each under its lock.
+    pub(crate) fn list_statuses<R: Wait>(
+        &self,
+        rt: &R,
+        alloc: Global,
+        pen: &mut Pen,
+    ) -> Result<Vec<SegmentStatus>, AllocError>
+        ensures count { IfOk result (λ s. length s.items ≡ segments M.plan) }
+        ensures limits { IfOk result (λ s. All IsStatus s.items) }
+        ensures scanner { pen.new.scanner ≡ pen.old.scanner }
+        ensures updates { pen.new.updates ≡ pen.old.updates }
+    {
+        let mut statuses = Vec::new(alloc);
+        for lock in &self.writers {
+            statuses.push(lock.status(rt, pen))?;
+        }
+        Ok(statuses)
     }
 
     /// The writers of all segments, in order, out of their locks: so a store can be closed once they
@@ -52,7 +97,7 @@ impl<M: Memory, D: Disk + Drop> Shared<M, D> {
         let mut is_displaced = false;
         'locks: for lock in self.writers {
             let place = writers.len();
-            let writer = lock.into_inner().release();
+            let writer = lock.into_writer();
             if writer.segment() != place {
                 is_displaced = true;
             }
