@@ -1,6 +1,5 @@
 -- The premises of the law of a cut, where two writers are at work.
-use Rattle.std.proofs.Common.{◌≡◌, ◌⊎◌, ℕ, zero, suc, ◌+◌, ◌≤◌, inl, inr, List, [], ◌∷◌, ◌++◌, length, map, Option, Some, slice_get, refl, ap, sym, subst, ◌∙◌, arith, length-append}
-use Rattle.std.specs.Option.{option_to_list}
+use Rattle.std.proofs.Common.{◌≡◌, ◌⊎◌, ℕ, zero, suc, ◌+◌, ◌≤◌, inl, inr, List, [], ◌∷◌, length, map, Some, slice_get, refl, ap, sym, subst, ◌∙◌, arith}
 use Rattle.std.proofs.lemmas.Bool.{cases_lt}
 use Rattle.std.proofs.lemmas.Option.{same_Some, slice_get_within}
 use Rattle.snap_disk.specs.Device.{Device}
@@ -155,26 +154,6 @@ module _ {D : Type 0} (device : D → Device) (honest : D → Type 0) (clock : D
         between_second two.first_fresh two.second_fresh
 
 -- ---- they are met by what an opening ensures
-
-pub two_popped : {A : Type 0} (all mid rest : List A) (r s : Option A) (x y : A) → length all ≡ 2
-    → all ≡ mid ++ option_to_list r → r ≡ Some y → mid ≡ rest ++ option_to_list s → s ≡ Some x
-    → all ≡ x ∷ y ∷ []
-two_popped all mid [] r s x y size one er two es =
-    one ∙ ap (λ (o : Option _). mid ++ option_to_list o) er
-    ∙ ap (λ (l : List _). l ++ y ∷ []) (two ∙ ap (λ (o : Option _). option_to_list o) es)
-two_popped all mid (z ∷ zs) r s x y size one er two es =
-    let ry = ap (λ (o : Option _). length (option_to_list o)) er in
-    let sx = ap (λ (o : Option _). length (option_to_list o)) es in
-    absurd (omega (
-      arith,
-      size,
-      ap length one,
-      ap length two,
-      length-append mid (option_to_list r),
-      length-append (z ∷ zs) (option_to_list s),
-      ry,
-      sx,
-    ))
 
 pub below_last : (k : ℕ) → IsNumber k → (k ≡ LAST_NUMBER → ⊥) → IsNumber (k + 1)
 below_last k low other = elim (cases_lt k LAST_NUMBER) [

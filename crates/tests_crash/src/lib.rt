@@ -2,7 +2,7 @@
 //! empty.
 #![tactic(auto)]
 
-ghost use Rattle.std.specs.Prelude.{◌≡◌, ℕ, ◌-◌, ◌^◌, ◌<◌, ◌≤◌, [], ◌∷◌, length, map, All, IfOk};
+ghost use Rattle.std.specs.Prelude.{◌≡◌, ℕ, ◌-◌, ◌^◌, ◌<◌, ◌≤◌, [], ◌∷◌, length, map, All, IfOk, IfSome};
 ghost use Rattle.snap_history.specs.declared.limits.TheConstants.{MAX_COUNT};
 ghost use Rattle.snap_history.specs.Limits.{IsShort};
 ghost use Rattle.snap_writer.specs.Judge.{IsJudged};
@@ -89,6 +89,21 @@ pub fn two_at_once<D: Disk>(
     let _ = second.update(two, other);
 }
 
+/// Both writers of a store of two files.
+fn two_of<D: Disk + Drop>(store: Store<D>) -> Option<(Writer<D>, Writer<D>)>
+    requires count { length store.writers.items ≡ 2 }
+    ensures { IfSome result (λ two. store.writers.items ≡ two.0 ∷ two.1 ∷ []) }
+{
+    let mut writers = store.writers;
+    let Some(second) = writers.pop() else {
+        return None;
+    };
+    let Some(first) = writers.pop() else {
+        return None;
+    };
+    Some((first, second))
+}
+
 /// Opens two files, takes their writers and updates both, where no number is the last: so the premises
 /// of [`two_at_once`] are met by real calls.
 pub fn open_two<D: Disk + Drop>(alloc: Global, devices: Vec<D>, value: &[u8], other: &[u8])
@@ -97,18 +112,17 @@ pub fn open_two<D: Disk + Drop>(alloc: Global, devices: Vec<D>, value: &[u8], ot
     requires value { IsShort value.now }
     requires other { IsShort other.now }
 {
-    let Ok((mut store, _)) = open_all(alloc, devices, 1) else {
+    let Ok((store, _)) = open_all(alloc, devices, 1) else {
         return;
     };
-    let (Some(mut second), Some(mut first)) = (store.writers.pop(), store.writers.pop()) else {
+    let Some((mut first, mut second)) = two_of(store) else {
         return;
     };
     let one = first.number();
     let two = second.number();
-    if one == LAST_NUMBER || two == LAST_NUMBER {
-        return;
+    if one != LAST_NUMBER && two != LAST_NUMBER {
+        two_at_once(&mut first, &mut second, one + 1, value, two + 1, other);
     }
-    two_at_once(&mut first, &mut second, one + 1, value, two + 1, other);
 }
 
 /// Two updates of one writer, whatever they are answered. A crash at any time since before the first
