@@ -1,5 +1,5 @@
 -- The premises of the law of a cut, where two writers are at work.
-use Rattle.std.proofs.Common.{◌≡◌, ◌⊎◌, ℕ, zero, suc, ◌+◌, ◌≤◌, inl, inr, List, [], ◌∷◌, ◌++◌, length, map, Option, Some, slice_get, refl, ap, sym, subst, ◌∙◌, arith, length-append}
+use Rattle.std.proofs.Common.{◌≡◌, ◌⊎◌, ℕ, zero, suc, ◌+◌, ◌≤◌, inl, inr, List, [], ◌∷◌, ◌++◌, length, Option, Some, slice_get, refl, ap, sym, subst, ◌∙◌, arith, length-append}
 use Rattle.std.specs.Option.{option_to_list}
 use Rattle.std.proofs.lemmas.Bool.{cases_lt}
 use Rattle.std.proofs.lemmas.Option.{same_Some, slice_get_within}
@@ -7,7 +7,6 @@ use Rattle.snap_disk.specs.Device.{Device}
 use Rattle.snap_history.specs.History.{Update, IsBeginning, number_after}
 use Rattle.snap_history.specs.Limits.{IsNumber, IsShort}
 use Rattle.snap_history.specs.declared.limits.TheConstants.{LAST_NUMBER}
-use Rattle.snap_history.specs.Pairs.{Pairs}
 use Rattle.snap_history.proofs.Beginnings.{beginning-self}
 use Rattle.snap_history.proofs.Pairing.{element}
 use Rattle.snap_memory.proofs.Gathering.{grows_self}
@@ -24,9 +23,8 @@ use Rattle.snap_writer.specs.Life.{Place, in_store, resting, seen_at, Sees, Show
 use Rattle.snap_cut.specs.Crash.{all_seen}
 use Rattle.snap_cut.specs.Laws.{IsLivedIn}
 use Rattle.snap_cut.proofs.Cutting.{cut_recovers}
-use Rattle.snap_restart.specs.Opened.{IsOpened, AreFresh}
-use Rattle.snap_restart.specs.Crashing.{AreOpened}
 use Rattle.snap_restart.proofs.Returning.{get_map}
+use Rattle.tests_crash.specs.Opened.{AreNew}
 use Rattle.tests_crash.specs.Together.{stored_unshown, AreTwo, IsRecoveredAt}
 
 module _ {D : Type 0} (device : D → Device) (honest : D → Type 0) (clock : D → ℕ)
@@ -184,10 +182,8 @@ below_last k low other = elim (cases_lt k LAST_NUMBER) [
 
 module _ {D : Type 0} (device : D → Device) (failures : D → ℕ) (honest : D → Type 0)
     (clock : D → ℕ) (might_have_left : D → ℕ → List ℕ → Type 0) (devices : List D)
-    (writers : List (WriterState D)) (scanners : List Known) (x y : WriterState D)
-    (are : writers ≡ x ∷ y ∷ [])
-    (opened : AreOpened device honest clock might_have_left devices writers)
-    (fresh : AreFresh writers scanners) where
+    (writers : List (WriterState D)) (x y : WriterState D) (are : writers ≡ x ∷ y ∷ [])
+    (new : AreNew device failures honest clock might_have_left devices writers) where
   at_0 : slice_get writers 0 ≡ Some x
   at_0 = ap (λ (l : List (WriterState D)). slice_get l 0) are
 
@@ -197,48 +193,45 @@ module _ {D : Type 0} (device : D → Device) (failures : D → ℕ) (honest : D
   two : length writers ≡ 2
   two = ap (λ (l : List (WriterState D)). length l) are
 
-  same_plan : x.seat.plan ≡ opened.plan
-  same_plan = (opened.writers_are 0 x at_0).plan_is
+  same_plan : x.seat.plan ≡ new.opened.plan
+  same_plan = (new.opened.writers_are 0 x at_0).plan_is
 
   of_two : (i : ℕ) (w : WriterState D) → slice_get writers i ≡ Some w
       → IsWriterOf device honest clock might_have_left x.seat.plan 2 i w
   of_two i w at = subst (λ (z : Plan × ℕ).
       IsWriterOf device honest clock might_have_left z.0 z.1 i w)
-      (λ t. (sym same_plan t, two t)) (opened.writers_are i w at)
+      (λ t. (sym same_plan t, two t)) (new.opened.writers_are i w at)
 
   pub are_two : AreTwo device honest clock might_have_left x y
   are_two = record {
     first_is = of_two 0 x at_0;
     second_is = of_two 1 y at_1;
-    first_fresh = (fresh.writers_are 0 x at_0).0;
-    second_fresh = (fresh.writers_are 1 y at_1).0;
+    first_fresh = (new.fresh 0 x at_0).0;
+    second_fresh = (new.fresh 1 y at_1).0;
   }
 
-  goes_at : Pairs (IsOpened device failures honest clock might_have_left (length devices)) devices
-      (map (λ (w : WriterState D). w.segment) writers)
-      → (i : ℕ) (w : WriterState D) (k : ℕ) (v : List ℕ) → slice_get writers i ≡ Some w
+  goes_at : (i : ℕ) (w : WriterState D) (k : ℕ) (v : List ℕ) → slice_get writers i ≡ Some w
       → IsShort v → k ≡ number_of w + 1 → IsNumber k → IsJudged w k v Go
-  goes_at were i w k v at short next number =
+  goes_at i w k v at short next number =
       let segment_of : WriterState D → SegmentState D = λ u. u.segment in
       let low = slice_get_within writers i w at in
-      let each = opened.one_each in
+      let each = new.opened.one_each in
       let d = element devices i (omega (arith, low, each)) in
-      let is = were.each i d.0 w.segment d.1 (get_map segment_of writers i w at) in
-      let left = (fresh.writers_are i w at).1 in
+      let is = new.were.each i d.0 w.segment d.1 (get_map segment_of writers i w at) in
+      let left = (new.fresh i w at).1 in
       let count : segments w.seat.plan ≡ 2 =
-      ap (λ (p : Plan). segments p) (opened.writers_are i w at).plan_is ∙ sym opened.all ∙ two in (
+      ap (λ (p : Plan). segments p) (new.opened.writers_are i w at).plan_is
+      ∙ sym new.opened.all ∙ two in (
         (short, next),
         number,
         is.unfenced,
         subst (λ (n : ℕ). most_looks n ≤ w.seat.left) (sym count) (omega (arith, left)),
       )
 
-  pub first_goes : Pairs (IsOpened device failures honest clock might_have_left (length devices))
-      devices (map (λ (w : WriterState D). w.segment) writers)
-      → (k : ℕ) (v : List ℕ) → IsShort v → k ≡ number_of x + 1 → IsNumber k → IsJudged x k v Go
-  first_goes were k v = goes_at were 0 x k v at_0
+  pub first_goes : (k : ℕ) (v : List ℕ) → IsShort v → k ≡ number_of x + 1 → IsNumber k
+      → IsJudged x k v Go
+  first_goes k v = goes_at 0 x k v at_0
 
-  pub second_goes : Pairs (IsOpened device failures honest clock might_have_left (length devices))
-      devices (map (λ (w : WriterState D). w.segment) writers)
-      → (k : ℕ) (v : List ℕ) → IsShort v → k ≡ number_of y + 1 → IsNumber k → IsJudged y k v Go
-  second_goes were k v = goes_at were 1 y k v at_1
+  pub second_goes : (k : ℕ) (v : List ℕ) → IsShort v → k ≡ number_of y + 1 → IsNumber k
+      → IsJudged y k v Go
+  second_goes k v = goes_at 1 y k v at_1

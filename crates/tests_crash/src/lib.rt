@@ -2,7 +2,7 @@
 //! empty.
 #![tactic(auto)]
 
-ghost use Rattle.std.specs.Prelude.{◌≡◌, ℕ, ◌-◌, ◌^◌, ◌<◌, ◌≤◌, [], ◌∷◌, length, map, All, IfOk};
+ghost use Rattle.std.specs.Prelude.{◌≡◌, ℕ, ◌-◌, ◌^◌, ◌<◌, ◌≤◌, [], ◌∷◌, length, map, All, IfOk, IfSome};
 ghost use Rattle.snap_history.specs.declared.limits.TheConstants.{MAX_COUNT};
 ghost use Rattle.snap_history.specs.Limits.{IsShort};
 ghost use Rattle.snap_writer.specs.Judge.{IsJudged};
@@ -10,6 +10,7 @@ ghost use Rattle.snap_writer.specs.Life.{in_store};
 ghost use Rattle.tests_crash.specs.Worked.{IsRecoveredNow};
 ghost use Rattle.tests_crash.specs.Together.{AreTwo, IsRecoveredAt, stored_unshown};
 ghost use Rattle.tests_crash.specs.Staying.{IsAWriter, LosesNothing};
+ghost use Rattle.tests_crash.specs.Opened.{AreNew};
 ghost use Rattle.tests_crash.specs.Again.{AreOfOne, GoOnBehind};
 ghost use Rattle.tests_crash.specs.Moment.{AtOnceLaw, OverLaw};
 ghost use Rattle.snap_register.specs.declared.plan.Plan.{Plan};
@@ -89,6 +90,19 @@ pub fn two_at_once<D: Disk>(
     let _ = second.update(two, other);
 }
 
+/// The writers of all files, if these can be opened.
+fn writers_of<D: Disk + Drop>(alloc: Global, devices: Vec<D>) -> Option<Vec<Writer<D>>>
+    requires count { (0 < length devices.items) × (length devices.items ≤ MAX_COUNT) }
+    requires headroom { All (λ d. D.failure_count d < 2 ^ 64 - 1) devices.items }
+    ensures { IfSome result (λ writers. AreNew D.device D.failure_count D.is_honest D.clock
+        D.might_have_left devices.items writers.items) }
+{
+    match open_all(alloc, devices, 1) {
+        Ok((store, _)) => Some(store.writers),
+        Err(_) => None,
+    }
+}
+
 /// Opens two files, takes their writers and updates both, where no number is the last: so the premises
 /// of [`two_at_once`] are met by real calls.
 pub fn open_two<D: Disk + Drop>(alloc: Global, devices: Vec<D>, value: &[u8], other: &[u8])
@@ -97,18 +111,20 @@ pub fn open_two<D: Disk + Drop>(alloc: Global, devices: Vec<D>, value: &[u8], ot
     requires value { IsShort value.now }
     requires other { IsShort other.now }
 {
-    let Ok((mut store, _)) = open_all(alloc, devices, 1) else {
+    let Some(mut writers) = writers_of(alloc, devices) else {
         return;
     };
-    let (Some(mut second), Some(mut first)) = (store.writers.pop(), store.writers.pop()) else {
+    let Some(mut second) = writers.pop() else {
+        return;
+    };
+    let Some(mut first) = writers.pop() else {
         return;
     };
     let one = first.number();
     let two = second.number();
-    if one == LAST_NUMBER || two == LAST_NUMBER {
-        return;
+    if one != LAST_NUMBER && two != LAST_NUMBER {
+        two_at_once(&mut first, &mut second, one + 1, value, two + 1, other);
     }
-    two_at_once(&mut first, &mut second, one + 1, value, two + 1, other);
 }
 
 /// Two updates of one writer, whatever they are answered. A crash at any time since before the first
@@ -128,16 +144,15 @@ pub fn open_and_go_on<D: Disk + Drop>(alloc: Global, devices: Vec<D>, number: u6
     requires count { (0 < length devices.items) × (length devices.items ≤ MAX_COUNT) }
     requires headroom { All (λ d. D.failure_count d < 2 ^ 64 - 1) devices.items }
 {
-    let Ok((mut store, _)) = open_all(alloc, devices, 1) else {
+    let Some(mut writers) = writers_of(alloc, devices) else {
         return;
     };
-    let Some(mut writer) = store.writers.pop() else {
+    let Some(mut writer) = writers.pop() else {
         return;
     };
-    if writer.update(number, value).is_err() {
-        return;
+    if writer.update(number, value).is_ok() {
+        goes_on(&mut writer, number, value, number, b"");
     }
-    goes_on(&mut writer, number, value, number, b"");
 }
 
 /// The registers as an opening made them keep their rule, so there is a moment at which a crash may
