@@ -42,7 +42,7 @@ class Comparison:
 
     def show(self, label, unit, pairs):
         ratios = sorted(after / before for before, after in pairs)
-        low, middle, high = statistics.quantiles(ratios, n=4)
+        low, middle, high = statistics.quantiles(ratios, n=4, method="inclusive")
         before, after = (statistics.median(each) for each in zip(*pairs))
         print(f"{label:<34} {before:>9,.1f} {unit} {after:>9,.1f} {unit}   {middle:.3f}   ({low:.3f} to {high:.3f})", flush=True)
 

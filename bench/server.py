@@ -45,9 +45,9 @@ PARTS = ("updates", "scans", "starts", "told", "comers", "memory", "held", "redi
 SEGMENTS, SPAN = 16, 500
 # Connections a second that come and go, beside which a median update was once 4 ms.
 FLOOD = 12_600
-# What the unit of docs/RECIPES.md tells the C library, one and both.
+# What the unit of docs/RECIPES.md tells the C library, each by itself and both.
 PAGES, ARENAS = {"GLIBC_TUNABLES": "glibc.malloc.hugetlb=1"}, {"MALLOC_ARENA_MAX": "1"}
-TOLD = {"neither": {}, "GLIBC_TUNABLES": PAGES, "MALLOC_ARENA_MAX": ARENAS, "both": {**PAGES, **ARENAS}}
+TOLD = {"nothing": {}, "large pages": PAGES, "one arena": ARENAS, "both": {**PAGES, **ARENAS}}
 
 
 def show(label, mine, other, unit, more):
@@ -178,11 +178,14 @@ class Bench:
                 with Server(self.snapd, *files, scanners=4, env=env) as server:
                     took = (time.perf_counter() - began) * 1e3
                     found[name].append((took, page_faults(server.process.pid), server.memory()))
+        bare, bare_faults, _ = (statistics.median(each) for each in zip(*found["nothing"]))
         for name, rows in found.items():
+            if name == "nothing":
+                continue
             took, faults, kilobytes = (statistics.median(each) for each in zip(*rows))
-            ratio = statistics.median(mine[0] / bare[0] for mine, bare in zip(rows, found["neither"]))
-            more = f"{ratio:.3f}   ({faults:,.0f} page faults, {kilobytes:,.0f} kB resident)"
-            show(f"start of 16 files by {name}, by neither", took, statistics.median(it[0] for it in found["neither"]), "ms", more)
+            ratio = statistics.median(mine[0] / its[0] for mine, its in zip(rows, found["nothing"]))
+            more = f"{ratio:.3f}   ({faults:,.0f} page faults, and {bare_faults:,.0f}; {kilobytes:,.0f} kB resident)"
+            show(f"start of 16 files by {name}, and by nothing", took, bare, "ms", more)
 
     def starts(self):
         """From the start of the process to its line `listening`."""

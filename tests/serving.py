@@ -165,16 +165,17 @@ class Server:
         self.place = (host.strip("[]"), int(port))
 
     def _printed(self):
-        """The report and the address, each byte as it comes."""
+        """The report and the address, as soon as they have come. What came with them is kept for `end`."""
         text, until = b"", time.monotonic() + PATIENCE
-        while b"listening " not in text or not text.endswith(b"\n"):
+        while b"\n" not in text.partition(b"listening ")[2]:
             ready, _, _ = select.select([self.process.stdout], [], [], until - time.monotonic())
             assert ready, f"no line `listening` came: {text!r}"
             piece = os.read(self.process.stdout.fileno(), 65_536)
             assert piece, f"it ended with {self.process.wait()}: {text!r}, {self.notes()}"
             text += piece
-        report, line, address = text.decode().partition("listening ")
-        return report, address.removesuffix("\n")
+        report, _, behind = text.partition(b"listening ")
+        address, _, self.printed_behind = behind.partition(b"\n")
+        return report.decode(), address.decode()
 
     def __enter__(self):
         return self
@@ -200,7 +201,7 @@ class Server:
     def end(self):
         """How it ended by itself: its status, what it printed behind its address, and its errors."""
         output, _ = self.process.communicate(timeout=PATIENCE)
-        return Run(self.process.returncode, output, self.errors.read_text())
+        return Run(self.process.returncode, self.printed_behind + output, self.errors.read_text())
 
     def connect(self, timeout=PATIENCE):
         stream = socket.create_connection(self.place, timeout=timeout)

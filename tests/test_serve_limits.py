@@ -5,12 +5,16 @@ import errno
 import re
 import signal
 import socket
+import threading
 import time
 
+from clients import Client
 from preload import Accepts, library
 from serving import LOOPBACK, SCAN, Server, fresh, received, segments, snapshot, stored, to_its_end, update
 from test_serve_disks import TWO, Disk
-from waiting import comes_to
+from waiting import PATIENCE, comes_to
+
+from snapd_client import TimedOut
 
 FULL = re.compile(r"(\d+) connections are open, and there is no room for more: callers wait")
 ROOM = "there is room again: connections are taken"
@@ -28,8 +32,20 @@ def answered(stream, wanted=EMPTY):
     return received(stream, len(wanted)) == wanted
 
 
+# How long a caller may wait for its answer once there is room for it, in seconds. It is a promise, and so a test goes by the clock.
+IN_TIME = 1
+
+
+def answered_in_time(stream, wanted, since):
+    """Its scan, which has been sent, is answered so, and soon after this moment."""
+    got = received(stream, len(wanted))
+    took = time.monotonic() - since
+    assert got == wanted and took < IN_TIME, (got[:40], took)
+
+
 def test_callers_wait_where_no_descriptor_is_left(snapd, _):
-    """It says so once, and once more when there is room, and no connection is tried that the system could refuse."""
+    """It says so once, and once more when there is room, and no connection is tried that the system could refuse. Who waits is
+    answered within a second of room."""
     accepts = Accepts(snapd.folder)
     with Server(snapd, *fresh(snapd, 1), scanners=2, descriptors=40, env=accepts.env) as server:
         with contextlib.ExitStack() as open_ones:
@@ -39,15 +55,24 @@ def test_callers_wait_where_no_descriptor_is_left(snapd, _):
             # Those that are there are served meanwhile.
             streams[1].sendall(update(0, 1))
             assert received(streams[1], 13) == stored(1)
+            wanted, [taken] = snapshot((1, b"")), told(server)[0]
+            # One goes, and so there is room for the first that waits.
+            streams[taken].sendall(SCAN)
+            began = time.monotonic()
+            streams[0].close()
+            answered_in_time(streams[taken], wanted, began)
             late = server.connect()
             late.sendall(SCAN)
-        wanted = snapshot((1, b""))
-        assert received(late, len(wanted)) == wanted
+        answered_in_time(late, wanted, time.monotonic())
         late.close()
+        for _ in range(5):
+            began = time.monotonic()
+            with server.connect() as new:
+                new.sendall(SCAN)
+                answered_in_time(new, wanted, began)
         comes_to(True, lambda: told(server)[1] >= 1)
         full, _ = told(server)
         assert 1 <= len(full) <= 3 and 10 <= full[0] < 40 and accepts.count() == 0, (full, accepts.count())
-        assert all(answered(server.connect(), wanted) for _ in range(5))
 
 
 def test_a_disk_that_hangs_makes_it_deaf_to_nobody_for_long(snapd, _):
@@ -66,6 +91,64 @@ def test_a_disk_that_hangs_makes_it_deaf_to_nobody_for_long(snapd, _):
         disk.says()
         server.ask(update(0, 2, b"new") + update(1, 2, b"on"), stored(2) + stored(2))
         server.ask(SCAN, snapshot((2, b"new"), (2, b"on")))
+
+
+class Honest(threading.Thread):
+    """A client with an update for a segment of its own, which gives up soon and tries again, on a new connection each time."""
+
+    TRIES = 3
+
+    def __init__(self, server, segment):
+        super().__init__(daemon=True)
+        self.client = Client(server.address, timeout=0.2, tries=self.TRIES, pause=0.01)
+        self.segment, self.times_out, self.goes_on, self.stored = segment, 0, threading.Event(), None
+
+    def run(self):
+        """One call, and then, once it may go on, as many as it takes."""
+        while self.stored is None:
+            try:
+                self.stored = self.client.update(self.segment, 2, b"new")
+            except TimedOut:
+                self.times_out += 1
+                self.goes_on.wait()
+
+
+def test_honest_clients_get_through_a_disk_that_hangs(snapd, _):
+    """Each try leaves a connection behind. Below the limit scans and the server's health are answered all the while, and at the
+    limit those that are there. Right behind the hang each update is acknowledged, and a new caller is answered."""
+    disk, accepts = Disk(snapd), Accepts(snapd.folder)
+    env = disk.env | accepts.env | {"LD_PRELOAD": f"{disk.env['LD_PRELOAD']}:{accepts.env['LD_PRELOAD']}"}
+    files, before = segments(snapd, *[TWO] * 16), snapshot(*[(1, b"hi")] * 16)
+    # Beside the files and what the server needs there is room for more than all connections of a first call, and for few more.
+    with Server(snapd, *files, env=env, scanners=2, descriptors=100) as server, server.connect() as there:
+        assert answered(there, before)
+        disk.says(*(f"{file} sync hold 0" for file in files))
+        clients = [Honest(server, segment) for segment in range(16)]
+        for client in clients:
+            client.start()
+        while not all(client.times_out for client in clients):
+            server.ask(SCAN, before)
+            snapd("call", server.address, "health").gave(0, "healthy\n")
+        # Each try has left its connection, and the one that asks is there beside them.
+        comes_to(16 * Honest.TRIES + 1, server.connections)
+        server.ask(SCAN, before)
+        snapd("call", server.address, "health").gave(0, "healthy\n")
+        assert not told(server)[0] and not any(client.stored for client in clients)
+        for client in clients:
+            client.goes_on.set()
+        comes_to(1, lambda: len(told(server)[0]))
+        assert answered(there, before)
+        disk.says()
+        after = snapshot(*[(2, b"new")] * 16)
+        for client in clients:
+            client.join(PATIENCE)
+        assert [client.stored for client in clients] == [2] * 16
+        server.ask(SCAN, after)
+        snapd("call", server.address, "health").gave(0, "healthy\n")
+        comes_to(True, lambda: told(server)[1] >= 1)
+        assert accepts.count() == 0
+    with Server(snapd, *files) as server:
+        server.ask(SCAN, after)
 
 
 def test_a_server_that_was_stopped_takes_all_that_called(snapd, _):
