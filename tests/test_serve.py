@@ -1,5 +1,6 @@
 """`snapd serve` and `snapd call` from both ends: what they print, their statuses, and what they leave."""
 
+import contextlib
 import os
 import pathlib
 import re
@@ -71,13 +72,16 @@ def test_as_many_connections_as_were_asked_for(snapd, _):
 
 
 def test_sixteen_files_for_each_number_of_scanners(snapd, _):
-    files = fresh(snapd, 16)
-    for scanners in (1, 16):
-        with Server(snapd, *files, scanners=scanners) as server:
-            assert server.report.endswith("segments 16\n")
-            for segment in range(16):
-                server.ask(update(segment, 1, b"v%d" % segment), stored(1))
-            assert server.scan() == [(1, b"v%d" % it) for it in range(16)]
+    """And each other number of files: whatever the numbers are, each worker serves all of them."""
+    for count, scanners in [(16, it) for it in range(1, 17)] + [(it, it) for it in range(1, 16)]:
+        with Server(snapd, *fresh(snapd, count), scanners=scanners) as server, contextlib.ExitStack() as peers:
+            assert server.report.endswith(f"segments {count}\n"), (count, scanners)
+            # They are dealt to the workers in turn.
+            streams = [peers.enter_context(server.connect()) for _ in range(count)]
+            for segment, stream in enumerate(streams):
+                stream.sendall(update(segment, 1, b"v%d" % segment))
+            assert [received(stream, len(stored(1))) for stream in streams] == [stored(1)] * count, (count, scanners)
+            assert server.scan() == [(1, b"v%d" % it) for it in range(count)], (count, scanners)
 
 
 # ---- addresses ----

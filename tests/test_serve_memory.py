@@ -7,7 +7,7 @@ import time
 
 import segment_file as layout
 from preload import library
-from serving import FRESH, LOOPBACK, SCAN, Server, comes_to, received, refused, segments, snapshot, stored, update
+from serving import FRESH, LOOPBACK, SCAN, STATUS, Server, comes_to, received, refused, segments, snapshot, stored, update
 from talk import CLOSED, HELD, VALUE, asked, talked, told
 from test_serve_disks import Disk
 
@@ -122,6 +122,44 @@ def test_an_outcome_waits_for_memory(snapd, _):
         server.ask(update(0, 1, VALUE) + SCAN, stored(1) + snapshot((1, VALUE)))
 
 
+# So many stores have an outcome at once, or so many connections come at once, that a worker's queue has to grow for them.
+MANY = 16
+
+
+@contextlib.contextmanager
+def kept_busy(server):
+    """A worker that is alone takes meanwhile one outcome and one connection behind so many requests that they queue up: what peers
+    have sent who don't read their replies. They have their memory before it runs out, so it keeps none of them from their turns."""
+    with contextlib.ExitStack() as peers:
+        flooding = []
+        for _ in range(32):
+            flooding.append(peers.enter_context(server.connect()))
+            # One comes at a time, so that the queue of connections has room for few.
+            assert told(flooding[-1], STATUS * 1_000) != CLOSED
+        yield lambda: [stream.sendall(STATUS * 20_000) for stream in flooding]
+
+
+def test_outcomes_wait_for_memory(snapd, _):
+    """Sixteen outcomes come to a worker that is busy while there is none: each update is answered, or its connection is closed."""
+    disk, memory = Disk(snapd), Memory(snapd, "all")
+    with started(snapd, MANY, env=of_both(disk, memory)) as server, contextlib.ExitStack() as peers:
+        streams = [peers.enter_context(server.connect()) for _ in range(MANY)]
+        disk.says(*(f"S{segment} sync hold 0" for segment in range(MANY)))
+        for segment, stream in enumerate(streams):
+            stream.sendall(update(segment, 1, b"a"))
+        flood = peers.enter_context(kept_busy(server))
+        memory.runs_out()
+        flood()
+        disk.says()
+        for segment in range(MANY):
+            comes_to((1, b"a"), lambda: layout.answer_of(snapd.file(f"S{segment}").read_bytes()))
+        time.sleep(0.05)
+        memory.is_there_again()
+        for stream in streams:
+            assert told(stream) in (stored(1), CLOSED)
+        server.ask(b"".join(update(segment, 1, b"a") for segment in range(MANY)), stored(1) * MANY)
+
+
 def test_connections_wait_for_memory(snapd, _):
     """Those that come while there is none are served afterwards, or closed; the server goes on."""
     memory = Memory(snapd, "all")
@@ -136,3 +174,23 @@ def test_connections_wait_for_memory(snapd, _):
             with stream:
                 assert told(stream) in (snapshot((0, b"")), refused(8), CLOSED)
         server.ask(update(0, 1, VALUE) + SCAN, stored(1) + snapshot((1, VALUE)))
+
+
+def test_no_place_is_lost_for_want_of_memory(snapd, _):
+    """Connections come to a worker that is busy while there is none. Behind them as many may be open at once as before."""
+    memory = Memory(snapd, "all")
+    with started(snapd, 1, env=memory.env, more=("--clients-max", 100)) as server:
+        with kept_busy(server) as flood, contextlib.ExitStack() as peers:
+            memory.runs_out()
+            flood()
+            streams = [peers.enter_context(server.connect()) for _ in range(MANY)]
+            time.sleep(0.05)
+            memory.is_there_again()
+            for stream in streams:
+                assert told(stream, SCAN) in (snapshot((0, b"")), refused(8), CLOSED)
+        with contextlib.ExitStack() as peers:
+            streams = [peers.enter_context(server.connect()) for _ in range(100)]
+            for stream in streams:
+                stream.sendall(SCAN)
+            for stream in streams:
+                assert told(stream) == snapshot((0, b""))

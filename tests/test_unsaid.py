@@ -1,5 +1,6 @@
 """What `snapd serve` does that no contract asks for, and no other test looks at (docs/THEOREMS.md, "What no clause says")."""
 
+import collections
 import contextlib
 import errno
 import fcntl
@@ -21,30 +22,33 @@ from waiting import comes_to, wait_until
 EMPTY = snapshot((0, b""))
 
 
-def processor_time(server):
-    """The seconds for which the server has had a processor, for itself and for its calls of the system."""
-    fields = pathlib.Path(f"/proc/{server.process.pid}/stat").read_text().rpartition(") ")[2].split()
-    return (int(fields[11]) + int(fields[12])) / os.sysconf("SC_CLK_TCK")
+# How often each thread is looked at, and in how many looks one has to be found asleep that waits.
+LOOKS, MOST = 50, 40
+
+
+def all_sleep(server):
+    """Whether each thread of the server sleeps in most looks: it neither runs nor wants a processor."""
+    asleep = collections.Counter()
+    for _ in range(LOOKS):
+        for task in pathlib.Path(f"/proc/{server.process.pid}/task").iterdir():
+            asleep[task.name] += task.joinpath("stat").read_text().rpartition(") ")[2].startswith("S")
+        time.sleep(0.01)
+    return min(asleep.values()) >= MOST
 
 
 def test_who_waits_sleeps(snapd, _):
-    """Neither an idle server takes a processor, nor one whose only update waits for its disk."""
+    """Neither an idle server wants a processor, nor one whose only update waits for its disk."""
     disk = Disk(snapd)
     with Server(snapd, *fresh(snapd, 2), scanners=2, env=disk.env) as server, server.connect() as idle, server.connect() as waits:
         assert told(idle, update(0, 1, b"a")) == stored(1) and told(waits, STATUS) == standings((1, False), (0, False))
-        for hold in ((), ("S1 sync hold 0",)):
-            disk.says(*hold)
-            if hold:
-                waits.sendall(update(1, 1, b"a"))
-                disk.wait_for_hold()
-            # What looks before it sleeps does so for less than a millisecond each time.
-            time.sleep(0.2)
-            before = processor_time(server)
-            time.sleep(1)
-            # A call that is held asks again and again whether it may go on.
-            assert processor_time(server) - before < 0.5, hold
-        disk.says()
-        assert told(waits) == stored(1)
+        # What looks before it sleeps does so for less than a millisecond each time, of a processor that nobody else wants.
+        wait_until(lambda: all_sleep(server), "the sleep of an idle server")
+        disk.says("S1 sync hold 0")
+        waits.sendall(update(1, 1, b"a"))
+        disk.wait_for_hold()
+        # A call that is held asks again and again whether it may go on, and one that rests doesn't.
+        disk.says("S1 sync rest 1000000000")
+        wait_until(lambda: all_sleep(server), "the sleep of a server that waits for its disk")
 
 
 def test_each_thread_of_a_start_is_refused(snapd, _):
@@ -111,6 +115,8 @@ def test_how_connections_are_let_go_is_noted(snapd, _):
             reset(gone)
             assert to_its_end(quiet) == b""
             comes_to(wanted, lambda: ends_of(server))
+        # Both descriptors are given back, while the outcome of the one's update is still to come.
+        comes_to(0, server.connections)
         disk.says()
     sockets = Sockets(snapd, "send", 1, errno.EPIPE)
     with Server(snapd, *fresh(snapd, 1), env=sockets.env, more=("--log", "debug")) as server, server.connect() as stream:
@@ -123,6 +129,50 @@ def test_how_connections_are_let_go_is_noted(snapd, _):
         with contextlib.suppress(ConnectionError):
             assert to_its_end(idle) == b""
         comes_to({name_of(idle): "let go of: the server stops"}, lambda: ends_of(server))
+
+
+def test_who_talks_is_not_let_go_of(snapd, _):
+    """Nor who waits for its update. Beside them one is let go of that says nothing, and one that began a request and says no more."""
+    disk = Disk(snapd)
+    with Server(snapd, *fresh(snapd, 1), scanners=1, env=disk.env, more=("--idle", 2)) as server, contextlib.ExitStack() as peers:
+        disk.says("S0 sync hold 0")
+        waits, quiet, begun, *talking = (peers.enter_context(server.connect()) for _ in range(5))
+        waits.sendall(update(0, 1, b"a"))
+        begun.sendall(SCAN[:3])
+        disk.wait_for_hold()
+        # For twice as long as one may be silent, with rests that are far shorter. They talk in turn, so that the worker looks at one
+        # while it is the other one's turn.
+        for turn in range(80):
+            assert told(talking[turn % 2], SCAN) == EMPTY
+            time.sleep(0.05)
+        assert to_its_end(quiet) == b"" and to_its_end(begun) == b""
+        disk.says()
+        assert told(waits) == stored(1)
+
+
+def test_who_came_is_served_to_its_own_end(snapd, _):
+    """Once as many have come as were asked for, nobody is let go of who says nothing for a moment."""
+    with Server(snapd, *fresh(snapd, 1), scanners=2, connections=3) as server:
+        with server.connect() as first, server.connect() as second, server.connect() as third:
+            for stream in 5 * (third, second, first):
+                assert told(stream, SCAN) == EMPTY
+                time.sleep(0.05)
+        run = server.end()
+        assert (run.status, run.output) == (0, b"served 3\n"), run
+
+
+def test_want_of_room_is_told_once(snapd, _):
+    """And how many are open then; however often it is asked again whether there is room, which it is each hundredth of a second."""
+    with Server(snapd, *fresh(snapd, 1), more=("--clients-max", 2)) as server:
+        with server.connect() as first, server.connect() as second, server.connect() as third:
+            assert [told(first, SCAN), told(second, SCAN)] == [EMPTY] * 2
+            third.sendall(SCAN)
+            comes_to(True, lambda: bool(server.logged("WARN", "accept")))
+            time.sleep(0.5)
+            wanted = ["2 connections are open, and there is no room for more: callers wait"]
+            assert server.logged("WARN", "accept") == wanted
+            second.close()
+            assert told(third) == EMPTY
 
 
 def test_who_began_a_request_keeps_no_server_that_stops(snapd, _):
