@@ -242,7 +242,7 @@ class Bench:
                 for it in (server, echo):
                     alone = self.load(it, 1_000, 0, 1)[1]
                     control.write_text(held)
-                    updates, beside = self.load(it, 1_000, SEGMENTS, 1)
+                    updates, beside, _ = self.load(it, 1_000, SEGMENTS, 1)
                     control.write_text("")
                     times += [*alone[1:], *beside[1:], updates[1]]
                 found.append(times)
