@@ -7,7 +7,7 @@ ghost use Rattle.snap_history.specs.declared.limits.TheConstants.{MAX_COUNT};
 ghost use Rattle.snap_history.specs.Limits.{IsShort};
 ghost use Rattle.snap_writer.specs.Judge.{IsJudged};
 ghost use Rattle.snap_writer.specs.Life.{in_store};
-ghost use Rattle.tests_crash.specs.Worked.{IsRecoveredNow};
+ghost use Rattle.tests_crash.specs.Worked.{IsRecoveredNow, KeepAStart};
 ghost use Rattle.tests_crash.specs.Together.{AreTwo, IsRecoveredAt, stored_unshown};
 ghost use Rattle.tests_crash.specs.Staying.{IsAWriter, LosesNothing};
 ghost use Rattle.tests_crash.specs.Opened.{AreNew};
@@ -23,11 +23,14 @@ use snap_restart::{Stopped, Store, open_all};
 use snap_writer::{Judgement, Writer};
 use std::alloc::Global;
 
-/// Opens all files and closes them. A crash of all devices then is recovered by the law of a cut.
+/// Opens all files and closes them. A crash of all devices then is recovered by the law of a cut. And
+/// honest devices keep the memory of a start then, so any number of crashes and starts may follow.
 pub fn worked<D: Disk + Drop>(alloc: Global, devices: Vec<D>) -> Result<Vec<D>, Stopped<D>>
     requires count { (0 < length devices.items) × (length devices.items ≤ MAX_COUNT) }
     requires headroom { All (λ d. D.failure_count d < 2 ^ 64 - 1) devices.items }
     ensures now { IfOk result (λ ds. IsRecoveredNow D.device D.is_honest ds.items) }
+    ensures start { IfOk result (λ ds. KeepAStart D.device D.is_honest D.clock D.might_have_left
+        ds.items) }
 {
     match open_all(alloc, devices, 1) {
         Ok((store, _)) => Ok(store.close()),
