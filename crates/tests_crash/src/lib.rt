@@ -160,7 +160,8 @@ pub fn open_and_go_on<D: Disk + Drop>(alloc: Global, devices: Vec<D>, number: u6
 
 /// The registers as an opening made them keep their rule, so there is a moment at which a crash may
 /// come before anything is shown, wherever the writers are by then: before their first stores, inside
-/// them, or behind them. And files come over it to the next opening.
+/// them, or behind them. And files come over it to the next opening. The plan of the registers has to
+/// be ready, as it is wherever they are made.
 pub fn moment_laws<D: Disk>()
     ensures at_once { AtOnceLaw D.device D.is_honest D.clock D.might_have_left }
     ensures over { OverLaw D.device D.is_honest D.clock D.might_have_left }
