@@ -28,11 +28,20 @@ module _ {D : Type 0} (device : D → Device) (honest : D → Type 0) where
         (map (λ (w : WriterState D). resting w) writers)
         (map (λ (b : Known). b.seen) scanners) files
 
--- if they are honest, these devices keep the memory of a start, from which any number of crashes and
--- starts may follow
-abbrev pub KeepAStart : {D : Type 0} → (D → Device) → (D → Type 0) → (D → ℕ)
-    → (D → ℕ → List ℕ → Type 0) → List D → Type 0
-KeepAStart {D} device honest clock might_have_left devices =
-    ((i : ℕ) (d : D) → slice_get devices i ≡ Some d → honest d)
-    → (start : Start)
-    × Restarts device honest clock might_have_left (length devices) start [] devices
+abbrev pub AreHonest : {D : Type 0} → (D → Type 0) → List D → Type 0
+AreHonest {D} honest devices = (i : ℕ) (d : D) → slice_get devices i ≡ Some d → honest d
+
+module _ {D : Type 0} (device : D → Device) (honest : D → Type 0) (clock : D → ℕ)
+    (might_have_left : D → ℕ → List ℕ → Type 0) where
+  -- if they are honest, these devices keep the memory of a start, from which any number of crashes and
+  -- starts may follow
+  abbrev pub KeepAStart : List D → Type 0
+  KeepAStart devices = AreHonest honest devices → (start : Start)
+      × Restarts device honest clock might_have_left (length devices) start [] devices
+
+  -- if they are honest, whatever became of the first devices is what became of the second ones
+  abbrev pub ComeThrough : List D → List D → Type 0
+  ComeThrough olds news = AreHonest honest news → (n : ℕ) (start : Start)
+      (moments : List (List Update))
+      → Restarts device honest clock might_have_left n start moments olds
+      → Restarts device honest clock might_have_left n start moments news

@@ -7,7 +7,7 @@ ghost use Rattle.snap_history.specs.declared.limits.TheConstants.{MAX_COUNT};
 ghost use Rattle.snap_history.specs.Limits.{IsShort};
 ghost use Rattle.snap_writer.specs.Judge.{IsJudged};
 ghost use Rattle.snap_writer.specs.Life.{in_store};
-ghost use Rattle.tests_crash.specs.Worked.{IsRecoveredNow, KeepAStart};
+ghost use Rattle.tests_crash.specs.Worked.{IsRecoveredNow, KeepAStart, ComeThrough};
 ghost use Rattle.tests_crash.specs.Together.{AreTwo, IsRecoveredAt, stored_unshown};
 ghost use Rattle.tests_crash.specs.Staying.{IsAWriter, LosesNothing};
 ghost use Rattle.tests_crash.specs.Opened.{AreNew};
@@ -35,6 +35,20 @@ pub fn worked<D: Disk + Drop>(alloc: Global, devices: Vec<D>) -> Result<Vec<D>, 
     match open_all(alloc, devices, 1) {
         Ok((store, _)) => Ok(store.close()),
         Err(stopped) => Err(stopped),
+    }
+}
+
+/// Opens all files, however that ends, and gives them back. Whatever became of honest devices before,
+/// they have come through this opening, too.
+pub fn open_and_give_back<D: Disk + Drop>(alloc: Global, devices: Vec<D>) -> Vec<D>
+    requires count { (0 < length devices.items) × (length devices.items ≤ MAX_COUNT) }
+    requires headroom { All (λ d. D.failure_count d < 2 ^ 64 - 1) devices.items }
+    ensures { ComeThrough D.device D.is_honest D.clock D.might_have_left devices.items
+        result.items }
+{
+    match open_all(alloc, devices, 1) {
+        Ok((store, _)) => store.close(),
+        Err(stopped) => stopped.devices,
     }
 }
 
