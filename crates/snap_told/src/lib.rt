@@ -3,7 +3,8 @@
 //! A service replies by what its scanner has seen: an update that it says is stored, and each value of
 //! a scan, stands in that list. So whoever recovers a history that begins with all that anybody had
 //! seen has recovered all that any client was told. The laws lead there link by link: from a reply to
-//! the bytes of a session, from these to what a client answers its caller, and to the crash.
+//! the bytes of a session, from these to what a client answers its caller, and to the crash, and to any
+//! number of crashes and starts. Last stands that their premises are met.
 #![tactic(auto)]
 
 ghost use Rattle.std.specs.Prelude.{◌≡◌, [], Some, IfOk};

@@ -1,4 +1,5 @@
--- The premises of the law of a cut, where all writers are at rest and all are back.
+-- The premises of the law of a cut, where all writers are at rest and all are back, and of what follows
+-- any number of starts.
 use Rattle.std.proofs.Common.{◌≡◌, ◌⊎◌, ⊎_elim, ℕ, zero, suc, ◌≤◌, inl, inr, List, [], ◌∷◌, ◌++◌, length, map, Some, slice_get, refl, ap, sym, subst, ◌∙◌, arith}
 use Rattle.std.proofs.lemmas.List.{length-map}
 use Rattle.std.proofs.lemmas.Option.{same_Some, slice_get_within}

@@ -1,4 +1,4 @@
--- A crash now, of all devices that a closing gave back.
+-- A crash now, of all devices that a closing gave back; and such devices among any number of starts.
 use Rattle.std.specs.Prelude.{◌≡◌, ℕ, List, [], length, map, Some, slice_get}
 use Rattle.snap_disk.specs.Device.{Device, MayLeave}
 use Rattle.snap_history.specs.History.{Update, Start}
