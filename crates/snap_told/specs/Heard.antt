@@ -1,5 +1,5 @@
 -- Clients that hear what a service replies: so the premises of the laws are met.
-use Rattle.std.specs.Prelude.{ℕ, ◌^◌, List, [], ◌∷◌, Option, Some}
+use Rattle.std.specs.Prelude.{◌≡◌, ℕ, ◌^◌, List, [], ◌∷◌, Option, Some}
 use Rattle.snap_history.specs.History.{Update}
 use Rattle.snap_register.specs.declared.plan.Plan.{Plan}
 use Rattle.snap_register.specs.History.{starts}
@@ -8,7 +8,10 @@ use Rattle.snap_frame.specs.declared.request.Request.{Request}
 use Rattle.snap_frame.specs.declared.request.Request.TheVariants as request
 use Rattle.snap_frame.specs.declared.reply.Reply.{Reply}
 use Rattle.snap_frame.specs.declared.reply.Reply.TheVariants.{Stored}
-use Rattle.snap_frame.specs.Messages.{IsInLimits}
+use Rattle.snap_frame.specs.Messages.{payload, frame, IsInLimits}
+use Rattle.snap_session.specs.Talk.{Talk, Moves}
+use Rattle.snap_session.specs.Talk as session
+use Rattle.snap_session.specs.Turns.{Turns}
 use Rattle.snap_service.specs.Answers.{Answers}
 use Rattle.snap_service.specs.Memory.{no_table}
 use Rattle.snap_client.specs.Calls as calls
@@ -25,6 +28,17 @@ bytes_of bytes = Some bytes
 abbrev pub HeardLaw : Type 0
 HeardLaw = (a b : Known) (q : Request) (r : Reply) → IsSendable q → IsInLimits r
     → calls.Answers q r → Answers a q r b → WasAnswered bytes_of bytes_of b (q ∷ []) (r ∷ [])
+
+-- Whatever service was asked: if a session of it has taken in what this request's client writes, and
+-- the reader has what the session gave out, then the client was answered so over an honest connection.
+abbrev pub HearsFrom : {R W : Type 0} → (R → Option (List ℕ)) → (W → Option (List ℕ)) → R
+    → Request → Reply → Type 0
+HearsFrom remaining contents reader q r = (began b : Known) (talk : Talk)
+    (read_old read_new written_old written_new : Option (List ℕ))
+    → (t : Turns (Moves Answers) Answers began b session.start read_old read_new written_old
+    written_new talk)
+    → t.taken ≡ frame (payload q) → remaining reader ≡ Some t.given
+    → WasAnswered remaining contents b (q ∷ []) (r ∷ [])
 
 -- the registers of one file with number 0 and no bytes
 abbrev pub one_file : Plan

@@ -3,9 +3,12 @@
 //! A service replies by what its scanner has seen: an update that it says is stored, and each value of
 //! a scan, stands in that list. So whoever recovers a history that begins with all that anybody had
 //! seen has recovered all that any client was told. The laws lead there link by link: from a reply to
-//! the bytes of a session, from these to what a client answers its caller, and to the crash.
+//! the bytes of a session, from these to what a client answers its caller, and to the crash, and to any
+//! number of crashes and starts. Last stands that their premises are met.
 #![tactic(auto)]
 
+ghost use Rattle.std.specs.Prelude.{◌≡◌, [], Some, IfOk};
+ghost use Rattle.snap_told.specs.Told.{IsSendable};
 ghost use Rattle.snap_told.specs.Laws.{
   StoredLaw,
   ScannedLaw,
@@ -15,9 +18,12 @@ ghost use Rattle.snap_told.specs.Laws.{
   PlugLaw,
 };
 ghost use Rattle.snap_told.specs.Ever.{EverLaw};
-ghost use Rattle.snap_told.specs.Heard.{HeardLaw, FirstHeard};
+ghost use Rattle.snap_told.specs.Heard.{HeardLaw, HearsFrom, FirstHeard};
 
+use snap_client::{Client, ClientFault};
 use snap_disk::Disk;
+use snap_frame::{Reply, Request};
+use std::alloc::Global;
 use std::io::{Read, Write};
 
 /// An update that was replied `stored`, and the memory that a scan was replied, stand in each history
@@ -59,3 +65,19 @@ pub fn heard_laws()
     ensures heard { HeardLaw }
     ensures first { FirstHeard }
 {}
+
+/// So it is at a real call: what a client answers was told over an honest connection, where its reader
+/// has the bytes that a session gave out when it was asked just this.
+pub fn hear<R: Read + Drop, W: Write + Drop>(
+    alloc: Global,
+    reader: R,
+    writer: W,
+    request: &Request,
+) -> Result<Reply, ClientFault>
+    requires sendable { IsSendable request.now }
+    requires silent { W.contents writer ≡ Some [] }
+    ensures { IfOk result (HearsFrom R.remaining W.contents reader request.now) }
+{
+    let mut client = Client::new(alloc, reader, writer);
+    client.call(request)
+}

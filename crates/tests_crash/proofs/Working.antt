@@ -1,11 +1,17 @@
--- The premises of the law of a cut, where all writers are at rest and all are back.
-use Rattle.std.proofs.Common.{◌≡◌, ◌⊎◌, ⊎_elim, ℕ, zero, suc, inl, inr, List, [], ◌∷◌, ◌++◌, length, map, Some, slice_get, refl, ap, sym, subst, ◌∙◌, arith}
+-- The premises of the law of a cut, where all writers are at rest and all are back, and of what follows
+-- any number of starts.
+use Rattle.std.proofs.Common.{◌≡◌, ◌⊎◌, ⊎_elim, ℕ, zero, suc, ◌≤◌, inl, inr, List, [], ◌∷◌, ◌++◌, length, map, Some, slice_get, refl, ap, sym, subst, ◌∙◌, arith}
 use Rattle.std.proofs.lemmas.List.{length-map}
-use Rattle.std.proofs.lemmas.Option.{same_Some}
-use Rattle.snap_disk.specs.Device.{Device}
-use Rattle.snap_history.specs.History.{Update, IsBeginning, updates_of}
+use Rattle.std.proofs.lemmas.Option.{same_Some, slice_get_within}
+use Rattle.snap_disk.specs.declared.refusal.Refusal.{Refusal}
+use Rattle.snap_disk.specs.Device.{Device, MayLeave}
+use Rattle.snap_slot.specs.Layout.{IsFileOf}
+use Rattle.snap_slot.proofs.Rest.{at_rest_leaves}
+use Rattle.snap_segment.specs.Segment.{SegmentState}
+use Rattle.snap_history.specs.History.{Update, IsBeginning, updates_of, number_after}
 use Rattle.snap_history.specs.Pairs.{Pairs}
 use Rattle.snap_history.proofs.Beginnings.{beginning-self, number-beginning}
+use Rattle.snap_history.proofs.Pairing.{element, Pairs-map}
 use Rattle.snap_memory.proofs.Gathering.{grows_self}
 use Rattle.snap_register.specs.declared.plan.Plan.{Plan}
 use Rattle.snap_register.specs.History.{starts}
@@ -14,9 +20,11 @@ use Rattle.snap_writer.specs.Writer.{WriterState}
 use Rattle.snap_writer.specs.Life.{Place, resting, seen_at, CrashLeaves}
 use Rattle.snap_cut.specs.Crash.{all_seen, Recovers}
 use Rattle.snap_restart.specs.Closed.{IsHistory}
-use Rattle.snap_restart.specs.Crashing.{AreOpened, AnyCut}
+use Rattle.snap_restart.specs.Opened.{IsBack, IsOpened, IsStopped}
+use Rattle.snap_restart.specs.Restarts.{First, Interrupted}
+use Rattle.snap_restart.specs.Crashing.{AreOpened, StayKept, AnyCut}
 use Rattle.snap_restart.proofs.Crashing.{unmap}
-use Rattle.tests_crash.specs.Worked.{IsLeft, IsRecoveredNow}
+use Rattle.tests_crash.specs.Worked.{IsLeft, IsRecoveredNow, KeepAStart, ComeThrough}
 use Rattle.tests_crash.specs.Again.{AreOfOne}
 
 mapped : {A B : Type 0} (f : A → B) (xs : List A) (i : ℕ) (x : A) → slice_get xs i ≡ Some x
@@ -118,3 +126,94 @@ module _ {D : Type 0} (device : D → Device) (honest : D → Type 0) (clock : D
     recovered = at_rest_recovers opened.plan h writers scanners devices theirs
         opened.writers_are history cut;
   }
+
+  -- as they were opened they keep the memory that the writers start with
+  pub keep_a_start : (failures : D → ℕ) (olds : List D) (writers : List (WriterState D))
+      (devices : List D) → devices ≡ map (λ (w : WriterState D). w.segment.device) writers
+      → Pairs (IsOpened device failures honest clock might_have_left (length olds)) olds
+      (map (λ (w : WriterState D). w.segment) writers)
+      → AreOpened device honest clock might_have_left olds writers
+      → KeepAStart device honest clock might_have_left devices
+  keep_a_start failures olds writers devices theirs were opened hon =
+      let segment_of : WriterState D → SegmentState D = λ w. w.segment in
+      let device_of : WriterState D → D = λ w. w.segment.device in
+      let size : length devices ≡ length writers =
+      ap (λ (l : List D). length l) theirs ∙ length-map writers device_of in
+      let each = opened.one_each in
+      let start = starts opened.plan in (
+        start,
+        First devices (λ files left. record {
+          begun_too = [];
+          were_begun = λ j u e. absurd (cc e);
+          once = λ i. omega arith;
+          size = sym left.size;
+          holds = λ i b eb. (
+              let sizes = left.size in
+              let low = slice_get_within files i b eb in
+              let w = element writers i (omega (arith, low, sizes, size)) in
+              let old = element olds i (omega (arith, low, sizes, size, each)) in
+              let there : slice_get devices i ≡ Some w.0.segment.device =
+              ap (λ (l : List D). slice_get l i) theirs
+              ∙ mapped device_of writers i w.0 w.1 in
+              let is = were.each i old.0 w.0.segment old.1
+              (mapped segment_of writers i w.0 w.1) in
+              let file = at_rest_leaves i (length olds) w.0.segment.number w.0.segment.value
+              w.0.segment.spare_open (device w.0.segment.device)
+              (is.rests (hon i w.0.segment.device there)) b
+              (left.each i w.0.segment.device b there eb) in
+              let now = opened.starts_are i w.0 w.1 in
+              let number : w.0.segment.number ≡ number_after start [] i =
+              (let number = now.0 in omega (arith, number)) in
+              subst (λ (y : ℕ × ℕ × List ℕ). IsFileOf i y.0 y.1 y.2 b)
+              (λ t. ((sym each ∙ sym size) t, number t, now.1 t)) file);
+        }),
+      )
+
+  come_through : ((d : D) (t : ℕ) (b : List ℕ) → honest d → t ≤ clock d → MayLeave (device d) b
+      → might_have_left d t b) → (olds news : List D)
+      → StayKept device honest clock might_have_left olds news
+      → Pairs (λ _. IsBack device honest clock might_have_left) olds news
+      → ComeThrough device honest clock might_have_left olds news
+  come_through counts_now olds news stay back hon n start moments past =
+      Interrupted moments olds news news past stay (
+        back.size,
+        λ i d e f b ed ee ef left. (
+            let is = hon i e ee in
+            let same : f ≡ e = same_Some f e (sym ef ∙ ee) in (
+              is,
+              counts_now e (clock d) b is ((back.each i d e ed ee).any_time is).later
+                  (subst (λ (x : D). MayLeave (device x) b) same left),
+            )),
+      )
+
+  -- an opening that went well, and devices that came back of it
+  pub through_opened : ((d : D) (t : ℕ) (b : List ℕ) → honest d → t ≤ clock d
+      → MayLeave (device d) b → might_have_left d t b) → (failures : D → ℕ) (olds : List D)
+      (writers : List (WriterState D)) (news : List D)
+      → news ≡ map (λ (w : WriterState D). w.segment.device) writers
+      → Pairs (IsOpened device failures honest clock might_have_left (length olds)) olds
+      (map (λ (w : WriterState D). w.segment) writers)
+      → StayKept device honest clock might_have_left olds
+      (map (λ (w : WriterState D). w.segment.device) writers)
+      → ComeThrough device honest clock might_have_left olds news
+  through_opened counts_now failures olds writers news theirs were stay =
+      let segment_of : WriterState D → SegmentState D = λ w. w.segment in
+      let device_of : WriterState D → D = λ w. w.segment.device in
+      subst (λ (l : List D). ComeThrough device honest clock might_have_left olds l) (sym theirs)
+      (come_through counts_now olds (map device_of writers) stay (record {
+        size = were.size ∙ length-map writers segment_of ∙ sym (length-map writers device_of);
+        each = λ i d e ed ee. (
+            let w = unmap device_of writers i e ee in
+            subst (λ (x : D). IsBack device honest clock might_have_left d x) w.2
+            (were.each i d w.0.segment ed (mapped segment_of writers i w.0 w.1)).back);
+      }))
+
+  -- an opening that was refused
+  pub through_stopped : ((d : D) (t : ℕ) (b : List ℕ) → honest d → t ≤ clock d
+      → MayLeave (device d) b → might_have_left d t b) → (failures : D → ℕ) (olds news : List D)
+      (why : Refusal) (k : ℕ) → IsStopped device failures honest clock might_have_left olds news why k
+      → StayKept device honest clock might_have_left olds news
+      → ComeThrough device honest clock might_have_left olds news
+  through_stopped counts_now failures olds news why k is stay =
+      come_through counts_now olds news stay
+      (Pairs-map _ _ olds news (λ i d e returned. returned.back) is.returned)

@@ -7,7 +7,7 @@ ghost use Rattle.snap_history.specs.declared.limits.TheConstants.{MAX_COUNT};
 ghost use Rattle.snap_history.specs.Limits.{IsShort};
 ghost use Rattle.snap_writer.specs.Judge.{IsJudged};
 ghost use Rattle.snap_writer.specs.Life.{in_store};
-ghost use Rattle.tests_crash.specs.Worked.{IsRecoveredNow};
+ghost use Rattle.tests_crash.specs.Worked.{IsRecoveredNow, KeepAStart, ComeThrough};
 ghost use Rattle.tests_crash.specs.Together.{AreTwo, IsRecoveredAt, stored_unshown};
 ghost use Rattle.tests_crash.specs.Staying.{IsAWriter, LosesNothing};
 ghost use Rattle.tests_crash.specs.Opened.{AreNew};
@@ -23,15 +23,32 @@ use snap_restart::{Stopped, Store, open_all};
 use snap_writer::{Judgement, Writer};
 use std::alloc::Global;
 
-/// Opens all files and closes them. A crash of all devices then is recovered by the law of a cut.
+/// Opens all files and closes them. A crash of all devices then is recovered by the law of a cut. And
+/// honest devices keep the memory of a start then, so any number of crashes and starts may follow.
 pub fn worked<D: Disk + Drop>(alloc: Global, devices: Vec<D>) -> Result<Vec<D>, Stopped<D>>
     requires count { (0 < length devices.items) × (length devices.items ≤ MAX_COUNT) }
     requires headroom { All (λ d. D.failure_count d < 2 ^ 64 - 1) devices.items }
     ensures now { IfOk result (λ ds. IsRecoveredNow D.device D.is_honest ds.items) }
+    ensures start { IfOk result (λ ds. KeepAStart D.device D.is_honest D.clock D.might_have_left
+        ds.items) }
 {
     match open_all(alloc, devices, 1) {
         Ok((store, _)) => Ok(store.close()),
         Err(stopped) => Err(stopped),
+    }
+}
+
+/// Opens all files, however that ends, and gives them back. Whatever became of honest devices before,
+/// they have come through this opening, too.
+pub fn open_and_give_back<D: Disk + Drop>(alloc: Global, devices: Vec<D>) -> Vec<D>
+    requires count { (0 < length devices.items) × (length devices.items ≤ MAX_COUNT) }
+    requires headroom { All (λ d. D.failure_count d < 2 ^ 64 - 1) devices.items }
+    ensures { ComeThrough D.device D.is_honest D.clock D.might_have_left devices.items
+        result.items }
+{
+    match open_all(alloc, devices, 1) {
+        Ok((store, _)) => store.close(),
+        Err(stopped) => stopped.devices,
     }
 }
 
@@ -157,7 +174,8 @@ pub fn open_and_go_on<D: Disk + Drop>(alloc: Global, devices: Vec<D>, number: u6
 
 /// The registers as an opening made them keep their rule, so there is a moment at which a crash may
 /// come before anything is shown, wherever the writers are by then: before their first stores, inside
-/// them, or behind them. And files come over it to the next opening.
+/// them, or behind them. And files come over it to the next opening. The plan of the registers has to
+/// be ready, as it is wherever they are made.
 pub fn moment_laws<D: Disk>()
     ensures at_once { AtOnceLaw D.device D.is_honest D.clock D.might_have_left }
     ensures over { OverLaw D.device D.is_honest D.clock D.might_have_left }

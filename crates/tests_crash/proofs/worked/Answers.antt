@@ -1,4 +1,4 @@
-use Rattle.tests_crash.proofs.Working.{now}
+use Rattle.tests_crash.proofs.Working.{now, keep_a_start}
 use Rattle.tests_crash.proofs.worked.Goals as goal
 
 pub returns-in-Ok : goal.returns-in-Ok
@@ -8,4 +8,9 @@ returns-in-Ok g c =
       now = now g.D.Disk.device g.D.Disk.is_honest g.D.Disk.clock g.D.Disk.might_have_left told.0
           c.in-Ok.store.writers.items c.in-Ok.store.scanners.items c.args.devices.items c.close.result.items
           c.close.ensures.devices c.in-Ok.ensures.crash told.1 told.2;
+      start =
+          keep_a_start g.D.Disk.device g.D.Disk.is_honest g.D.Disk.clock g.D.Disk.might_have_left
+          g.D.Disk.failure_count c.args.devices.items c.in-Ok.store.writers.items
+          c.close.result.items c.close.ensures.devices c.in-Ok.ensures.opened
+          c.in-Ok.ensures.crash;
     }
