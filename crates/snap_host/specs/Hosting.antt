@@ -107,8 +107,8 @@ abbrev pub IsLengthAt : {D : Type 0} (device : D → Device) (devices : List D) 
 IsLengthAt {D} device devices segment len = (d : D) → slice_get devices segment ≡ Some d
     → len ≡ length (device d).bytes
 
--- The opening of these devices was refused at this segment, and a crash leaves what one before could.
--- The device that came back for the segment has so many bytes.
+-- the opening of these devices was refused at this segment, whose device has so many bytes, and a
+-- crash leaves what one before could
 abbrev pub IsStopOf : {D : Type 0} (device : D → Device) (failures : D → ℕ) (honest : D → Type 0)
     (clock : D → ℕ) (might_have_left : D → ℕ → List ℕ → Type 0) (devices : List D) → ℕ → Refusal
     → ℕ → Type 0
@@ -170,7 +170,8 @@ abbrev pub EndsServing : {L : Type 0} (listens : L → SocketAddr → Type 0) (r
 EndsServing {L} listens refused deaf came connections report out out' (Ok k) =
     (l : L) × (a : SocketAddr) × listens l a × (connections ≡ Some k) × came l k
     × Appends out out' (whole_text report a k)
-EndsServing listens refused deaf came connections report out out' (Err (Refused segment why len)) = ⊥
+EndsServing listens refused deaf came connections report out out'
+    (Err (Refused segment why len)) = ⊥
 EndsServing listens refused deaf came connections report out out' (Err NoMemory) =
     IsStarved listens report out out'
 EndsServing listens refused deaf came connections report out out' (Err (Address error)) =
@@ -222,8 +223,8 @@ cut_off_text file segment count =
     codes "it has no byte: a format that was cut off: go on with snapd format "
     ++ (file ++ (codes " --index " ++ (decimal segment ++ (codes " --count " ++ decimal count))))
 
--- of a refusal at this segment, whose file has so many bytes, what stands behind the refusal's line: a
--- line that names the file, save for want of memory, and of a file without a byte how to go on
+-- of a refusal at this segment, whose file has so many bytes, what stands behind the refusal's line:
+-- a line that names the file, save for want of memory, and of a file without a byte how to go on
 abbrev pub IsRemedy : {F : Type 0} (path : F → List ℕ) (files : List F) (segment : ℕ) → Refusal
     → (len : ℕ) → List ℕ → Type 0
 IsRemedy path files segment why len more = (file : _) → slice_get files segment ≡ Some file

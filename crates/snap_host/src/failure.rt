@@ -13,7 +13,7 @@ use std::io::{self, Write};
 /// Why a server ended early.
 #[derive(Debug, Drop)]
 pub enum HostFailure {
-    /// The file of this segment, which has so many bytes, was refused, or there was no memory at it.
+    /// The file of this segment, of so many bytes, was refused, or there was no memory at it.
     Refused {
         segment: usize,
         why: Refusal,
@@ -85,8 +85,8 @@ fn failed(is_told: bool) -> Ended
     }
 }
 
-/// The line behind that of a refusal at this segment, whose file has so many bytes, or none for want
-/// of memory. It is empty where the refusal is want of memory.
+/// The line behind that of a refusal at this segment, whose file has so many bytes, or none for
+/// want of memory. It is empty where the refusal is want of memory.
 fn remedy_line<C: Cause>(
     alloc: Global,
     files: &Vec<&str>,

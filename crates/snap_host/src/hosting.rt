@@ -149,7 +149,7 @@ where
     }
 }
 
-/// How many bytes the device of this segment has, where there is one.
+/// How many bytes the device of this segment has, or 0 where there is none.
 fn length_at<D: Disk>(devices: &Vec<D>, segment: usize) -> u64
     ensures { IsLengthAt D.device devices.now.items segment result }
 {

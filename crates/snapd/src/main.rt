@@ -2,8 +2,8 @@
 //!
 //! `snap_words` reads the words. `snap_command` does what they ask for with files, `snap_host` as a
 //! server, `snap_ask` of a server and `snap_script` on a world, over any device, reader, writer,
-//! listener and connection. What is here only ties them to the system: its words, files, sockets and
-//! threads, and its standard streams, of which the last also gets a server's log (`snap_log`).
+//! listener and connection. What is here only ties them to the system: its words, files, sockets,
+//! threads and standard streams, of which the last gets a server's log too (`snap_log`).
 #![tactic(auto)]
 
 ghost use Rattle.snap_order.specs.Order.{IsCallable, IsFileWithinLimits, IsPlace};

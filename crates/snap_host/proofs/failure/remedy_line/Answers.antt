@@ -39,28 +39,28 @@ returns-in_default g c = λ file at other. absurd (none_there c.deref.result.now
     c.deref.ensures.value c.in_default.ensures.lookup.3 at)
 
 pub returns-in-WrongFile : goal.returns-in-WrongFile
-returns-in-WrongFile g c = IfSome_then c.cut_off_line.result c.cut_off_line.ensures (λ line is file at
-    other.
+returns-in-WrongFile g c =
     let files = c.args.files.now.items in
+    let text = λ (path : List ℕ) (n : ℕ). cut_off_text path c.args.segment n in
+    IfSome_then c.cut_off_line.result c.cut_off_line.ensures (λ line is file at other.
     let same = one_there c.deref.result.now _ _ c.in-Some.file.now file c.deref.ensures.value
-    c.in-Some.ensures.lookup.3.0 c.in-Some.ensures.lookup.1 at in
-    let text = λ (n : ℕ). cut_off_text file.now c.args.segment n in (
-      text (length files),
-      is ∙ ap (λ f. file_line f.now (cut_off_text f.now c.args.segment c.len.result)) same
-          ∙ ap (λ n. file_line file.now (text n)) (c.len.ensures ∙ c.args.files.now.ok.0),
-      λ wrong none. refl,
+    c.in-Some.ensures.lookup.3.0 c.in-Some.ensures.lookup.1 at in (
+      text file.now (length files),
+      is ∙ ap (λ f. file_line f.now (text f.now c.len.result)) same
+          ∙ ap (λ n. file_line file.now (text file.now n)) (c.len.ensures ∙ c.args.files.now.ok.0),
+      λ wrong empty. refl,
     ))
 
 pub returns-in_ok-remedy-in_default-why : goal.returns-in_ok-remedy-in_default-why
-returns-in_ok-remedy-in_default-why g c = IfSome_then c.line_of.result c.line_of.ensures (λ line is file
-    at other.
+returns-in_ok-remedy-in_default-why g c =
+    let text = string_bytes c.in_ok-remedy-in_default-why.remedy in
+    IfSome_then c.line_of.result c.line_of.ensures (λ line is file at other.
     let same = one_there c.deref.result.now _ _ c.in-Some.file.now file c.deref.ensures.value
-    c.in-Some.ensures.lookup.3.0 c.in-Some.ensures.lookup.1 at in
-    let text = string_bytes c.in_ok-remedy-in_default-why.remedy in (
+    c.in-Some.ensures.lookup.3.0 c.in-Some.ensures.lookup.1 at in (
       text,
       is ∙ ap (λ f. file_line f.now text) same,
-      λ wrong none. elim c.in_default-why.branch [
-        | in_default-why-via-in-WrongFile+else-len-eq0 w ↦ absurd (w.if-len-eq0.false none)
+      λ wrong empty. elim c.in_default-why.branch [
+        | in_default-why-via-in-WrongFile+else-len-eq0 w ↦ absurd (w.if-len-eq0.false empty)
         | in_default-why-via-in_default-why w ↦ absurd (w.in_default-why.not-WrongFile wrong)
       ],
     ))
