@@ -3,6 +3,7 @@ for a while. No request waits for ever, nothing that was acknowledged is lost, a
 
 import contextlib
 import itertools
+import signal
 import time
 
 import segment_file as layout
@@ -10,6 +11,7 @@ from preload import library
 from serving import FRESH, LOOPBACK, SCAN, STATUS, Server, comes_to, received, refused, segments, snapshot, stored, update
 from talk import CLOSED, HELD, VALUE, asked, talked, told
 from test_serve_disks import Disk
+from waiting import wait_until
 
 
 class Memory:
@@ -126,34 +128,45 @@ def test_an_outcome_waits_for_memory(snapd, _):
 MANY = 16
 
 
+def warmed(server, peers):
+    """Connections whose sessions have the memory that they need, so that want of it keeps none of them from its turns."""
+    streams = []
+    for _ in range(200):
+        streams.append(peers.enter_context(server.connect()))
+        # One comes at a time, so that the queue of connections has room for few.
+        assert told(streams[-1], STATUS * 200) != CLOSED
+    return streams
+
+
 @contextlib.contextmanager
-def kept_busy(server):
-    """A worker that is alone takes meanwhile one outcome and one connection behind so many requests that they queue up: what peers
-    have sent who don't read their replies. They have their memory before it runs out, so it keeps none of them from their turns."""
-    with contextlib.ExitStack() as peers:
-        flooding = []
-        for _ in range(32):
-            flooding.append(peers.enter_context(server.connect()))
-            # One comes at a time, so that the queue of connections has room for few.
-            assert told(flooding[-1], STATUS * 1_000) != CLOSED
-        yield lambda: [stream.sendall(STATUS * 20_000) for stream in flooding]
+def stopped_and_flooded(server, memory, streams):
+    """What is done within comes to a server at once that has no memory, and so many requests to answer that its only worker takes
+    one outcome and one connection in a while."""
+    server.process.send_signal(signal.SIGSTOP)
+    for stream in streams:
+        stream.sendall(STATUS * 4_000)
+    yield
+    memory.runs_out()
+    server.process.send_signal(signal.SIGCONT)
 
 
 def test_outcomes_wait_for_memory(snapd, _):
-    """Sixteen outcomes come to a worker that is busy while there is none: each update is answered, or its connection is closed."""
+    """Sixteen outcomes come to a worker while there is none: each update is answered, or its connection is closed."""
     disk, memory = Disk(snapd), Memory(snapd, "all")
     with started(snapd, MANY, env=of_both(disk, memory)) as server, contextlib.ExitStack() as peers:
+        flooding = warmed(server, peers)
         streams = [peers.enter_context(server.connect()) for _ in range(MANY)]
         disk.says(*(f"S{segment} sync hold 0" for segment in range(MANY)))
         for segment, stream in enumerate(streams):
             stream.sendall(update(segment, 1, b"a"))
-        flood = peers.enter_context(kept_busy(server))
-        memory.runs_out()
-        flood()
-        disk.says()
+        disk.wait_for_hold()
+        for stream in streams:
+            wait_until(lambda: server.has_read(stream))
+        with stopped_and_flooded(server, memory, flooding):
+            disk.says()
         for segment in range(MANY):
             comes_to((1, b"a"), lambda: layout.answer_of(snapd.file(f"S{segment}").read_bytes()))
-        time.sleep(0.05)
+        time.sleep(0.3)
         memory.is_there_again()
         for stream in streams:
             assert told(stream) in (stored(1), CLOSED)
@@ -177,19 +190,18 @@ def test_connections_wait_for_memory(snapd, _):
 
 
 def test_no_place_is_lost_for_want_of_memory(snapd, _):
-    """Connections come to a worker that is busy while there is none. Behind them as many may be open at once as before."""
+    """Connections come to a worker while there is none. Behind them as many may be open at once as before."""
     memory = Memory(snapd, "all")
-    with started(snapd, 1, env=memory.env, more=("--clients-max", 100)) as server:
-        with kept_busy(server) as flood, contextlib.ExitStack() as peers:
-            memory.runs_out()
-            flood()
-            streams = [peers.enter_context(server.connect()) for _ in range(MANY)]
-            time.sleep(0.05)
+    with started(snapd, 1, env=memory.env, more=("--clients-max", 300)) as server:
+        with contextlib.ExitStack() as peers:
+            with stopped_and_flooded(server, memory, warmed(server, peers)):
+                streams = [peers.enter_context(server.connect()) for _ in range(MANY)]
+            time.sleep(0.3)
             memory.is_there_again()
             for stream in streams:
                 assert told(stream, SCAN) in (snapshot((0, b"")), refused(8), CLOSED)
         with contextlib.ExitStack() as peers:
-            streams = [peers.enter_context(server.connect()) for _ in range(100)]
+            streams = [peers.enter_context(server.connect()) for _ in range(300)]
             for stream in streams:
                 stream.sendall(SCAN)
             for stream in streams:
