@@ -1,5 +1,5 @@
 //! What comes to a worker from other threads.
-ghost use Rattle.std.specs.Prelude.{◌≡◌, true};
+ghost use Rattle.std.specs.Prelude.{◌≡◌, IfOk, true};
 ghost use Rattle.snap_server.specs.declared.listen.Arrival.{Arrival};
 
 use crate::listen::Arrival;
@@ -7,6 +7,7 @@ use crossbeam_channel::{Receiver, SendError, Sender, unbounded};
 use mio::Waker;
 use std::alloc::{AllocError, Global};
 use std::rt::Clock;
+use std::snapshot::Snapshot;
 use std::sync::Wait;
 use std::thread;
 use std::time::Duration;
@@ -48,6 +49,8 @@ pub struct Door<O: Drop> {
     arrivals: Sender<Arrival>,
     mail: Sender<Mail<O>>,
     waker: Waker,
+    /// Whose door it is: the place of its worker, which only clauses read.
+    place: Snapshot<usize>,
 }
 
 /// The inner side of a door.
@@ -55,21 +58,32 @@ pub struct Door<O: Drop> {
 pub struct Inbox<O: Drop> {
     pub arrivals: Receiver<Arrival>,
     pub mail: Receiver<Mail<O>>,
+    /// The place of the worker that has it, which only clauses read.
+    place: Snapshot<usize>,
 }
 
 impl<O: Drop> Door<O> {
-    /// A door with its inner side.
-    pub fn new(alloc: Global, waker: Waker) -> Result<(Door<O>, Inbox<O>), AllocError> {
+    /// A door with its inner side, for the worker of this place.
+    pub fn new(
+        alloc: Global,
+        waker: Waker,
+        place: usize,
+    ) -> Result<(Door<O>, Inbox<O>), AllocError>
+        ensures door { IfOk result (λ made. made.0.place.value ≡ place) }
+        ensures inbox { IfOk result (λ made. made.1.place.value ≡ place) }
+    {
         let (arrivals, arrived) = unbounded(alloc)?;
         let (mail, came) = unbounded(alloc)?;
         let door = Door {
             arrivals,
             mail,
             waker,
+            place: Snapshot::of(&place),
         };
         let inbox = Inbox {
             arrivals: arrived,
             mail: came,
+            place: Snapshot::of(&place),
         };
         Ok((door, inbox))
     }
