@@ -30,10 +30,10 @@ services-preserved g c =
           (sym c.in_ok-worker.ensures.service));
       places = numbered_more _ c.services.workers.items _ c.in_ok-worker.worker
           c.services.invariant.places one_more
-          (c.in_ok-worker.ensures.inbox ∙ c.services.workers.ok.0);
+          (c.in_ok-worker.ensures.inbox ∙ c.len-place.ensures ∙ c.services.workers.ok.0);
       theirs = numbered_more _ c.services.doors.items _ c.in_ok-worker.door
           c.services.invariant.theirs door_more
-          (c.in_ok-worker.ensures.door ∙ c.services.workers.ok.0
+          (c.in_ok-worker.ensures.door ∙ c.len-place.ensures ∙ c.services.workers.ok.0
           ∙ sym c.services.invariant.doors);
       doors = pushed_len _ _ _ _ _ _ c.services.invariant.doors door_more one_more;
       long = omega (arith, c.services.invariant.long, c.in-Some.ensures.steps.1, ap length next);
