@@ -60,12 +60,12 @@ contains_or [] key = inr (λ at. absurd (omega (arith, at.1)))
 contains_or (k ∷ ks) key = elim (cases_eq k key) [
   | inl same ↦ inl (0, omega arith, same)
   | inr other ↦ elim (contains_or ks key) [
-      | inl later ↦ inl (Contains-cons k key ks later)
-      | inr never ↦ inr (λ at. elim (Contains-cons_cases k key ks at) [
-          | inl same ↦ absurd (other same)
-          | inr later ↦ absurd (never later)
-        ])
-    ]
+    | inl later ↦ inl (Contains-cons k key ks later)
+    | inr never ↦ inr (λ at. elim (Contains-cons_cases k key ks at) [
+      | inl same ↦ absurd (other same)
+      | inr later ↦ absurd (never later)
+    ])
+  ]
 ]
 
 -- whoever has a value on the list is listed
@@ -138,16 +138,16 @@ module _ {S : Type 0} (gives : S → Request → Reply → S → Type 0) (most :
       → items ≡ key ∷ rest → HadTurn gives most key s u old last
   first_turn s a t u items keys rest k key old mid new last one same off others_off rounds others
       left kept others_kept two =
-          let both : k ∷ keys ≡ key ∷ rest = sym one ∙ two in
-          let head : k ≡ key = cc in
-          subst (λ h. HadTurn gives most h s u old last) head (record {
-            rounds = λ c d was is. subst (λ z.
-                HadRounds gives most d.stage (scene z c.session) (scene u d.session)) same
-                (subst (λ z.
-                HadRounds gives most d.stage (scene a c.session) (scene z d.session)) (sym left)
-                (rounds (record c { stage = Idle }) d (off c was) (kept d is)));
-            others = λ o apart. others_kept o apart ∙ others o apart ∙ others_off o apart;
-          })
+      let both : k ∷ keys ≡ key ∷ rest = sym one ∙ two in
+      let head : k ≡ key = cc in
+      subst (λ h. HadTurn gives most h s u old last) head (record {
+        rounds = λ c d was is. subst (λ z.
+            HadRounds gives most d.stage (scene z c.session) (scene u d.session)) same
+            (subst (λ z.
+            HadRounds gives most d.stage (scene a c.session) (scene z d.session)) (sym left)
+            (rounds (record c { stage = Idle }) d (off c was) (kept d is)));
+        others = λ o apart. others_kept o apart ∙ others o apart ∙ others_off o apart;
+      })
 
   -- How far a round has come: each of the first so many keys had its turn, and the others wait
   -- for theirs before all that were put on the list again.
@@ -216,8 +216,7 @@ module _ {S : Type 0} (gives : S → Request → Reply → S → Type 0) (most :
           (had.0, had.1, had.2, had.3, moves_joins gives had.1 t u had.4 moved)
       by_key key c d (inr same) was is =
           let out : Contains (take i keys) key → ⊥ = λ at. not_yet keys old i lists lt
-          (subst (Contains (take i keys)) (sym same) at) in
-          (
+          (subst (Contains (take i keys)) (sym same) at) in (
             t,
             u,
             round.moves,

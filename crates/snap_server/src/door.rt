@@ -7,7 +7,6 @@ use crossbeam_channel::{Receiver, SendError, Sender, unbounded};
 use mio::Waker;
 use std::alloc::{AllocError, Global};
 use std::rt::Clock;
-use std::snapshot::Snapshot;
 use std::sync::Wait;
 use std::thread;
 use std::time::Duration;
@@ -49,8 +48,8 @@ pub struct Door<O: Drop> {
     arrivals: Sender<Arrival>,
     mail: Sender<Mail<O>>,
     waker: Waker,
-    /// Whose door it is: the place of its worker, which only clauses read.
-    place: Snapshot<usize>,
+    /// Whose door it is: the place of its worker. Only clauses read it.
+    place: usize,
 }
 
 /// The inner side of a door.
@@ -58,19 +57,15 @@ pub struct Door<O: Drop> {
 pub struct Inbox<O: Drop> {
     pub arrivals: Receiver<Arrival>,
     pub mail: Receiver<Mail<O>>,
-    /// The place of the worker that has it, which only clauses read.
-    place: Snapshot<usize>,
+    /// The place of the worker that has it. Only clauses read it.
+    place: usize,
 }
 
 impl<O: Drop> Door<O> {
     /// A door with its inner side, for the worker of this place.
-    pub fn new(
-        alloc: Global,
-        waker: Waker,
-        place: usize,
-    ) -> Result<(Door<O>, Inbox<O>), AllocError>
-        ensures door { IfOk result (λ made. made.0.place.value ≡ place) }
-        ensures inbox { IfOk result (λ made. made.1.place.value ≡ place) }
+    pub fn new(alloc: Global, waker: Waker, place: usize) -> Result<(Door<O>, Inbox<O>), AllocError>
+        ensures door { IfOk result (λ made. made.0.place ≡ place) }
+        ensures inbox { IfOk result (λ made. made.1.place ≡ place) }
     {
         let (arrivals, arrived) = unbounded(alloc)?;
         let (mail, came) = unbounded(alloc)?;
@@ -78,12 +73,12 @@ impl<O: Drop> Door<O> {
             arrivals,
             mail,
             waker,
-            place: Snapshot::of(&place),
+            place,
         };
         let inbox = Inbox {
             arrivals: arrived,
             mail: came,
-            place: Snapshot::of(&place),
+            place,
         };
         Ok((door, inbox))
     }

@@ -81,9 +81,9 @@ where
     ensures workers { IfOk result (λ made.
         map (λ worker. worker.sessions.service) made.0.items ≡ services.items) }
     ensures doors { IfOk result (λ made. vec_len made.1 ≡ vec_len services) }
-    ensures places { IfOk result (λ made. map (λ worker. worker.inbox.place.value) made.0.items
+    ensures places { IfOk result (λ made. map (λ worker. worker.inbox.place) made.0.items
         ≡ range_with_len 0 (vec_len services)) }
-    ensures theirs { IfOk result (λ made. map (λ door. door.place.value) made.1.items
+    ensures theirs { IfOk result (λ made. map (λ door. door.place) made.1.items
         ≡ range_with_len 0 (vec_len services)) }
     ensures faults { IfErr result (λ fault.
         (fault ≡ ServerFault.NoPoll) ⊎ (fault ≡ ServerFault.NoMemory)) }
@@ -110,9 +110,9 @@ fn open_all<'a, X: Net, S: Service + Drop, G: Gate>(
 ) -> Result<(Vec<Worker<Gated<'a, S, G>>>, Vec<Door<S::Outcome>>), ServerFault>
 where
     S::Outcome: Drop,
-    ensures places { IfOk result (λ made. map (λ worker. worker.inbox.place.value) made.0.items
+    ensures places { IfOk result (λ made. map (λ worker. worker.inbox.place) made.0.items
         ≡ range_with_len 0 (vec_len made.0)) }
-    ensures theirs { IfOk result (λ made. map (λ door. door.place.value) made.1.items
+    ensures theirs { IfOk result (λ made. map (λ door. door.place) made.1.items
         ≡ range_with_len 0 (vec_len made.0)) }
     ensures faults { IfErr result (λ fault.
         (fault ≡ ServerFault.NoPoll) ⊎ (fault ≡ ServerFault.NoMemory)) }

@@ -156,7 +156,7 @@ impl<S: Service + Drop> Sessions<S> {
         ensures rounds { (c : Connection) → (d : Connection)
             → get self.old.connections key ≡ Some c → get self.new.connections key ≡ Some d
             → HadRounds S.gives PIECE d.stage
-                (scene self.old.service c.session) (scene self.new.service d.session) }
+            (scene self.old.service c.session) (scene self.new.service d.session) }
         ensures behind { (d : Connection) → get self.new.connections key ≡ Some d
             → self.new.listed.items ≡ again_behind d.stage key self.old.listed.items }
         ensures kept { (c : Connection) → get self.old.connections key ≡ Some c

@@ -147,8 +147,8 @@ where
         ensures service { IfOk result (λ made. made.0.sessions.service ≡ service) }
         ensures none { IfOk result (λ made. slab_len made.0.sessions.connections ≡ 0) }
         ensures open { IfOk result (λ made. made.0.is_open ≡ true) }
-        ensures inbox { IfOk result (λ made. made.0.inbox.place.value ≡ place) }
-        ensures door { IfOk result (λ made. made.1.place.value ≡ place) }
+        ensures inbox { IfOk result (λ made. made.0.inbox.place ≡ place) }
+        ensures door { IfOk result (λ made. made.1.place ≡ place) }
         ensures faults { IfErr result (λ fault.
             (fault ≡ ServerFault.NoPoll) ⊎ (fault ≡ ServerFault.NoMemory)) }
     {
@@ -238,7 +238,7 @@ where
         requires { N.IsAlwaysCallable note.now }
         ensures turn { (key : ℕ) → (rest : List ℕ) → self.old.sessions.listed.items ≡ key ∷ rest
             → HadTurn S.gives PIECE key self.old.sessions.service self.new.sessions.service
-                self.old.sessions.connections self.new.sessions.connections }
+            self.old.sessions.connections self.new.sessions.connections }
         ensures order { (key : ℕ) → (rest : List ℕ) → self.old.sessions.listed.items ≡ key ∷ rest
             → (self.new.sessions.listed.items ≡ rest)
             ⊎ (self.new.sessions.listed.items ≡ rest ++ key ∷ []) }
@@ -262,7 +262,7 @@ where
             → get self.old.sessions.connections key ≡ Some c
             → get self.new.sessions.connections key ≡ Some d
             → HadItsTurn S.gives PIECE c.stage
-                self.old.sessions.service self.new.sessions.service c d }
+            self.old.sessions.service self.new.sessions.service c d }
         ensures moves { Moves S.gives self.old.sessions.service self.new.sessions.service }
     {
         'round: for _ in 0..self.sessions.turns() {
