@@ -1,4 +1,6 @@
 mod Sharing
 mod Listing
+mod Turning
+mod Round
 mod Made
 mod Dealing

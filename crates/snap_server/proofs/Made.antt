@@ -1,5 +1,6 @@
 -- A list that a loop makes, one by one, of what an iterator gives.
-use Rattle.std.proofs.Common.{◌≡◌, List, [], ◌∷◌, ◌++◌, length, length-append, map, Bool, true, sym, ap, ◌∙◌, append_assoc, append-nil, arith}
+use Rattle.std.proofs.Common.{◌≡◌, ℕ, zero, suc, ◌+◌, List, [], ◌∷◌, ◌++◌, length, length-append, map, Bool, true, sym, ap, ◌∙◌, append_assoc, append-nil, arith}
+use Rattle.std.specs.List.{range_with_len}
 use Rattle.std.specs.Bool.{if◌then◌else◌}
 use Rattle.std.proofs.lemmas.List.{map_push, length-map}
 
@@ -27,6 +28,25 @@ made_len f made all is = sym (length-map made f) ∙ ap length is
 pub pushed : {X : Type 0} (new made : List X) (x : X) (is_ok : Bool)
     → new ≡ (if is_ok then made ++ x ∷ [] else made) → is_ok ≡ true → new ≡ made ++ x ∷ []
 pushed new made x is_ok by ok = rw ok at by
+
+counted_more : (a n j : ℕ) → a + n ≡ j → range_with_len a (suc n) ≡ range_with_len a n ++ j ∷ []
+counted_more a zero j is = let same : a ≡ j = omega (arith, is) in ap (λ k. k ∷ []) same
+counted_more a (suc n) j is =
+    ap (λ ks. a ∷ ks) (counted_more (a + 1) n j (omega (arith, is)))
+
+-- each has its place as its number, and one more is made
+pub numbered_more : {X : Type 0} (f : X → ℕ) (made new : List X) (x : X)
+    → map f made ≡ range_with_len 0 (length made) → new ≡ made ++ x ∷ [] → f x ≡ length made
+    → map f new ≡ range_with_len 0 (length new)
+numbered_more f made new x had is number =
+    let long : length new ≡ suc (length made) = omega (
+      arith,
+      ap length is,
+      length-append made (x ∷ []),
+    ) in
+    ap (map f) is ∙ map_push f made x ∙ ap (λ ks. ks ++ f x ∷ []) had
+    ∙ sym (ap (range_with_len 0) long
+    ∙ counted_more 0 (length made) (f x) (omega (arith, number)))
 
 -- two lists stay as long as each other
 pub pushed_len : {X Y : Type 0} (xs xs' : List X) (ys ys' : List Y) (x : X) (y : Y)

@@ -1,6 +1,8 @@
 pub mod Dealing
+pub mod Scene
 pub mod Sharing
 pub mod Listing
 pub mod Standing
+pub mod Turning
 pub mod Announced
 pub mod Working

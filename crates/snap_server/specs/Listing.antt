@@ -1,5 +1,5 @@
 -- The list of the connections that get a turn.
-use Rattle.std.specs.Prelude.{◌≡◌, ◌≢◌, ◌↔◌, ℕ, List, Some}
+use Rattle.std.specs.Prelude.{◌≡◌, ◌≢◌, ◌↔◌, ◌++◌, ℕ, List, [], ◌∷◌, Some}
 use Rattle.std.specs.List.{AllPairs, Contains}
 use Rattle.slab.specs.Slab.{Slab, get}
 use Rattle.snap_server.specs.declared.connection.Connection.{Connection}
@@ -21,6 +21,18 @@ abbrev pub enlisted : Stage → Stage
 enlisted Idle = Listed
 enlisted Listed = Listed
 enlisted Over = Over
+
+-- the list once a connection that stood so was put on it: at its end, unless it is there or has ended
+abbrev pub listed_behind : Stage → ℕ → List ℕ → List ℕ
+listed_behind Idle key keys = keys ++ key ∷ []
+listed_behind Listed key keys = keys
+listed_behind Over key keys = keys
+
+-- the list behind a turn of a connection that stands so then: one that has more to do is at its end
+abbrev pub again_behind : Stage → ℕ → List ℕ → List ℕ
+again_behind Idle key keys = keys
+again_behind Listed key keys = keys ++ key ∷ []
+again_behind Over key keys = keys
 
 -- no connection but that of this key was touched
 abbrev pub KeepsOthers : ℕ → Slab Connection → Slab Connection → Type 0

@@ -1,9 +1,9 @@
 //! One connection of a worker.
-ghost use Rattle.std.specs.Prelude.{◌≡◌, ◌↔◌, ◌≤◌, ◌<◌, None, OnSome, IfSome, IsSome, length, true, false};
-ghost use Rattle.snap_session.specs.Talk.{Stays, start, most_owed};
-ghost use Rattle.snap_session.specs.Turns.{Turns, StandsAt};
-ghost use Rattle.snap_server.specs.Listing.{enlisted};
-ghost use Rattle.snap_server.specs.Standing.{MayEnd};
+ghost use Rattle.std.specs.Prelude.{◌≡◌, ◌↔◌, ◌≤◌, None, OnSome, IfSome, IsSome, length, true, false};
+ghost use Rattle.snap_session.specs.Talk.{Stays, HoldsFrameAnd, start, most_owed};
+ghost use Rattle.snap_session.specs.Turns.{Turns, StandsAt, TakesRounds};
+ghost use Rattle.snap_server.specs.Scene.{scene};
+ghost use Rattle.snap_server.specs.declared.connection.TheConstants.{PIECE};
 
 use crate::listen::Arrival;
 use crate::silence::{Look, Silence};
@@ -13,6 +13,9 @@ use snap_session::{End, Service, Session, Turn, proceed};
 use std::alloc::Global;
 use std::io;
 use std::net::SocketAddr;
+
+/// How many bytes one read takes at most.
+pub const PIECE: usize = 4096;
 
 /// How a connection ended.
 #[derive(Clone, Copy, Debug, PartialEq, Eq, Drop)]
@@ -47,7 +50,8 @@ pub enum Stage {
     Over,
 }
 
-/// A socket that doesn't wait, and its session.
+/// A socket that doesn't wait, and its session. What it holds of what came stays within one frame
+/// and one piece: what a peer sends is read no faster than it takes its replies.
 #[derive(Drop)]
 pub struct Connection {
     socket: Socket,
@@ -56,9 +60,13 @@ pub struct Connection {
     stage: Stage,
     /// How many looks in a row have found it silent.
     looks: u32,
+    ghost held: { HoldsFrameAnd PIECE session },
 }
 
 impl Connection {
+    ghost use Rattle.snap_server.specs.Listing.{enlisted};
+    ghost use Rattle.snap_server.specs.Standing.{MayEnd};
+
     /// Nothing came yet and nothing is owed.
     pub fn new(alloc: Global, arrival: Arrival) -> Connection
         ensures session { result.session ≡ start }
@@ -107,13 +115,19 @@ impl Connection {
 
     /// Reads, answers and writes as far as the socket lets it: one turn of its session. The system
     /// tells no more of a socket's bytes than that some came and some were taken.
-    pub fn go_on<S: Service>(&mut self, service: &mut S, key: usize, piece: &mut [u8]) -> Turn
-        requires { 0 < length piece.old }
+    pub fn go_on<S: Service>(
+        &mut self,
+        service: &mut S,
+        key: usize,
+        piece: &mut [u8; PIECE],
+    ) -> Turn
         ensures goes { Turns Stays S.gives service.old service.new self.old.session None None None None self.new.session }
         ensures stands { StandsAt result self.new.session None }
         ensures bounded { length self.old.session.owed ≤ most_owed → length self.new.session.owed ≤ most_owed }
         ensures under { self.old.session.asked ≡ None
             → OnSome self.new.session.asked (S.hands_over_under key) }
+        ensures rounds { TakesRounds S.gives PIECE result
+            (scene service.old self.old.session) (scene service.new self.new.session) }
         ensures peer { self.new.peer ≡ self.old.peer }
         ensures stage { self.new.stage ≡ self.old.stage }
     {

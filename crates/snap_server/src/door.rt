@@ -1,5 +1,5 @@
 //! What comes to a worker from other threads.
-ghost use Rattle.std.specs.Prelude.{◌≡◌, true};
+ghost use Rattle.std.specs.Prelude.{◌≡◌, IfOk, true};
 ghost use Rattle.snap_server.specs.declared.listen.Arrival.{Arrival};
 
 use crate::listen::Arrival;
@@ -48,6 +48,8 @@ pub struct Door<O: Drop> {
     arrivals: Sender<Arrival>,
     mail: Sender<Mail<O>>,
     waker: Waker,
+    /// Whose door it is: the place of its worker. Only clauses read it.
+    place: usize,
 }
 
 /// The inner side of a door.
@@ -55,21 +57,28 @@ pub struct Door<O: Drop> {
 pub struct Inbox<O: Drop> {
     pub arrivals: Receiver<Arrival>,
     pub mail: Receiver<Mail<O>>,
+    /// The place of the worker that has it. Only clauses read it.
+    place: usize,
 }
 
 impl<O: Drop> Door<O> {
-    /// A door with its inner side.
-    pub fn new(alloc: Global, waker: Waker) -> Result<(Door<O>, Inbox<O>), AllocError> {
+    /// A door with its inner side, for the worker of this place.
+    pub fn new(alloc: Global, waker: Waker, place: usize) -> Result<(Door<O>, Inbox<O>), AllocError>
+        ensures door { IfOk result (λ made. made.0.place ≡ place) }
+        ensures inbox { IfOk result (λ made. made.1.place ≡ place) }
+    {
         let (arrivals, arrived) = unbounded(alloc)?;
         let (mail, came) = unbounded(alloc)?;
         let door = Door {
             arrivals,
             mail,
             waker,
+            place,
         };
         let inbox = Inbox {
             arrivals: arrived,
             mail: came,
+            place,
         };
         Ok((door, inbox))
     }

@@ -1,5 +1,6 @@
 //! All threads of a server.
 ghost use Rattle.std.specs.Prelude.{◌≡◌, ◌⊎◌, [], All, IfOk, IfErr, OnOk, Some, map, true, vec_len};
+ghost use Rattle.std.specs.List.{range_with_len};
 ghost use Rattle.std.specs.Thread.{IsSync, IsSend};
 ghost use Rattle.snap_server.specs.Announced.{Announced, end_of, was_announced};
 ghost use Rattle.snap_server.specs.Dealing.{Deals, GivesSoMany};
@@ -68,7 +69,7 @@ fn gate_all<'a, S: Service + Drop, G: Gate>(
     Ok(gated)
 }
 
-/// A worker for each service, and their doors in the same order.
+/// A worker for each service, and their doors in the same order: each has its place.
 fn open_workers<X: Net, S: Service + Drop>(
     net: &X,
     alloc: Global,
@@ -80,13 +81,18 @@ where
     ensures workers { IfOk result (λ made.
         map (λ worker. worker.sessions.service) made.0.items ≡ services.items) }
     ensures doors { IfOk result (λ made. vec_len made.1 ≡ vec_len services) }
+    ensures places { IfOk result (λ made. map (λ worker. worker.inbox.place) made.0.items
+        ≡ range_with_len 0 (vec_len services)) }
+    ensures theirs { IfOk result (λ made. map (λ door. door.place) made.1.items
+        ≡ range_with_len 0 (vec_len services)) }
     ensures faults { IfErr result (λ fault.
         (fault ≡ ServerFault.NoPoll) ⊎ (fault ≡ ServerFault.NoMemory)) }
 {
     let mut workers = Vec::new(alloc);
     let mut doors = Vec::new(alloc);
     'services: for service in services {
-        let (worker, door) = Worker::new(net, alloc, service, idle.map(Silence::of))?;
+        let place = workers.len();
+        let (worker, door) = Worker::new(net, alloc, service, place, idle.map(Silence::of))?;
         if workers.push(worker).is_err() || doors.push(door).is_err() {
             return Err(ServerFault::NoMemory);
         }
@@ -104,7 +110,11 @@ fn open_all<'a, X: Net, S: Service + Drop, G: Gate>(
 ) -> Result<(Vec<Worker<Gated<'a, S, G>>>, Vec<Door<S::Outcome>>), ServerFault>
 where
     S::Outcome: Drop,
-    ensures { IfErr result (λ fault.
+    ensures places { IfOk result (λ made. map (λ worker. worker.inbox.place) made.0.items
+        ≡ range_with_len 0 (vec_len made.0)) }
+    ensures theirs { IfOk result (λ made. map (λ door. door.place) made.1.items
+        ≡ range_with_len 0 (vec_len made.0)) }
+    ensures faults { IfErr result (λ fault.
         (fault ≡ ServerFault.NoPoll) ⊎ (fault ≡ ServerFault.NoMemory)) }
 {
     let services = gate_all(alloc, services, gate)?;

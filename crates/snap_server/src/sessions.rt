@@ -1,15 +1,18 @@
 //! The connections of a worker, whose sessions share its service.
-ghost use Rattle.std.specs.Prelude.{◌≡◌, ◌≢◌, ◌⊎◌, ◌↔◌, ◌≤◌, ◌<◌, ◌+◌, ◌++◌, ℕ, length, IfSome, IfNone, IsSome, OnSome};
+ghost use Rattle.std.specs.Prelude.{◌≡◌, ◌≢◌, ◌⊎◌, ◌↔◌, ◌≤◌, ◌+◌, ◌++◌, ℕ, length, IfSome, IfNone, IsSome, OnSome};
 ghost use Rattle.std.specs.Prelude.{Some, None, true, false, option_to_list, []};
 ghost use Rattle.std.specs.VecDeque.{deque_len, deque_capacity};
 ghost use Rattle.std.specs.List.{Contains};
 ghost use Rattle.slab.specs.Slab.{get, slab_len, SameValues};
 ghost use Rattle.snap_session.specs.Talk.{Talk, Moves, start};
 ghost use Rattle.snap_server.specs.Sharing.{AreSessions, IsTurn};
-ghost use Rattle.snap_server.specs.Listing.{Lists, enlisted, KeepsOthers};
+ghost use Rattle.snap_server.specs.Listing.{Lists, enlisted, listed_behind, again_behind, KeepsOthers};
+ghost use Rattle.snap_server.specs.Scene.{scene};
 ghost use Rattle.snap_server.specs.Standing.{Waits, HasEnded};
+ghost use Rattle.snap_server.specs.Turning.{HadRounds};
+ghost use Rattle.snap_server.specs.declared.connection.TheConstants.{PIECE};
 
-use crate::connection::{Connection, Ended, Ending, Stage};
+use crate::connection::{Connection, Ended, Ending, PIECE, Stage};
 use crate::listen::Arrival;
 use crate::silence::Look;
 use mio::{Registry, Token};
@@ -74,6 +77,7 @@ impl<S: Service + Drop> Sessions<S> {
         ensures refused { result ≡ false → SameValues self.old.connections self.new.connections }
         ensures taken { result ≡ true
             → slab_len self.new.connections ≡ slab_len self.old.connections + 1 }
+        ensures order { self.new.listed.items ≡ self.old.listed.items }
     {
         let Some(count) = self.connections.len().checked_add(1) else {
             return false;
@@ -90,13 +94,18 @@ impl<S: Service + Drop> Sessions<S> {
         true
     }
 
-    /// Puts a connection on the list of those that get a turn, unless it is there or has ended.
+    /// Puts a connection at the end of the list of those that get a turn, unless it is there or has
+    /// ended.
     pub fn list(&mut self, key: usize)
         ensures service { self.new.service ≡ self.old.service }
         ensures listed { (c : Connection) → get self.old.connections key ≡ Some c
             → get self.new.connections key ≡ Some (record c { stage = enlisted c.stage }) }
+        ensures behind { (c : Connection) → get self.old.connections key ≡ Some c
+            → self.new.listed.items ≡ listed_behind c.stage key self.old.listed.items }
         ensures nobody { get self.old.connections key ≡ None
             → self.new.connections ≡ self.old.connections }
+        ensures unlisted { get self.old.connections key ≡ None
+            → self.new.listed.items ≡ self.old.listed.items }
         ensures others { KeepsOthers key self.old.connections self.new.connections }
         ensures count { slab_len self.new.connections ≡ slab_len self.old.connections }
     {
@@ -130,10 +139,9 @@ impl<S: Service + Drop> Sessions<S> {
     }
 
     /// Gives a connection its turn: what it ends with, if it ends. One that has more to do at once
-    /// is on the list again.
-    pub fn turn(&mut self, key: usize, piece: &mut [u8]) -> Option<Ended>
-        requires room { 0 < length piece.old }
-        requires idle { (c : Connection) → get self.old.connections key ≡ Some c
+    /// is at the end of the list again.
+    pub fn turn(&mut self, key: usize, piece: &mut [u8; PIECE]) -> Option<Ended>
+        requires { (c : Connection) → get self.old.connections key ≡ Some c
             → c.stage ≡ Stage.Idle }
         ensures ended { IfSome result (λ ended. (c : Connection)
             × (get self.new.connections key ≡ Some c) × HasEnded c ended) }
@@ -145,9 +153,19 @@ impl<S: Service + Drop> Sessions<S> {
         ensures under { (c : Connection) → (d : Connection)
             → get self.old.connections key ≡ Some c → get self.new.connections key ≡ Some d
             → c.session.asked ≡ None → OnSome d.session.asked (S.hands_over_under key) }
+        ensures rounds { (c : Connection) → (d : Connection)
+            → get self.old.connections key ≡ Some c → get self.new.connections key ≡ Some d
+            → HadRounds S.gives PIECE d.stage
+            (scene self.old.service c.session) (scene self.new.service d.session) }
+        ensures behind { (d : Connection) → get self.new.connections key ≡ Some d
+            → self.new.listed.items ≡ again_behind d.stage key self.old.listed.items }
+        ensures kept { (c : Connection) → get self.old.connections key ≡ Some c
+            → IsSome (get self.new.connections key) }
         ensures moves { Moves S.gives self.old.service self.new.service }
         ensures nobody { get self.old.connections key ≡ None
             → self.new.service ≡ self.old.service }
+        ensures unlisted { get self.old.connections key ≡ None
+            → self.new.listed.items ≡ self.old.listed.items }
         ensures others { KeepsOthers key self.old.connections self.new.connections }
         ensures count { slab_len self.new.connections ≡ slab_len self.old.connections }
     {
@@ -173,6 +191,7 @@ impl<S: Service + Drop> Sessions<S> {
         ensures stays { IfNone result ((c : Connection) → (d : Connection)
             → get self.old.connections key ≡ Some c → get self.new.connections key ≡ Some d
             → d.stage ≡ c.stage) }
+        ensures order { self.new.listed.items ≡ self.old.listed.items }
         ensures others { KeepsOthers key self.old.connections self.new.connections }
         ensures count { slab_len self.new.connections ≡ slab_len self.old.connections }
     {
@@ -190,6 +209,9 @@ impl<S: Service + Drop> Sessions<S> {
         ensures kept { (c : Connection) → get self.old.connections key ≡ Some c
             → (c.stage ≢ Stage.Over) ⊎ (c.session.asked ≢ None)
             → get self.new.connections key ≡ Some c }
+        ensures same { (c : Connection) → get self.new.connections key ≡ Some c
+            → get self.old.connections key ≡ Some c }
+        ensures order { self.new.listed.items ≡ self.old.listed.items }
         ensures others { KeepsOthers key self.old.connections self.new.connections }
     {
         let Some(connection) = self.connections.get(key) else {
@@ -216,8 +238,15 @@ impl<S: Service + Drop> Sessions<S> {
         ensures moves { Moves S.gives self.old.service self.new.service }
         ensures nobody { get self.old.connections key ≡ None
             → self.new.service ≡ self.old.service }
+        ensures held { (c : Connection) → (d : Connection)
+            → get self.old.connections key ≡ Some c → get self.new.connections key ≡ Some d
+            → d.session.held ≡ c.session.held }
         ensures listed { (d : Connection) → get self.new.connections key ≡ Some d
             → d.stage ≡ Stage.Listed }
+        ensures behind { (c : Connection) → get self.old.connections key ≡ Some c
+            → self.new.listed.items ≡ listed_behind c.stage key self.old.listed.items }
+        ensures unlisted { get self.old.connections key ≡ None
+            → self.new.listed.items ≡ self.old.listed.items }
         ensures gone { (c : Connection) → get self.old.connections key ≡ Some c
             → c.stage ≡ Stage.Over → get self.new.connections key ≡ None }
         ensures kept { (c : Connection) → get self.old.connections key ≡ Some c

@@ -1,9 +1,12 @@
 //! One thread that serves many connections.
-ghost use Rattle.std.specs.Prelude.{◌≡◌, ◌⊎◌, ◌<◌, length, OnOk, IfOk, IfErr, true, false};
-ghost use Rattle.slab.specs.Slab.{slab_len};
+ghost use Rattle.std.specs.Prelude.{◌≡◌, ◌⊎◌, ◌++◌, ◌∷◌, ℕ, List, [], Some, OnOk, IfOk, IfErr, true, false};
+ghost use Rattle.slab.specs.Slab.{get, slab_len};
 ghost use Rattle.snap_session.specs.Talk.{Moves};
+ghost use Rattle.snap_server.specs.Listing.{KeepsOthers};
+ghost use Rattle.snap_server.specs.Turning.{HadTurn, HadItsTurn};
+ghost use Rattle.snap_server.specs.declared.connection.TheConstants.{PIECE};
 
-use crate::connection::{Connection, Ended, Ending};
+use crate::connection::{Connection, Ended, Ending, PIECE};
 use crate::door::{Door, Inbox, Mail};
 use crate::fault::ServerFault;
 use crate::listen::Arrival;
@@ -27,9 +30,6 @@ const INBOX: Token = Token(usize::MAX);
 
 /// How many events one wait tells at most.
 const MAX_EVENTS: usize = 256;
-
-/// How many bytes one read takes at most.
-const PIECE: usize = 4096;
 
 /// How often a worker looks for events before it sleeps: for some longer than a fast disk takes for the
 /// store whose outcome it waits for, about a sixth of a millisecond.
@@ -121,6 +121,10 @@ fn let_go<S: Service + Drop, N: Fn(&Note)>(
 )
     requires { N.IsAlwaysCallable note.now }
     ensures service { sessions.new.service ≡ sessions.old.service }
+    ensures same { (c : Connection) → get sessions.new.connections key ≡ Some c
+        → get sessions.old.connections key ≡ Some c }
+    ensures others { KeepsOthers key sessions.old.connections sessions.new.connections }
+    ensures order { sessions.new.listed.items ≡ sessions.old.listed.items }
 {
     room.leave();
     note(&Note::Ended(ended));
@@ -131,17 +135,20 @@ impl<S: Service + Drop> Worker<S>
 where
     S::Outcome: Drop,
 {
-    /// A worker with no connection, and where its mail is put. Its connections may be silent for as
-    /// long as this says, or for ever.
+    /// A worker with no connection, of this place among its like, and where its mail is put. Its
+    /// connections may be silent for as long as this says, or for ever.
     pub fn new(
         net: &impl Net,
         alloc: Global,
         service: S,
+        place: usize,
         silence: Option<Silence>,
     ) -> Result<(Worker<S>, Door<S::Outcome>), ServerFault>
         ensures service { IfOk result (λ made. made.0.sessions.service ≡ service) }
         ensures none { IfOk result (λ made. slab_len made.0.sessions.connections ≡ 0) }
         ensures open { IfOk result (λ made. made.0.is_open ≡ true) }
+        ensures inbox { IfOk result (λ made. made.0.inbox.place ≡ place) }
+        ensures door { IfOk result (λ made. made.1.place ≡ place) }
         ensures faults { IfErr result (λ fault.
             (fault ≡ ServerFault.NoPoll) ⊎ (fault ≡ ServerFault.NoMemory)) }
     {
@@ -150,7 +157,7 @@ where
         let Ok(events) = Events::with_capacity(alloc, MAX_EVENTS) else {
             return Err(ServerFault::NoMemory);
         };
-        let Ok((door, inbox)) = Door::new(alloc, waker) else {
+        let Ok((door, inbox)) = Door::new(alloc, waker, place) else {
             return Err(ServerFault::NoMemory);
         };
         let worker = Worker {
@@ -226,11 +233,17 @@ where
         }
     }
 
-    /// Gives the first of the list its turn.
-    fn serve_next<N: Fn(&Note)>(&mut self, piece: &mut [u8], room: &Room, note: &N)
-        requires place { 0 < length piece.old }
-        requires note { N.IsAlwaysCallable note.now }
-        ensures piece { length piece.new ≡ length piece.old }
+    /// Gives the first of the list one turn. It is behind all others then, if it is there again.
+    fn serve_next<N: Fn(&Note)>(&mut self, piece: &mut [u8; PIECE], room: &Room, note: &N)
+        requires { N.IsAlwaysCallable note.now }
+        ensures turn { (key : ℕ) → (rest : List ℕ) → self.old.sessions.listed.items ≡ key ∷ rest
+            → HadTurn S.gives PIECE key self.old.sessions.service self.new.sessions.service
+            self.old.sessions.connections self.new.sessions.connections }
+        ensures order { (key : ℕ) → (rest : List ℕ) → self.old.sessions.listed.items ≡ key ∷ rest
+            → (self.new.sessions.listed.items ≡ rest)
+            ⊎ (self.new.sessions.listed.items ≡ rest ++ key ∷ []) }
+        ensures nobody { self.old.sessions.listed.items ≡ []
+            → self.new.sessions.connections ≡ self.old.sessions.connections }
         ensures moves { Moves S.gives self.old.sessions.service self.new.sessions.service }
     {
         let Some(key) = self.sessions.next() else {
@@ -238,6 +251,22 @@ where
         };
         if let Some(ended) = self.sessions.turn(key, piece) {
             let_go(&mut self.sessions, key, ended, room, note);
+        }
+    }
+
+    /// One round: each connection of the list gets one turn, in its order. One that has more to do
+    /// is behind all others then.
+    fn serve_listed<N: Fn(&Note)>(&mut self, piece: &mut [u8; PIECE], room: &Room, note: &N)
+        requires { N.IsAlwaysCallable note.now }
+        ensures turns { (key : ℕ) → (c : Connection) → (d : Connection)
+            → get self.old.sessions.connections key ≡ Some c
+            → get self.new.sessions.connections key ≡ Some d
+            → HadItsTurn S.gives PIECE c.stage
+            self.old.sessions.service self.new.sessions.service c d }
+        ensures moves { Moves S.gives self.old.sessions.service self.new.sessions.service }
+    {
+        'round: for _ in 0..self.sessions.turns() {
+            self.serve_next(piece, room, note);
         }
     }
 
@@ -344,9 +373,7 @@ where
             self.wait()?;
             self.take_events(rt, room, note);
             self.look_around(rt, room, note);
-            'turns: for _ in 0..self.sessions.turns() {
-                self.serve_next(&mut piece, room, note);
-            }
+            self.serve_listed(&mut piece, room, note);
         }
         unreachable!()
     }

@@ -1,12 +1,15 @@
 use Rattle.std.proofs.Common.{◌≡◌, ◌∷◌, length, not, ap, inr, refl, sym, ◌∙◌, arith}
+use Rattle.std.specs.List.{range_with_len}
 use Rattle.std.specs.Vec.Iter.{into_iter_items}
-use Rattle.snap_server.proofs.Made.{made_more, made_all, made_len, pushed, pushed_len}
+use Rattle.snap_server.proofs.Made.{made_more, made_all, made_len, numbered_more, pushed, pushed_len}
 use Rattle.snap_server.proofs.server.open_workers.Goals as goal
 
 pub returns-then-is_err : goal.returns-then-is_err
 returns-then-is_err g c = record {
   workers = tt;
   doors = tt;
+  places = tt;
+  theirs = tt;
   faults = inr refl;
 }
 
@@ -15,18 +18,24 @@ services-preserved g c =
     let next : into_iter_items c.services.service-iterator ≡ c.in-Some.service ∷ into_iter_items
     c.next.new.self =
     c.in-Some.ensures.steps.0 in
+    let one_more = pushed _ _ _ _ c.push.ensures.items
+    (c.is_err.ensures.negation ∙ ap not c.if-is_err.false) in
+    let door_more = pushed _ _ _ _ c.push-else-is_err.ensures.items
+    (c.is_err-else-is_err.ensures.negation ∙ ap not c.if-is_err-2.false) in
     record {
       made = made_more _ c.services.workers.items _ c.in_ok-worker.worker _ _ _
           c.services.invariant.made
-          (pushed _ _ _ _ c.push.ensures.items (c.is_err.ensures.negation ∙ ap not
-          c.if-is_err.false))
+          one_more
           (next ∙ ap (λ s. s ∷ into_iter_items c.next.new.self)
           (sym c.in_ok-worker.ensures.service));
-      doors = pushed_len _ _ _ _ _ _ c.services.invariant.doors
-          (pushed _ _ _ _ c.push-else-is_err.ensures.items
-          (c.is_err-else-is_err.ensures.negation ∙ ap not c.if-is_err-2.false))
-          (pushed _ _ _ _ c.push.ensures.items (c.is_err.ensures.negation ∙ ap not
-          c.if-is_err.false));
+      places = numbered_more _ c.services.workers.items _ c.in_ok-worker.worker
+          c.services.invariant.places one_more
+          (c.in_ok-worker.ensures.inbox ∙ c.len-place.ensures ∙ c.services.workers.ok.0);
+      theirs = numbered_more _ c.services.doors.items _ c.in_ok-worker.door
+          c.services.invariant.theirs door_more
+          (c.in_ok-worker.ensures.door ∙ c.len-place.ensures ∙ c.services.workers.ok.0
+          ∙ sym c.services.invariant.doors);
+      doors = pushed_len _ _ _ _ _ _ c.services.invariant.doors door_more one_more;
       long = omega (arith, c.services.invariant.long, c.in-Some.ensures.steps.1, ap length next);
     }
 
@@ -41,5 +50,10 @@ returns g c =
       workers = made;
       doors = c.services.doors.ok.0 ∙ c.services.invariant.doors ∙ made_len _ _ _ made
           ∙ sym c.args.services.ok.0;
+      places = c.services.invariant.places
+          ∙ ap (range_with_len 0) (made_len _ _ _ made ∙ sym c.args.services.ok.0);
+      theirs = c.services.invariant.theirs
+          ∙ ap (range_with_len 0) (c.services.invariant.doors ∙ made_len _ _ _ made
+          ∙ sym c.args.services.ok.0);
       faults = tt;
     }

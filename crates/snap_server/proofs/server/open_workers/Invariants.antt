@@ -1,4 +1,5 @@
 use Rattle.std.proofs.Common.{◌≡◌, ◌++◌, length, map}
+use Rattle.std.specs.List.{range_with_len}
 use Rattle.std.specs.Vec.Iter.{into_iter_items, into_iter_len}
 use Rattle.snap_server.proofs.server.open_workers.Given as goal
 
@@ -6,6 +7,9 @@ abbrev pub invariant-services : goal.invariant-services
 invariant-services g l = record {
   made : map (λ one. one.sessions.service) l.workers.items ++ into_iter_items l.service-iterator
       ≡ l.fn.services.items;
+  places : map (λ one. one.inbox.place) l.workers.items
+      ≡ range_with_len 0 (length l.workers.items);
+  theirs : map (λ one. one.place) l.doors.items ≡ range_with_len 0 (length l.doors.items);
   doors : length l.doors.items ≡ length l.workers.items;
   long : into_iter_len l.service-iterator ≡ length (into_iter_items l.service-iterator);
 }

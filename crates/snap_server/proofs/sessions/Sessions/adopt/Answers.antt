@@ -54,6 +54,7 @@ returns-in_default g c = record {
   kept = λ key b at. at;
   refused = λ no key. refl;
   taken = λ wrong. absurd (true≢false (sym wrong));
+  order = refl;
 }
 
 pub returns-then-is_err : goal.returns-then-is_err
@@ -74,6 +75,12 @@ returns-then-is_err g c =
       kept = λ key b at. same key ∙ at;
       refused = λ no. same;
       taken = λ wrong. absurd (true≢false (sym wrong));
+      order = elim c.then-is_err.branch [
+        | then-is_err-via-then-is_err w ↦ ap (λ s. s.listed.items) w.self-is
+            ∙ c.reserve.ensures.items
+        | then-is_err-via-else-is_err+then-is_err-2 w ↦ ap (λ s. s.listed.items) w.self-is
+            ∙ c.reserve.ensures.items
+      ];
     }
 
 pub returns-then-is_err-3 : goal.returns-then-is_err-3
@@ -84,6 +91,7 @@ returns-then-is_err-3 g c = record {
   refused = λ no key. ap (λ (s : Slab Connection). get s key)
       c.reserve-else-is_err.ensures.rest_kept;
   taken = λ wrong. absurd (true≢false (sym wrong));
+  order = c.reserve.ensures.items;
 }
 
 pub returns : goal.returns
@@ -100,4 +108,5 @@ returns g c =
       refused = λ wrong. absurd (true≢false wrong);
       taken = λ yes. c.insert_reserved.ensures.len
           ∙ ap (λ (s : Slab Connection). slab_len s + 1) c.reserve-else-is_err.ensures.rest_kept;
+      order = c.reserve.ensures.items;
     }

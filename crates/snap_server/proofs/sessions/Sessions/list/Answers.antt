@@ -12,6 +12,8 @@ use Rattle.snap_server.proofs.Listing.{
   none_there,
   written_others,
 }
+use Rattle.snap_server.specs.Listing.{listed_behind}
+use Rattle.snap_server.proofs.Turning.{behind_at, behind_same}
 use Rattle.snap_server.proofs.sessions.Sessions.list.Goals as goal
 
 pub push_back_reserved-requires : goal.push_back_reserved-requires
@@ -81,7 +83,10 @@ returns-in_default g c = record {
   service = refl;
   listed = λ b old. absurd (none_there c.args.self.now.connections c.args.key
       (sym c.in_default.ensures.value) b old);
+  behind = λ b old. absurd (none_there c.args.self.now.connections c.args.key
+      (sym c.in_default.ensures.value) b old);
   nobody = λ none. refl;
+  unlisted = λ none. refl;
   others = λ other apart. refl;
   count = refl;
 }
@@ -94,7 +99,14 @@ returns-then-enlist g c =
       listed = λ b old. enlisted_at c.args.self.now.connections c.args.key b
           c.in-Some.connection.now
           c.enlist.new.self at c.enlist.ensures.listed old;
+      behind = λ b old. behind_at c.args.self.now.connections c.args.key b c.in-Some.connection.now
+          c.args.self.now.listed.items _ at
+          (c.push_back_reserved.ensures.items
+          ∙ sym (ap (λ s. listed_behind s c.args.key c.args.self.now.listed.items)
+          (c.enlist.ensures.idle.0 c.if-enlist.true))) old;
       nobody = λ none. absurd (none_there c.args.self.now.connections c.args.key none
+          c.in-Some.connection.now at);
+      unlisted = λ none. absurd (none_there c.args.self.now.connections c.args.key none
           c.in-Some.connection.now at);
       others = written_others c.args.self.now.connections c.args.key c.in-Some.connection.now
           c.enlist.new.self at;
@@ -110,7 +122,13 @@ returns-else-enlist g c =
       listed = λ b old. enlisted_at c.args.self.now.connections c.args.key b
           c.in-Some.connection.now
           c.enlist.new.self at c.enlist.ensures.listed old;
+      behind = λ b old. behind_at c.args.self.now.connections c.args.key b c.in-Some.connection.now
+          c.args.self.now.listed.items _ at
+          (behind_same c.in-Some.connection.now.stage c.args.key c.args.self.now.listed.items
+          (λ idle. true≢false (sym (c.enlist.ensures.idle.1 idle) ∙ c.if-enlist.false))) old;
       nobody = λ none. absurd (none_there c.args.self.now.connections c.args.key none
+          c.in-Some.connection.now at);
+      unlisted = λ none. absurd (none_there c.args.self.now.connections c.args.key none
           c.in-Some.connection.now at);
       others = written_others c.args.self.now.connections c.args.key c.in-Some.connection.now
           c.enlist.new.self at;

@@ -14,6 +14,8 @@ use Rattle.snap_server.proofs.Listing.{
   over_off,
   same_value,
 }
+use Rattle.snap_server.specs.Listing.{listed_behind}
+use Rattle.snap_server.proofs.Turning.{behind_at}
 use Rattle.snap_server.proofs.sessions.Sessions.tell.Goals as goal
 
 pub invariant_of-self-then-take_outcome-clause-are :
@@ -102,6 +104,32 @@ returns-then-take_outcome-clause-last g c = λ b old.
     c.take_outcome.new.self (sym c.in-Some.ensures.value) c.list.ensures.service
     c.take_outcome.ensures.goes old
 
+pub returns-then-take_outcome-clause-held : goal.returns-then-take_outcome-clause-held
+returns-then-take_outcome-clause-held g c = λ b d old new.
+    let told = c.take_outcome.new.self in
+    let was : c.in-Some.connection.now ≡ b =
+    same_value c.args.self.now.connections c.args.key _ b (sym c.in-Some.ensures.value) old in
+    let is = same_value c.list.new.self.connections c.args.key _ d (c.list.ensures.listed told
+    (written_at c.args.self.now.connections c.args.key c.in-Some.connection.now told
+    (sym c.in-Some.ensures.value))) new in
+    sym (ap (λ (z : Connection). z.session.held) is)
+    ∙ c.take_outcome.ensures.held ∙ ap (λ (z : Connection). z.session.held) was
+
+pub returns-then-take_outcome-clause-behind : goal.returns-then-take_outcome-clause-behind
+returns-then-take_outcome-clause-behind g c = λ b old.
+    let was = c.in-Some.connection.now in
+    let at = sym c.in-Some.ensures.value in
+    behind_at c.args.self.now.connections c.args.key b was c.args.self.now.listed.items _ at
+    (c.list.ensures.behind c.take_outcome.new.self
+    (written_at c.args.self.now.connections c.args.key was c.take_outcome.new.self at)
+    ∙ ap (λ s. listed_behind s c.args.key c.args.self.now.listed.items)
+    c.take_outcome.ensures.stage) old
+
+pub returns-then-take_outcome-clause-unlisted : goal.returns-then-take_outcome-clause-unlisted
+returns-then-take_outcome-clause-unlisted g c = λ none.
+    absurd (none_there c.args.self.now.connections c.args.key none c.in-Some.connection.now
+    (sym c.in-Some.ensures.value))
+
 pub returns-in_default : goal.returns-in_default
 returns-in_default g c =
     let off = none_there c.args.self.now.connections c.args.key (sym c.in_default.ensures.value) in
@@ -111,7 +139,10 @@ returns-in_default g c =
       last = λ b old. absurd (off b old);
       moves = ([], [], refl);
       nobody = λ none. refl;
+      held = λ b d old new. absurd (off b old);
       listed = λ d new. absurd (off d new);
+      behind = λ b old. absurd (off b old);
+      unlisted = λ none. refl;
       gone = λ b old over. absurd (off b old);
       kept = λ b old going. absurd (off b old);
       others = λ other apart. refl;
@@ -151,7 +182,14 @@ returns g c =
       moves = moved g.S.Service.gives _ _ _ _ c.take_outcome.ensures.goes;
       nobody = λ none. absurd (none_there c.args.self.now.connections c.args.key none
           c.in-Some.connection.now at);
+      held = λ b d old new. absurd (off d new);
       listed = λ d new. absurd (off d new);
+      behind = λ b old. behind_at c.args.self.now.connections c.args.key b c.in-Some.connection.now
+          c.args.self.now.listed.items _ at
+          (sym (ap (λ s. listed_behind s c.args.key c.args.self.now.listed.items)
+          (c.take_outcome.ensures.ended.0 c.if-take_outcome.false))) old;
+      unlisted = λ none. absurd (none_there c.args.self.now.connections c.args.key none
+          c.in-Some.connection.now at);
       gone = λ b old over. c.try_remove.ensures.updates.changed;
       kept = λ b old going.
           let was = same_value c.args.self.now.connections c.args.key c.in-Some.connection.now b at

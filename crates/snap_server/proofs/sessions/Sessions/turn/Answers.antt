@@ -1,4 +1,4 @@
-use Rattle.std.proofs.Common.{arith, sym, ap, subst, ◌∙◌, ◌≡◌, ◌⊎◌, [], None, OnSome, inl, inr, refl}
+use Rattle.std.proofs.Common.{arith, sym, ap, subst, ◌∙◌, ◌≡◌, ◌⊎◌, [], None, OnSome, is_some, inl, inr, refl}
 use mathlib.Core.Logic.{∥∥₁_map}
 use Rattle.slab.specs.Slab.{with_value}
 use Rattle.snap_session.specs.Talk.{Talk, Stays, Moves}
@@ -7,7 +7,9 @@ use Rattle.snap_session.specs.declared.turns.Turn.{Turn}
 use Rattle.snap_session.specs.declared.turns.Turn.TheVariants.{NeedsInput, NeedsRoom, NeedsOutcome}
 use Rattle.snap_server.specs.declared.connection.Connection.{Connection}
 use Rattle.snap_server.specs.declared.connection.Ending.{Ending}
-use Rattle.snap_server.specs.Listing.{enlisted}
+use Rattle.snap_server.specs.declared.connection.Stage.TheVariants.{Listed}
+use Rattle.snap_server.specs.declared.connection.TheConstants.{PIECE}
+use Rattle.snap_server.specs.Listing.{enlisted, listed_behind}
 use Rattle.snap_server.specs.Sharing.{IsTurn}
 use Rattle.snap_server.specs.Standing.{Waits, MayEnd}
 use Rattle.snap_server.proofs.Sharing.{moved, written_turned, turn_at, under_at}
@@ -21,6 +23,7 @@ use Rattle.snap_server.proofs.Listing.{
   over_off,
   same_value,
 }
+use Rattle.snap_server.proofs.Turning.{rounds_at, again_at}
 use Rattle.snap_server.proofs.sessions.Sessions.turn.Goals as goal
 
 -- it waits for one of the three
@@ -59,7 +62,7 @@ returns-in-Again-clause-waits g c = λ d new.
     c.go_on.new.self at)) new in
     inl (sym (ap (λ (z : Connection). z.stage) is)
     ∙ ap enlisted (c.go_on.ensures.stage
-    ∙ c.requires.idle c.in_ok-connection.connection.now at))
+    ∙ c.requires c.in_ok-connection.connection.now at))
 
 pub invariant_of-self-in-NeedsInput-clause-are : goal.invariant_of-self-in-NeedsInput-clause-are
 invariant_of-self-in-NeedsInput-clause-are g c = ∥∥₁_map c.args.self.now.are
@@ -99,7 +102,7 @@ invariant_of-self-in-Over-clause-lists g c =
     let at = sym c.in_ok-connection.ensures.value in
     ∥∥₁_map c.args.self.now.lists
     (lists_written _ _ c.args.key old c.end.new.self at
-    (λ on. absurd (not_both old.stage (c.requires.idle old at) on))
+    (λ on. absurd (not_both old.stage (c.requires old at) on))
     (λ on. absurd (over_off c.end.new.self.stage
     (ap (λ (z : Connection). z.stage) c.end.ensures.over) on)))
 
@@ -267,3 +270,31 @@ pub returns-in-Over-clause-count : goal.returns-in-Over-clause-count
 returns-in-Over-clause-count g c =
     written_len c.args.self.now.connections c.args.key c.in_ok-connection.connection.now
     c.end.new.self (sym c.in_ok-connection.ensures.value)
+
+pub returns-in-Again-clause-rounds : goal.returns-in-Again-clause-rounds
+returns-in-Again-clause-rounds g c = λ b d old new.
+    let was = c.in_ok-connection.connection.now in
+    let at = sym c.in_ok-connection.ensures.value in
+    let stands = c.list.ensures.listed c.go_on.new.self
+    (written_at c.args.self.now.connections c.args.key was c.go_on.new.self at) in
+    rounds_at g.S.Service.gives PIECE _ _ _ c.args.self.now.connections
+    c.list.new.self.connections c.args.key b d was _ Listed at stands
+    (ap enlisted (c.go_on.ensures.stage ∙ c.requires was at)) c.list.ensures.service
+    c.in-Again.ensures.rounds old new
+
+pub returns-in-Again-clause-behind : goal.returns-in-Again-clause-behind
+returns-in-Again-clause-behind g c = λ d new.
+    let was = c.in_ok-connection.connection.now in
+    let at = sym c.in_ok-connection.ensures.value in
+    let there = written_at c.args.self.now.connections c.args.key was c.go_on.new.self at in
+    let idle = c.go_on.ensures.stage ∙ c.requires was at in
+    again_at c.list.new.self.connections c.args.key d _ Listed c.args.self.now.listed.items _
+    (c.list.ensures.listed c.go_on.new.self there) (ap enlisted idle)
+    (c.list.ensures.behind c.go_on.new.self there
+    ∙ ap (λ s. listed_behind s c.args.key c.args.self.now.listed.items) idle) new
+
+pub returns-in-Again-clause-kept : goal.returns-in-Again-clause-kept
+returns-in-Again-clause-kept g c = λ b old.
+    ap is_some (c.list.ensures.listed c.go_on.new.self
+    (written_at c.args.self.now.connections c.args.key c.in_ok-connection.connection.now
+    c.go_on.new.self (sym c.in_ok-connection.ensures.value)))

@@ -4,7 +4,3 @@ use Rattle.snap_server.proofs.worker.Worker.work.Given as goal
 abbrev pub invariant-loop : goal.invariant-loop
 invariant-loop g l =
     Moves g.S.Service.gives l.fn.self.sessions.service l.self.sessions.service
-
-abbrev pub invariant-turns : goal.invariant-turns
-invariant-turns g l =
-    Moves g.S.Service.gives l.fn.self.sessions.service l.self.sessions.service
