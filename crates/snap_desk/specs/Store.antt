@@ -1,5 +1,5 @@
 -- The store of a segment, as its thread has it.
-use Rattle.std.specs.Prelude.{◌≡◌, ℕ, List, Option, Some, None, is_some}
+use Rattle.std.specs.Prelude.{◌≡◌, ◌⊎◌, ℕ, List, Bool, true, false, Option, Some, None, is_some}
 use Rattle.snap_disk.specs.Device.{Device}
 use Rattle.snap_register.specs.Seat.{own_of}
 use Rattle.snap_writer.specs.Writer.{WriterState, number_of}
@@ -14,25 +14,46 @@ pub record StandsAt {D : Type 0} (w : WriterState D) (stands : Standing) : Type 
   pub number_is : number_of w ≡ stands.number
   pub fence_is : is_some w.segment.begun ≡ stands.is_fenced
 
--- its writer, none while it is lent; where that stood when it was here last; and how many jobs were
--- taken
+-- how many updates came to a store, and how many of them were taken
+pub record Queued : Type 0 where
+  pub came : ℕ
+  pub taken : ℕ
+
+-- how many came, where so many were taken, and one waits or none does
+abbrev pub came_by : ℕ → Bool → ℕ
+came_by taken true = next_count taken
+came_by taken false = taken
+
+-- one waits
+abbrev pub IsWaiting : Queued → Type 0
+IsWaiting q = q.came ≡ next_count q.taken
+
+-- its writer, none while it is lent; where that stood when it was here last; and the updates that
+-- came
 pub record Store (D : Type 0) : Type 0 where
   pub writer : Option (WriterState D)
   pub stands : Standing
-  pub taken : ℕ
+  pub queue : Queued
 
--- a new store has this writer, and has taken nothing
+-- a new store has this writer, and nothing has come
 pub record IsNew {D : Type 0} (w : WriterState D) (s : Store D) : Type 0 where
   pub here : s.writer ≡ Some w
   pub stands : StandsAt w s.stands
-  pub none_taken : s.taken ≡ 0
+  pub none_came : s.queue ≡ record { came = 0; taken = 0 }
+
+-- Nothing was done. The writer is as it was, and no update was taken: none came, or it waits.
+pub record IsIdle {D : Type 0} (old new : Store D) : Type 0 where
+  pub writer : new.writer ≡ old.writer
+  pub stands : new.stands ≡ old.stands
+  pub taken : new.queue.taken ≡ old.queue.taken
+  pub waits : (new.queue ≡ old.queue) ⊎ IsWaiting new.queue
 
 -- the writer is the store's: the one that is here, or one that stands where the lent one stood
 pub record IsTaken {D : Type 0} (s : Store D) (w : WriterState D) : Type 0 where
   pub here : (x : WriterState D) → s.writer ≡ Some x → w ≡ x
   pub stands : StandsAt w s.stands
 
--- One job was taken. The store's writer was updated once, to that job's number and value, and was told
+-- One job was taken, and none is left behind. The store's writer was updated once, to that job's number and value, and was told
 -- this; it is lent as it then stands.
 pub record StoresOne {D : Type 0} (device : D → Device) (failures : D → ℕ) (honest : D → Type 0)
     (clock : D → ℕ) (might_have_left : D → ℕ → List ℕ → Type 0) (old : Store D) (came : Came D)
@@ -44,4 +65,5 @@ pub record StoresOne {D : Type 0} (device : D → Device) (failures : D → ℕ)
   pub lent : new.writer ≡ None
   pub stands : StandsAt came.writer new.stands
   pub same : new.stands.segment ≡ old.stands.segment
-  pub one : new.taken ≡ next_count old.taken
+  pub one : new.queue.taken ≡ next_count old.queue.taken
+  pub no_more : new.queue.came ≡ new.queue.taken

@@ -5,6 +5,7 @@ ghost use Rattle.snap_frame.specs.Messages.{IsInLimits};
 ghost use Rattle.snap_service.specs.Memory.{IsOf};
 ghost use Rattle.snap_desk.specs.Handing.{HasHanded, job_of};
 ghost use Rattle.snap_desk.specs.Tells.{TellsUpdate};
+ghost use Rattle.snap_service.specs.Counted.{LooksOnce};
 ghost use Rattle.snap_service.specs.Answers.{
   Answers,
   AnswersUpdate,
@@ -61,6 +62,7 @@ pub fn answer_outcome<R: Wait + Copy, M: Memory, D: Disk + Drop>(
 ) -> Reply
     requires memory { IsOf M.table M.plan scanner.old }
     ensures answer { AnswersUpdate scanner.old segment number value.now result scanner.new }
+    ensures looks { LooksOnce scanner.old scanner.new }
     ensures limits { IsInLimits result }
     ensures told { TellsUpdate outcome segment number value.now result }
 {
@@ -88,6 +90,7 @@ fn ask<R: Wait + Copy + Clock, J: Asked>(
     requires job { J.job ≡ job_of outbox.old.worker key number value.now }
     ensures answer { IfSome result (λ r.
         AnswersUpdate scanner.old segment number value.now r scanner.new) }
+    ensures looks { LooksOnce scanner.old scanner.new }
     ensures limits { IfSome result (λ r. IsInLimits r) }
     ensures later { IfNone result (scanner.new ≡ scanner.old) }
     ensures over { IfNone result (HasHanded outbox.old segment outbox.new) }
@@ -130,6 +133,7 @@ impl<R: Wait + Copy + Clock, M: Memory, D: Disk + Drop> Desk<R, M, D> {
     fn update(&mut self, segment: usize, number: u64, value: &[u8], key: usize) -> Option<Reply>
         ensures answer { IfSome result (λ r.
             AnswersUpdate self.old segment number value.now r self.new) }
+        ensures looks { LooksOnce self.old self.new }
         ensures limits { IfSome result (λ r. IsInLimits r) }
         ensures later { IfNone result (self.new ≡ self.old) }
     {
@@ -152,6 +156,7 @@ impl<R: Wait + Copy + Clock, M: Memory, D: Disk + Drop> Desk<R, M, D> {
         outcome: Outcome<R, M, D>,
     ) -> Reply
         ensures answer { AnswersUpdate self.old segment number value.now result self.new }
+        ensures looks { LooksOnce self.old self.new }
         ensures limits { IsInLimits result }
         ensures told { TellsUpdate outcome segment number value.now result }
     {
@@ -192,11 +197,13 @@ impl<R: Wait + Copy + Clock, M: Memory, D: Disk + Drop> Desk<R, M, D> {
 
 impl<R: Wait + Copy + Clock, M: Memory, D: Disk + Drop> Service for Desk<R, M, D> {
     ghost use Rattle.snap_service.specs.Answers.{Answers};
+    ghost use Rattle.snap_service.specs.Counted.{TakesFewLooks};
     ghost use Rattle.snap_desk.specs.Tells.{Tells};
 
     type Outcome = Outcome<R, M, D>;
 
-    ghost gives = { λ old request reply new. Answers old request reply new };
+    ghost gives = { λ old request reply new. Answers old request reply new
+        × TakesFewLooks old request new };
 
     ghost hands_over = { Unit {0} };
 

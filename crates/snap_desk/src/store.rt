@@ -1,9 +1,8 @@
 //! The store of a segment, as the thread that owns it drives it.
-ghost use Rattle.std.specs.Prelude.{◌≡◌, ℕ, IfOk, IfSome, IfNone, Some, None};
+ghost use Rattle.std.specs.Prelude.{◌≡◌, IfOk, IfSome, IfNone, Some, None};
 ghost use Rattle.snap_register.specs.Seat.{own_of};
 ghost use Rattle.snap_service.specs.Updated.{IsUpdated};
-ghost use Rattle.snap_service.specs.Counted.{next_count};
-ghost use Rattle.snap_desk.specs.Store.{IsNew, IsTaken, StandsAt, StoresOne};
+ghost use Rattle.snap_desk.specs.Store.{IsNew, IsTaken, IsIdle, StandsAt, StoresOne};
 
 use crate::job::Job;
 use crate::lent::{Lent, Outcome};
@@ -61,7 +60,7 @@ fn window_of(
 
 /// The store of a segment: its writer, and what was handed over to it. One thread drives it, step
 /// by step. Its value is its writer, none while that is lent, where that stood when it was here last,
-/// and how many updates were taken.
+/// and how many updates came and were taken.
 #[derive(Drop)]
 pub struct StoreThread<R: Wait + Copy, M: Memory, D: Disk + Drop> {
     rt: R,
@@ -83,7 +82,7 @@ impl<R: Wait + Copy, M: Memory, D: Disk + Drop> Model for StoreThread<R, M, D> {
 
     ghost Value = { Store D };
 
-    ghost view = { λ t. record { writer = t.writer; stands = t.stands; taken = t.queue } };
+    ghost view = { λ t. record { writer = t.writer; stands = t.stands; queue = t.queue } };
 
     ghost invariant = { λ t. (w : WriterState D) → t.writer ≡ Some w → StandsAt w t.stands };
 }
@@ -131,15 +130,6 @@ impl<R: Wait + Copy, M: Memory, D: Disk + Drop> StoreThread<R, M, D> {
         Some(writer)
     }
 
-    /// Takes one update, and waits until one comes. None where all windows are gone and none is left.
-    fn take_job(&mut self) -> Option<Job>
-        ensures one { IfSome result (λ _.
-            self.new ≡ record self.old { taken = next_count self.old.taken }) }
-        ensures none { IfNone result (self.new ≡ self.old) }
-    {
-        self.queue.take(&self.rt, &mut self.patience)
-    }
-
     /// Does this update by this writer, and lends the writer with the outcome.
     fn store(
         &mut self,
@@ -155,7 +145,7 @@ impl<R: Wait + Copy, M: Memory, D: Disk + Drop> StoreThread<R, M, D> {
             writer result.outcome.writer job.number job.value result.outcome.told }
         ensures lent { self.new.writer ≡ None }
         ensures stands { StandsAt result.outcome.writer self.new.stands }
-        ensures taken { self.new.taken ≡ self.old.taken }
+        ensures queue { self.new.queue ≡ self.old.queue }
     {
         let (worker, key) = (job.worker, job.key);
         let outcome = store_one(self.rt, home, writer, job);
@@ -170,21 +160,25 @@ impl<R: Wait + Copy, M: Memory, D: Disk + Drop> StoreThread<R, M, D> {
 
     /// Waits until an update is handed over and its writer is back, does it, and lends the writer
     /// with the outcome. None where all windows are gone and no update is left, so that none will
-    /// come, or where the writer will not come back.
+    /// come, or where the writer will not come back, or no memory is left to lend it: nothing was
+    /// done then, and an update that has come waits.
     pub fn next(&mut self) -> Option<Told<R, M, D>>
         ensures worker { IfSome result (λ t. t.worker ≡ t.outcome.job.worker) }
         ensures key { IfSome result (λ t. t.key ≡ t.outcome.job.key) }
         ensures stored { IfSome result (λ t.
             StoresOne D.device D.failure_count D.is_honest D.clock D.might_have_left
             self.old t.outcome self.new) }
+        ensures none { IfNone result (IsIdle self.old self.new) }
     {
-        let job = self.take_job()?;
-        let writer = self.take_writer()?;
+        if !self.queue.wait(&self.rt, &mut self.patience) {
+            return None;
+        }
         let home: Result<Sender<WriterOf<M, D>>, AllocError> = self.home.clone();
         let Ok(home) = home else {
-            self.writer = Some(writer);
             return None;
         };
+        let writer = self.take_writer()?;
+        let job = self.queue.take();
         Some(self.store(home, writer, job))
     }
 

@@ -75,8 +75,7 @@ pub(crate) fn release_all<D: Disk + Drop>(writers: Vec<Writer<D>>, mut devices: 
         → Rests D.device D.is_honest w }
 {
     'writers: for writer in writers {
-        let (segment, _) = writer.into_parts();
-        keep(&mut devices, segment.into_device());
+        keep(&mut devices, writer.into_segment().into_device());
     }
     devices
 }

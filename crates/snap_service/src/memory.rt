@@ -2,6 +2,7 @@
 //! type alone.
 ghost use Rattle.std.specs.Prelude.{
   ◌≡◌,
+  ◌+◌,
   ◌<◌,
   ◌≤◌,
   ◌↔◌,
@@ -110,7 +111,10 @@ impl<M: Memory, D: Disk> WriterOf<M, D> {
     pub fn into_writer(self) -> Writer<D>
         ensures writer { result ≡ self }
         ensures memory { IsOf M.table M.plan result.seat }
+        ensures alone { result.seat.high ≡ result.seat.low + 1 }
     {
+        // that it writes no other segment
+        let _own = self.writer.segment();
         self.writer
     }
 

@@ -1,5 +1,19 @@
 //! The writers that all nodes share, each under a lock of its own.
-ghost use Rattle.std.specs.Prelude.{◌≡◌, ◌<◌, ◌≤◌, [], length, vec_capacity, All, IfOk, IfErr};
+ghost use Rattle.std.specs.Prelude.{
+  ◌≡◌,
+  ◌+◌,
+  ◌<◌,
+  ◌≤◌,
+  ℕ,
+  [],
+  length,
+  slice_get,
+  Some,
+  vec_capacity,
+  All,
+  IfOk,
+  IfErr,
+};
 ghost use Rattle.snap_history.specs.Limits.{IsShort};
 ghost use Rattle.snap_register.specs.Rule.{segments};
 ghost use Rattle.snap_frame.specs.Messages.{IsInLimits, IsStatus};
@@ -91,6 +105,8 @@ impl<M: Memory, D: Disk + Drop> Shared<M, D> {
         requires empty { room.items ≡ [] }
         requires room { segments M.plan ≤ vec_capacity room }
         ensures writers { IfOk result (λ writers. AreWriters M.table M.plan writers.items) }
+        ensures alone { IfOk result (λ writers. (i : ℕ) (w : _) → slice_get writers.items i ≡ Some w
+            → w.seat.high ≡ w.seat.low + 1) }
         ensures displaced { IfErr result (λ back. AreDisplaced M.table M.plan back.items) }
     {
         let mut writers = room;

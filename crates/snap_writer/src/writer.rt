@@ -72,6 +72,14 @@ impl<D: Disk> Writer<D> {
         Writer { segment, seat }
     }
 
+    /// The segment that it writes, and no other.
+    pub fn segment(&self) -> usize
+        ensures own { result ≡ own_of self.now.seat }
+        ensures alone { self.now.seat.high ≡ self.now.seat.low + 1 }
+    {
+        self.seat.segment()
+    }
+
     /// The number that was shown last: how many values were stored since the file was formatted.
     pub fn number(&self) -> u64
         ensures number { result ≡ number_of self.now }
@@ -206,15 +214,15 @@ impl<D: Disk> Writer<D> {
         scanner.meet(&mut self.seat);
     }
 
-    /// The file and the seat, as they are: with the same number and value.
-    pub fn into_parts(self) -> (Segment<D>, WriteSeat)
-        ensures segment { result.0 ≡ self.segment }
-        ensures seat { result.1 ≡ self.seat }
+    /// The file, as it is: with the number and the value that were shown last. The seat ends here, so
+    /// that nobody shows by it what isn't stored.
+    pub fn into_segment(self) -> Segment<D>
+        ensures segment { result ≡ self.segment }
         ensures number { self.segment.number ≡ number_of self }
         ensures value { self.segment.value ≡ value_of self }
     {
-        let Writer { segment, seat } = self;
-        (segment, seat)
+        let Writer { segment, .. } = self;
+        segment
     }
 
     // The rule that an update falls under. Lengths are judged before numbers, and a repeat before

@@ -70,8 +70,7 @@ fn shows(rt: &impl Abort, scanner: &mut Scanner, out: &mut Snapshot, number: u64
 
 /// Its device was called so often, and failed so often.
 fn called(rt: &impl Abort, writer: Writer<MemDisk>, calls: u64, failures: u64) -> MemDisk {
-    let (segment, _) = writer.into_parts();
-    let disk = segment.into_device();
+    let disk = writer.into_segment().into_device();
     assert!(rt; disk.calls() == calls && disk.failures() == failures);
     disk
 }

@@ -69,8 +69,7 @@ fn work_store<R: Wait + Copy, M: Memory>(
 
 /// How the writer's device waited, where it was written to.
 fn waited_of(writer: Writer<Held>) -> Option<Waited> {
-    let (segment, _) = writer.into_parts();
-    segment.into_device().waited()
+    writer.into_segment().into_device().waited()
 }
 
 /// Adds what the store's writer shows at the end.

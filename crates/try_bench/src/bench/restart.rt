@@ -185,8 +185,7 @@ fn open_rounds<D: Disk + Drop>(rt: &HostRuntime, devices: Vec<D>, rounds: u64) -
 fn close<D: Disk + Drop>(alloc: Global, store: Store<D>) -> io::Result<Vec<D>> {
     let mut devices = Vec::new(alloc);
     for writer in store.writers {
-        let (segment, _) = writer.into_parts();
-        devices.push(segment.into_device())?;
+        devices.push(writer.into_segment().into_device())?;
     }
     Ok(devices)
 }

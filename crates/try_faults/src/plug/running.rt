@@ -115,8 +115,7 @@ pub(crate) fn past_of(workers: &mut Vec<Worker>) -> io::Result<Past> {
 
 /// The device of a writer, in memory.
 fn disk_of(writer: Writer<Plugged>) -> MemDisk {
-    let (segment, _) = writer.into_parts();
-    segment.into_device().into_disk()
+    writer.into_segment().into_device().into_disk()
 }
 
 /// The devices of writers, in order.

@@ -21,14 +21,14 @@ writers-preserved g c =
           let short = ap length c.in-Some.ensures.steps.0 in omega arith);
       devices = c.keep.ensures.items
           ∙ ((λ i. inv.devices i ++ (c.into_device.ensures.device
-          ∙ ap (λ s. s.device) c.into_parts-segment.ensures.segment) i ∷ [])
+          ∙ ap (λ s. s.device) c.into_segment.ensures.segment) i ∷ [])
           ∙ sym (map_front (λ w. w.segment.device) k ws w _ next _ on));
       room = (let r = c.keep.ensures.room in let was = inv.room in omega arith);
       within = omega arith;
       rests = λ i x there low. rests_more g.D.Disk.device g.D.Disk.is_honest ws k w next.at inv.rests
           (rests_moved g.D.Disk.device g.D.Disk.is_honest w _ _
-          c.into_parts-segment.ensures.segment c.into_device.ensures.device
-          c.into_parts-segment.ensures.number c.into_parts-segment.ensures.value
+          c.into_segment.ensures.segment c.into_device.ensures.device
+          c.into_segment.ensures.number c.into_segment.ensures.value
           c.into_device.ensures.kept) i x there (omega arith);
     }
 

@@ -18,6 +18,7 @@ locks-init g c =
           let ok = c.args.self.writers.ok in omega arith);
       room = c.requires.room;
       each = λ i w at. absurd (no_place c.args.room.items i w c.requires.empty at);
+      alone = λ i w at. absurd (no_place c.args.room.items i w c.requires.empty at);
       order = λ off i w at. absurd (no_place c.args.room.items i w c.requires.empty at);
       displaced = λ on. absurd (false≢true on);
     }
@@ -42,6 +43,9 @@ locks-preserved g c =
       each = λ i x at.
           places_more (λ k s. IsOf g.M.Memory.table g.M.Memory.plan s.seat) ws w inv.each
           c.into_writer.ensures.memory i x (subst (λ l. slice_get l i ≡ Some x) items at);
+      alone = λ i x at.
+          places_more (λ k s. s.seat.high ≡ s.seat.low + 1) ws w inv.alone
+          c.into_writer.ensures.alone i x (subst (λ l. slice_get l i ≡ Some x) items at);
       order = λ off i x at.
           elim c.if-segment-place.branch [
             | then-segment-place b ↦ absurd (false≢true (sym off ∙ b.is_displaced-is))
@@ -90,3 +94,6 @@ returns-clause-writers g c =
       all = omega arith;
       each = λ i w at. (inv.each i w at, inv.order c.if-is_displaced.false i w at);
     }
+
+pub returns-clause-alone : goal.returns-clause-alone
+returns-clause-alone g c = c.locks.invariant.alone

@@ -14,6 +14,8 @@ invariant-locks g l = record {
   room : segments g.M.Memory.plan ≤ vec_capacity l.writers;
   each : (i : ℕ) (w : _) → slice_get l.writers.items i ≡ Some w
       → IsOf g.M.Memory.table g.M.Memory.plan w.seat;
+  alone : (i : ℕ) (w : _) → slice_get l.writers.items i ≡ Some w
+      → w.seat.high ≡ w.seat.low + 1;
   order : l.is_displaced ≡ false → (i : ℕ) (w : _) → slice_get l.writers.items i ≡ Some w
       → own_of w.seat ≡ i;
   displaced : l.is_displaced ≡ true → (i : ℕ) × (w : _) × (slice_get l.writers.items i ≡ Some w)
