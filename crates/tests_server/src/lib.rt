@@ -8,8 +8,6 @@ mod desk;
 #[cfg(test)]
 mod frames;
 #[cfg(test)]
-mod nodes;
-#[cfg(test)]
 mod patience;
 #[cfg(test)]
 mod server;

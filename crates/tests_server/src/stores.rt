@@ -30,26 +30,14 @@ pub(crate) fn failing(alloc: Global, mut disk: MemDisk) -> Result<MemDisk, Alloc
     Ok(disk)
 }
 
-/// The store over these devices, with so many scanners, at most 9.
-pub(crate) fn open_with<D: Disk + Drop>(
-    rt: &(impl Abort + AllocGlobal),
-    devices: Vec<D>,
-    scanners: usize,
-) -> Store<D>
-    ensures { AreBack result.writers.items result.scanners.items }
-{
-    assert!(rt; !devices.is_empty() && devices.len() <= 16);
-    assert!(rt; scanners > 0 && scanners <= 9);
-    assert!(rt; devices.iter().all(|disk| disk.failures() < 9));
-    match open_all(rt.alloc(), devices, scanners) {
-        Ok((store, _)) => store,
-        Err(_) => panic!(rt; "not opened"),
-    }
-}
-
-/// The store over these devices, with one scanner.
+/// The store over these devices.
 pub(crate) fn open<D: Disk + Drop>(rt: &(impl Abort + AllocGlobal), devices: Vec<D>) -> Store<D>
     ensures { AreBack result.writers.items result.scanners.items }
 {
-    open_with(rt, devices, 1)
+    assert!(rt; !devices.is_empty() && devices.len() <= 16);
+    assert!(rt; devices.iter().all(|disk| disk.failures() < 9));
+    match open_all(rt.alloc(), devices, 1) {
+        Ok((store, _)) => store,
+        Err(_) => panic!(rt; "not opened"),
+    }
 }
