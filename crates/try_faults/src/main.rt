@@ -34,11 +34,7 @@ const RUNS: [&str; 5] = [
 
 /// Does what the first word asks for, by the words behind it. `host` is the same runtime with the leave
 /// to start threads and to wait.
-fn run<X: Threads + Wait + Sync>(
-    host: &X,
-    rt: &HostRuntime,
-    words: &[&str],
-) -> io::Result<()> {
+fn run<X: Threads + Wait + Sync>(host: &X, rt: &HostRuntime, words: &[&str]) -> io::Result<()> {
     let [name, words @ ..] = words else {
         return explain(rt, &RUNS);
     };
@@ -53,11 +49,7 @@ fn run<X: Threads + Wait + Sync>(
 }
 
 /// One run of `all`, behind its heading.
-fn run_line<X: Threads + Wait + Sync>(
-    host: &X,
-    rt: &HostRuntime,
-    line: &str,
-) -> io::Result<()> {
+fn run_line<X: Threads + Wait + Sync>(host: &X, rt: &HostRuntime, line: &str) -> io::Result<()> {
     let words = headed(rt, line)?;
     run(host, rt, words.as_slice())
 }
