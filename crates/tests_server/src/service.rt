@@ -36,15 +36,22 @@ fn stream(bytes: Vec<u8>) -> TestStream {
     }
 }
 
-/// A session over these bytes with a node of these writers and this scanner: its end, and what it
-/// wrote.
+/// A session that has ended, and the scanner of its node, which came back.
+#[derive(Drop)]
+struct Served {
+    end: End,
+    written: Vec<u8>,
+    looks_left: u64,
+}
+
+/// A session over these bytes with a node of these writers and this scanner.
 fn serve_bytes<M: Memory, R: Wait>(
     rt: &R,
     alloc: Global,
     writers: Vec<Writer<MemDisk>>,
     scanner: Scanner,
     input: &[u8],
-) -> Result<(End, Vec<u8>), AllocError>
+) -> Result<Served, AllocError>
     requires writers { AreWriters M.table M.plan writers.items }
     requires scanner { IsOf M.table M.plan scanner }
 {
@@ -56,7 +63,11 @@ fn serve_bytes<M: Memory, R: Wait>(
     let mut reader = stream(Vec::from_slice(alloc, input)?);
     let mut writer = stream(Vec::new(alloc));
     let end = serve(rt, alloc, &mut reader, &mut writer, &mut node);
-    Ok((end, writer.bytes))
+    Ok(Served {
+        end,
+        written: writer.bytes,
+        looks_left: node.into_scanner().looks_left(),
+    })
 }
 
 /// The same with a node of this store.
@@ -65,7 +76,7 @@ fn serve_store<R: Wait>(
     alloc: Global,
     mut store: Store<MemDisk>,
     input: &[u8],
-) -> Result<(End, Vec<u8>), AllocError>
+) -> Result<Served, AllocError>
     requires { AreBack store.writers.items store.scanners.items }
 {
     let writers = mem::replace(&mut store.writers, Vec::new(alloc));
@@ -80,7 +91,7 @@ fn serve_files(
     rt: &(impl Abort + AllocGlobal + Wait),
     devices: Vec<MemDisk>,
     input: &[u8],
-) -> Result<(End, Vec<u8>), Fail> {
+) -> Result<Served, Fail> {
     let store = open(rt, devices);
     Ok(serve_store(rt, rt.alloc(), store, input)?)
 }
@@ -93,8 +104,8 @@ fn is_talk(
     end: End,
 ) -> Result<bool, Fail> {
     let (input, wanted) = halves(rt.alloc(), talk)?;
-    let (ended, written) = serve_files(rt, devices, &input)?;
-    Ok(ended == end && written == wanted)
+    let served = serve_files(rt, devices, &input)?;
+    Ok(served.end == end && served.written == wanted)
 }
 
 /// An update of segment 1 to number 1 with this many bytes.
@@ -132,6 +143,14 @@ fn vectors_in_order(rt: HostRuntime) -> Result<(), Fail> {
         ),
     ];
     assert!(rt; is_talk(&rt, new_files(rt.alloc(), 2)?, &talk, End::TooLarge)?);
+    Ok(())
+}
+
+#[test]
+fn scanner_comes_back_from_its_node(rt: HostRuntime) -> Result<(), Fail> {
+    let served = serve_files(&rt, new_files(rt.alloc(), 2)?, SCAN)?;
+    // A scan of two segments in which nothing moves makes two collects.
+    assert!(rt; served.looks_left == (1 << 50) - 4);
     Ok(())
 }
 
@@ -183,9 +202,9 @@ fn call_node(
     let (asked, fault) = call(rt.alloc(), request, Vec::new(rt.alloc()));
     assert!(rt; fault == Err(ClientFault::Ended));
     let mut input = Vec::from_slice(rt.alloc(), before)?;
-    let (_, skipped) = serve_files(rt, new_files(rt.alloc(), 2)?, before)?;
+    let skipped = serve_files(rt, new_files(rt.alloc(), 2)?, before)?.written;
     input.extend_from_slice(&asked)?;
-    let (_, written) = serve_files(rt, new_files(rt.alloc(), 2)?, &input)?;
+    let written = serve_files(rt, new_files(rt.alloc(), 2)?, &input)?.written;
     let mut replies = Vec::new(rt.alloc());
     for byte in written.iter().skip(skipped.len()) {
         replies.push(*byte)?;
