@@ -59,7 +59,7 @@ use Rattle.snap_host.specs.declared.failure.HostFailure.TheVariants.{
   Server,
 }
 
--- it ends with the number of connections that were served, or early
+-- it ends with the number of connections that were accepted, or early
 abbrev pub End : Type 0
 End = Result ℕ HostFailure
 
