@@ -10,10 +10,12 @@ import pathlib
 import select
 import socket
 import subprocess
+import threading
 import time
 
 from preload import Accepts, library
-from serving import LOG_LINE, LOOPBACK, SCAN, STATUS, Server, fresh, refused, reset, snapshot, standings, stored, to_its_end, update
+from serving import LOG_LINE, LOOPBACK, SCAN, STATUS, Server, frame, free_port, fresh, refused, reset, snapshot, standings, stored
+from serving import to_its_end, update
 from talk import CLOSED, told
 from test_serve_disks import Disk
 from test_serve_memory import NO_THREAD
@@ -301,6 +303,25 @@ def test_a_migration_looks_before_it_opens(snapd, _):
         run = subprocess.run(["sh", "-c", line, snapd.path], cwd=snapd.folder, capture_output=True, text=True)
         assert (run.returncode, run.stdout) == (1, "") and run.stderr.startswith(f"snapd: {why}"), (line, run)
         assert not snapd.file("new").exists(), line
+
+
+def test_a_call_says_what_to_do(snapd, _):
+    """Where nobody listens, where the peer closes before it has answered, and where it answers what no server does."""
+    run = snapd("call", f"127.0.0.1:{free_port()}", "scan")
+    assert run.status == 1 and run.errors.endswith(": start snapd serve there, or try again with --tries\n"), run
+    for sent, remedy in ((b"", "send it again, since an update is stored once"), (frame(b"\0"), "check the address")):
+        with socket.create_server(("127.0.0.1", 0)) as listener:
+
+            def answers():
+                with listener.accept()[0] as stream:
+                    stream.recv(100)
+                    stream.sendall(sent)
+
+            peer = threading.Thread(target=answers)
+            peer.start()
+            run = snapd("call", "127.0.0.1:{1}".format(*listener.getsockname()), "scan")
+            peer.join()
+        assert run.status == 1 and run.errors.endswith(f": {remedy}\n"), (sent, run)
 
 
 class Logged:
