@@ -90,6 +90,57 @@ def test_what_no_clause_says_has_a_test_or_says_that_it_has_none(snapd, random):
         assert ("../tests/test_unsaid.py", name) in shown, f"{name} is in no row"
 
 
+# Of these every function was gone through for the table.
+GONE_THROUGH = ("snap_server/src", "snap_host/src", "snapd/src", "snap_devices/src/file.rt")
+# Functions with no clause of their own that stand in no row, by why they don't.
+IN_NO_ROW = {
+    "its trait's clauses are its own": (
+        ("snap_devices/src/file.rt", "failures len from"), ("snap_host/src/announcing.rt", "announce"),
+        ("snap_server/src/announce.rt", "announce"), ("snap_server/src/worker.rt", "work_off"),
+    ),
+    "it puts its arguments together, or gives a part of what is there": (
+        ("snap_host/src/bind.rt", "new"), ("snap_server/src/intake.rt", "new"),
+        ("snap_server/src/room.rt", "new"), ("snap_server/src/sessions.rt", "places"), ("snap_server/src/socket.rt", "new"),
+        ("snapd/src/opening.rt", "new place"), ("snapd/src/store_log.rt", "new"),
+    ),
+    "it does nothing, or hands on": (
+        ("snap_host/src/watch.rt", "unstored"), ("snap_server/src/gate.rt", "enter leave"), ("snap_server/src/socket.rt", "flush"),
+    ),
+    "no test was seen to fail on another body: which errors of a folder's sync are none": (
+        ("snap_devices/src/file.rt", "is_not_allowed"),
+    ),
+}
+
+
+def heads(source):
+    """Each function of a file by its name, with its head: all before its body, and its contract in that."""
+    for start in re.finditer(r"^( *)(?:pub(?:\([a-z]+\))? )?fn (\w+)", source.split("#[cfg(test)]")[0], re.M):
+        head = []
+        for line in source[start.start() :].splitlines():
+            head.append(line)
+            is_signature = not re.match(r" *(requires|ensures)\b", line) and line.count("(") <= line.count(")")
+            if line == start[1] + "{" or (is_signature and line.endswith(("{", "{}", ";"))):
+                break
+        yield start[2], "\n".join(head)
+
+
+def test_each_function_without_a_clause_is_in_a_row(snapd, random):
+    crates = TOP / "crates"
+    files = [file for it in GONE_THROUGH for file in ([crates / it] if it.endswith(".rt") else sorted((crates / it).rglob("*.rt")))]
+    told = {(target.removeprefix("../crates/"), name) for row in unsaid() for name, target, _ in named_in(row[1])}
+    excepted = {(file, name) for entries in IN_NO_ROW.values() for file, names in entries for name in names.split()}
+    silent = {
+        (str(file.relative_to(crates)), name)
+        for file in files
+        for name, head in heads(file.read_text())
+        # What ends so is declared, in a trait.
+        if "ensures" not in head and not head.endswith(";")
+    }
+    assert len(silent) > 80, len(silent)
+    assert not silent - told - excepted, f"no clause says what they do, and no row: {sorted(silent - told - excepted)}"
+    assert not excepted - silent | excepted & told, f"they needn't be excepted: {sorted(excepted - silent | excepted & told)}"
+
+
 # ---- the tables of docs/ARCHITECTURE.md ----
 
 ARCHITECTURE = TOP / "docs" / "ARCHITECTURE.md"

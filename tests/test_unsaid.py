@@ -7,12 +7,15 @@ import fcntl
 import itertools
 import os
 import pathlib
+import select
 import socket
 import subprocess
+import threading
 import time
 
 from preload import Accepts, library
-from serving import LOG_LINE, LOOPBACK, SCAN, STATUS, Server, fresh, reset, snapshot, standings, stored, to_its_end, update
+from serving import LOG_LINE, LOOPBACK, SCAN, STATUS, Server, frame, free_port, fresh, refused, reset, snapshot, standings, stored
+from serving import to_its_end, update
 from talk import CLOSED, told
 from test_serve_disks import Disk
 from test_serve_memory import NO_THREAD
@@ -20,7 +23,6 @@ from test_serve_sockets import REFUSED, Sockets
 from waiting import comes_to, wait_until
 
 EMPTY = snapshot((0, b""))
-
 
 # How often each thread is looked at, and in how many looks one has to be found asleep that waits.
 LOOKS, MOST = 50, 40
@@ -131,23 +133,38 @@ def test_how_connections_are_let_go_is_noted(snapd, _):
         comes_to({name_of(idle): "let go of: the server stops"}, lambda: ends_of(server))
 
 
+def has_ended(stream):
+    """Whether nothing more will come, of a stream of which nothing has come."""
+    ready, _, _ = select.select([stream], [], [], 0)
+    return bool(ready) and stream.recv(1, socket.MSG_PEEK) == b""
+
+
 def test_who_talks_is_not_let_go_of(snapd, _):
-    """Nor who waits for its update. Beside them one is let go of that says nothing, and one that began a request and says no more."""
-    disk = Disk(snapd)
-    with Server(snapd, *fresh(snapd, 1), scanners=1, env=disk.env, more=("--idle", 2)) as server, contextlib.ExitStack() as peers:
-        disk.says("S0 sync hold 0")
-        waits, quiet, begun, *talking = (peers.enter_context(server.connect()) for _ in range(5))
-        waits.sendall(update(0, 1, b"a"))
+    """Nor who waits for its update, whether it says something meanwhile or not. Beside them one is let go of that says nothing, not
+    before its time, and one that began a request and says no more."""
+    disk, may, ended = Disk(snapd), 3, []
+    with Server(snapd, *fresh(snapd, 2), scanners=1, env=disk.env, more=("--idle", may)) as server, contextlib.ExitStack() as peers:
+        disk.says("S0 sync hold 0", "S1 sync hold 0")
+        began = time.monotonic()
+        quiet, begun, waits, asks, *talking = (peers.enter_context(server.connect()) for _ in range(6))
         begun.sendall(SCAN[:3])
+        waits.sendall(update(0, 1, b"a"))
+        asks.sendall(update(1, 1, b"a"))
         disk.wait_for_hold()
-        # For twice as long as one may be silent, with rests that are far shorter. They talk in turn, so that the worker looks at one
-        # while it is the other one's turn.
-        for turn in range(80):
-            assert told(talking[turn % 2], SCAN) == EMPTY
+        # For twice as long as one may be silent, with rests that are far shorter. Behind each the worker is woken by the one's request:
+        # then it looks around, and finds the other one silent, which talks next.
+        for turn in range(150):
             time.sleep(0.05)
+            for stream in talking:
+                assert told(stream, SCAN) == snapshot((0, b""), (0, b""))
+            if turn == 1:
+                asks.sendall(STATUS)
+            if not ended and has_ended(quiet):
+                ended.append(time.monotonic() - began)
         assert to_its_end(quiet) == b"" and to_its_end(begun) == b""
+        assert not ended or ended[0] >= may, ended
         disk.says()
-        assert told(waits) == stored(1)
+        assert [told(waits), told(asks), told(asks)[4]] == [stored(1), stored(1), 0x83]
 
 
 def test_who_came_is_served_to_its_own_end(snapd, _):
@@ -259,6 +276,52 @@ def test_each_number_of_a_name_is_tried(snapd, _):
 def made(snapd):
     snapd.file("other").mkdir()
     return "other"
+
+
+def test_a_path_that_cannot_be_asked_takes_no_update(snapd, _):
+    """Its folder is replaced by a link to itself, so the system can't tell what the path names: that is no reason to store."""
+    folder, link = snapd.file("folder"), snapd.file("link")
+    folder.mkdir()
+    fresh(snapd, 1, folder="folder")
+    link.symlink_to("folder")
+    with Server(snapd, "link/S0") as server:
+        server.ask(update(0, 1, b"a"), stored(1))
+        link.unlink()
+        link.symlink_to("link")
+        server.ask(update(0, 2, b"b"), refused(13, 1))
+        comes_to(1, lambda: len(server.logged("ERROR", "store")))
+        (line,) = server.logged("ERROR", "store")
+        assert line.endswith(": sync: Too many levels of symbolic links (os error 40)"), line
+
+
+def test_a_migration_looks_before_it_opens(snapd, _):
+    """At the standard streams, and at the limit on the length of files. It makes no file where one is in the way."""
+    words = 'exec "$0" migrate missing new --index 0 --count 1'
+    limit = "files may have 5120 bytes here, and a segment file has 28672: raise the limit (ulimit -f)"
+    for line, why in ((f"{words} <&-", "standard input: Bad file descriptor"), (f"{words} >&-", "standard output: Bad file descriptor"),
+                      (f"ulimit -f 10 && {words}", limit)):
+        run = subprocess.run(["sh", "-c", line, snapd.path], cwd=snapd.folder, capture_output=True, text=True)
+        assert (run.returncode, run.stdout) == (1, "") and run.stderr.startswith(f"snapd: {why}"), (line, run)
+        assert not snapd.file("new").exists(), line
+
+
+def test_a_call_says_what_to_do(snapd, _):
+    """Where nobody listens, where the peer closes before it has answered, and where it answers what no server does."""
+    run = snapd("call", f"127.0.0.1:{free_port()}", "scan")
+    assert run.status == 1 and run.errors.endswith(": start snapd serve there, or try again with --tries\n"), run
+    for sent, remedy in ((b"", "send it again, since an update is stored once"), (frame(b"\0"), "check the address")):
+        with socket.create_server(("127.0.0.1", 0)) as listener:
+
+            def answers():
+                with listener.accept()[0] as stream:
+                    stream.recv(100)
+                    stream.sendall(sent)
+
+            peer = threading.Thread(target=answers)
+            peer.start()
+            run = snapd("call", "127.0.0.1:{1}".format(*listener.getsockname()), "scan")
+            peer.join()
+        assert run.status == 1 and run.errors.endswith(f": {remedy}\n"), (sent, run)
 
 
 class Logged:
