@@ -17,7 +17,7 @@ import time
 # The network between the hosts. The clients beside them have its first address, and whoever serves the last one.
 CLIENTS, FLOATING = "10.77.0.100", "10.77.0.10"
 # How long a command may take on a machine that has other work, in seconds.
-PATIENCE = 120
+PATIENCE = 300
 # The first process of a host: it only waits, and buries what others leave.
 INIT = "while :; do sleep 3600 & wait; done"
 # What `ioctl` calls the end of an ext4 file system without a last word to its disk.
