@@ -151,6 +151,7 @@ class Cluster:
         self.scanners = [Scanner(*place) for _ in range(3)]
         self.onlookers = Onlookers(self.writers + self.scanners, self.job)
         self.onlookers.start()
+        self.wait("an update", lambda: self.record.acknowledged.get("outside"))
 
     def end(self):
         self.onlookers.stop()

@@ -187,6 +187,7 @@ def judge_witnesses(cluster, figures, holder, rival, began):
 
 def every(cluster, figures):
     """All processes of all hosts are killed, host by host within a moment, and what their disks had not synced is lost."""
+    cluster.rest(1.5, 0.2)
     began = time.monotonic()
     for host in cluster.hosts:
         host.kill()
@@ -202,7 +203,6 @@ def every(cluster, figures):
     goes_on(cluster, cluster.listened(booted)[0])
     figures.took("updates stood still", stood_still(cluster, began))
     cluster.wait("the copies", cluster.is_healed)
-    cluster.rest(1.5, 0.2)
 
 
 KINDS = {"brick": brick, "server": server, "cut": cut, "all": every}
