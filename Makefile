@@ -1,7 +1,7 @@
 # Two commands for a stranger: `make demo` builds the program and runs its first job, `make test` runs every test.
 # They want the kit (`rt` on the PATH), python3 and gcc.
 
-.PHONY: build programs demo test test-all edits new-edits tests bench clean
+.PHONY: build programs demo test test-all edits new-edits tests bench replicated clean
 
 # The program is proved before it is built, with all that it stands on, on as many processors as there are. What this machine has
 # proved before is taken from its store, with FRESH=1 nothing.
@@ -38,6 +38,11 @@ tests: programs
 bench: programs
 	python3 bench/run.py
 	python3 bench/server.py
+
+# Fails hosts under a server whose files have three copies, 50 times in each of four ways, for half an hour. It wants bin/snapd, root,
+# FUSE and some packages of Debian's, says so in one line where something is missing, and is no part of `make test`.
+replicated:
+	python3 bench/replicated.py
 
 clean:
 	rm -rf bin out crates/*/out

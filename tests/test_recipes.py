@@ -1,4 +1,5 @@
-"""Every listing of docs/RECIPES.md, run as it stands there: on real files, with kills of the jobs and of the server."""
+"""Every listing of docs/RECIPES.md, run as it stands there: on real files, with kills of the jobs and of the server. Those of its
+chapter on three hosts are run by bench/replicated.py, which wants root."""
 
 import functools
 import json
@@ -29,7 +30,8 @@ LISTINGS = {
 
 
 def test_every_listing_is_known(_, __):
-    assert sorted(LISTINGS) == ["board.py", "checkpoint.py", "launch.sh", "lease.py", "snapd.service", "start.sh"]
+    hosts = ["files.sh", "fstab", "snapd-takeover.service", "takeover.py", "volume.sh"]
+    assert sorted(LISTINGS) == sorted([*hosts, "board.py", "checkpoint.py", "launch.sh", "lease.py", "snapd.service", "start.sh"])
     assert len(re.findall(r"^```\w+$", RECIPES, re.M)) == len(LISTINGS)
 
 
