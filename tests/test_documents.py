@@ -91,20 +91,20 @@ def test_what_no_clause_says_has_a_test_or_says_that_it_has_none(snapd, random):
 
 
 # Of these every function was gone through for the table.
-GONE_THROUGH = ("snap_server/src", "snap_host/src", "snapd/src", "snap_devices/src/file.rt")
+GONE_THROUGH = ("snap_server/src", "snap_serve/src", "snapd/src", "snap_devices/src/file.rt")
 # Functions with no clause of their own that stand in no row, by why they don't.
 IN_NO_ROW = {
     "its trait's clauses are its own": (
-        ("snap_devices/src/file.rt", "failures len from"), ("snap_host/src/announcing.rt", "announce"),
+        ("snap_devices/src/file.rt", "failures len from"), ("snap_serve/src/announcement.rt", "announce"),
         ("snap_server/src/announce.rt", "announce"), ("snap_server/src/worker.rt", "work_off"),
     ),
     "it puts its arguments together, or gives a part of what is there": (
-        ("snap_host/src/bind.rt", "new"), ("snap_server/src/intake.rt", "new"),
+        ("snap_serve/src/bind.rt", "new"), ("snap_server/src/intake.rt", "new"),
         ("snap_server/src/room.rt", "new"), ("snap_server/src/sessions.rt", "places"), ("snap_server/src/socket.rt", "new"),
-        ("snapd/src/opening.rt", "new place"), ("snapd/src/store_log.rt", "new"),
+        ("snapd/src/files.rt", "new place"), ("snapd/src/store_log.rt", "new"),
     ),
     "it does nothing, or hands on": (
-        ("snap_host/src/watch.rt", "unstored"), ("snap_server/src/gate.rt", "enter leave"), ("snap_server/src/socket.rt", "flush"),
+        ("snap_serve/src/watch.rt", "unstored"), ("snap_server/src/gate.rt", "enter leave"), ("snap_server/src/socket.rt", "flush"),
     ),
     "no test was seen to fail on another body: which errors of a folder's sync are none": (
         ("snap_devices/src/file.rt", "is_not_allowed"),

@@ -1,7 +1,7 @@
 -- What the writing thread tells of lost lines.
 use Rattle.std.specs.Prelude.{◌≡◌, ◌-◌, ◌<◌, ◌⊎◌, ℕ, List, Option}
 use Rattle.std.specs.Io.KnownBytes.{Appends}
-use Rattle.snap_log.specs.declared.writing.Progress.{Progress}
+use Rattle.snap_log.specs.declared.output.Progress.{Progress}
 use Rattle.snap_log.specs.Line.{lost_line, on_its_own}
 
 -- It told of no more lines than before; or more were lost than it had told of, and standard error got

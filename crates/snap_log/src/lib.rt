@@ -20,11 +20,11 @@ mod destination;
 mod line;
 mod lines;
 mod message;
+mod output;
 mod stamp;
 #[cfg(test)]
 mod tests;
-mod writing;
 
 pub use destination::Destination;
 pub use lines::{Lines, Waiting};
-pub use writing::write_lines;
+pub use output::write_lines;

@@ -6,4 +6,4 @@ pub mod Script
 pub mod Player
 pub mod Progress
 pub mod Intake
-pub mod Playing
+pub mod Ends

@@ -14,18 +14,18 @@
 //! each line is made in one list, which is kept.
 #![tactic(auto)]
 
+mod command;
 mod fault;
 mod intake;
 mod line;
 mod player;
-mod playing;
 mod print;
 mod progress;
 mod run;
 mod verb;
 mod words;
 
+pub use command::play;
 pub use fault::LineFault;
-pub use playing::play;
 pub use run::{MAX_LINE, ScriptEnd, script};
 pub use verb::Verb;

@@ -1,35 +1,35 @@
 //! The program `snapd`, which keeps one value in each of its files, safe from crashes.
 //!
-//! `snap_words` reads the words. `snap_command` does what they ask for with files, `snap_host` as a
-//! server, `snap_ask` of a server and `snap_script` on a world, over any device, reader, writer,
-//! listener and connection. What is here only ties them to the system: its words, files, sockets,
-//! threads and standard streams, of which the last gets a server's log too (`snap_log`).
+//! `snap_args` reads the words. `snap_file_commands` does what they ask for with files, `snap_serve`
+//! as a server, `snap_call` of a server and `snap_script` on a world, over any device, reader,
+//! writer, listener and connection. What is here only ties them to the system: its words, files,
+//! sockets, threads and standard streams, of which the last gets a server's log too (`snap_log`).
 #![tactic(auto)]
 
 ghost use Rattle.snap_order.specs.Order.{IsCallable, IsFileWithinLimits, IsPlace};
 ghost use Rattle.snap_order.specs.Order.{IsServable, IsWithinLimits};
 
-mod calling;
-mod opening;
-mod serving;
+mod call_command;
+mod files;
+mod serve_command;
 mod store_log;
 
-use calling::call;
-use opening::{
+use call_command::call;
+use files::{
     FirstFault, PairFault, check_streams, first_faults, open_file, open_pair, too_short_files,
     writes,
 };
-use serving::{FilesFault, open_files, serve};
-use snap_command::{Causes, Failure, MigrationFailure, act, act_pair};
+use serve_command::{FilesFault, open_files, serve};
+use snap_args::{WordFault, lack_of, order};
 use snap_devices::FileFault;
 use snap_disk::Refusal;
+use snap_file_commands::{Causes, CommandFailure, MigrationFailure, act, act_pair};
 use snap_log::Destination;
 use snap_order::{Calling, FileOrder, Migration, Order, Serving, Status};
 use snap_script::play;
 use snap_server::ServerFault;
 use snap_slot::FILE_LEN;
 use snap_stream::complain;
-use snap_words::{WordFault, lack_of, order};
 use std::env;
 use std::io::{BufWriter, ErrorKind};
 use std::net::Net;
@@ -81,9 +81,9 @@ fn explain(rt: &HostRuntime, fault: &WordFault) -> Status {
     match fault {
         WordFault::Help(text) => match rt.print(text) {
             Ok(()) => Status::Done,
-            Err(error) => stop(rt, &Failure::Output(error)),
+            Err(error) => stop(rt, &CommandFailure::Output(error)),
         },
-        WordFault::Memory => stop(rt, &Failure::Refused(Refusal::NoMemory)),
+        WordFault::Memory => stop(rt, &CommandFailure::Refused(Refusal::NoMemory)),
         _ => {
             let _ = match fault.to_string(rt.alloc()) {
                 // Some texts have a line feed of their own.
@@ -106,7 +106,7 @@ fn run<'a>(rt: &'a HostRuntime, order: &FileOrder<'a>) -> Status
     let disk = match open_file(rt, order, order.file(), &told) {
         Ok(disk) => disk,
         Err(FileFault::WrongFile { len }) => {
-            let refused = Failure::Refused(Refusal::WrongFile);
+            let refused = CommandFailure::Refused(Refusal::WrongFile);
             let mut errors = rt.stderr();
             return refused
                 .report_of(rt.alloc(), order, len, &told, &mut errors)
@@ -180,13 +180,13 @@ fn run_server<'a, X: Threads + Wait + Clock + Net + Sync + Send + Copy>(
         return Status::Failed;
     }
     let Ok(told) = first_faults(rt.alloc(), order.files.len()) else {
-        return stop(rt, &Failure::Refused(Refusal::NoMemory));
+        return stop(rt, &CommandFailure::Refused(Refusal::NoMemory));
     };
     let devices = match open_files(rt, rt.alloc(), &order.files, &told) {
         Ok(devices) => devices,
         Err(FilesFault::Path { file, fault }) => return fail_at(rt, file, &fault),
         Err(FilesFault::SameFile { first, second }) => return fail_twice(rt, first, second),
-        Err(FilesFault::NoMemory) => return stop(rt, &Failure::Refused(Refusal::NoMemory)),
+        Err(FilesFault::NoMemory) => return stop(rt, &CommandFailure::Refused(Refusal::NoMemory)),
     };
     let served = serve(
         threads,
@@ -201,7 +201,7 @@ fn run_server<'a, X: Threads + Wait + Clock + Net + Sync + Send + Copy>(
     );
     match served {
         Ok(ended) => ended.status,
-        Err(ServerFault::NoMemory) => stop(rt, &Failure::Refused(Refusal::NoMemory)),
+        Err(ServerFault::NoMemory) => stop(rt, &CommandFailure::Refused(Refusal::NoMemory)),
         Err(fault) => {
             let _ = complain(rt.alloc(), &mut rt.stderr(), &fault);
             Status::Failed
@@ -284,11 +284,11 @@ fn play_script<X: Wait>(waiting: &X, rt: &HostRuntime) -> Status {
             let (mut reader, mut errors) = (rt.stdin(), rt.stderr());
             play(waiting, rt.alloc(), &mut reader, &mut writer, &mut errors).status
         }
-        Err(_) => stop(rt, &Failure::Refused(Refusal::NoMemory)),
+        Err(_) => stop(rt, &CommandFailure::Refused(Refusal::NoMemory)),
     }
 }
 
 /// Says why the program stops.
-fn stop(rt: &HostRuntime, failure: &Failure) -> Status {
+fn stop(rt: &HostRuntime, failure: &CommandFailure) -> Status {
     failure.report(rt.alloc(), &mut rt.stderr()).status
 }

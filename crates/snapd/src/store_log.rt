@@ -1,9 +1,9 @@
 //! The log of updates that could not be stored.
 
-use crate::opening::FirstFault;
+use crate::files::FirstFault;
 use log::error;
-use snap_host::Watch;
 use snap_log::Lines;
+use snap_serve::Watch;
 use std::rt::Clock;
 use std::sync::Wait;
 

@@ -4,7 +4,7 @@ ghost use Rattle.snap_frame.specs.Messages.{max_payload, payload};
 ghost use Rattle.snap_order.specs.Order.{request_of};
 
 use bytes::Bytes;
-use snap_ask::ask;
+use snap_call::ask;
 use snap_client::MAX_TRIES;
 use snap_frame::Request;
 use snap_order::{Calling, Question, Status};

@@ -4,9 +4,9 @@ ghost use Rattle.snap_order.specs.Order.{IsFileWithinLimits};
 
 mod migrations;
 
-use snap_command::{Failure, act};
 use snap_devices::{FaultPlan, MemDisk};
 use snap_disk::{Disk, Fill, Refusal};
+use snap_file_commands::{CommandFailure, act};
 use snap_order::{FileOrder, Status};
 use snap_segment::OLD_FILE_LEN;
 use snap_slot::FILE_LEN;
@@ -405,7 +405,7 @@ fn want_of_memory_leaves_the_first_line(rt: HostRuntime) -> Result<(), Fail> {
     let order = order_of(Command::Get);
     let mut errors = failing(Vec::with_capacity(rt.alloc(), 200)?, 200);
     errors.step = 200;
-    let why = Failure::Refused(Refusal::Unformatted);
+    let why = CommandFailure::Refused(Refusal::Unformatted);
     let ended = why.report_of(rt.alloc(), &order, FILE_LEN, &Unknown, &mut errors);
     assert!(rt; ended.status == Status::Refused);
     let told = if ended.is_told {

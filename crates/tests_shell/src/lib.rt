@@ -1,5 +1,5 @@
-//! The tests of what the program is asked and says: of `snap_words`, `snap_ask`, `snap_command`,
-//! `snap_script` and `snap_host`, by their public items alone. The tests of a room of the building
+//! The tests of what the program is asked and says: of `snap_args`, `snap_call`, `snap_file_commands`,
+//! `snap_script` and `snap_serve`, by their public items alone. The tests of a room of the building
 //! stand in one crate of their own: a crate with tests is proved twice, and each crate of tests pays
 //! a start-up of its own.
 #![tactic(auto)]

@@ -2,8 +2,8 @@
 mod address;
 mod server;
 
+use snap_args::{WordFault, order};
 use snap_order::{FileOrder, Migration, Order};
-use snap_words::{WordFault, order};
 use std::alloc::Global;
 use std::test::Fail;
 

@@ -1,8 +1,8 @@
 //! Migrations over devices in memory.
 use super::{Command, LEN, OLD_LEN, Said, does, done, failing, says};
-use snap_command::{Causes, act_pair};
 use snap_devices::{FaultPlan, MemDisk};
 use snap_disk::{Disk, Fill};
+use snap_file_commands::{Causes, act_pair};
 use snap_order::{Migration, Status};
 use std::io::Write;
 use std::process::Abort;

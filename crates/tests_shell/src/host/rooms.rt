@@ -3,9 +3,9 @@ ghost use Rattle.std.specs.Prelude.{◌≡◌};
 
 use snap_devices::{Held, MemDisk};
 use snap_disk::Disk;
-use snap_host::{Bind, Edge, NoWatch, host};
 use snap_order::{Level, Serving, Status};
 use snap_segment::format;
+use snap_serve::{Bind, Edge, NoWatch, host};
 use snap_server::{Arrival, Gate, Listen, Locate, Note, Tcp, Unaccepted};
 use snap_slot::FILE_LEN;
 use snap_stream::Unknown;

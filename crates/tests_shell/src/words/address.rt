@@ -1,5 +1,5 @@
 //! What addresses lack, and which stand for all of a machine's.
-use snap_words::{Lack, is_everywhere, lack_of};
+use snap_args::{Lack, is_everywhere, lack_of};
 use std::alloc::Global;
 
 const ADDRESSES: [(&str, Option<Lack>); 24] = [

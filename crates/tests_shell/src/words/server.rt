@@ -1,9 +1,9 @@
 //! The words of `serve` and `call`.
 use super::{fault, is_helped, is_wrong};
 use bytes::Bytes;
+use snap_args::order;
 use snap_frame::Request;
 use snap_order::{Level, Order, Question};
-use snap_words::order;
 use std::alloc::{AllocError, Global};
 use std::test::Fail;
 

@@ -1,0 +1,7 @@
+use Rattle.snap_args.proofs.grammar.call_command.Goals as goal
+
+pub returns : goal.returns
+returns c = c.with_arg.ensures _ _
+    (c.with_arg-command.ensures _ _ c.addressed_command-command.ensures
+    c.required_words.ensures.rule)
+    c.number_option.ensures.rule

@@ -1,0 +1,193 @@
+-- Which order and which fault goes with the words of a command.
+use Rattle.std.specs.Prelude.{
+  ◌≡◌,
+  ◌≢◌,
+  ◌⊎◌,
+  ◌<◌,
+  List,
+  length,
+  Option,
+  Some,
+  None,
+  codes,
+}
+use Rattle.snap_history.specs.declared.limits.TheConstants.{MAX_COUNT}
+use Rattle.clap.specs.Words.{IsAmong, Row, Text, fault_of, kind_of, subcommand_of}
+use Rattle.clap.specs.declared.error.Error.{Error}
+use Rattle.clap.specs.declared.error.kind.ErrorKind.{ErrorKind}
+use Rattle.clap.specs.declared.error.kind.ErrorKind.TheVariants.{
+  DisplayHelp,
+  DisplayVersion,
+  OutOfMemory,
+}
+use Rattle.snap_order.specs.declared.order.Order.{Order}
+use Rattle.snap_order.specs.declared.order.Order.TheVariants as order
+use Rattle.snap_order.specs.declared.order.FileOrder.{FileOrder}
+use Rattle.snap_order.specs.declared.order.FileOrder.TheVariants.{Format, Put, Get, Check}
+use Rattle.snap_order.specs.declared.order.Serving.{Serving}
+use Rattle.snap_args.specs.Grammar.{grammar_of}
+use Rattle.snap_args.specs.Numbers.{
+  IsClientsFault,
+  IsConnectionsFault,
+  IsIdleFault,
+  IsLargeNumberOf,
+  IsLevelFault,
+  IsNoNumber,
+  IsNumberOf,
+  IsPlaceFault,
+  IsScannersFault,
+  IsTriesFault,
+}
+use Rattle.snap_args.specs.Requests.{IsNoRequest, IsRequestFault}
+use Rattle.snap_args.specs.Words.{word_of, words_of}
+use Rattle.snap_args.specs.declared.fault.WordFault.{WordFault}
+use Rattle.snap_args.specs.declared.fault.WordFault.TheVariants as fault
+
+-- what is wrong with this word for a path: there is none
+abbrev pub IsPathFault : Option Text → Text → WordFault → Type 0
+IsPathFault word what (fault.Missing name) = (name.now ≡ what) × (word ≡ None)
+IsPathFault word what why = ⊥
+
+-- what is wrong with the words of a migration
+abbrev pub IsMigrationFault : (of : Text → Option Text) → WordFault → Type 0
+IsMigrationFault of why = IsPlaceFault (of (codes "index")) (of (codes "count")) why
+    ⊎ (IsPathFault (of (codes "old")) (codes "old") why
+    ⊎ IsPathFault (of (codes "new")) (codes "new") why)
+
+-- what is wrong with these words for files: there are none, or more than a server may have
+abbrev pub IsFilesFault : List Text → WordFault → Type 0
+IsFilesFault files (fault.Files n) = (length files ≡ n) × ((n ≡ 0) ⊎ (MAX_COUNT < n))
+IsFilesFault files fault.Memory = Unit {0}
+IsFilesFault files why = ⊥
+
+-- what is wrong with the words for what a server is to let in and to log
+abbrev pub IsLimitsFault : (of : Text → Option Text) → WordFault → Type 0
+IsLimitsFault of why = IsClientsFault (of (codes "clients-max")) why
+    ⊎ (IsIdleFault (of (codes "idle")) why ⊎ IsLevelFault (of (codes "log")) why)
+
+-- what is wrong with the words of a server
+abbrev pub IsServingFault : (of : Text → Option Text) (all : Text → List Text) → WordFault → Type 0
+IsServingFault of all why = IsPathFault (of (codes "address")) (codes "address") why
+    ⊎ (IsFilesFault (all (codes "files")) why ⊎ (IsScannersFault (of (codes "scanners")) why
+    ⊎ (IsConnectionsFault (of (codes "connections")) why ⊎ IsLimitsFault of why)))
+
+-- what is wrong with the words of a call
+abbrev pub IsCallingFault : (of : Text → Option Text) (all : Text → List Text) → WordFault → Type 0
+IsCallingFault of all why = IsPathFault (of (codes "address")) (codes "address") why
+    ⊎ (IsTriesFault (of (codes "tries")) why ⊎ IsRequestFault (all (codes "request")) why)
+
+-- the kinds of what is asked for in place of an order
+abbrev pub IsRequest : ErrorKind → Type 0
+IsRequest kind = (kind ≡ DisplayHelp) ⊎ (kind ≡ DisplayVersion)
+
+-- what a parse that failed is taken for
+abbrev pub IsParseFault : Error → WordFault → Type 0
+IsParseFault error (fault.Help e) = (e ≡ error) × IsRequest (kind_of error)
+IsParseFault error (fault.Words e) =
+    (e ≡ error) × (IsRequest (kind_of error) → ⊥) × (kind_of error ≡ OutOfMemory → ⊥)
+IsParseFault error fault.Memory = kind_of error ≡ OutOfMemory
+IsParseFault error why = ⊥
+
+abbrev pub IsCommandName : Text → Type 0
+IsCommandName name =
+    (name ≡ codes "format") ⊎ ((name ≡ codes "put") ⊎ ((name ≡ codes "get")
+    ⊎ ((name ≡ codes "check") ⊎ ((name ≡ codes "migrate") ⊎ ((name ≡ codes "serve")
+    ⊎ ((name ≡ codes "call") ⊎ (name ≡ codes "script")))))))
+
+-- the words for files that the command takes
+abbrev pub HasFile : Text → Text → Type 0
+HasFile command what = ((command ≡ codes "migrate") × ((what ≡ codes "old") ⊎ (what ≡ codes "new")))
+    ⊎ ((command ≢ codes "migrate") × (what ≡ codes "file"))
+
+-- the command, which is about one segment, takes this word behind its name
+abbrev pub HasSegmentWord : Text → Text → Type 0
+HasSegmentWord command what = (command ≢ codes "script") × (command ≢ codes "serve")
+    × (command ≢ codes "call") × (HasFile command what
+    ⊎ ((command ≢ codes "check") × ((what ≡ codes "index") ⊎ (what ≡ codes "count"))))
+
+-- the command takes this word behind its name
+abbrev pub HasWord : Text → Text → Type 0
+HasWord command what =
+    ((command ≡ codes "serve") × ((what ≡ codes "address") ⊎ (what ≡ codes "scanners")))
+    ⊎ (((command ≡ codes "call") × ((what ≡ codes "address") ⊎ (what ≡ codes "tries")))
+    ⊎ HasSegmentWord command what)
+
+-- the command takes this word, and none was found
+abbrev pub IsMissing : List Text → Text → Type 0
+IsMissing words what = (command : Text) × (rows : List Row)
+    × (subcommand_of grammar_of words ≡ Some (command, rows)) × HasWord command what
+    × (word_of words what ≡ None)
+
+-- What is wrong with the words: what the grammar answers in place of a command, and of a command's
+-- place what is wrong with it.
+abbrev pub IsFaultOf : List Text → WordFault → Type 0
+IsFaultOf words (fault.Help error) = IsAmong (kind_of error) (fault_of grammar_of words)
+    × IsRequest (kind_of error)
+IsFaultOf words (fault.Words error) =
+    IsAmong (kind_of error) (fault_of grammar_of words) × (IsRequest (kind_of error) → ⊥)
+IsFaultOf words (fault.Count n) =
+    IsPlaceFault (word_of words (codes "index")) (word_of words (codes "count")) (fault.Count n)
+IsFaultOf words (fault.Index i n) =
+    IsPlaceFault (word_of words (codes "index")) (word_of words (codes "count")) (fault.Index i n)
+IsFaultOf words (fault.Files n) = IsFilesFault (words_of words (codes "files")) (fault.Files n)
+IsFaultOf words (fault.Scanners n) =
+    IsScannersFault (word_of words (codes "scanners")) (fault.Scanners n)
+IsFaultOf words fault.Connections =
+    IsConnectionsFault (word_of words (codes "connections")) fault.Connections
+IsFaultOf words fault.Clients =
+    IsClientsFault (word_of words (codes "clients-max")) fault.Clients
+IsFaultOf words fault.Idle = IsIdleFault (word_of words (codes "idle")) fault.Idle
+IsFaultOf words fault.Level = IsLevelFault (word_of words (codes "log")) fault.Level
+IsFaultOf words (fault.Tries n) = IsTriesFault (word_of words (codes "tries")) (fault.Tries n)
+IsFaultOf words (fault.Request why) = IsNoRequest (words_of words (codes "request")) why
+IsFaultOf words (fault.Number name) = IsNoNumber (word_of words name.now)
+IsFaultOf words (fault.Missing name) = IsMissing words name.now
+IsFaultOf words fault.NoCommand =
+    (name : Text) (rows : List Row) → subcommand_of grammar_of words ≡ Some (name, rows)
+    → IsCommandName name → ⊥
+IsFaultOf words fault.NotText = ⊥
+IsFaultOf words fault.Memory = Unit {0}
+
+-- a fault that words of the grammar may have: their numbers are outside the limits, or memory is
+-- wanting
+abbrev pub IsLaterFault : WordFault → Type 0
+IsLaterFault (fault.Count count) = Unit {0}
+IsLaterFault (fault.Index index count) = Unit {0}
+IsLaterFault (fault.Files count) = Unit {0}
+IsLaterFault (fault.Scanners scanners) = Unit {0}
+IsLaterFault fault.Connections = Unit {0}
+IsLaterFault fault.Clients = Unit {0}
+IsLaterFault fault.Idle = Unit {0}
+IsLaterFault fault.Level = Unit {0}
+IsLaterFault (fault.Tries tries) = Unit {0}
+IsLaterFault (fault.Request why) = Unit {0}
+IsLaterFault (fault.Number what) = Unit {0}
+IsLaterFault (fault.Missing what) = Unit {0}
+IsLaterFault fault.NoCommand = Unit {0}
+IsLaterFault fault.Memory = Unit {0}
+IsLaterFault why = ⊥
+
+-- an index and a count are those of their words
+abbrev pub AreFileNumbersOf : List Text → FileOrder → Type 0
+AreFileNumbersOf words (Format file i n) = IsNumberOf (word_of words (codes "index")) i
+    × IsNumberOf (word_of words (codes "count")) n
+AreFileNumbersOf words (Put file i n) = IsNumberOf (word_of words (codes "index")) i
+    × IsNumberOf (word_of words (codes "count")) n
+AreFileNumbersOf words (Get file i n) = IsNumberOf (word_of words (codes "index")) i
+    × IsNumberOf (word_of words (codes "count")) n
+AreFileNumbersOf words (Check file) = Unit {0}
+
+-- the numbers of a server are those of their words
+pub record AreServingNumbersOf (words : List Text) (s : Serving) : Type 0 where
+  pub scanners : IsNumberOf (word_of words (codes "scanners")) s.scanners
+  pub connections : IsLargeNumberOf (word_of words (codes "connections")) s.connections
+  pub clients : IsLargeNumberOf (word_of words (codes "clients-max")) s.clients
+  pub idle : IsLargeNumberOf (word_of words (codes "idle")) s.idle
+
+abbrev pub AreNumbersOf : List Text → Order → Type 0
+AreNumbersOf words (order.File o) = AreFileNumbersOf words o
+AreNumbersOf words (order.Migrate m) = IsNumberOf (word_of words (codes "index")) m.index
+    × IsNumberOf (word_of words (codes "count")) m.count
+AreNumbersOf words (order.Serve s) = AreServingNumbersOf words s
+AreNumbersOf words (order.Call c) = IsNumberOf (word_of words (codes "tries")) c.tries
+AreNumbersOf words order.Script = Unit {0}

@@ -1,0 +1,113 @@
+-- The numbers among the words of a command, and what is wrong with them.
+use Rattle.std.specs.Prelude.{
+  ◌≡◌,
+  ◌≢◌,
+  ◌⊎◌,
+  ℕ,
+  ◌<◌,
+  ◌≤◌,
+  ◌^◌,
+  Option,
+  Some,
+  None,
+  codes,
+}
+use Rattle.std.specs.Str.Parse.{IsNumeral, digits_value, without_leading_plus}
+use Rattle.clap.specs.Words.{Text}
+use Rattle.snap_history.specs.declared.limits.TheConstants.{MAX_COUNT}
+use Rattle.snap_history.specs.declared.limits.TheConstants.{MAX_SCANNERS}
+use Rattle.snap_client.specs.declared.again.TheConstants.{MAX_TRIES}
+use Rattle.snap_order.specs.Order.{IsOneTo}
+use Rattle.snap_order.specs.declared.order.Level.{Level}
+use Rattle.snap_order.specs.declared.order.Level.TheVariants as level
+use Rattle.snap_order.specs.declared.order.TheConstants.{MAX_CLIENTS, MAX_IDLE}
+use Rattle.snap_args.specs.declared.fault.WordFault.{WordFault}
+use Rattle.snap_args.specs.declared.fault.WordFault.TheVariants as fault
+
+-- the word is a decimal number, with or without a plus sign, and n is its value
+abbrev pub IsNumberOf : Option Text → ℕ → Type 0
+IsNumberOf None n = ⊥
+IsNumberOf (Some word) n =
+    IsNumeral 10 (without_leading_plus word) × (digits_value 10 (without_leading_plus word) ≡ n)
+
+-- the word is no such number below this one
+abbrev pub IsNoNumberBelow : ℕ → Option Text → Type 0
+IsNoNumberBelow limit None = ⊥
+IsNoNumberBelow limit (Some word) =
+    IsNumeral 10 (without_leading_plus word) × (digits_value 10 (without_leading_plus word) < limit)
+    → ⊥
+
+-- of 8 bits
+abbrev pub IsNoNumber : Option Text → Type 0
+IsNoNumber word = IsNoNumberBelow (2 ^ 8) word
+
+-- of 64 bits
+abbrev pub IsNoLargeNumber : Option Text → Type 0
+IsNoLargeNumber word = IsNoNumberBelow (2 ^ 64) word
+
+-- the word is no decimal number from 1 to this one
+abbrev pub IsNoNumberTo : ℕ → Option Text → Type 0
+IsNoNumberTo most None = ⊥
+IsNoNumberTo most (Some word) =
+    IsNumeral 10 (without_leading_plus word)
+    × IsOneTo most (digits_value 10 (without_leading_plus word)) → ⊥
+
+-- there is no word and no number, or the word's number
+abbrev pub IsLargeNumberOf : Option Text → Option ℕ → Type 0
+IsLargeNumberOf None None = Unit {0}
+IsLargeNumberOf (Some word) (Some n) = IsNumberOf (Some word) n
+IsLargeNumberOf word n = ⊥
+
+-- what is wrong with this word for a number
+abbrev pub IsNumberFault : Option Text → Text → WordFault → Type 0
+IsNumberFault word what (fault.Number name) = (name.now ≡ what) × IsNoNumber word
+IsNumberFault word what (fault.Missing name) = (name.now ≡ what) × (word ≡ None)
+IsNumberFault word what why = ⊥
+
+-- what is wrong with these words for an index and a count
+abbrev pub IsPlaceFault : (index count : Option Text) → WordFault → Type 0
+IsPlaceFault index count (fault.Count n) = IsNumberOf count n × ((n ≡ 0) ⊎ (MAX_COUNT < n))
+IsPlaceFault index count (fault.Index i n) = IsNumberOf index i × IsNumberOf count n × (n ≤ i)
+    × (n ≤ MAX_COUNT)
+IsPlaceFault index count why = IsNumberFault index (codes "index") why
+    ⊎ IsNumberFault count (codes "count") why
+
+-- what is wrong with this word for a number of scanners
+abbrev pub IsScannersFault : Option Text → WordFault → Type 0
+IsScannersFault word (fault.Scanners n) = IsNumberOf word n × ((n ≡ 0) ⊎ (MAX_SCANNERS < n))
+IsScannersFault word why = IsNumberFault word (codes "scanners") why
+
+-- what is wrong with this word for a number of tries
+abbrev pub IsTriesFault : Option Text → WordFault → Type 0
+IsTriesFault word (fault.Tries n) = IsNumberOf word n × ((n ≡ 0) ⊎ (MAX_TRIES < n))
+IsTriesFault word why = IsNumberFault word (codes "tries") why
+
+-- what is wrong with this word for a number of connections
+abbrev pub IsConnectionsFault : Option Text → WordFault → Type 0
+IsConnectionsFault word fault.Connections = IsNoLargeNumber word
+IsConnectionsFault word why = ⊥
+
+-- what is wrong with this word for the most connections at once
+abbrev pub IsClientsFault : Option Text → WordFault → Type 0
+IsClientsFault word fault.Clients = IsNoNumberTo MAX_CLIENTS word
+IsClientsFault word why = ⊥
+
+-- what is wrong with this word for the seconds that a connection may say nothing
+abbrev pub IsIdleFault : Option Text → WordFault → Type 0
+IsIdleFault word fault.Idle = IsNoNumberTo MAX_IDLE word
+IsIdleFault word why = ⊥
+
+abbrev pub level_word : Level → Text
+level_word level.Error = codes "error"
+level_word level.Warn = codes "warn"
+level_word level.Info = codes "info"
+level_word level.Debug = codes "debug"
+
+-- the word is this level's
+abbrev pub IsLevelOf : Option Text → Level → Type 0
+IsLevelOf word l = word ≡ Some (level_word l)
+
+-- what is wrong with this word for a level of the log: it is none's
+abbrev pub IsLevelFault : Option Text → WordFault → Type 0
+IsLevelFault word fault.Level = (l : Level) → word ≢ Some (level_word l)
+IsLevelFault word why = ⊥

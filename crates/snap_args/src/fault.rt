@@ -1,0 +1,96 @@
+//! Why words are no order.
+use snap_frame::MAX_UPDATE_VALUE;
+use snap_order::{MAX_CLIENTS, MAX_IDLE};
+use std::alloc::AllocError;
+use thiserror::Error;
+
+/// Where to read on.
+const MORE: &str = "\n\nFor more information, try '--help'.";
+
+/// Why words are no request. Its text says it in a sentence that begins in lower case.
+#[derive(Clone, Copy, Debug, PartialEq, Eq, Error)]
+pub enum RequestFault {
+    /// They are of no request's form.
+    #[error("the request is not `update I NUMBER HEX`, `scan`, `status` or `health`")]
+    Form,
+    /// An update's segment is no number from 0 to 255.
+    #[error("the update's segment is not a number from 0 to 255")]
+    Segment,
+    /// An update's number is no number of 64 bits.
+    #[error("the update's number is not a number from 0 to {max}", max = u64::MAX)]
+    Number,
+    /// An update's value is no text of bytes.
+    #[error("the update's value is not `-` or two hexadecimal digits for each byte")]
+    Value,
+    /// An update's value doesn't fit a request.
+    #[error("the update's value has {len} bytes, and a request holds at most {max}", max = MAX_UPDATE_VALUE)]
+    TooLong { len: usize },
+}
+
+/// Why words are no order. Its text is what standard error gets behind `snapd: `; that of `Help`
+/// is for standard output.
+#[derive(Debug, Drop, Error)]
+pub enum WordFault {
+    /// They ask for help or for the version.
+    #[error("{0}")]
+    Help(clap::Error),
+    /// They aren't of the commands' grammar.
+    #[error("{0}")]
+    Words(clap::Error),
+    /// The count is none, or above the most that there may be.
+    #[error("error: the count {count} is not from 1 to 16{more}", more = MORE)]
+    Count { count: u8 },
+    /// The index isn't below the count.
+    #[error("error: the index {index} is not below the count {count}{more}", more = MORE)]
+    Index { index: u8, count: u8 },
+    /// A server's files are none, or more than it may have.
+    #[error("error: the number of files {count} is not from 1 to 16{more}", more = MORE)]
+    Files { count: usize },
+    /// A server's scanners are none, or more than it may have.
+    #[error("error: the number of scanners {scanners} is not from 1 to 16{more}", more = MORE)]
+    Scanners { scanners: u8 },
+    /// The word for a server's connections is no number of 64 bits.
+    #[error("error: the number of connections is not from 0 to {max}{more}", max = u64::MAX, more = MORE)]
+    Connections,
+    /// The word for the most connections at once is no number that a server may have.
+    #[error("error: the most clients are not from 1 to {max}{more}", max = MAX_CLIENTS, more = MORE)]
+    Clients,
+    /// The word for how long a connection may be idle is no number that a server may have.
+    #[error("error: the idle seconds are not from 1 to {max}{more}", max = MAX_IDLE, more = MORE)]
+    Idle,
+    /// The word for the log is none of its levels.
+    #[error("error: the log is not `error`, `warn`, `info` or `debug`{more}", more = MORE)]
+    Level,
+    /// The tries are none, or more than there may be.
+    #[error("error: the number of tries {tries} is not from 1 to 10{more}", more = MORE)]
+    Tries { tries: u8 },
+    /// The words for a request are none.
+    #[error("error: {0}{more}", more = MORE)]
+    Request(RequestFault),
+    /// The word for this is no number from 0 to 255.
+    #[error("error: the {what} is not a number from 0 to 255{more}", more = MORE)]
+    Number { what: &'static str },
+    /// There is no word for this.
+    #[error("error: no {what} is given{more}", more = MORE)]
+    Missing { what: &'static str },
+    /// No command is named.
+    #[error("error: no command is given{more}", more = MORE)]
+    NoCommand,
+    /// A word isn't text.
+    #[error("error: a word is not UTF-8 text")]
+    NotText,
+    /// A growth of memory was refused.
+    #[error("out of memory")]
+    Memory,
+}
+
+impl From<AllocError> for WordFault {
+    ghost use Rattle.std.specs.Prelude.{◌≡◌};
+    ghost use Rattle.snap_args.specs.declared.fault.WordFault.TheVariants.{Memory};
+
+    ghost from_gives = { λ _ fault. fault ≡ Memory };
+
+    fn from(_error: AllocError) -> WordFault {
+        WordFault::Memory
+    }
+}

@@ -1,0 +1,305 @@
+//! The commands and their words, as the parser of words reads them.
+ghost use Rattle.std.specs.Prelude.{◌≡◌, IfOk, codes, false};
+ghost use Rattle.clap.specs.Words.{App, Rule, app_of, new_app, rule_of, with_rule};
+ghost use Rattle.clap.specs.Words.{with_subcommand};
+ghost use Rattle.clap.specs.declared.builder.Command.TheViews.{out-Command};
+ghost use Rattle.snap_args.specs.Grammar.{IsCommandOf, addressed, called, filed, grammar_of};
+ghost use Rattle.snap_args.specs.Grammar.{choice_rule, large_number_rule, limited, number_rule};
+ghost use Rattle.snap_args.specs.Grammar.{paired, placed, program_of, served, versioned};
+ghost use Rattle.snap_args.specs.Grammar.{word_rule, words_rule};
+
+use crate::help::{
+    CALL_HELP, CHECK_HELP, FORMAT_HELP, GET_HELP, MIGRATE_HELP, PROGRAM_HELP, PUT_HELP,
+    SCRIPT_HELP, SERVE_HELP,
+};
+use clap::{Arg, ArgAction, Command, value_parser};
+use std::alloc::{AllocError, Global};
+
+const VERSION: &str = "0.1.0";
+
+/// The commands of the program with their words.
+pub(crate) fn grammar<'a>(alloc: Global) -> Result<Command<'a>, AllocError>
+    ensures { IfOk result (λ command. app_of command ≡ grammar_of) }
+{
+    let commands = with_command(segment_commands(alloc), migrate_command(alloc));
+    let commands = with_command(commands, serve_command(alloc));
+    let commands = with_command(commands, call_command(alloc));
+    with_command(commands, Ok(script_command(alloc)))
+}
+
+/// The program with its commands about one segment's file.
+fn segment_commands<'a>(alloc: Global) -> Result<Command<'a>, AllocError>
+    ensures { IfOk result (λ all. app_of all ≡ with_subcommand (with_subcommand
+        (with_subcommand (with_subcommand program_of
+        (placed (filed (new_app (codes "format")))).top)
+        (placed (filed (new_app (codes "put")))).top)
+        (placed (filed (new_app (codes "get")))).top)
+        (filed (new_app (codes "check"))).top) }
+{
+    let commands = with_command(Ok(program(alloc)), format_command(alloc));
+    let commands = with_command(commands, put_command(alloc));
+    let commands = with_command(commands, get_command(alloc));
+    with_command(commands, check_command(alloc))
+}
+
+/// The commands and one more, where all were made.
+fn with_command<'a>(
+    commands: Result<Command<'a>, AllocError>,
+    made: Result<Command<'a>, AllocError>,
+) -> Result<Command<'a>, AllocError>
+    ensures { (program words : App) → IfOk commands.entry (λ all. app_of all ≡ program)
+        → IfOk made.entry (IsCommandOf words)
+        → IfOk result (λ all. app_of all ≡ with_subcommand program words.top) }
+{
+    commands?.subcommand(made?)
+}
+
+/// The command and one more word, where it was made.
+fn with_arg<'a>(
+    made: Result<Command<'a>, AllocError>,
+    arg: Arg<'a>,
+) -> Result<Command<'a>, AllocError>
+    requires local { arg.global ≡ false }
+    ensures { (words : App) (rule : Rule) → IfOk made.entry (IsCommandOf words)
+        → rule_of arg.entry ≡ rule → IfOk result (IsCommandOf (with_rule words rule)) }
+{
+    made?.arg(arg)
+}
+
+fn format_command<'a>(alloc: Global) -> Result<Command<'a>, AllocError>
+    ensures { IfOk result (IsCommandOf (placed (filed (new_app (codes "format"))))) }
+{
+    let about = "Make and format the file of one segment";
+    placed_command(alloc, "format", about, FORMAT_HELP)
+}
+
+fn put_command<'a>(alloc: Global) -> Result<Command<'a>, AllocError>
+    ensures { IfOk result (IsCommandOf (placed (filed (new_app (codes "put"))))) }
+{
+    let about = "Store standard input as the segment's next value";
+    placed_command(alloc, "put", about, PUT_HELP)
+}
+
+fn get_command<'a>(alloc: Global) -> Result<Command<'a>, AllocError>
+    ensures { IfOk result (IsCommandOf (placed (filed (new_app (codes "get"))))) }
+{
+    let about = "Print the segment's value, and nothing else";
+    placed_command(alloc, "get", about, GET_HELP)
+}
+
+fn check_command<'a>(alloc: Global) -> Result<Command<'a>, AllocError>
+    ensures { IfOk result (IsCommandOf (filed (new_app (codes "check")))) }
+{
+    let about = "Show what a file holds, slot by slot, and change nothing";
+    let file = required_word(alloc, "file", "FILE", "The path of the segment's file");
+    described_command(alloc, "check", about, CHECK_HELP).arg(file)
+}
+
+fn migrate_command<'a>(alloc: Global) -> Result<Command<'a>, AllocError>
+    ensures { IfOk result (IsCommandOf (paired (new_app (codes "migrate")))) }
+{
+    let about = "Carry a file of the old format over to a new file, and leave the old one as it is";
+    let help = "The path of the file of the old format";
+    let old = required_word(alloc, "old", "OLD", help);
+    let new = required_word(alloc, "new", "NEW", "The path of the new file");
+    let command = described_command(alloc, "migrate", about, MIGRATE_HELP);
+    with_place(alloc, with_arg(with_arg(Ok(command), old), new))
+}
+
+fn serve_command<'a>(alloc: Global) -> Result<Command<'a>, AllocError>
+    ensures { IfOk result (IsCommandOf (served (new_app (codes "serve")))) }
+{
+    let about = "Serve segments to clients, safe from crashes";
+    let command = addressed_command(alloc, "serve", about, SERVE_HELP);
+    let help = "The files, in order of segment: 1 to 16";
+    let command = with_arg(command, required_words(alloc, "files", "FILE", help));
+    with_limits(alloc, with_service(alloc, command))
+}
+
+fn call_command<'a>(alloc: Global) -> Result<Command<'a>, AllocError>
+    ensures { IfOk result (IsCommandOf (called (new_app (codes "call")))) }
+{
+    let about = "Ask a server, and print its reply";
+    let command = addressed_command(alloc, "call", about, CALL_HELP);
+    let help = "The request: update I NUMBER HEX, scan, status or health";
+    let command = with_arg(command, required_words(alloc, "request", "WORD", help));
+    let help = "The most connections that are made, 1 to 10";
+    with_arg(command, number_option(alloc, "tries", "1", "T", help))
+}
+
+fn script_command<'a>(alloc: Global) -> Command<'a>
+    ensures { IsCommandOf (new_app (codes "script")) result }
+{
+    let about = "Run a script of writers and scanners, and print what each step answers";
+    described_command(alloc, "script", about, SCRIPT_HELP)
+}
+
+/// A command with its texts for help.
+fn described_command<'a>(alloc: Global, name: &'a str, about: &'a str, more: &'a str) -> Command<'a>
+    ensures { IsCommandOf (new_app name.entry.now) result }
+{
+    Command::new(alloc, name).about(about).after_help(more)
+}
+
+/// The command with the program's version, which each of its own commands has too.
+fn versioned_command<'a>(command: Command<'a>) -> Command<'a>
+    ensures app { app_of result ≡ versioned (app_of command.entry) }
+    ensures local { (out-Command result).has_globals ≡ (out-Command command.entry).has_globals }
+{
+    command.version(VERSION).propagate_version(true)
+}
+
+/// The program with no command yet.
+fn program<'a>(alloc: Global) -> Command<'a>
+    ensures app { app_of result ≡ program_of }
+    ensures local { (out-Command result).has_globals ≡ false }
+{
+    let about = "Keep one value of up to 4,080 bytes in a file, safe from crashes";
+    let command = described_command(alloc, "snapd", about, PROGRAM_HELP);
+    versioned_command(command).subcommand_required(true)
+}
+
+/// A command with its file and the place of the file's segment, and its texts for help.
+fn placed_command<'a>(
+    alloc: Global,
+    name: &'a str,
+    about: &'a str,
+    more: &'a str,
+) -> Result<Command<'a>, AllocError>
+    ensures { IfOk result (IsCommandOf (placed (filed (new_app name.entry.now)))) }
+{
+    let file = required_word(alloc, "file", "FILE", "The path of the segment's file");
+    let command = described_command(alloc, name, about, more);
+    with_place(alloc, with_arg(Ok(command), file))
+}
+
+/// A command with a server's address, and its texts for help.
+fn addressed_command<'a>(
+    alloc: Global,
+    name: &'a str,
+    about: &'a str,
+    more: &'a str,
+) -> Result<Command<'a>, AllocError>
+    ensures { IfOk result (IsCommandOf (addressed (new_app name.entry.now))) }
+{
+    let help = "Where the server listens, as 127.0.0.1:7070";
+    let address = required_word(alloc, "address", "ADDR", help);
+    described_command(alloc, name, about, more).arg(address)
+}
+
+/// The command with the numbers of a server, where it was made.
+fn with_service<'a>(
+    alloc: Global,
+    made: Result<Command<'a>, AllocError>,
+) -> Result<Command<'a>, AllocError>
+    ensures { (words : App) → IfOk made.entry (IsCommandOf words) → IfOk result (IsCommandOf
+        (with_rule (with_rule words (number_rule (codes "scanners") (codes "4")))
+        (large_number_rule (codes "connections")))) }
+{
+    let help = "How many requests are answered at the same moment, 1 to 16";
+    let command = with_arg(made, number_option(alloc, "scanners", "4", "S", help));
+    let help = "End after so many connections";
+    with_arg(
+        command,
+        large_number_option(alloc, "connections", "K", help),
+    )
+}
+
+/// The command with what a server is to let in and to log, where it was made.
+fn with_limits<'a>(
+    alloc: Global,
+    made: Result<Command<'a>, AllocError>,
+) -> Result<Command<'a>, AllocError>
+    ensures { (words : App) → IfOk made.entry (IsCommandOf words)
+        → IfOk result (IsCommandOf (limited words)) }
+{
+    let help = "The most connections that are open at once, 1 to 1000000";
+    let command = with_arg(made, large_number_option(alloc, "clients-max", "N", help));
+    let help = "Let go of a connection that said nothing for so long, 1 to 31536000";
+    let command = with_arg(command, large_number_option(alloc, "idle", "SECONDS", help));
+    let help = "The least level of a line on standard error: error, warn, info or debug";
+    with_arg(command, choice_option(alloc, "log", "info", "LEVEL", help))
+}
+
+/// The command with the place of a segment, where it was made.
+fn with_place<'a>(
+    alloc: Global,
+    made: Result<Command<'a>, AllocError>,
+) -> Result<Command<'a>, AllocError>
+    ensures { (words : App) → IfOk made.entry (IsCommandOf words)
+        → IfOk result (IsCommandOf (placed words)) }
+{
+    let help = "The segment's index, below N";
+    let command = with_arg(made, number_option(alloc, "index", "0", "I", help));
+    let help = "How many segments there are, 1 to 16";
+    with_arg(command, number_option(alloc, "count", "1", "N", help))
+}
+
+/// A word that has to be there, as a file's path.
+fn required_word<'a>(alloc: Global, name: &'a str, shown: &'a str, help: &'a str) -> Arg<'a>
+    ensures rule { rule_of result ≡ word_rule name.entry.now }
+    ensures local { result.global ≡ false }
+{
+    Arg::new(alloc, name)
+        .value_name(shown)
+        .help(help)
+        .required(true)
+        .action(ArgAction::Set)
+}
+
+/// Words of which there is one or more.
+fn required_words<'a>(alloc: Global, name: &'a str, shown: &'a str, help: &'a str) -> Arg<'a>
+    ensures rule { rule_of result ≡ words_rule name.entry.now }
+    ensures local { result.global ≡ false }
+{
+    required_word(alloc, name, shown, help).action(ArgAction::Append)
+}
+
+/// An option for a number of 64 bits, which may be left out.
+fn large_number_option<'a>(alloc: Global, name: &'a str, shown: &'a str, help: &'a str) -> Arg<'a>
+    ensures rule { rule_of result ≡ large_number_rule name.entry.now }
+    ensures local { result.global ≡ false }
+{
+    Arg::new(alloc, name)
+        .long(name)
+        .value_parser(value_parser!(u64))
+        .value_name(shown)
+        .help(help)
+}
+
+/// An option for one of some words, with its default.
+fn choice_option<'a>(
+    alloc: Global,
+    name: &'a str,
+    default: &'a str,
+    shown: &'a str,
+    help: &'a str,
+) -> Arg<'a>
+    ensures rule { rule_of result ≡ choice_rule name.entry.now default.entry.now }
+    ensures local { result.global ≡ false }
+{
+    Arg::new(alloc, name)
+        .long(name)
+        .default_value(default)
+        .value_name(shown)
+        .help(help)
+}
+
+/// An option for a number, with its default.
+fn number_option<'a>(
+    alloc: Global,
+    name: &'a str,
+    default: &'a str,
+    shown: &'a str,
+    help: &'a str,
+) -> Arg<'a>
+    ensures rule { rule_of result ≡ number_rule name.entry.now default.entry.now }
+    ensures local { result.global ≡ false }
+{
+    Arg::new(alloc, name)
+        .long(name)
+        .value_parser(value_parser!(u8))
+        .default_value(default)
+        .value_name(shown)
+        .help(help)
+}

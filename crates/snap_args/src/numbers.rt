@@ -1,0 +1,147 @@
+//! The numbers among the words of a command, within their limits.
+ghost use Rattle.std.specs.Prelude.{◌≤◌, IfErr, IfOk, IfSome, MatchOption, Some, codes};
+ghost use Rattle.clap.specs.Words.{first_value, found_of};
+ghost use Rattle.snap_client.specs.declared.again.TheConstants.{MAX_TRIES};
+ghost use Rattle.snap_history.specs.declared.limits.TheConstants.{MAX_SCANNERS};
+ghost use Rattle.snap_order.specs.Order.{IsOneTo, IsPlace};
+ghost use Rattle.snap_order.specs.declared.order.TheConstants.{MAX_CLIENTS, MAX_IDLE};
+ghost use Rattle.snap_args.specs.Numbers.{IsClientsFault, IsConnectionsFault, IsIdleFault};
+ghost use Rattle.snap_args.specs.Numbers.{IsLargeNumberOf, IsNoNumberTo, IsNumberFault};
+ghost use Rattle.snap_args.specs.Numbers.{IsNumberOf, IsPlaceFault, IsScannersFault};
+ghost use Rattle.snap_args.specs.Numbers.{IsTriesFault};
+
+use crate::WordFault;
+use clap::ArgMatches;
+use snap_client::MAX_TRIES;
+use snap_history::{MAX_COUNT, MAX_SCANNERS};
+use snap_order::{MAX_CLIENTS, MAX_IDLE};
+
+/// The place of a file's segment, within the limits.
+pub(crate) fn place(matches: &ArgMatches<'_>) -> Result<(u8, u8), WordFault>
+    ensures place { IfOk result (λ place. IsPlace place.0 place.1) }
+    ensures index { IfOk result
+        (λ place. IsNumberOf (first_value (found_of matches.now) (codes "index")) place.0) }
+    ensures count { IfOk result
+        (λ place. IsNumberOf (first_value (found_of matches.now) (codes "count")) place.1) }
+    ensures fault { IfErr result
+        (IsPlaceFault (first_value (found_of matches.now) (codes "index"))
+        (first_value (found_of matches.now) (codes "count"))) }
+{
+    let index = number_of(matches, "index")?;
+    let count = number_of(matches, "count")?;
+    if count == 0 || count > MAX_COUNT {
+        return Err(WordFault::Count { count });
+    }
+    if index >= count {
+        return Err(WordFault::Index { index, count });
+    }
+    Ok((index, count))
+}
+
+/// The number that stands for this, from 0 to 255.
+fn number_of(matches: &ArgMatches<'_>, what: &'static str) -> Result<u8, WordFault>
+    ensures number { IfOk result (IsNumberOf (first_value (found_of matches.now) what.now)) }
+    ensures fault { IfErr result
+        (IsNumberFault (first_value (found_of matches.now) what.now) what.now) }
+{
+    let Some(word) = matches.get_str(what) else {
+        return Err(WordFault::Missing { what });
+    };
+    match word.parse::<u8>() {
+        Ok(number) => Ok(number),
+        Err(_) => Err(WordFault::Number { what }),
+    }
+}
+
+/// How many scanners a server is to have, 1 to 16.
+pub(crate) fn scanners_of(matches: &ArgMatches<'_>) -> Result<u8, WordFault>
+    ensures some { IfOk result (λ n. 1 ≤ n) }
+    ensures few { IfOk result (λ n. n ≤ MAX_SCANNERS) }
+    ensures number { IfOk result
+        (IsNumberOf (first_value (found_of matches.now) (codes "scanners"))) }
+    ensures fault { IfErr result
+        (IsScannersFault (first_value (found_of matches.now) (codes "scanners"))) }
+{
+    let scanners = number_of(matches, "scanners")?;
+    if scanners == 0 || usize::from(scanners) > MAX_SCANNERS {
+        return Err(WordFault::Scanners { scanners });
+    }
+    Ok(scanners)
+}
+
+/// How many connections a call may make, 1 to 10.
+pub(crate) fn tries_of(matches: &ArgMatches<'_>) -> Result<u8, WordFault>
+    ensures some { IfOk result (λ n. 1 ≤ n) }
+    ensures few { IfOk result (λ n. n ≤ MAX_TRIES) }
+    ensures number { IfOk result
+        (IsNumberOf (first_value (found_of matches.now) (codes "tries"))) }
+    ensures fault { IfErr result
+        (IsTriesFault (first_value (found_of matches.now) (codes "tries"))) }
+{
+    let tries = number_of(matches, "tries")?;
+    if tries == 0 || tries > MAX_TRIES {
+        return Err(WordFault::Tries { tries });
+    }
+    Ok(tries)
+}
+
+/// After how many connections a server ends, where that is said.
+pub(crate) fn connections_of(matches: &ArgMatches<'_>) -> Result<Option<u64>, WordFault>
+    ensures number { IfOk result
+        (IsLargeNumberOf (first_value (found_of matches.now) (codes "connections"))) }
+    ensures fault { IfErr result
+        (IsConnectionsFault (first_value (found_of matches.now) (codes "connections"))) }
+{
+    let Some(word) = matches.get_str("connections") else {
+        return Ok(None);
+    };
+    match word.parse::<u64>() {
+        Ok(number) => Ok(Some(number)),
+        Err(_) => Err(WordFault::Connections),
+    }
+}
+
+/// The most connections that a server is to have open at once, where that is said.
+pub(crate) fn clients_of(matches: &ArgMatches<'_>) -> Result<Option<u32>, WordFault>
+    ensures limits { IfOk result (λ most. IfSome most (IsOneTo MAX_CLIENTS)) }
+    ensures number { IfOk result
+        (IsLargeNumberOf (first_value (found_of matches.now) (codes "clients-max"))) }
+    ensures fault { IfErr result
+        (IsClientsFault (first_value (found_of matches.now) (codes "clients-max"))) }
+{
+    let Some(word) = matches.get_str("clients-max") else {
+        return Ok(None);
+    };
+    match number_to(word, MAX_CLIENTS) {
+        Some(number) => Ok(Some(number)),
+        None => Err(WordFault::Clients),
+    }
+}
+
+/// For how many seconds a connection may say nothing, where that is said.
+pub(crate) fn idle_of(matches: &ArgMatches<'_>) -> Result<Option<u32>, WordFault>
+    ensures limits { IfOk result (λ most. IfSome most (IsOneTo MAX_IDLE)) }
+    ensures number { IfOk result
+        (IsLargeNumberOf (first_value (found_of matches.now) (codes "idle"))) }
+    ensures fault { IfErr result
+        (IsIdleFault (first_value (found_of matches.now) (codes "idle"))) }
+{
+    let Some(word) = matches.get_str("idle") else {
+        return Ok(None);
+    };
+    match number_to(word, MAX_IDLE) {
+        Some(number) => Ok(Some(number)),
+        None => Err(WordFault::Idle),
+    }
+}
+
+/// The number that the word is, where that is 1 to `most`.
+fn number_to(word: &str, most: u32) -> Option<u32>
+    ensures { MatchOption result (IsNoNumberTo most (Some word.now))
+        (λ n. IsNumberOf (Some word.now) n × IsOneTo most n) }
+{
+    match word.parse::<u32>() {
+        Ok(number) if 1 <= number && number <= most => Some(number),
+        _ => None,
+    }
+}

@@ -1,0 +1,151 @@
+//! Reads the words of the program.
+ghost use Rattle.std.specs.Prelude.{◌≡◌, ◌↔◌, IfErr, IfOk, IsTrue, Some, codes, map, true};
+ghost use Rattle.clap.specs.Words.{first_value, found_of, takes};
+ghost use Rattle.snap_order.specs.Order.{IsFileWithinLimits, IsPlace, IsWithinLimits};
+ghost use Rattle.snap_args.specs.Faults.{AreFileNumbersOf, AreNumbersOf, IsFaultOf};
+ghost use Rattle.snap_args.specs.Faults.{IsLaterFault, IsMigrationFault, IsParseFault};
+ghost use Rattle.snap_args.specs.Numbers.{IsNumberOf};
+ghost use Rattle.snap_args.specs.Grammar.{grammar_of};
+ghost use Rattle.snap_args.specs.Orders.{IsAskedBy, IsFileAskedBy, IsOtherCommand};
+ghost use Rattle.snap_args.specs.Words.{OfCommand};
+
+use crate::WordFault;
+use crate::call::calling;
+use crate::grammar::grammar;
+use crate::numbers::place;
+use crate::serve::serving;
+use clap::ArgMatches;
+use clap::error::ErrorKind;
+use snap_order::{FileOrder, Migration, Order};
+use std::alloc::Global;
+use std::convert::AsStr;
+
+/// Reads the words of the program, of which the first is its name.
+///
+/// Where it answers Ok the order's words were given: its index and count are the numbers of their
+/// words, the count from 1 to 16 and the index below it. Each fault says what is wrong in the
+/// words, so good ones are refused for want of memory alone.
+pub fn order<'a, S: AsStr>(alloc: Global, words: &'a [S]) -> Result<Order<'a>, WordFault>
+    ensures limits { IfOk result IsWithinLimits }
+    ensures asked { IfOk result (IsAskedBy (map S.text words.entry.now)) }
+    ensures numbers { IfOk result (AreNumbersOf (map S.text words.entry.now)) }
+    ensures faults { IfErr result (IsFaultOf (map S.text words.entry.now)) }
+    ensures taken { takes grammar_of (map S.text words.entry.now) ≡ true
+        → IfErr result IsLaterFault }
+{
+    let Ok(commands) = grammar(alloc) else {
+        return Err(WordFault::Memory);
+    };
+    let matches = match commands.try_get_matches_from(words) {
+        Ok(matches) => matches,
+        Err(error) => return Err(fault_of(error)),
+    };
+    let Some((command, matches)) = matches.subcommand() else {
+        return Err(WordFault::NoCommand);
+    };
+    order_of(alloc, command, matches)
+}
+
+/// What this command with its words asks for, whatever else the program's words are.
+fn order_of<'a>(
+    alloc: Global,
+    command: &str,
+    matches: &ArgMatches<'a>,
+) -> Result<Order<'a>, WordFault>
+    ensures limits { IfOk result IsWithinLimits }
+    ensures asked { IfOk result (λ order.
+        OfCommand command.now (found_of matches.now) (λ words. IsAskedBy words order)) }
+    ensures numbers { IfOk result (λ order.
+        OfCommand command.now (found_of matches.now) (λ words. AreNumbersOf words order)) }
+    ensures faults { IfErr result (λ why.
+        OfCommand command.now (found_of matches.now) (λ words. IsFaultOf words why)) }
+    ensures later { IfErr result IsLaterFault }
+{
+    if is(command, "script") {
+        return Ok(Order::Script);
+    }
+    if is(command, "serve") {
+        return Ok(Order::Serve(serving(alloc, matches)?));
+    }
+    if is(command, "call") {
+        return Ok(Order::Call(calling(alloc, matches)?));
+    }
+    if is(command, "migrate") {
+        return Ok(Order::Migrate(migration(matches)?));
+    }
+    Ok(Order::File(file_order(command, matches)?))
+}
+
+/// What a command about one segment's file asks for.
+fn file_order<'a>(command: &str, matches: &ArgMatches<'a>) -> Result<FileOrder<'a>, WordFault>
+    requires other { IsOtherCommand command.now }
+    ensures limits { IfOk result IsFileWithinLimits }
+    ensures asked { IfOk result (λ order.
+        OfCommand command.now (found_of matches.now) (λ words. IsFileAskedBy words order)) }
+    ensures numbers { IfOk result (λ order.
+        OfCommand command.now (found_of matches.now) (λ words. AreFileNumbersOf words order)) }
+    ensures faults { IfErr result (λ why.
+        OfCommand command.now (found_of matches.now) (λ words. IsFaultOf words why)) }
+    ensures later { IfErr result IsLaterFault }
+{
+    let Some(file) = matches.get_str("file") else {
+        return Err(WordFault::Missing { what: "file" });
+    };
+    if is(command, "check") {
+        return Ok(FileOrder::Check { file });
+    }
+    let (index, count) = place(matches)?;
+    let order = match command {
+        "format" => FileOrder::Format { file, index, count },
+        "put" => FileOrder::Put { file, index, count },
+        "get" => FileOrder::Get { file, index, count },
+        _ => return Err(WordFault::NoCommand),
+    };
+    Ok(order)
+}
+
+/// The command has this name.
+pub(crate) fn is(command: &str, name: &'static str) -> bool
+    ensures { IsTrue result ↔ (command.now ≡ name.now) }
+{
+    command == name
+}
+
+/// The files of a migration, and the place of their segment.
+fn migration<'a>(matches: &ArgMatches<'a>) -> Result<Migration<'a>, WordFault>
+    ensures place { IfOk result (λ m. IsPlace m.index m.count) }
+    ensures old { IfOk result
+        (λ m. Some m.old.now ≡ first_value (found_of matches.now) (codes "old")) }
+    ensures new { IfOk result
+        (λ m. Some m.new.now ≡ first_value (found_of matches.now) (codes "new")) }
+    ensures index { IfOk result
+        (λ m. IsNumberOf (first_value (found_of matches.now) (codes "index")) m.index) }
+    ensures count { IfOk result
+        (λ m. IsNumberOf (first_value (found_of matches.now) (codes "count")) m.count) }
+    ensures fault { IfErr result (IsMigrationFault (first_value (found_of matches.now))) }
+{
+    let Some(old) = matches.get_str("old") else {
+        return Err(WordFault::Missing { what: "old" });
+    };
+    let Some(new) = matches.get_str("new") else {
+        return Err(WordFault::Missing { what: "new" });
+    };
+    let (index, count) = place(matches)?;
+    Ok(Migration {
+        old,
+        new,
+        index,
+        count,
+    })
+}
+
+/// What a parse answered in place of matches.
+fn fault_of(error: clap::Error) -> WordFault
+    ensures fault { IsParseFault error result }
+{
+    match error.kind() {
+        ErrorKind::OutOfMemory => WordFault::Memory,
+        ErrorKind::DisplayHelp | ErrorKind::DisplayVersion => WordFault::Help(error),
+        _ => WordFault::Words(error),
+    }
+}

@@ -1,0 +1,7 @@
+use Rattle.snap_call.proofs.call.answer_from.Goals as goal
+
+pub returns-in-Request : goal.returns-in-Request
+returns-in-Request g c = rw c.in-Request.is c.call_again.ensures
+
+pub returns-in-Health : goal.returns-in-Health
+returns-in-Health g c = rw c.in-Health.is c.call_again-in-Health.ensures

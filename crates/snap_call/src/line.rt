@@ -1,0 +1,55 @@
+//! The lines that are put together in place, so that no memory is wanting for them.
+ghost use Rattle.std.specs.Prelude.{◌≡◌, ◌+◌, ◌<◌, ◌≤◌, ◌++◌, decimal, length};
+ghost use Rattle.std.specs.Fmt.InlineText.{inline_text};
+ghost use Rattle.snap_call.specs.Text.{detailed_line, stored_line};
+
+use itoa::Buffer;
+use snap_disk::Refusal;
+use std::fmt::InlineText;
+
+/// More bytes than a line has: 15 of `snapd: refused `, two numbers of 20 digits at most, a name of 16 at
+/// most, two spaces and a line feed.
+const LINE_LEN: usize = 80;
+
+/// A line in place.
+pub(crate) type Line = InlineText<LINE_LEN>;
+
+/// The text with a part behind it.
+fn append(text: Line, part: &str) -> Line
+    requires { length (inline_text text) + length part.now < LINE_LEN }
+    ensures text { inline_text result ≡ inline_text text ++ part.now }
+    ensures len { length (inline_text result) ≡ length (inline_text text) + length part.now }
+{
+    text.and_str(part, part.len())
+}
+
+/// The text with a number behind it.
+fn append_number(text: Line, number: u64) -> Line
+    requires { length (inline_text text) + 20 < LINE_LEN }
+    ensures text { inline_text result ≡ inline_text text ++ decimal number }
+    ensures len { length (inline_text result) ≤ length (inline_text text) + 20 }
+{
+    append(text, Buffer::new().format(number))
+}
+
+/// The line of a stored number.
+pub(crate) fn stored_line(number: u64) -> Line
+    ensures { inline_text result ≡ stored_line number }
+{
+    let text = append(Line::new(), "stored ");
+    let text = append_number(text, number);
+    append(text, "\n")
+}
+
+/// The line of a server's refusal, with its detail.
+pub(crate) fn detailed_line(why: Refusal, detail: u64) -> Line
+    ensures { inline_text result ≡ detailed_line why detail }
+{
+    let text = append(Line::new(), "snapd: refused ");
+    let text = append_number(text, u64::from(why.code()));
+    let text = append(text, " ");
+    let text = append(text, why.name());
+    let text = append(text, " ");
+    let text = append_number(text, detail);
+    append(text, "\n")
+}

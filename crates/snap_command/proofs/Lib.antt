@@ -1,4 +1,0 @@
-pub mod Refused
-pub mod Stored
-pub mod Saying
-pub mod Carried

@@ -1,8 +1,0 @@
-use Rattle.std.proofs.Common.{rules}
-use Rattle.snap_command.proofs.acting.check_file.Goals as goal
-
-pub returns-in-Ok-write_whole-clause-ends : goal.returns-in-Ok-write_whole-clause-ends
-returns-in-Ok-write_whole-clause-ends g c = search rules
-
-pub returns-clause-ends : goal.returns-clause-ends
-returns-clause-ends g c = search rules

@@ -1,6 +1,0 @@
-pub mod Remedy
-pub mod Failure
-pub mod Commands
-pub mod Keeping
-pub mod Migrating
-pub mod Calls

@@ -1,0 +1,4 @@
+pub mod Refused
+pub mod Stored
+pub mod SecondLine
+pub mod Carried

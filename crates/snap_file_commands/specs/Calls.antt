@@ -1,0 +1,34 @@
+-- How many calls a command makes of its device. The clock of a device counts them.
+use Rattle.std.specs.Prelude.{◌≡◌, ◌⊎◌, ℕ, ◌+◌, ◌≤◌, Ok, Err}
+use Rattle.snap_order.specs.declared.order.FileOrder.{FileOrder}
+use Rattle.snap_order.specs.declared.order.FileOrder.TheVariants.{Format, Put, Get, Check}
+use Rattle.snap_file_commands.specs.Commands.{End}
+use Rattle.snap_file_commands.specs.Migration.{MigrationEnd}
+use Rattle.snap_file_commands.specs.declared.failure.CommandFailure.TheVariants.{Refused, Input, Output, Unsaid}
+use Rattle.snap_file_commands.specs.declared.migration.MigrationFailure.TheVariants.{Other}
+
+-- so many calls where the command was done, also where only its text wasn't told; and no more where
+-- it ended before
+abbrev pub CountsCallsOf : (calls : ℕ) → End → (before after : ℕ) → Type 0
+CountsCallsOf calls (Ok s) before after = after ≡ before + calls
+CountsCallsOf calls (Err (Output error)) before after = after ≡ before + calls
+CountsCallsOf calls (Err (Unsaid number error)) before after = after ≡ before + calls
+CountsCallsOf calls (Err (Refused why)) before after = after ≤ before + calls
+CountsCallsOf calls (Err (Input error)) before after = after ≤ before + calls
+
+-- an opening makes two, and a store behind it four, or five where the spare slot is open
+abbrev pub CountsStore : End → (before after : ℕ) → Type 0
+CountsStore end before after = CountsCallsOf 6 end before after ⊎ CountsCallsOf 7 end before after
+
+-- `get` opens its file, once, and `check` reads it once
+abbrev pub CountsOrder : FileOrder → End → (before after : ℕ) → Type 0
+CountsOrder (Format file i n) end before after = CountsCallsOf 7 end before after
+CountsOrder (Put file i n) end before after = CountsStore end before after
+CountsOrder (Get file i n) end before after = CountsCallsOf 2 end before after
+CountsOrder (Check file) end before after = CountsCallsOf 1 end before after
+
+-- the same of a migration, which makes so many of one of its devices
+abbrev pub CountsPair : (calls : ℕ) → MigrationEnd → (before after : ℕ) → Type 0
+CountsPair calls (Ok s) before after = after ≡ before + calls
+CountsPair calls (Err (Other (Output error))) before after = after ≡ before + calls
+CountsPair calls (Err failure) before after = after ≤ before + calls

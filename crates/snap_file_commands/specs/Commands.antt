@@ -1,0 +1,205 @@
+-- What each command does to its device and its streams, by how it ends.
+use Rattle.std.specs.Prelude.{
+  ◌≡◌,
+  ◌≢◌,
+  ◌⊎◌,
+  ℕ,
+  ◌+◌,
+  ◌<◌,
+  List,
+  [],
+  ◌++◌,
+  length,
+  Option,
+  Result,
+  Ok,
+  Err,
+  IfSome,
+  is_some,
+  codes,
+  if◌then◌else◌,
+  Bool,
+  true,
+  false,
+}
+use Rattle.std.specs.Fmt.{decimal}
+use Rattle.std.specs.Io.KnownBytes.{Appends, Keeps}
+use Rattle.snap_disk.specs.Device.{Device, IsSettled, MayLeave}
+use Rattle.snap_disk.specs.declared.refusal.Refusal.{Refusal}
+use Rattle.snap_disk.specs.declared.refusal.Refusal.TheVariants as refusal
+use Rattle.snap_slot.specs.declared.layout.TheConstants.{FILE_LEN}
+use Rattle.snap_history.specs.declared.limits.TheConstants.{MAX_VALUE_LEN, LAST_NUMBER}
+use Rattle.snap_slot.specs.Layout.{fresh_file, Head, Holds, IsUnformatted, IsFormatted, IsFileOf}
+use Rattle.snap_slot.specs.States.{IsAtRest, IsEither}
+use Rattle.snap_slot.specs.Findings.{AreFindings, IsNoOpening}
+use Rattle.snap_slot.specs.Text.{findings_text}
+use Rattle.snap_slot.specs.declared.findings.Findings.{Findings}
+use Rattle.snap_segment.specs.Making.{IsFresh}
+use Rattle.snap_file_commands.specs.Failure.{status_of, SaysOf}
+use Rattle.snap_stream.specs.Streams.{AppendsBeginning, Had}
+use Rattle.snap_file_commands.specs.declared.failure.CommandFailure.{CommandFailure}
+use Rattle.snap_file_commands.specs.declared.failure.CommandFailure.TheVariants.{Refused, Input, Output, Unsaid}
+use Rattle.snap_order.specs.declared.order.FileOrder.{FileOrder}
+use Rattle.snap_order.specs.declared.order.FileOrder.TheVariants.{Format, Put, Get, Check}
+use Rattle.snap_order.specs.declared.status.Status.{Status}
+use Rattle.snap_order.specs.declared.status.Status.TheVariants as status
+
+-- how a command ends: with a status, or early
+abbrev pub End : Type 0
+End = Result Status CommandFailure
+
+abbrev pub status_at : End → Status
+status_at (Ok s) = s
+status_at (Err failure) = status_of failure
+
+-- what standard error got of an order on a file of so many bytes: nothing where it didn't end early
+abbrev pub EndSays : (may_give : Option (List ℕ) → Type 0) → FileOrder → (len : ℕ) → End
+    → (is_told : Bool) (old new : Option (List ℕ)) → Type 0
+EndSays may_give order len (Ok s) is_told old new = (is_told ≡ true) × Keeps old new
+EndSays may_give order len (Err failure) is_told old new =
+    SaysOf failure may_give order len is_told old new
+
+-- the device's failure count grows by one exactly where the end is that it failed
+abbrev pub CountsEnd : End → ℕ → ℕ → Type 0
+CountsEnd (Err (Refused refusal.DeviceFailed)) old new = new ≡ old + 1
+CountsEnd end old new = new ≡ old
+
+-- what is printed
+abbrev pub formatted_line : ℕ → ℕ → List ℕ
+formatted_line i n = codes "formatted "
+    ++ (decimal i ++ (codes " of " ++ (decimal n ++ codes "\n")))
+
+abbrev pub stored_line : ℕ → List ℕ
+stored_line k = codes "stored " ++ (decimal k ++ codes "\n")
+
+-- ---- format
+
+-- the file was unformatted, and is that of segment i of n with number 0 and the empty value, in each
+-- of its bytes
+abbrev pub IsNewlyFormatted : ℕ → ℕ → Device → Device → Type 0
+IsNewlyFormatted i n old new = IsUnformatted old.bytes × IsAtRest i n 0 [] false new
+    × (new.bytes ≡ fresh_file i n)
+
+-- why a file was not formatted, where its bytes are the reason
+abbrev pub IsNoFormat : List ℕ → Refusal → Type 0
+IsNoFormat b refusal.WrongFile = length b ≢ FILE_LEN
+IsNoFormat b refusal.AlreadyFormatted = IsFormatted b
+IsNoFormat b refusal.DeviceFailed = Unit {0}
+IsNoFormat b refusal.NoMemory = Unit {0}
+IsNoFormat b why = ⊥
+
+abbrev pub EndsFormat : (honest : Type 0) (i n : ℕ) (old new : Device) (out out' : Option (List ℕ))
+    → End → Type 0
+EndsFormat honest i n old new out out' (Ok s) =
+    (s ≡ status.Done) × (honest → IsNewlyFormatted i n old new)
+    × Appends out out' (formatted_line i n)
+EndsFormat honest i n old new out out' (Err (Output error)) =
+    (honest → IsNewlyFormatted i n old new) × AppendsBeginning out out' (formatted_line i n)
+EndsFormat honest i n old new out out' (Err (Refused why)) = (honest → IsNoFormat old.bytes why)
+    × Keeps out out'
+EndsFormat honest i n old new out out' end = ⊥
+
+-- ---- put
+
+-- the file held number c, and holds the next number and value v, also after a crash
+pub record IsStored (i n c : ℕ) (v : List ℕ) (old new : Device) : Type 0 where
+  pub value : List ℕ
+  pub head : Head old.bytes i n
+  pub held : Holds old.bytes c value
+  pub settled : IsSettled new
+  pub lasts : (b : List ℕ) → MayLeave new b → IsFileOf i n (c + 1) v b
+
+-- why value v was not stored: why the file can't be opened, or that its number is the last one
+abbrev pub IsNoStore : (i n : ℕ) (v b : List ℕ) → Refusal → Type 0
+IsNoStore i n v b refusal.Exhausted = Head b i n × ((u : List ℕ) × Holds b LAST_NUMBER u)
+IsNoStore i n v b refusal.DeviceFailed = Unit {0}
+IsNoStore i n v b why = IsNoOpening i n b why
+
+abbrev pub EndsStore : (honest : Type 0) (i n : ℕ) (v : List ℕ) (old new : Device)
+    (out out' : Option (List ℕ)) → End → Type 0
+EndsStore honest i n v old new out out' (Ok s) =
+    (c : ℕ) × (s ≡ status.Done) × (honest → IsStored i n c v old new)
+    × Appends out out' (stored_line (c + 1))
+EndsStore honest i n v old new out out' (Err (Unsaid number error)) =
+    (c : ℕ) × (number ≡ c + 1) × (honest → IsStored i n c v old new)
+    × AppendsBeginning out out' (stored_line (c + 1))
+EndsStore honest i n v old new out out' (Err (Refused refusal.TooLong)) = ⊥
+EndsStore honest i n v old new out out' (Err (Refused why)) =
+    (honest → IsNoStore i n v old.bytes why) × Keeps out out'
+EndsStore honest i n v old new out out' end = ⊥
+
+-- a crash during a store of v may leave what the file held, or v with the next number
+abbrev pub LeavesEither : (i n : ℕ) (v : List ℕ) (old : Device) → List ℕ → Type 0
+LeavesEither i n v old b = (c : ℕ) × (u : List ℕ) × Head old.bytes i n × Holds old.bytes c u
+    × IsEither i n c u v b
+
+-- and before the file is read, what a crash before could leave
+abbrev pub StoreLeaves : (i n : ℕ) (v : List ℕ) (old : Device) → List ℕ → Type 0
+StoreLeaves i n v old b = MayLeave old b ⊎ LeavesEither i n v old b
+
+-- A value that is too long, or can't be read, leaves the device untouched.
+abbrev pub EndsPut : (honest : Type 0) (i n : ℕ) (known : Option (List ℕ)) (old new : Device)
+    (out out' : Option (List ℕ)) → End → Type 0
+EndsPut honest i n known old new out out' (Err (Input error)) = (new ≡ old) × Keeps out out'
+EndsPut honest i n known old new out out' (Err (Refused refusal.TooLong)) =
+    IfSome known (λ xs. MAX_VALUE_LEN < length xs) × (new ≡ old) × Keeps out out'
+EndsPut honest i n known old new out out' end =
+    (v : List ℕ) × Had known v × EndsStore honest i n v old new out out' end
+
+abbrev pub PutLeaves : (i n : ℕ) (known : Option (List ℕ)) (old : Device) → List ℕ → Type 0
+PutLeaves i n known old b = MayLeave old b ⊎ ((v : List ℕ) × Had known v × LeavesEither i n v old b)
+
+-- ---- get
+
+-- the file is that of segment i of n, and holds value v
+abbrev pub HoldsValue : (i n : ℕ) (v : List ℕ) → Device → Type 0
+HoldsValue i n v device = Head device.bytes i n × ((k : ℕ) × Holds device.bytes k v)
+
+abbrev pub EndsGet : (honest : Type 0) (i n : ℕ) (old : Device) (out out' : Option (List ℕ)) → End
+    → Type 0
+EndsGet honest i n old out out' (Ok s) =
+    (v : List ℕ) × (s ≡ status.Done) × (honest → HoldsValue i n v old) × Appends out out' v
+EndsGet honest i n old out out' (Err (Output error)) =
+    (v : List ℕ) × (honest → HoldsValue i n v old) × AppendsBeginning out out' v
+EndsGet honest i n old out out' (Err (Refused why)) = (honest → IsNoOpening i n old.bytes why)
+    × Keeps out out'
+EndsGet honest i n old out out' end = ⊥
+
+-- ---- check
+
+-- why nothing was found
+abbrev pub IsNoCheck : List ℕ → Refusal → Type 0
+IsNoCheck b refusal.WrongFile = length b ≢ FILE_LEN
+IsNoCheck b refusal.DeviceFailed = Unit {0}
+IsNoCheck b refusal.NoMemory = Unit {0}
+IsNoCheck b why = ⊥
+
+abbrev pub EndsCheck : (honest : Type 0) (old : Device) (out out' : Option (List ℕ)) → End → Type 0
+EndsCheck honest old out out' (Ok s) =
+    (findings : Findings) × (s ≡ (if is_some findings.answer then status.Done else status.Refused))
+    × (honest → AreFindings old.bytes findings) × Appends out out' (findings_text findings)
+EndsCheck honest old out out' (Err (Output error)) =
+    (findings : Findings) × (honest → AreFindings old.bytes findings)
+    × AppendsBeginning out out' (findings_text findings)
+EndsCheck honest old out out' (Err (Refused why)) = IsNoCheck old.bytes why × Keeps out out'
+EndsCheck honest old out out' end = ⊥
+
+-- ---- any order
+
+-- the order ended so; `known` is what the reader had, `out` and `out'` what the writer held before
+-- and after
+abbrev pub EndsOrder : FileOrder → (honest : Type 0) (known : Option (List ℕ)) (old new : Device)
+    (out out' : Option (List ℕ)) → End → Type 0
+EndsOrder (Format file i n) honest known old new out out' end =
+    EndsFormat honest i n old new out out' end
+EndsOrder (Put file i n) honest known old new out out' end =
+    EndsPut honest i n known old new out out' end
+EndsOrder (Get file i n) honest known old new out out' end = EndsGet honest i n old out out' end
+EndsOrder (Check file) honest known old new out out' end = EndsCheck honest old out out' end
+
+-- what a crash during the order may leave
+abbrev pub OrderLeaves : FileOrder → (known : Option (List ℕ)) (old : Device) → List ℕ → Type 0
+OrderLeaves (Format file i n) known old b = IsFresh i n old b
+OrderLeaves (Put file i n) known old b = PutLeaves i n known old b
+OrderLeaves (Get file i n) known old b = MayLeave old b
+OrderLeaves (Check file) known old b = MayLeave old b

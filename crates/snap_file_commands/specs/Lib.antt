@@ -1,0 +1,6 @@
+pub mod Remedy
+pub mod Failure
+pub mod Commands
+pub mod Effects
+pub mod Migration
+pub mod Calls

@@ -1,0 +1,228 @@
+//! Carries a file of the old format over to a new one, over any two devices and any writer.
+//!
+//! `specs/Migration.antt` says what each end means for both devices and for what was printed.
+ghost use Rattle.std.specs.Prelude.{◌≡◌, ◌≢◌, ◌<◌, ◌≤◌, ◌+◌, ◌-◌, ◌^◌, ◌++◌, length, IfOk, IsOk};
+ghost use Rattle.std.specs.Prelude.{codes};
+ghost use Rattle.std.specs.Fmt.{decimal};
+ghost use Rattle.std.specs.Prelude.{string_bytes, string_capacity, string_len};
+ghost use Rattle.snap_disk.specs.Device.{Device, LeavesOnly, MayLeave};
+ghost use Rattle.snap_slot.specs.declared.layout.TheConstants.{FILE_LEN};
+ghost use Rattle.snap_history.specs.declared.limits.TheConstants.{MAX_COUNT};
+ghost use Rattle.snap_old_slot.specs.declared.layout.TheConstants.{OLD_FILE_LEN};
+ghost use Rattle.snap_order.specs.Order.{IsPlace};
+ghost use Rattle.snap_file_commands.specs.Calls.{CountsPair};
+ghost use Rattle.snap_file_commands.specs.Migration.{CountsMigration, EndsMigration, MigrationEnd};
+ghost use Rattle.snap_file_commands.specs.Migration.{MigrationKeeps, MigrationLeaves, MigrationReads};
+ghost use Rattle.snap_file_commands.specs.Migration.{MigrationSays, SaysMigration, migrated_beginning};
+ghost use Rattle.snap_file_commands.specs.Migration.{migration_status, migration_status_of};
+
+use crate::CommandFailure;
+use crate::remedy::{of_new, of_old};
+use crate::second_line::line_behind_role;
+use itoa::Buffer;
+use snap_disk::{Disk, Refusal};
+use snap_order::{Ended, Migration, Status};
+use snap_segment::{Which, migrate};
+use snap_stream::{Cause, complain_twice, write_whole};
+use std::alloc::{AllocError, Global};
+use std::io::Write;
+
+/// What stands behind the name of the old file, where it was refused.
+const AS_OLD: &str = "refused as the old file: ";
+
+/// The same of the new one.
+const AS_NEW: &str = "refused as the new file: ";
+
+/// Why a migration ended early.
+#[derive(Debug, Drop)]
+pub enum MigrationFailure {
+    /// One of its files was refused.
+    OfFile { which: Which, why: Refusal },
+    /// What else may end a command.
+    Other(CommandFailure),
+}
+
+/// What the system said of each file's device, where it failed.
+#[derive(Drop)]
+pub struct Causes<'a, C> {
+    pub old: &'a C,
+    pub new: &'a C,
+}
+
+impl MigrationFailure {
+    /// Says on standard error why the migration ended. Behind the line of a refused file a second
+    /// one names the file and says what to do, and of a device that failed what the system said.
+    pub fn report<C: Cause, E: Write>(
+        &self,
+        alloc: Global,
+        order: &Migration<'_>,
+        causes: &Causes<'_, C>,
+        errors: &mut E,
+    ) -> Ended
+        ensures status { result.status ≡ migration_status_of self.now }
+        ensures says { SaysMigration self.now (C.may_give causes.now.old.now)
+            (C.may_give causes.now.new.now) order.now result.is_told (E.contents errors.old)
+            (E.contents errors.new) }
+    {
+        match self {
+            MigrationFailure::OfFile { which, why } => Ended {
+                status: Status::Refused,
+                is_told: match which {
+                    Which::Old => {
+                        let (role, text) = (AS_OLD, of_old(alloc, order, *why));
+                        let more = line_behind_role(alloc, order.old, role, *why, causes.old, text);
+                        complain_twice(errors, *why, more)
+                    }
+                    Which::New => {
+                        let (role, text) = (AS_NEW, of_new(alloc, order, *why));
+                        let more = line_behind_role(alloc, order.new, role, *why, causes.new, text);
+                        complain_twice(errors, *why, more)
+                    }
+                },
+            },
+            MigrationFailure::Other(failure) => failure.report(alloc, errors),
+        }
+    }
+}
+
+/// Carries the old file over to the new one, and says how the program ends. `migrated I of N number
+/// K` goes to `writer` once the new file holds number K and its value for good. Why it ended early
+/// goes to `errors`: the line of a refusal, and behind it one that names the refused file and says
+/// what to do; or one line that begins `snapd: `. `causes` know what the system said of each file's
+/// device, where it failed.
+///
+/// Faults are found in this order: want of memory, then what the files meet (both lengths, the old
+/// file's contents, whether the new one is formatted), and a writer that fails comes last.
+pub fn act_pair<O: Disk, N: Disk, C: Cause, W: Write, E: Write>(
+    alloc: Global,
+    order: &Migration<'_>,
+    old: O,
+    new: N,
+    causes: &Causes<'_, C>,
+    writer: &mut W,
+    errors: &mut E,
+) -> (O, N, Ended)
+    requires place { IsPlace order.now.index order.now.count }
+    requires old_headroom { O.failure_count old < 2 ^ 64 - 1 }
+    requires new_headroom { N.failure_count new < 2 ^ 64 - 1 }
+    ensures old_honest { O.is_honest result.0 → O.is_honest old }
+    ensures new_honest { N.is_honest result.1 → N.is_honest new }
+
+    // The status is that of an end which says what happened, what standard error got, and which of
+    // the devices are as they were.
+    ensures ends { (end : MigrationEnd) × (result.2.status ≡ migration_status end)
+        × MigrationSays (C.may_give causes.now.old.now) (C.may_give causes.now.new.now) order.now
+        end result.2.is_told (E.contents errors.old) (E.contents errors.new)
+        × CountsMigration end (O.failure_count old) (O.failure_count result.0)
+        (N.failure_count new) (N.failure_count result.1)
+        × CountsPair 2 end (O.clock old) (O.clock result.0)
+        × CountsPair 7 end (N.clock new) (N.clock result.1)
+        × MigrationReads end (O.is_honest result.0
+        → (O.device result.0).bytes ≡ (O.device old).bytes)
+        × MigrationKeeps end (result.0 ≡ old) (result.1 ≡ new) (N.is_honest result.1
+        → LeavesOnly N.clock N.might_have_left new result.1 (MayLeave (N.device new)))
+        × EndsMigration order.now.index order.now.count (O.is_honest result.0)
+        (N.is_honest result.1) (O.device old) (N.device new) (N.device result.1)
+        (W.contents writer.old) (W.contents writer.new) end }
+
+    // Where a length is wrong, both devices are left untouched.
+    ensures wrong_old_length { length (O.device old).bytes ≢ OLD_FILE_LEN
+        → (result.0 ≡ old) × (result.1 ≡ new) }
+    ensures wrong_new_length { length (N.device new).bytes ≢ FILE_LEN
+        → (result.0 ≡ old) × (result.1 ≡ new) }
+
+    // A crash at any time leaves of the old file what one before could leave, and of the new one
+    // what a migration may leave.
+    ensures old_any_time { O.is_honest result.0 → LeavesOnly O.clock O.might_have_left old result.0
+        (MayLeave (O.device old)) }
+    ensures new_any_time { O.is_honest result.0 → N.is_honest result.1
+        → LeavesOnly N.clock N.might_have_left new result.1
+        (MigrationLeaves order.now.index order.now.count (O.device old) (N.device new)) }
+{
+    let (old, new, end) = migrate_files(alloc, order, old, new, writer);
+    match end {
+        Ok(status) => {
+            let is_told = true;
+            (old, new, Ended { status, is_told })
+        }
+        Err(failure) => (old, new, failure.report(alloc, order, causes, errors)),
+    }
+}
+
+/// Carries the old file over, and says so.
+fn migrate_files<O: Disk, N: Disk, W: Write>(
+    alloc: Global,
+    order: &Migration<'_>,
+    old: O,
+    new: N,
+    writer: &mut W,
+) -> (O, N, Result<Status, MigrationFailure>)
+    requires place { IsPlace order.now.index order.now.count }
+    requires old_headroom { O.failure_count old < 2 ^ 64 - 1 }
+    requires new_headroom { N.failure_count new < 2 ^ 64 - 1 }
+    ensures old_honest { O.is_honest result.0 → O.is_honest old }
+    ensures new_honest { N.is_honest result.1 → N.is_honest new }
+    ensures count { CountsMigration result.2 (O.failure_count old) (O.failure_count result.0)
+        (N.failure_count new) (N.failure_count result.1) }
+    ensures old_calls { CountsPair 2 result.2 (O.clock old) (O.clock result.0) }
+    ensures new_calls { CountsPair 7 result.2 (N.clock new) (N.clock result.1) }
+    ensures reads { MigrationReads result.2 (O.is_honest result.0
+        → (O.device result.0).bytes ≡ (O.device old).bytes) }
+    ensures keeps { MigrationKeeps result.2 (result.0 ≡ old) (result.1 ≡ new) (N.is_honest result.1
+        → LeavesOnly N.clock N.might_have_left new result.1 (MayLeave (N.device new))) }
+    ensures ends { EndsMigration order.now.index order.now.count (O.is_honest result.0)
+        (N.is_honest result.1) (O.device old) (N.device new) (N.device result.1)
+        (W.contents writer.old) (W.contents writer.new) result.2 }
+    ensures wrong_old_length { length (O.device old).bytes ≢ OLD_FILE_LEN
+        → (result.0 ≡ old) × (result.1 ≡ new) }
+    ensures wrong_new_length { length (N.device new).bytes ≢ FILE_LEN
+        → (result.0 ≡ old) × (result.1 ≡ new) }
+    ensures old_any_time { O.is_honest result.0 → LeavesOnly O.clock O.might_have_left old result.0
+        (MayLeave (O.device old)) }
+    ensures new_any_time { O.is_honest result.0 → N.is_honest result.1
+        → LeavesOnly N.clock N.might_have_left new result.1
+        (MigrationLeaves order.now.index order.now.count (O.device old) (N.device new)) }
+{
+    let (mut old, mut new) = (old, new);
+    let (index, count) = (order.index, order.count);
+    // The line's memory is taken first, so that want of it leaves the files as they are.
+    let Ok(mut line) = line_for(alloc, index, count) else {
+        let failure = CommandFailure::Refused(Refusal::NoMemory);
+        return (old, new, Err(MigrationFailure::Other(failure)));
+    };
+    let number = match migrate(&mut old, &mut new, index, count) {
+        Ok(number) => number,
+        Err((which, why)) => return (old, new, Err(MigrationFailure::OfFile { which, why })),
+    };
+    end_line(&mut line, number);
+    match write_whole(writer, line.as_bytes()) {
+        Ok(()) => (old, new, Ok(Status::Done)),
+        Err(error) => {
+            let failure = CommandFailure::Output(error);
+            (old, new, Err(MigrationFailure::Other(failure)))
+        }
+    }
+}
+
+/// How many bytes the longest number has, with the line feed behind it.
+const NUMBER_ROOM: usize = 21;
+
+/// The line but for its number, with room for that.
+fn line_for(alloc: Global, index: u8, count: u8) -> Result<String, AllocError>
+    ensures text { IfOk result (λ line. string_bytes line ≡ migrated_beginning index count) }
+    ensures room { IfOk result (λ line. string_len line + NUMBER_ROOM ≤ string_capacity line) }
+{
+    let mut line = format!(in alloc; "migrated {index} of {count} number ")?;
+    line.reserve(NUMBER_ROOM)?;
+    Ok(line)
+}
+
+/// Puts the number and a line feed behind a line that has room for them, so no memory is asked for.
+fn end_line(line: &mut String, number: u64)
+    requires room { string_len line.old + NUMBER_ROOM ≤ string_capacity line.old }
+    ensures { string_bytes line.new ≡ string_bytes line.old ++ (decimal number ++ codes "\n") }
+{
+    let mut digits = Buffer::new();
+    let _ = line.push_str(digits.format(number));
+    let _ = line.push('\n');
+}

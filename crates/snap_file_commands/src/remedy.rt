@@ -1,0 +1,146 @@
+//! What is wrong with a file that was refused, and what to do, in words.
+//!
+//! `specs/Remedy.antt` has the texts.
+ghost use Rattle.std.specs.Prelude.{◌≡◌, IfOk, string_bytes};
+ghost use Rattle.snap_file_commands.specs.Remedy.{another_text, damaged_text, empty_text};
+ghost use Rattle.snap_file_commands.specs.Remedy.{format_command_of, formatted_text, length_text};
+ghost use Rattle.snap_file_commands.specs.Remedy.{new_file_text, old_file_text, old_text};
+ghost use Rattle.snap_file_commands.specs.Remedy.{unformatted_text, whole_text, wrong_text};
+
+use snap_disk::Refusal;
+use snap_order::{FileOrder, Migration};
+use snap_segment::OLD_FILE_LEN;
+use snap_slot::FILE_LEN;
+use std::alloc::{AllocError, Global};
+
+/// Of a file that isn't the order's, by its length.
+pub(crate) fn of_wrong(alloc: Global, order: &FileOrder<'_>, len: u64) -> Result<String, AllocError>
+    ensures { IfOk result (λ text. string_bytes text ≡ wrong_text order.now len) }
+{
+    match len {
+        0 => of_empty(alloc, order),
+        OLD_FILE_LEN => of_old_format(alloc, order.file()),
+        FILE_LEN => of_whole(alloc, order),
+        _ => of_length(alloc, len),
+    }
+}
+
+/// Of a file that has no byte, and so nothing to lose.
+fn of_empty(alloc: Global, order: &FileOrder<'_>) -> Result<String, AllocError>
+    ensures { IfOk result (λ text. string_bytes text ≡ empty_text order.now) }
+{
+    let words = words_of_format(alloc, order)?;
+    format!(in alloc; "it has no byte: a format that was cut off: go on with {words}")
+}
+
+/// Of a file that has the length of the old format.
+fn of_old_format(alloc: Global, file: &str) -> Result<String, AllocError>
+    ensures { IfOk result (λ text. string_bytes text ≡ old_text file.now) }
+{
+    format!(in alloc;
+        "it has the length of the old format: carry it over with snapd migrate {file} NEW"
+    )
+}
+
+/// Of a file that has the length of a segment's: it is that of another segment.
+fn of_whole(alloc: Global, order: &FileOrder<'_>) -> Result<String, AllocError>
+    ensures { IfOk result (λ text. string_bytes text ≡ whole_text order.now) }
+{
+    match *order {
+        FileOrder::Put { file, index, count } | FileOrder::Get { file, index, count } => {
+            of_another(alloc, file, index, count)
+        }
+        FileOrder::Format { .. } | FileOrder::Check { .. } => of_length(alloc, FILE_LEN),
+    }
+}
+
+/// Of a file that isn't this segment's.
+fn of_another(alloc: Global, file: &str, index: u8, count: u8) -> Result<String, AllocError>
+    ensures { IfOk result (λ text. string_bytes text ≡ another_text file.now index count) }
+{
+    format!(in alloc; "it isn't the file of segment {index} of {count}: see snapd check {file}")
+}
+
+/// Of a file that has the length of no format.
+fn of_length(alloc: Global, len: u64) -> Result<String, AllocError>
+    ensures { IfOk result (λ text. string_bytes text ≡ length_text len) }
+{
+    format!(in alloc; "it has {len} bytes, and a segment file has {FILE_LEN}")
+}
+
+/// Of a file whose header's gate is closed. Its slots may hold something all the same, which a
+/// format ends.
+pub(crate) fn of_unformatted(alloc: Global, order: &FileOrder<'_>) -> Result<String, AllocError>
+    ensures { IfOk result (λ text. string_bytes text ≡ unformatted_text order.now) }
+{
+    let words = words_of_format(alloc, order)?;
+    format!(in alloc;
+        "it was never formatted, or its header is gone: keep a copy first, then {words}"
+    )
+}
+
+/// Of a file whose slots have no answer.
+pub(crate) fn of_damaged(alloc: Global, file: &str) -> Result<String, AllocError>
+    ensures { IfOk result (λ text. string_bytes text ≡ damaged_text file.now) }
+{
+    format!(in alloc; "its slots give no answer: see snapd check {file}")
+}
+
+/// Of a file that is a segment's already.
+pub(crate) fn of_formatted(alloc: Global, file: &str) -> Result<String, AllocError>
+    ensures { IfOk result (λ text. string_bytes text ≡ formatted_text file.now) }
+{
+    format!(in alloc; "it is formatted already: see snapd check {file}")
+}
+
+/// Of a migration's old file. It can't be made again by a command.
+pub(crate) fn of_old(
+    alloc: Global,
+    order: &Migration<'_>,
+    why: Refusal,
+) -> Result<String, AllocError>
+    ensures { IfOk result (λ text. string_bytes text ≡ old_file_text order.now why) }
+{
+    let (index, count) = (order.index, order.count);
+    match why {
+        Refusal::Damaged => format!(in alloc; "its slots give no answer: look for a backup"),
+        Refusal::Unformatted => format!(in alloc;
+            "it was never formatted, or its header is gone: look for a backup"
+        ),
+        _ => format!(in alloc;
+            "it isn't the file of segment {index} of {count} with the {OLD_FILE_LEN} bytes of the old format"
+        ),
+    }
+}
+
+/// Of a migration's new file.
+pub(crate) fn of_new(
+    alloc: Global,
+    order: &Migration<'_>,
+    why: Refusal,
+) -> Result<String, AllocError>
+    ensures { IfOk result (λ text. string_bytes text ≡ new_file_text order.now why) }
+{
+    match why {
+        Refusal::AlreadyFormatted => of_formatted(alloc, order.new),
+        _ => format!(in alloc;
+            "it is neither empty nor of the {FILE_LEN} bytes of a segment file: give another path"
+        ),
+    }
+}
+
+/// The words that format the order's file, with letters for a place that the order doesn't name.
+fn words_of_format(alloc: Global, order: &FileOrder<'_>) -> Result<String, AllocError>
+    ensures { IfOk result (λ text. string_bytes text ≡ format_command_of order.now) }
+{
+    match *order {
+        FileOrder::Format { file, index, count }
+        | FileOrder::Put { file, index, count }
+        | FileOrder::Get { file, index, count } => {
+            format!(in alloc; "snapd format {file} --index {index} --count {count}")
+        }
+        FileOrder::Check { file } => {
+            format!(in alloc; "snapd format {file} --index I --count N")
+        }
+    }
+}

@@ -1,8 +1,0 @@
-use Rattle.snap_host.specs.Scanners.{table_of, plan_of}
-use Rattle.snap_host.proofs.stores.serve_store.Given as goal
-
-abbrev pub ghosts-serve_memory : goal.ghosts-serve_memory
-ghosts-serve_memory g a = record {
-  table = table_of a.scanners.items;
-  plan = plan_of a.scanners.items;
-}

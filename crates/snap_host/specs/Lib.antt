@@ -1,2 +1,0 @@
-pub mod Hosting
-pub mod Scanners

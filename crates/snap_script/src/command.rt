@@ -1,0 +1,59 @@
+//! The command `script`, over any reader and writers.
+ghost use Rattle.std.specs.Prelude.{◌≡◌};
+ghost use Rattle.snap_script.specs.Ends.{EndSays, status_of};
+ghost use Rattle.snap_script.specs.Script.{Runs};
+
+use crate::{ScriptEnd, script};
+use snap_disk::Refusal;
+use snap_order::{Ended, Status};
+use snap_stream::{complain, complain_of_refusal};
+use std::alloc::Global;
+use std::io::{Read, Write};
+use std::sync::Wait;
+
+impl ScriptEnd {
+    /// Says on standard error why the script ended early, as a complaint, which begins `snapd: `. That
+    /// memory was wanting is said without taking any.
+    pub fn report<E: Write>(&self, alloc: Global, errors: &mut E) -> Ended
+        ensures status { result.status ≡ status_of self.now }
+        ensures says { EndSays self.now result.is_told (E.contents errors.old)
+            (E.contents errors.new) }
+    {
+        match self {
+            ScriptEnd::Done => Ended {
+                status: Status::Done,
+                is_told: true,
+            },
+            ScriptEnd::BadLine { .. } | ScriptEnd::TooLong { .. } => Ended {
+                status: Status::Misused,
+                is_told: complain(alloc, errors, self),
+            },
+            ScriptEnd::NoMemory => Ended {
+                status: Status::Refused,
+                is_told: complain_of_refusal(errors, Refusal::NoMemory),
+            },
+            ScriptEnd::ReadFailed(_) | ScriptEnd::WriteFailed(_) => Ended {
+                status: Status::Failed,
+                is_told: complain(alloc, errors, self),
+            },
+        }
+    }
+}
+
+/// Runs the script that the reader has, as [`script`] does, and says how the program ends. What the
+/// script prints goes to `writer`, and why it ended early to `errors`, as one line that begins
+/// `snapd: `.
+pub fn play<X: Wait, R: Read, W: Write, E: Write>(
+    rt: &X,
+    alloc: Global,
+    reader: &mut R,
+    writer: &mut W,
+    errors: &mut E,
+) -> Ended
+    ensures { (end : ScriptEnd) × (result.status ≡ status_of end)
+        × EndSays end result.is_told (E.contents errors.old) (E.contents errors.new)
+        × Runs (R.remaining reader.old) (R.remaining reader.new)
+        (W.contents writer.old) (W.contents writer.new) end }
+{
+    script(rt, alloc, reader, writer).report(alloc, errors)
+}

@@ -1,0 +1,8 @@
+use Rattle.snap_serve.specs.Scanners.{table_of, plan_of}
+use Rattle.snap_serve.proofs.stores.serve_store.Given as goal
+
+abbrev pub ghosts-serve_memory : goal.ghosts-serve_memory
+ghosts-serve_memory g a = record {
+  table = table_of a.scanners.items;
+  plan = plan_of a.scanners.items;
+}

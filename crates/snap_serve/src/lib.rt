@@ -1,0 +1,22 @@
+//! Everything between a server's files and its clients: [`host`] opens the files, prints what it
+//! found, listens, and serves.
+//!
+//! Each worker is a desk with a scanner of its own, and each segment's updates are stored by a
+//! thread of its own. What the system gives, an address and what is told of ended connections,
+//! comes from the caller ([`Edge`]).
+#![tactic(auto)]
+
+mod announcement;
+mod bind;
+mod failure;
+mod notes;
+mod report;
+mod server;
+mod stores;
+mod watch;
+
+pub use bind::{Bind, Network};
+pub use failure::HostFailure;
+pub use notes::log_note;
+pub use server::{Edge, host};
+pub use watch::{NoWatch, Watch};

@@ -1,0 +1,65 @@
+//! What a server prints.
+ghost use Rattle.std.specs.Prelude.{OnOk, IfErr, string_bytes};
+ghost use Rattle.std.specs.Io.KnownBytes.{Appends};
+ghost use Rattle.snap_stream.specs.Streams.{AppendsBeginning};
+ghost use Rattle.snap_restart.specs.Report.{report_text};
+ghost use Rattle.snap_serve.specs.Serve.{PrintFails, served_line};
+
+use crate::failure::HostFailure;
+use snap_restart::Report;
+use snap_stream::write_whole;
+use std::alloc::Global;
+use std::io::{self, Write};
+
+/// Writes what was found in the files.
+pub(crate) fn print_report<W: Write>(
+    alloc: Global,
+    report: &Report,
+    writer: &mut W,
+) -> Result<(), HostFailure>
+    ensures whole { OnOk result
+        (Appends (W.contents writer.old) (W.contents writer.new) (report_text report.now)) }
+    ensures failed { IfErr result
+        (PrintFails (W.contents writer.old) (W.contents writer.new) (report_text report.now)) }
+{
+    let Ok(text) = report.to_string(alloc) else {
+        return Err(HostFailure::NoMemory);
+    };
+    match print_line(&text, writer) {
+        Ok(()) => Ok(()),
+        Err(error) => Err(HostFailure::Output(error)),
+    }
+}
+
+/// Says how many connections were served.
+pub(crate) fn print_served<W: Write>(
+    alloc: Global,
+    served: u64,
+    writer: &mut W,
+) -> Result<(), HostFailure>
+    ensures whole { OnOk result
+        (Appends (W.contents writer.old) (W.contents writer.new) (served_line served)) }
+    ensures failed { IfErr result
+        (PrintFails (W.contents writer.old) (W.contents writer.new) (served_line served)) }
+{
+    let Ok(line) = format!(in alloc; "served {served}\n") else {
+        return Err(HostFailure::NoMemory);
+    };
+    match print_line(&line, writer) {
+        Ok(()) => Ok(()),
+        Err(error) => Err(HostFailure::Output(error)),
+    }
+}
+
+/// Writes a text at once.
+pub(crate) fn print_line<W: Write>(text: &String, writer: &mut W) -> io::Result<()>
+    ensures whole { OnOk result
+        (Appends (W.contents writer.old) (W.contents writer.new) (string_bytes text.now)) }
+    ensures beginning { AppendsBeginning (W.contents writer.old) (W.contents writer.new)
+        (string_bytes text.now) }
+{
+    match write_whole(writer, text.as_bytes()) {
+        Ok(()) => writer.flush(),
+        Err(error) => Err(error),
+    }
+}

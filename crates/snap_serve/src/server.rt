@@ -1,0 +1,274 @@
+//! A server from its files to its end.
+ghost use Rattle.std.specs.Prelude.{◌≡◌, ◌-◌, ◌^◌, ◌<◌, length, All, IfOk, IfErr, string_bytes};
+ghost use Rattle.std.specs.declared.net.socket_addr.SocketAddr.{SocketAddr};
+ghost use Rattle.snap_order.specs.Order.{IsServable};
+ghost use Rattle.snap_restart.specs.Closed.{AreBack};
+ghost use Rattle.snap_serve.specs.Serve.{End, EndsHost, EndsServing, IsLengthAt, IsReportOf, IsStopOf};
+ghost use Rattle.snap_serve.specs.Serve.{HaveCome, IsRefused, ListenFails, ListensAt, SaysEnd, failure_of, listening_line, status_at};
+
+use crate::announcement::Announcement;
+use crate::bind::Bind;
+use crate::failure::HostFailure;
+use crate::report::{print_report, print_served};
+use crate::stores::serve_store;
+use crate::watch::Watch;
+use snap_disk::Disk;
+use snap_order::{Ended, Serving, Status};
+use snap_restart::{Report, Store, open_all};
+use snap_server::{Gate, Limits, Locate, Note, RunFault, ServerFault};
+use snap_stream::Cause;
+use std::alloc::Global;
+use std::io::Write;
+use std::net::Net;
+use std::rt::Clock;
+use std::sync::Wait;
+use std::thread::Threads;
+use std::time::Duration;
+
+/// The rest after a fault of the listener, in milliseconds: with the longer ones behind further faults
+/// accepting ends after three minutes.
+const FAULT_REST: u64 = 20;
+
+/// What a server meets at its edge.
+#[derive(Clone, Copy)]
+pub struct Edge<'a, B, G, N, H, C> {
+    /// Binds the address.
+    pub bind: &'a B,
+    /// Is told of each request before it is answered and after.
+    pub gate: &'a G,
+    /// Is told of each connection that has ended, and of the accepting.
+    pub note: &'a N,
+    /// Is told of updates that weren't stored.
+    pub watch: H,
+    /// What the system said of each segment's device when a call of it failed.
+    pub causes: &'a [C],
+    /// How many connections may be open at once.
+    pub clients: usize,
+    /// How long a connection may say nothing; without end where none is given.
+    pub idle: Option<Duration>,
+}
+
+/// Serves the order's segments, one device for each of its files in order, and says how the program
+/// ends.
+///
+/// All files are opened first. Then the report of the opening is written, and the address is bound.
+/// Once all threads are there, `listening ADDRESS` is written and flushed, with the address that the
+/// listener which is served on tells of itself; then as many connections are served as the order says,
+/// or without end; and at the end `served K` is written.
+/// Nothing is served before the report and the line are out.
+///
+/// Why it ended early goes to `errors`, as one line that begins `snapd: `; behind the line of a
+/// file's refusal one more names the file and says what to do.
+pub fn host<X, D, B, G, N, H, C, W, E>(
+    rt: &X,
+    alloc: Global,
+    order: &Serving<'_>,
+    devices: Vec<D>,
+    edge: Edge<'_, B, G, N, H, C>,
+    writer: &mut W,
+    errors: &mut E,
+) -> Ended
+where
+    X: Threads + Wait + Clock + Net + Sync + Send + Copy,
+    D: Disk + Send + Drop,
+    B: Bind,
+    B::Listener: Drop,
+    G: Gate + Sync,
+    N: Fn(&Note) + Sync,
+    H: Watch + Copy + Send + Drop,
+    C: Cause,
+    W: Write,
+    E: Write,
+    requires order { IsServable order.now }
+    requires devices { length devices.items ≡ length order.now.files.items }
+    requires headroom { All (λ d. D.failure_count d < 2 ^ 64 - 1) devices.items }
+    requires note { N.IsAlwaysCallable edge.note.now }
+
+    // The status is that of an end which says what was written, to the writer and to `errors`.
+    ensures { (end : End) × (result.status ≡ status_at end)
+        × SaysEnd (λ file. file.now) order.now.files.items end result.is_told
+        (E.contents errors.old) (E.contents errors.new)
+        × EndsHost (IsReportOf D.device D.failure_count D.is_honest D.clock D.might_have_left
+        devices.items) (IsStopOf D.device D.failure_count D.is_honest D.clock D.might_have_left
+        devices.items)
+        (ListensAt (B.binds edge.entry.bind.now order.now.address.now) B.Listener.is_at)
+        (IsRefused (B.binds edge.entry.bind.now order.now.address.now)
+        (B.refuses edge.entry.bind.now order.now.address.now) B.Listener.is_untold)
+        B.Listener.refuses (HaveCome B.Listener.accepts) order.now.connections
+        (W.contents writer.old) (W.contents writer.new) end }
+{
+    let causes = edge.causes;
+    match open_and_serve(rt, alloc, order, devices, edge, writer) {
+        Ok(_) => Ended {
+            status: Status::Done,
+            is_told: true,
+        },
+        Err(failure) => failure.report(alloc, order, causes, errors),
+    }
+}
+
+/// Opens, reports, listens, serves, and says how many connections were served.
+fn open_and_serve<X, D, B, G, N, H, C, W>(
+    rt: &X,
+    alloc: Global,
+    order: &Serving<'_>,
+    devices: Vec<D>,
+    edge: Edge<'_, B, G, N, H, C>,
+    writer: &mut W,
+) -> Result<u64, HostFailure>
+where
+    X: Threads + Wait + Clock + Net + Sync + Send + Copy,
+    D: Disk + Send + Drop,
+    B: Bind,
+    B::Listener: Drop,
+    G: Gate + Sync,
+    N: Fn(&Note) + Sync,
+    H: Watch + Copy + Send + Drop,
+    C: Cause,
+    W: Write,
+    requires order { IsServable order.now }
+    requires devices { length devices.items ≡ length order.now.files.items }
+    requires headroom { All (λ d. D.failure_count d < 2 ^ 64 - 1) devices.items }
+    requires note { N.IsAlwaysCallable edge.note.now }
+    ensures { EndsHost (IsReportOf D.device D.failure_count D.is_honest D.clock D.might_have_left
+        devices.items) (IsStopOf D.device D.failure_count D.is_honest D.clock D.might_have_left
+        devices.items)
+        (ListensAt (B.binds edge.entry.bind.now order.now.address.now) B.Listener.is_at)
+        (IsRefused (B.binds edge.entry.bind.now order.now.address.now)
+        (B.refuses edge.entry.bind.now order.now.address.now) B.Listener.is_untold)
+        B.Listener.refuses (HaveCome B.Listener.accepts) order.now.connections
+        (W.contents writer.old) (W.contents writer.new) result }
+{
+    match open_all(alloc, devices, usize::from(order.scanners)) {
+        Ok((store, report)) => serve_opened(rt, alloc, order, store, &report, edge, writer),
+        Err(stopped) => Err(HostFailure::Refused {
+            segment: stopped.segment,
+            why: stopped.refusal,
+            len: length_at(&stopped.devices, stopped.segment),
+        }),
+    }
+}
+
+/// How many bytes the device of this segment has, or 0 where there is none.
+fn length_at<D: Disk>(devices: &Vec<D>, segment: usize) -> u64
+    ensures { IsLengthAt D.device devices.now.items segment result }
+{
+    match devices.get(segment) {
+        Some(device) => device.len(),
+        None => 0,
+    }
+}
+
+/// Reports, listens, serves, and says how many connections were served.
+#[tactic(auto, using(crate::proofs::Written::report_failed))]
+fn serve_opened<X, D, B, G, N, H, C, W>(
+    rt: &X,
+    alloc: Global,
+    order: &Serving<'_>,
+    store: Store<D>,
+    report: &Report,
+    edge: Edge<'_, B, G, N, H, C>,
+    writer: &mut W,
+) -> Result<u64, HostFailure>
+where
+    X: Threads + Wait + Clock + Net + Sync + Send + Copy,
+    D: Disk + Send + Drop,
+    B: Bind,
+    B::Listener: Drop,
+    G: Gate + Sync,
+    N: Fn(&Note) + Sync,
+    H: Watch + Copy + Send + Drop,
+    C: Cause,
+    W: Write,
+    requires back { AreBack store.writers.items store.scanners.items }
+    requires note { N.IsAlwaysCallable edge.note.now }
+    ensures { EndsServing
+        (ListensAt (B.binds edge.entry.bind.now order.now.address.now) B.Listener.is_at)
+        (IsRefused (B.binds edge.entry.bind.now order.now.address.now)
+        (B.refuses edge.entry.bind.now order.now.address.now) B.Listener.is_untold)
+        B.Listener.refuses (HaveCome B.Listener.accepts) order.now.connections
+        report.now (W.contents writer.old) (W.contents writer.new) result }
+{
+    match print_report(alloc, report, writer) {
+        Ok(()) => {}
+        Err(failure) => return Err(failure),
+    }
+    let (listener, announcement) = match listen(alloc, order.address, edge.bind) {
+        Ok(listening) => listening,
+        Err(failure) => return Err(failure),
+    };
+    let Edge {
+        gate,
+        note,
+        watch,
+        clients,
+        idle,
+        ..
+    } = edge;
+    let limits = Limits {
+        connections: order.connections,
+        clients,
+        fault_rest: Duration::from_millis(FAULT_REST),
+        idle,
+    };
+    let ended = serve_store(
+        rt,
+        alloc,
+        store,
+        listener,
+        limits,
+        gate,
+        note,
+        watch,
+        &announcement,
+        writer,
+    );
+    match ended {
+        Ok(served) => match print_served(alloc, served, writer) {
+            Ok(()) => Ok(served),
+            Err(failure) => Err(failure),
+        },
+        Err(fault) => Err(failure_of(fault)),
+    }
+}
+
+/// What the program ends with where its server ended so.
+fn failure_of(fault: RunFault) -> HostFailure
+    ensures { result ≡ failure_of fault }
+{
+    match fault {
+        RunFault::Announcement(error) => HostFailure::Output(error),
+        RunFault::Server(ServerFault::NoMemory) => HostFailure::NoMemory,
+        RunFault::Server(fault) => HostFailure::Server(fault),
+    }
+}
+
+/// Binds the address, and makes the line that says where the listener really is.
+fn listen<B: Bind>(
+    alloc: Global,
+    address: &str,
+    bind: &B,
+) -> Result<(B::Listener, Announcement), HostFailure>
+where
+    B::Listener: Drop,
+    ensures bound { IfOk result (λ made. (a : SocketAddr)
+        × ListensAt (B.binds bind.now address.now) B.Listener.is_at made.0 a
+        × (string_bytes made.1.line ≡ listening_line a)) }
+    ensures failed { IfErr result
+        (ListenFails (ListensAt (B.binds bind.now address.now) B.Listener.is_at)
+        (IsRefused (B.binds bind.now address.now) (B.refuses bind.now address.now)
+        B.Listener.is_untold)) }
+{
+    let listener = match bind.bind(address) {
+        Ok(listener) => listener,
+        Err(error) => return Err(HostFailure::Address(error)),
+    };
+    let bound = match listener.address() {
+        Ok(bound) => bound,
+        Err(error) => return Err(HostFailure::Address(error)),
+    };
+    match format!(in alloc; "listening {bound}\n") {
+        Ok(line) => Ok((listener, Announcement { line })),
+        Err(_) => Err(HostFailure::NoMemory),
+    }
+}

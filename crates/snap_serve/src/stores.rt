@@ -1,0 +1,272 @@
+//! The threads that store, and the workers' desks.
+ghost use Rattle.std.specs.Prelude.{◌≡◌, ◌+◌, ℕ, length, slice_get, Some, IfOk, IfErr, OnOk};
+ghost use Rattle.snap_register.specs.Rule.{segments};
+ghost use Rattle.snap_register.specs.Seat.{Known};
+ghost use Rattle.snap_service.specs.Memory.{AreWriters, IsOf};
+ghost use Rattle.snap_restart.specs.Closed.{AreBack};
+ghost use Rattle.snap_serve.specs.Scanners.{AreScanners};
+ghost use Rattle.snap_server.specs.Announced.{Announced};
+ghost use Rattle.snap_server.specs.Dealing.{GivesSoMany};
+
+use crate::watch::Watch;
+use snap_desk::{Desk, Outcome, StoreThread, Told, Window};
+use snap_disk::{Disk, Refusal};
+use snap_memory::{Scanner, Snapshot};
+use snap_restart::Store;
+use snap_server::{
+    Announce, Background, Done, Gate, Limits, Listen, Note, RunFault, ServerFault, run,
+};
+use snap_service::{Memory, WriterOf, name_writers};
+use snap_writer::Writer;
+use std::alloc::{AllocError, Global};
+use std::marker::Brand;
+use std::mem;
+use std::net::Net;
+use std::rt::Clock;
+use std::sync::Wait;
+use std::thread::Threads;
+
+/// A segment's store in a thread of the server.
+#[derive(Drop)]
+struct Storing<R: Wait + Copy, M: Memory, D: Disk + Drop, H: Drop> {
+    store: StoreThread<R, M, D>,
+    segment: usize,
+    watch: H,
+}
+
+impl<R: Wait + Copy, M: Memory, D: Disk + Drop, H: Watch + Drop> Background
+    for Storing<R, M, D, H> {
+    type Outcome = Outcome<R, M, D>;
+
+    fn next_done(&mut self) -> Option<Done<Outcome<R, M, D>>> {
+        let Told {
+            worker,
+            key,
+            outcome,
+        } = self.store.next()?;
+        if outcome.told() == Err(Refusal::DeviceFailed) {
+            self.watch.unstored(self.segment, outcome.number());
+        }
+        Some(Done {
+            worker,
+            key,
+            outcome,
+        })
+    }
+}
+
+/// A store for each writer, and their windows in the same order.
+fn open_stores<R: Wait + Copy, M: Memory, D: Disk + Drop, H: Watch + Copy + Drop>(
+    rt: R,
+    alloc: Global,
+    writers: Vec<WriterOf<M, D>>,
+    watch: H,
+) -> Result<(Vec<Storing<R, M, D, H>>, Vec<Window>), AllocError>
+    ensures stores { IfOk result (λ r. length r.0.items ≡ length writers.items) }
+    ensures windows { IfOk result (λ r. length r.1.items ≡ length writers.items) }
+{
+    let mut stores = Vec::new(alloc);
+    let mut windows = Vec::new(alloc);
+    'writers: for writer in writers {
+        add_store(rt, alloc, writer, watch, &mut stores, &mut windows)?;
+    }
+    Ok((stores, windows))
+}
+
+/// Adds a store for this writer, and its window.
+fn add_store<R: Wait + Copy, M: Memory, D: Disk + Drop, H: Watch + Copy + Drop>(
+    rt: R,
+    alloc: Global,
+    writer: WriterOf<M, D>,
+    watch: H,
+    stores: &mut Vec<Storing<R, M, D, H>>,
+    windows: &mut Vec<Window>,
+) -> Result<(), AllocError>
+    ensures stores { OnOk result (length stores.new.items ≡ length stores.old.items + 1) }
+    ensures windows { OnOk result (length windows.new.items ≡ length windows.old.items + 1) }
+{
+    let segment = writer.segment();
+    let (store, window) = StoreThread::new(rt, alloc, writer)?;
+    stores.push(Storing {
+        store,
+        segment,
+        watch,
+    })?;
+    windows.push(window)?;
+    Ok(())
+}
+
+/// A desk for each scanner.
+fn open_desks<R: Wait + Copy + Clock, M: Memory, D: Disk + Drop>(
+    rt: R,
+    alloc: Global,
+    windows: Vec<Window>,
+    scanners: Vec<Scanner>,
+) -> Result<Vec<Desk<R, M, D>>, AllocError>
+    requires windows { length windows.items ≡ segments M.plan }
+    requires scanners { AreScanners M.table M.plan scanners.items }
+{
+    let mut desks = Vec::new(alloc);
+    'scanners: for scanner in scanners {
+        desks.push(open_desk(rt, alloc, desks.len(), &windows, scanner)?)?;
+    }
+    Ok(desks)
+}
+
+/// The desk of this worker, with windows of its own.
+fn open_desk<R: Wait + Copy + Clock, M: Memory, D: Disk + Drop>(
+    rt: R,
+    alloc: Global,
+    worker: usize,
+    windows: &Vec<Window>,
+    scanner: Scanner,
+) -> Result<Desk<R, M, D>, AllocError>
+    requires windows { length windows.now.items ≡ segments M.plan }
+    requires memory { IsOf M.table M.plan scanner }
+{
+    let snapshot = Snapshot::new(alloc, windows.len())?;
+    let own = windows.clone()?;
+    Ok(Desk::new(rt, alloc, worker, own, scanner, snapshot))
+}
+
+/// The desks and stores of a server over the memory of these writers and scanners.
+fn open_parts<M, X, D, H>(
+    rt: X,
+    alloc: Global,
+    writers: Vec<Writer<D>>,
+    scanners: Vec<Scanner>,
+    watch: H,
+) -> Result<(Vec<Desk<X, M, D>>, Vec<Storing<X, M, D, H>>), ServerFault>
+where
+    M: Memory,
+    X: Wait + Clock + Copy,
+    D: Disk + Drop,
+    H: Watch + Copy + Drop,
+    requires writers { AreWriters M.table M.plan writers.items }
+    requires scanners { AreScanners M.table M.plan scanners.items }
+    ensures { IfErr result (λ fault. fault ≡ ServerFault.NoMemory) }
+{
+    let Ok(writers) = name_writers::<M, D>(alloc, writers) else {
+        return Err(ServerFault::NoMemory);
+    };
+    let Ok((stores, windows)) = open_stores(rt, alloc, writers, watch) else {
+        return Err(ServerFault::NoMemory);
+    };
+    let Ok(desks) = open_desks::<X, M, D>(rt, alloc, windows, scanners) else {
+        return Err(ServerFault::NoMemory);
+    };
+    Ok((desks, stores))
+}
+
+/// Serves by these desks and stores, as [`run`] does.
+fn serve_parts<M, X, D, L, G, N, H, A, T>(
+    rt: &X,
+    alloc: Global,
+    parts: (Vec<Desk<X, M, D>>, Vec<Storing<X, M, D, H>>),
+    listener: L,
+    limits: Limits,
+    gate: &G,
+    note: &N,
+    announce: &A,
+    to: &mut T,
+) -> Result<u64, RunFault>
+where
+    M: Memory + Send,
+    X: Threads + Wait + Clock + Net + Sync + Send + Copy,
+    D: Disk + Send + Drop,
+    L: Listen + Drop,
+    G: Gate + Sync,
+    N: Fn(&Note) + Sync,
+    H: Watch + Send + Drop,
+    A: Announce<T>,
+    requires note { N.IsAlwaysCallable note.now }
+    ensures asked { IfOk result (λ k. limits.connections ≡ Some k) }
+    ensures accepted { IfOk result (λ k. (left : L) × GivesSoMany L.accepts k listener left) }
+    ensures deaf { IfErr result (λ why.
+        why ≡ RunFault.Server ServerFault.AcceptFailed → L.refuses listener) }
+    ensures announced { Announced (A.announces announce.now) (A.fails announce.now)
+        to.old result to.new }
+{
+    let (desks, stores) = parts;
+    run(
+        rt, alloc, listener, desks, stores, limits, gate, note, announce, to,
+    )
+}
+
+/// Serves the memory of these writers and scanners, as [`run`] does.
+fn serve_memory<M, X, D, L, G, N, H, A, T>(
+    rt: &X,
+    alloc: Global,
+    writers: Vec<Writer<D>>,
+    scanners: Vec<Scanner>,
+    listener: L,
+    limits: Limits,
+    gate: &G,
+    note: &N,
+    watch: H,
+    announce: &A,
+    to: &mut T,
+) -> Result<u64, RunFault>
+where
+    M: Memory + Send,
+    X: Threads + Wait + Clock + Net + Sync + Send + Copy,
+    D: Disk + Send + Drop,
+    L: Listen + Drop,
+    G: Gate + Sync,
+    N: Fn(&Note) + Sync,
+    H: Watch + Copy + Send + Drop,
+    A: Announce<T>,
+    requires writers { AreWriters M.table M.plan writers.items }
+    requires scanners { AreScanners M.table M.plan scanners.items }
+    requires note { N.IsAlwaysCallable note.now }
+    ensures asked { IfOk result (λ k. limits.connections ≡ Some k) }
+    ensures accepted { IfOk result (λ k. (left : L) × GivesSoMany L.accepts k listener left) }
+    ensures deaf { IfErr result (λ why.
+        why ≡ RunFault.Server ServerFault.AcceptFailed → L.refuses listener) }
+    ensures announced { Announced (A.announces announce.now) (A.fails announce.now)
+        to.old result to.new }
+{
+    match open_parts::<M, X, D, H>(*rt, alloc, writers, scanners, watch) {
+        Ok(parts) => serve_parts(rt, alloc, parts, listener, limits, gate, note, announce, to),
+        Err(fault) => Err(RunFault::Server(fault)),
+    }
+}
+
+/// Serves this store, as [`run`] does: a worker for each scanner, and a thread that stores for each
+/// writer.
+pub(crate) fn serve_store<X, D, L, G, N, H, A, T>(
+    rt: &X,
+    alloc: Global,
+    store: Store<D>,
+    listener: L,
+    limits: Limits,
+    gate: &G,
+    note: &N,
+    watch: H,
+    announce: &A,
+    to: &mut T,
+) -> Result<u64, RunFault>
+where
+    X: Threads + Wait + Clock + Net + Sync + Send + Copy,
+    D: Disk + Send + Drop,
+    L: Listen + Drop,
+    G: Gate + Sync,
+    N: Fn(&Note) + Sync,
+    H: Watch + Copy + Send + Drop,
+    A: Announce<T>,
+    requires back { AreBack store.writers.items store.scanners.items }
+    requires note { N.IsAlwaysCallable note.now }
+    ensures asked { IfOk result (λ k. limits.connections ≡ Some k) }
+    ensures accepted { IfOk result (λ k. (left : L) × GivesSoMany L.accepts k listener left) }
+    ensures deaf { IfErr result (λ why.
+        why ≡ RunFault.Server ServerFault.AcceptFailed → L.refuses listener) }
+    ensures announced { Announced (A.announces announce.now) (A.fails announce.now)
+        to.old result to.new }
+{
+    let mut store = store;
+    let writers = mem::replace(&mut store.writers, Vec::new(alloc));
+    let scanners = mem::replace(&mut store.scanners, Vec::new(alloc));
+    serve_memory::<Brand, X, D, L, G, N, H, A, T>(
+        rt, alloc, writers, scanners, listener, limits, gate, note, watch, announce, to,
+    )
+}

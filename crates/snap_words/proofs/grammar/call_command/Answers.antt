@@ -1,7 +1,0 @@
-use Rattle.snap_words.proofs.grammar.call_command.Goals as goal
-
-pub returns : goal.returns
-returns c = c.with_arg.ensures _ _
-    (c.with_arg-command.ensures _ _ c.addressed_command-command.ensures
-    c.required_words.ensures.rule)
-    c.number_option.ensures.rule

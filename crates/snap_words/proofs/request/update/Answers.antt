@@ -1,5 +1,0 @@
-use Rattle.snap_words.proofs.request.update.Goals as goal
-
-pub returns-in-None-clause-fault : goal.returns-in-None-clause-fault
-returns-in-None-clause-fault c =
-    rw (c.in-None.is, c.as_bytes.ensures.value) at c.in_ok-bytes.ensures
