@@ -1,88 +1,25 @@
 -- The command that a parse met, as the grammar has it.
-use Rattle.std.proofs.Common.{
-  ◌≡◌,
-  ◌≢◌,
-  ◌∙◌,
-  ℕ,
-  sym,
-  ap,
-  ap₂,
-  subst,
-  inl,
-  inr,
-  List,
-  [],
-  Option,
-  Some,
-  None,
-  option_map,
-  option_and_then,
-  unwrap_or,
-  true,
-  refl,
-  codes,
-  Bool,
-  false,
-  IsTrue,
-  ◌↔◌,
-}
-use Rattle.clap.specs.Words.{
-  all_of,
-  first_of,
-  fault_of,
-  kind_of,
-  is_simple_and_free,
-  HasKind,
-  IsAmong,
-}
+use Rattle.std.proofs.Common.{◌≡◌, ◌≢◌, ◌∙◌, ℕ, sym, ap, ap₂, subst, inl, inr, List, [], Option}
+use Rattle.std.proofs.Common.{Some, None, option_map, option_and_then, unwrap_or, true, refl, codes}
+use Rattle.std.proofs.Common.{Bool, false, IsTrue, ◌↔◌}
+use Rattle.clap.specs.Words.{all_of, first_of, fault_of, kind_of, is_simple_and_free, HasKind}
+use Rattle.clap.specs.Words.{IsAmong}
 use Rattle.clap.specs.declared.error.Error.{Error}
 use Rattle.clap.specs.declared.error.kind.ErrorKind.{ErrorKind}
 use Rattle.clap.specs.declared.error.kind.ErrorKind.TheVariants.{OutOfMemory}
-use Rattle.snap_args.specs.Faults.{
-  HasWord,
-  IsCommandName,
-  IsFaultOf,
-  IsLaterFault,
-  IsMissing,
-  IsParseFault,
-  IsRequest,
-}
+use Rattle.snap_args.specs.Faults.{HasWord, IsCommandName, IsFaultOf, IsLaterFault, IsMissing}
+use Rattle.snap_args.specs.Faults.{IsParseFault, IsRequest}
 use Rattle.snap_args.specs.Numbers.{IsLargeNumberOf, IsNumberOf}
 use Rattle.snap_args.specs.Orders.{IsCommand, IsPair}
 use Rattle.snap_args.specs.Words.{HasCommand, all_values, word_of, words_of}
 use Rattle.snap_args.specs.declared.fault.WordFault.{WordFault}
-use Rattle.snap_args.specs.declared.fault.WordFault.TheVariants.{
-  Help,
-  Words,
-  Count,
-  Index,
-  Files,
-  Scanners,
-  Connections,
-  Clients,
-  Idle,
-  Level,
-  Tries,
-  Request,
-  Number,
-  Missing,
-  NoCommand,
-  NotText,
-  Memory,
-}
-use Rattle.clap.specs.Words.{
-  App,
-  HasMatchesOf,
-  Row,
-  Text,
-  first_value,
-  found_of,
-  is_simple,
-  rows_of,
-  subcommand_name_of,
-  subcommand_of,
-  subcommand_rows_of,
-}
+use Rattle.snap_args.specs.declared.fault.WordFault.TheVariants.{Help, Words, Count, Index, Files}
+use Rattle.snap_args.specs.declared.fault.WordFault.TheVariants.{Scanners, Connections, Clients}
+use Rattle.snap_args.specs.declared.fault.WordFault.TheVariants.{Idle, Level, Tries, Request}
+use Rattle.snap_args.specs.declared.fault.WordFault.TheVariants.{Number, Missing, NoCommand}
+use Rattle.snap_args.specs.declared.fault.WordFault.TheVariants.{NotText, Memory}
+use Rattle.clap.specs.Words.{App, HasMatchesOf, Row, Text, first_value, found_of, is_simple}
+use Rattle.clap.specs.Words.{rows_of, subcommand_name_of, subcommand_of, subcommand_rows_of}
 use Rattle.clap.specs.declared.ArgMatches.{ArgMatches}
 use Rattle.clap.specs.declared.parser.matches.Found.{Found}
 use Rattle.clap.proofs.OnLiterals.{clap_on_literals}

@@ -1,66 +1,20 @@
 -- What is wrong with the parts that were found is wrong with the words.
-use Rattle.std.proofs.Common.{
-  ◌≡◌,
-  ◌≢◌,
-  ◌⊎◌,
-  ◌∙◌,
-  sym,
-  ap,
-  subst,
-  inl,
-  inr,
-  List,
-  Option,
-  None,
-  codes,
-  arith,
-}
+use Rattle.std.proofs.Common.{◌≡◌, ◌≢◌, ◌⊎◌, ◌∙◌, sym, ap, subst, inl, inr, List, Option, None}
+use Rattle.std.proofs.Common.{codes, arith}
 use Rattle.std.proofs.lemmas.Grind.{common_steps}
-use Rattle.snap_args.specs.Faults.{
-  IsCallingFault,
-  IsFaultOf,
-  IsFilesFault,
-  IsLimitsFault,
-  IsMigrationFault,
-  IsMissing,
-  IsPathFault,
-  IsServingFault,
-}
-use Rattle.snap_args.specs.Numbers.{
-  IsClientsFault,
-  IsConnectionsFault,
-  IsIdleFault,
-  IsLevelFault,
-  IsNoLargeNumber,
-  IsNoNumber,
-  IsNumberFault,
-  IsNumberOf,
-  IsPlaceFault,
-  IsScannersFault,
-  IsTriesFault,
-}
+use Rattle.snap_args.specs.Faults.{IsCallingFault, IsFaultOf, IsFilesFault, IsLimitsFault}
+use Rattle.snap_args.specs.Faults.{IsMigrationFault, IsMissing, IsPathFault, IsServingFault}
+use Rattle.snap_args.specs.Numbers.{IsClientsFault, IsConnectionsFault, IsIdleFault, IsLevelFault}
+use Rattle.snap_args.specs.Numbers.{IsNoLargeNumber, IsNoNumber, IsNumberFault, IsNumberOf}
+use Rattle.snap_args.specs.Numbers.{IsPlaceFault, IsScannersFault, IsTriesFault}
 use Rattle.snap_args.specs.Requests.{IsNoRequest, IsRequestFault}
 use Rattle.snap_args.specs.Words.{HasCommand, all_values, word_of, words_of}
 use Rattle.snap_args.specs.declared.fault.WordFault.{WordFault}
-use Rattle.snap_args.specs.declared.fault.WordFault.TheVariants.{
-  Help,
-  Words,
-  Count,
-  Index,
-  Files,
-  Scanners,
-  Connections,
-  Clients,
-  Idle,
-  Level,
-  Tries,
-  Request,
-  Number,
-  Missing,
-  NoCommand,
-  NotText,
-  Memory,
-}
+use Rattle.snap_args.specs.declared.fault.WordFault.TheVariants.{Help, Words, Count, Index, Files}
+use Rattle.snap_args.specs.declared.fault.WordFault.TheVariants.{Scanners, Connections, Clients}
+use Rattle.snap_args.specs.declared.fault.WordFault.TheVariants.{Idle, Level, Tries, Request}
+use Rattle.snap_args.specs.declared.fault.WordFault.TheVariants.{Number, Missing, NoCommand}
+use Rattle.snap_args.specs.declared.fault.WordFault.TheVariants.{NotText, Memory}
 use Rattle.clap.specs.Words.{Text, first_value}
 use Rattle.clap.specs.declared.parser.matches.Found.{Found}
 use Rattle.snap_args.proofs.Asked.{missing, word_is, words_are}

@@ -2,13 +2,8 @@
 use Rattle.std.proofs.Common.{◌≡◌, List, [], ◌∷◌, length, map, get_or, ap, codes, arith, Bor}
 use Rattle.clap.specs.Words.{Text}
 use Rattle.snap_args.specs.Requests.{IsRequestFault, IsUpdateFault}
-use Rattle.snap_args.specs.declared.fault.RequestFault.TheVariants.{
-  Form,
-  Segment,
-  Number,
-  Value,
-  TooLong,
-}
+use Rattle.snap_args.specs.declared.fault.RequestFault.TheVariants.{Form, Segment, Number, Value}
+use Rattle.snap_args.specs.declared.fault.RequestFault.TheVariants.{TooLong}
 use Rattle.snap_args.specs.declared.fault.WordFault.{WordFault}
 use Rattle.snap_args.specs.declared.fault.WordFault.TheVariants as word
 

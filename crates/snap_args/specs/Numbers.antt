@@ -1,17 +1,5 @@
 -- The numbers among the words of a command, and what is wrong with them.
-use Rattle.std.specs.Prelude.{
-  ◌≡◌,
-  ◌≢◌,
-  ◌⊎◌,
-  ℕ,
-  ◌<◌,
-  ◌≤◌,
-  ◌^◌,
-  Option,
-  Some,
-  None,
-  codes,
-}
+use Rattle.std.specs.Prelude.{◌≡◌, ◌≢◌, ◌⊎◌, ℕ, ◌<◌, ◌≤◌, ◌^◌, Option, Some, None, codes}
 use Rattle.std.specs.Str.Parse.{IsNumeral, digits_value, without_leading_plus}
 use Rattle.clap.specs.Words.{Text}
 use Rattle.snap_history.specs.declared.limits.TheConstants.{MAX_COUNT}

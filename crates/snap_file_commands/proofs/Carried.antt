@@ -2,25 +2,12 @@
 use Rattle.std.proofs.Common.{rules, ◌≡◌, ◌⊎◌, ℕ, List, inl, inr, le_refl, sym, ap, subst, refl, false, Result, Err}
 use Rattle.snap_disk.specs.Device.{Device, LeavesOnly, MayLeave}
 use Rattle.snap_disk.specs.declared.refusal.Refusal.{Refusal}
-use Rattle.snap_disk.specs.declared.refusal.Refusal.TheVariants.{
-  Malformed,
-  NoSegment,
-  TooLong,
-  Conflict,
-  OutOfStep,
-  Fenced,
-  Full,
-  NoMemory,
-  Exhausted,
-  Damaged,
-  Unformatted,
-  AlreadyFormatted,
-  DeviceFailed,
-  WrongFile,
-  TooLarge,
-  NotNow,
-  Worn,
-}
+use Rattle.snap_disk.specs.declared.refusal.Refusal.TheVariants.{Malformed, NoSegment, TooLong}
+use Rattle.snap_disk.specs.declared.refusal.Refusal.TheVariants.{Conflict, OutOfStep, Fenced, Full}
+use Rattle.snap_disk.specs.declared.refusal.Refusal.TheVariants.{NoMemory, Exhausted, Damaged}
+use Rattle.snap_disk.specs.declared.refusal.Refusal.TheVariants.{Unformatted, AlreadyFormatted}
+use Rattle.snap_disk.specs.declared.refusal.Refusal.TheVariants.{DeviceFailed, WrongFile, TooLarge}
+use Rattle.snap_disk.specs.declared.refusal.Refusal.TheVariants.{NotNow, Worn}
 use Rattle.snap_slot.specs.Layout.{IsUnformatted}
 use Rattle.snap_slot.specs.States.{IsAtRest}
 use Rattle.snap_old_slot.specs.Old.{OldHead, OldHolds}
@@ -29,13 +16,8 @@ use Rattle.snap_segment.specs.Migration.{IsPast}
 use Rattle.snap_segment.specs.Refusals.{IsMigrationRefusal}
 use Rattle.snap_segment.specs.declared.migration.Which.{Which}
 use Rattle.snap_segment.specs.declared.migration.Which.TheVariants.{Old, New}
-use Rattle.snap_file_commands.specs.Migration.{
-  IsMigrated,
-  IsOldFile,
-  MigrationKeeps,
-  MigrationLeaves,
-  MigrationReads,
-}
+use Rattle.snap_file_commands.specs.Migration.{IsMigrated, IsOldFile, MigrationKeeps}
+use Rattle.snap_file_commands.specs.Migration.{MigrationLeaves, MigrationReads}
 use Rattle.snap_file_commands.specs.declared.migration.MigrationFailure.TheVariants.{OfFile}
 
 widened : (i n k : ℕ) (v : List ℕ) (old new : Device) → OldHead old.bytes i n

@@ -3,25 +3,12 @@ use Rattle.std.proofs.Common.{rules, subst, sym, ◌≡◌, ℕ, ◌-◌, ◌^�
 use Rattle.std.specs.Io.KnownBytes.{Keeps}
 use Rattle.snap_disk.specs.Device.{Device}
 use Rattle.snap_disk.specs.declared.refusal.Refusal.{Refusal}
-use Rattle.snap_disk.specs.declared.refusal.Refusal.TheVariants.{
-  Malformed,
-  NoSegment,
-  TooLong,
-  Conflict,
-  OutOfStep,
-  Fenced,
-  Full,
-  NoMemory,
-  Exhausted,
-  Damaged,
-  Unformatted,
-  AlreadyFormatted,
-  DeviceFailed,
-  WrongFile,
-  TooLarge,
-  NotNow,
-  Worn,
-}
+use Rattle.snap_disk.specs.declared.refusal.Refusal.TheVariants.{Malformed, NoSegment, TooLong}
+use Rattle.snap_disk.specs.declared.refusal.Refusal.TheVariants.{Conflict, OutOfStep, Fenced, Full}
+use Rattle.snap_disk.specs.declared.refusal.Refusal.TheVariants.{NoMemory, Exhausted, Damaged}
+use Rattle.snap_disk.specs.declared.refusal.Refusal.TheVariants.{Unformatted, AlreadyFormatted}
+use Rattle.snap_disk.specs.declared.refusal.Refusal.TheVariants.{DeviceFailed, WrongFile, TooLarge}
+use Rattle.snap_disk.specs.declared.refusal.Refusal.TheVariants.{NotNow, Worn}
 use Rattle.snap_slot.specs.Layout.{Head, Holds}
 use Rattle.snap_slot.specs.Findings.{IsNoOpening}
 use Rattle.snap_segment.specs.Refusals.{IsStoreRefusal, IsOpenRefusal}

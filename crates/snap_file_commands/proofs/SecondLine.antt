@@ -1,25 +1,12 @@
 -- What stands behind the line of a refusal.
 use Rattle.std.proofs.Common.{◌≡◌, ◌++◌, ℕ, List, [], refl, subst, Bool, Option, IfSome, String, Global, string_bytes}
 use Rattle.snap_disk.specs.declared.refusal.Refusal.{Refusal}
-use Rattle.snap_disk.specs.declared.refusal.Refusal.TheVariants.{
-  Malformed,
-  NoSegment,
-  TooLong,
-  Conflict,
-  OutOfStep,
-  Fenced,
-  Full,
-  NoMemory,
-  Exhausted,
-  Damaged,
-  Unformatted,
-  AlreadyFormatted,
-  DeviceFailed,
-  WrongFile,
-  TooLarge,
-  NotNow,
-  Worn,
-}
+use Rattle.snap_disk.specs.declared.refusal.Refusal.TheVariants.{Malformed, NoSegment, TooLong}
+use Rattle.snap_disk.specs.declared.refusal.Refusal.TheVariants.{Conflict, OutOfStep, Fenced, Full}
+use Rattle.snap_disk.specs.declared.refusal.Refusal.TheVariants.{NoMemory, Exhausted, Damaged}
+use Rattle.snap_disk.specs.declared.refusal.Refusal.TheVariants.{Unformatted, AlreadyFormatted}
+use Rattle.snap_disk.specs.declared.refusal.Refusal.TheVariants.{DeviceFailed, WrongFile, TooLarge}
+use Rattle.snap_disk.specs.declared.refusal.Refusal.TheVariants.{NotNow, Worn}
 use Rattle.snap_stream.specs.Streams.{file_line}
 use Rattle.snap_order.specs.declared.order.FileOrder.{FileOrder}
 use Rattle.snap_file_commands.specs.Failure.{IsBehind, Says, SaysOf}

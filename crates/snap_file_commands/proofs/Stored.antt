@@ -7,25 +7,12 @@ use Rattle.snap_slot.specs.States.{IsEither}
 use Rattle.snap_slot.specs.Layout.{Head, Holds, IsFileOf}
 use Rattle.snap_stream.specs.Streams.{Had}
 use Rattle.snap_file_commands.specs.Commands.{IsStored, StoreLeaves, End, EndsStore, EndsPut}
-use Rattle.snap_disk.specs.declared.refusal.Refusal.TheVariants.{
-  Malformed,
-  NoSegment,
-  TooLong,
-  Conflict,
-  OutOfStep,
-  Fenced,
-  Full,
-  NoMemory,
-  Exhausted,
-  Damaged,
-  Unformatted,
-  AlreadyFormatted,
-  DeviceFailed,
-  WrongFile,
-  TooLarge,
-  NotNow,
-  Worn,
-}
+use Rattle.snap_disk.specs.declared.refusal.Refusal.TheVariants.{Malformed, NoSegment, TooLong}
+use Rattle.snap_disk.specs.declared.refusal.Refusal.TheVariants.{Conflict, OutOfStep, Fenced, Full}
+use Rattle.snap_disk.specs.declared.refusal.Refusal.TheVariants.{NoMemory, Exhausted, Damaged}
+use Rattle.snap_disk.specs.declared.refusal.Refusal.TheVariants.{Unformatted, AlreadyFormatted}
+use Rattle.snap_disk.specs.declared.refusal.Refusal.TheVariants.{DeviceFailed, WrongFile, TooLarge}
+use Rattle.snap_disk.specs.declared.refusal.Refusal.TheVariants.{NotNow, Worn}
 use Rattle.snap_file_commands.specs.declared.failure.CommandFailure.TheVariants.{Refused, Input, Output, Unsaid}
 
 pub stored : (i n i' n' k : ℕ) (u v : List ℕ) (old new : Device) → i' ≡ i → n' ≡ n

@@ -1,27 +1,6 @@
 -- What each command does to its device and its streams, by how it ends.
-use Rattle.std.specs.Prelude.{
-  ◌≡◌,
-  ◌≢◌,
-  ◌⊎◌,
-  ℕ,
-  ◌+◌,
-  ◌<◌,
-  List,
-  [],
-  ◌++◌,
-  length,
-  Option,
-  Result,
-  Ok,
-  Err,
-  IfSome,
-  is_some,
-  codes,
-  if◌then◌else◌,
-  Bool,
-  true,
-  false,
-}
+use Rattle.std.specs.Prelude.{◌≡◌, ◌≢◌, ◌⊎◌, ℕ, ◌+◌, ◌<◌, List, [], ◌++◌, length, Option, Result}
+use Rattle.std.specs.Prelude.{Ok, Err, IfSome, is_some, codes, if◌then◌else◌, Bool, true, false}
 use Rattle.std.specs.Fmt.{decimal}
 use Rattle.std.specs.Io.KnownBytes.{Appends, Keeps}
 use Rattle.snap_disk.specs.Device.{Device, IsSettled, MayLeave}

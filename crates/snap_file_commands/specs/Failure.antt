@@ -7,13 +7,8 @@ use Rattle.snap_order.specs.declared.order.FileOrder.{FileOrder}
 use Rattle.snap_stream.specs.Streams.{Complains, SaysLines, file_line, refused_line}
 use Rattle.snap_disk.specs.declared.refusal.Refusal.{Refusal}
 use Rattle.snap_disk.specs.declared.refusal.Refusal.TheVariants as refusal
-use Rattle.snap_file_commands.specs.Remedy.{
-  damaged_text,
-  failed_text,
-  formatted_text,
-  unformatted_text,
-  wrong_text,
-}
+use Rattle.snap_file_commands.specs.Remedy.{damaged_text, failed_text, formatted_text}
+use Rattle.snap_file_commands.specs.Remedy.{unformatted_text, wrong_text}
 use Rattle.snap_file_commands.specs.declared.failure.CommandFailure.{CommandFailure}
 use Rattle.snap_file_commands.specs.declared.failure.CommandFailure.TheVariants.{Refused, Input, Output, Unsaid}
 

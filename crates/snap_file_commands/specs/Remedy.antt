@@ -3,17 +3,7 @@
 --
 -- `snapd format` ends what a file may still hold. So it is advised behind the words `keep a copy
 -- first`, or where the file has no byte.
-use Rattle.std.specs.Prelude.{
-  ◌==◌,
-  ℕ,
-  List,
-  ◌++◌,
-  Option,
-  Some,
-  None,
-  codes,
-  if◌then◌else◌,
-}
+use Rattle.std.specs.Prelude.{◌==◌, ℕ, List, ◌++◌, Option, Some, None, codes, if◌then◌else◌}
 use Rattle.std.specs.Fmt.{decimal}
 use Rattle.snap_disk.specs.declared.refusal.Refusal.{Refusal}
 use Rattle.snap_disk.specs.declared.refusal.Refusal.TheVariants as refusal

@@ -1,18 +1,6 @@
 -- How characters are shown.
-use Rattle.std.proofs.Common.{
-  ◌≡◌,
-  ℕ,
-  List,
-  ◌++◌,
-  Result,
-  Ok,
-  Err,
-  OnOk,
-  is_ok,
-  if◌then◌else◌,
-  ◌∙◌,
-  ap,
-}
+use Rattle.std.proofs.Common.{◌≡◌, ℕ, List, ◌++◌, Result, Ok, Err, OnOk, is_ok, if◌then◌else◌, ◌∙◌}
+use Rattle.std.proofs.Common.{ap}
 
 -- what was pushed, in other words
 pub pushed : {T E : Type 0} (result : Result T E) (old new text same : List ℕ)

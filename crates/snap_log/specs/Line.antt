@@ -1,22 +1,6 @@
 -- What stands in a line of the log.
-use Rattle.std.specs.Prelude.{
-  ◌≡◌,
-  ◌≤◌,
-  ◌==◌,
-  ◌||◌,
-  ℕ,
-  Bool,
-  false,
-  List,
-  ◌++◌,
-  if◌then◌else◌,
-  flat_map,
-  chars,
-  codes,
-  decimal,
-  encode_utf8,
-  All,
-}
+use Rattle.std.specs.Prelude.{◌≡◌, ◌≤◌, ◌==◌, ◌||◌, ℕ, Bool, false, List, ◌++◌, if◌then◌else◌}
+use Rattle.std.specs.Prelude.{flat_map, chars, codes, decimal, encode_utf8, All}
 use Rattle.std.specs.Char.{is_control}
 use Rattle.std.specs.Fmt.{digits}
 use Rattle.std.specs.Int.{is_in_range}

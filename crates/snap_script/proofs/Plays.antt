@@ -1,19 +1,6 @@
 -- One line more.
-use Rattle.std.proofs.Common.{
-  ◌≡◌,
-  ℕ,
-  Some,
-  List,
-  [],
-  ◌∷◌,
-  ◌++◌,
-  sym,
-  ap,
-  ◌∙◌,
-  subst,
-  append_assoc,
-  append-nil,
-}
+use Rattle.std.proofs.Common.{◌≡◌, ℕ, Some, List, [], ◌∷◌, ◌++◌, sym, ap, ◌∙◌, subst, append_assoc}
+use Rattle.std.proofs.Common.{append-nil}
 use Rattle.snap_script.specs.Line.{IsWorldLine, IsEventLine}
 use Rattle.snap_script.specs.Player.{Played}
 use Rattle.snap_script.specs.Script.{Plays, AreEvents}
@@ -22,14 +9,8 @@ use Rattle.snap_world.specs.NodePhases.{WorldPhases}
 use Rattle.snap_world.specs.Runs.{Configuration}
 use Rattle.snap_world.proofs.Runs.{Run-append}
 use Rattle.snap_world.specs.Start.{start_state, start_world_phases, AreFormatted}
-use Rattle.snap_world.specs.Surface.{
-  StandsFor,
-  IsRun,
-  configuration,
-  segments_of,
-  phases_of,
-  devices_of,
-}
+use Rattle.snap_world.specs.Surface.{StandsFor, IsRun, configuration, segments_of, phases_of}
+use Rattle.snap_world.specs.Surface.{devices_of}
 use Rattle.snap_world.specs.declared.event.Event.{Event}
 use Rattle.snap_world.specs.declared.event.Reply.{Reply}
 use Rattle.snap_world.specs.declared.world.World.{World}

@@ -1,13 +1,8 @@
 -- A script from its first read to its end, and a flush behind it.
 use Rattle.std.proofs.Common.{◌≡◌, ℕ, ◌<◌, inl, inr, Option, Some, None, List, [], ◌∷◌, ◌++◌, length, take, refl, sym, ap, ◌∙◌, subst, append-nil, arith}
 use Rattle.std.specs.Io.KnownBytes.{Appends, Consumes, IsAtEnd, Keeps}
-use Rattle.std.proofs.KnownBytes.{
-  Appends-nil,
-  Consumes-nil,
-  Consumes-trans,
-  Consumes-kept,
-  Keeps-refl,
-}
+use Rattle.std.proofs.KnownBytes.{Appends-nil, Consumes-nil, Consumes-trans, Consumes-kept}
+use Rattle.std.proofs.KnownBytes.{Keeps-refl}
 use Rattle.std.proofs.Math.Seq.{take-length}
 use Rattle.std.specs.declared.io.Error.{Error}
 use Rattle.snap_script.proofs.Lines.{lines_behind, lines_on}
@@ -16,14 +11,8 @@ use Rattle.snap_script.specs.Intake.{IsTaken, IsUnended}
 use Rattle.snap_script.specs.Script.{Ends, IsShort, Prints, PrintsPart, Runs, full_lines}
 use Rattle.snap_script.specs.Words.{lines_of}
 use Rattle.snap_script.specs.declared.run.ScriptEnd.{ScriptEnd}
-use Rattle.snap_script.specs.declared.run.ScriptEnd.TheVariants.{
-  Done,
-  BadLine,
-  TooLong,
-  NoMemory,
-  ReadFailed,
-  WriteFailed,
-}
+use Rattle.snap_script.specs.declared.run.ScriptEnd.TheVariants.{Done, BadLine, TooLong, NoMemory}
+use Rattle.snap_script.specs.declared.run.ScriptEnd.TheVariants.{ReadFailed, WriteFailed}
 use Rattle.snap_stream.specs.Streams.{Had}
 use Rattle.snap_world.specs.declared.world.World.{World}
 

@@ -7,14 +7,8 @@ use Rattle.std.proofs.lemmas.List.Elements.{All-push}
 use Rattle.snap_script.specs.Fault.{IsUnreadable}
 use Rattle.snap_script.specs.Player.{Played, HaltsAt}
 use Rattle.snap_script.specs.Progress.{HasDone}
-use Rattle.snap_script.specs.Script.{
-  full_lines,
-  IsShort,
-  IsNumberBehind,
-  MayPrint,
-  Prints,
-  PrintsPart,
-}
+use Rattle.snap_script.specs.Script.{full_lines, IsShort, IsNumberBehind, MayPrint, Prints}
+use Rattle.snap_script.specs.Script.{PrintsPart}
 use Rattle.snap_script.specs.declared.fault.LineFault.{LineFault}
 use Rattle.snap_script.specs.declared.player.Halt.TheVariants.{Fault}
 use Rattle.snap_world.specs.declared.world.World.{World}

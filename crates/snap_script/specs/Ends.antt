@@ -6,14 +6,8 @@ use Rattle.snap_order.specs.declared.status.Status.{Status}
 use Rattle.snap_order.specs.declared.status.Status.TheVariants as status
 use Rattle.snap_stream.specs.Streams.{Complains, SaysLines, refused_line}
 use Rattle.snap_script.specs.declared.run.ScriptEnd.{ScriptEnd}
-use Rattle.snap_script.specs.declared.run.ScriptEnd.TheVariants.{
-  Done,
-  BadLine,
-  TooLong,
-  NoMemory,
-  ReadFailed,
-  WriteFailed,
-}
+use Rattle.snap_script.specs.declared.run.ScriptEnd.TheVariants.{Done, BadLine, TooLong, NoMemory}
+use Rattle.snap_script.specs.declared.run.ScriptEnd.TheVariants.{ReadFailed, WriteFailed}
 
 abbrev pub status_of : ScriptEnd → Status
 status_of Done = status.Done

@@ -3,12 +3,8 @@ use Rattle.std.specs.Prelude.{◌≡◌, ℕ, List, [], ◌∷◌, codes}
 use Rattle.snap_script.specs.Words.{words_of}
 use Rattle.snap_script.specs.Line.{IsWorldLine, IsEventLine, name_of}
 use Rattle.snap_script.specs.declared.fault.LineFault.{LineFault}
-use Rattle.snap_script.specs.declared.fault.LineFault.TheVariants.{
-  NoWorld,
-  SecondWorld,
-  UnknownWord,
-  Form,
-}
+use Rattle.snap_script.specs.declared.fault.LineFault.TheVariants.{NoWorld, SecondWorld}
+use Rattle.snap_script.specs.declared.fault.LineFault.TheVariants.{UnknownWord, Form}
 use Rattle.snap_script.specs.declared.verb.Verb.{Verb}
 use Rattle.snap_world.specs.declared.event.Event.{Event}
 

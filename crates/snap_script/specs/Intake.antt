@@ -4,14 +4,8 @@ use Rattle.snap_script.specs.Progress.{HasDone}
 use Rattle.snap_script.specs.Script.{IsShort}
 use Rattle.snap_script.specs.Words.{lines_of}
 use Rattle.snap_script.specs.declared.run.ScriptEnd.{ScriptEnd}
-use Rattle.snap_script.specs.declared.run.ScriptEnd.TheVariants.{
-  Done,
-  BadLine,
-  TooLong,
-  NoMemory,
-  ReadFailed,
-  WriteFailed,
-}
+use Rattle.snap_script.specs.declared.run.ScriptEnd.TheVariants.{Done, BadLine, TooLong, NoMemory}
+use Rattle.snap_script.specs.declared.run.ScriptEnd.TheVariants.{ReadFailed, WriteFailed}
 use Rattle.snap_script.specs.declared.run.TheConstants.{MAX_LINE}
 use Rattle.snap_world.specs.declared.world.World.{World}
 

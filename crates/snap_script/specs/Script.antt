@@ -1,25 +1,6 @@
 -- What a script writes, for each way in which it can end.
-use Rattle.std.specs.Prelude.{
-  ◌≡◌,
-  ◌≢◌,
-  ◌<◌,
-  ◌≤◌,
-  ◌⊎◌,
-  ℕ,
-  ◌+◌,
-  ◌-◌,
-  ◌^◌,
-  min,
-  List,
-  [],
-  ◌∷◌,
-  ◌++◌,
-  length,
-  take,
-  All,
-  Option,
-  ⊤,
-}
+use Rattle.std.specs.Prelude.{◌≡◌, ◌≢◌, ◌<◌, ◌≤◌, ◌⊎◌, ℕ, ◌+◌, ◌-◌, ◌^◌, min, List, [], ◌∷◌, ◌++◌}
+use Rattle.std.specs.Prelude.{length, take, All, Option, ⊤}
 use Rattle.std.specs.Io.KnownBytes.{Appends, Consumes, Keeps}
 use Rattle.snap_stream.specs.Streams.{Had}
 use Rattle.snap_script.specs.Words.{lines_of}
@@ -27,14 +8,8 @@ use Rattle.snap_script.specs.Line.{IsWorldLine, IsEventLine}
 use Rattle.snap_script.specs.Text.{world_text, line_text, replies_text}
 use Rattle.snap_script.specs.Fault.{IsUnreadable}
 use Rattle.snap_script.specs.declared.run.ScriptEnd.{ScriptEnd}
-use Rattle.snap_script.specs.declared.run.ScriptEnd.TheVariants.{
-  Done,
-  BadLine,
-  TooLong,
-  NoMemory,
-  ReadFailed,
-  WriteFailed,
-}
+use Rattle.snap_script.specs.declared.run.ScriptEnd.TheVariants.{Done, BadLine, TooLong, NoMemory}
+use Rattle.snap_script.specs.declared.run.ScriptEnd.TheVariants.{ReadFailed, WriteFailed}
 use Rattle.snap_script.specs.declared.run.TheConstants.{MAX_LINE}
 use Rattle.snap_disk.specs.Device.{Device}
 use Rattle.snap_world.specs.Runs.{Configuration, Run}

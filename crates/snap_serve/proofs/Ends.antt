@@ -10,13 +10,8 @@ use Rattle.snap_writer.specs.Writer.{WriterState}
 use Rattle.snap_restart.specs.Opened.{IsOpened, recovered}
 use Rattle.snap_restart.specs.Crashing.{AreOpened}
 use Rattle.snap_restart.specs.declared.report.Report.{Report}
-use Rattle.snap_serve.specs.declared.failure.HostFailure.TheVariants.{
-  Refused,
-  NoMemory,
-  Address,
-  Output,
-  Server,
-}
+use Rattle.snap_serve.specs.declared.failure.HostFailure.TheVariants.{Refused, NoMemory, Address}
+use Rattle.snap_serve.specs.declared.failure.HostFailure.TheVariants.{Output, Server}
 use Rattle.snap_serve.specs.Serve.{End, EndsHost, EndsServing, IsReportOf}
 
 pub ends_opened : {L : Type 0} (IsReport : Report → Type 0) (IsStop : ℕ → Refusal → ℕ → Type 0)

@@ -1,20 +1,6 @@
 -- The writers and the scanners of a store are of the memory of its first scanner.
-use Rattle.std.proofs.Common.{
-  ◌≡◌,
-  ℕ,
-  ◌<◌,
-  List,
-  [],
-  ◌∷◌,
-  length,
-  slice_get,
-  Some,
-  ap,
-  sym,
-  ◌∙◌,
-  refl,
-  arith,
-}
+use Rattle.std.proofs.Common.{◌≡◌, ℕ, ◌<◌, List, [], ◌∷◌, length, slice_get, Some, ap, sym, ◌∙◌}
+use Rattle.std.proofs.Common.{refl, arith}
 use Rattle.atomic_table.specs.Seated.{TableId}
 use Rattle.snap_register.specs.declared.plan.Plan.{Plan}
 use Rattle.snap_register.specs.Rule.{segments}

@@ -13,22 +13,10 @@ use Rattle.snap_server.specs.declared.fault.RunFault.{RunFault}
 use Rattle.snap_server.specs.declared.fault.RunFault.TheVariants as run
 use Rattle.snap_server.specs.declared.fault.ServerFault.TheVariants as faults
 use Rattle.snap_serve.specs.declared.failure.HostFailure.{HostFailure}
-use Rattle.snap_serve.specs.declared.failure.HostFailure.TheVariants.{
-  Refused,
-  NoMemory,
-  Address,
-  Output,
-  Server,
-}
-use Rattle.snap_serve.specs.Serve.{
-  EndsServing,
-  ListenFails,
-  PrintFails,
-  failure_of,
-  listening_line,
-  opening_text,
-  served_line,
-}
+use Rattle.snap_serve.specs.declared.failure.HostFailure.TheVariants.{Refused, NoMemory, Address}
+use Rattle.snap_serve.specs.declared.failure.HostFailure.TheVariants.{Output, Server}
+use Rattle.snap_serve.specs.Serve.{EndsServing, ListenFails, PrintFails, failure_of, listening_line}
+use Rattle.snap_serve.specs.Serve.{opening_text, served_line}
 
 pub report_failed : {L : Type 0} (listens : L → SocketAddr → Type 0) (refused : Error → Type 0)
     (deaf : L → Type 0) (has_come : L → ℕ → Type 0) (connections : Option ℕ) (r : Report)

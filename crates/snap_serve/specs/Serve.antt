@@ -1,24 +1,6 @@
 -- How a server ends, and what it has written by then.
-use Rattle.std.specs.Prelude.{
-  ◌≡◌,
-  ◌≢◌,
-  ◌⊎◌,
-  ℕ,
-  Bool,
-  true,
-  List,
-  ◌++◌,
-  length,
-  map,
-  slice_get,
-  Option,
-  Some,
-  None,
-  Result,
-  Ok,
-  Err,
-  codes,
-}
+use Rattle.std.specs.Prelude.{◌≡◌, ◌≢◌, ◌⊎◌, ℕ, Bool, true, List, ◌++◌, length, map, slice_get}
+use Rattle.std.specs.Prelude.{Option, Some, None, Result, Ok, Err, codes}
 use Rattle.std.specs.Fmt.{decimal}
 use Rattle.std.specs.Io.KnownBytes.{Appends, Keeps}
 use Rattle.std.specs.Net.Text.{socket_text}
@@ -30,13 +12,8 @@ use Rattle.snap_disk.specs.declared.refusal.Refusal.TheVariants as refusal
 use Rattle.snap_history.specs.Pairs.{Pairs}
 use Rattle.snap_segment.specs.Segment.{SegmentState}
 use Rattle.snap_writer.specs.Writer.{WriterState}
-use Rattle.snap_stream.specs.Streams.{
-  AppendsBeginning,
-  Complains,
-  SaysLines,
-  file_line,
-  refused_line,
-}
+use Rattle.snap_stream.specs.Streams.{AppendsBeginning, Complains, SaysLines, file_line}
+use Rattle.snap_stream.specs.Streams.{refused_line}
 use Rattle.snap_order.specs.declared.status.Status.{Status}
 use Rattle.snap_order.specs.declared.status.Status.TheVariants as status
 use Rattle.snap_restart.specs.Opened.{IsOpened, IsStopped, recovered}
@@ -51,13 +28,8 @@ use Rattle.snap_server.specs.declared.fault.RunFault.TheVariants as run
 use Rattle.snap_server.specs.declared.fault.ServerFault.{ServerFault}
 use Rattle.snap_server.specs.declared.fault.ServerFault.TheVariants as faults
 use Rattle.snap_serve.specs.declared.failure.HostFailure.{HostFailure}
-use Rattle.snap_serve.specs.declared.failure.HostFailure.TheVariants.{
-  Refused,
-  NoMemory,
-  Address,
-  Output,
-  Server,
-}
+use Rattle.snap_serve.specs.declared.failure.HostFailure.TheVariants.{Refused, NoMemory, Address}
+use Rattle.snap_serve.specs.declared.failure.HostFailure.TheVariants.{Output, Server}
 
 -- it ends with the number of connections that were accepted, or early
 abbrev pub End : Type 0

@@ -1,25 +1,6 @@
 -- What was told of a text that was put together in place.
-use Rattle.std.proofs.Common.{
-  ◌≡◌,
-  ◌-◌,
-  ℕ,
-  List,
-  length,
-  drop,
-  sym,
-  Bool,
-  true,
-  false,
-  not,
-  nat_eq,
-  Option,
-  Some,
-  None,
-  IfSome,
-  inl,
-  inr,
-  codes,
-}
+use Rattle.std.proofs.Common.{◌≡◌, ◌-◌, ℕ, List, length, drop, sym, Bool, true, false, not, nat_eq}
+use Rattle.std.proofs.Common.{Option, Some, None, IfSome, inl, inr, codes}
 use Rattle.std.specs.Cmp.Lexicographic.{pointwise, same_text, other_text}
 use Rattle.std.specs.Fmt.Cut.{IsTextOrCut}
 use Rattle.std.specs.Io.KnownBytes.{Appends}

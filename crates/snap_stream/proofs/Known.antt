@@ -1,27 +1,7 @@
 -- What was read and written, part by part.
-use Rattle.std.proofs.Common.{
-  ◌≡◌,
-  ℕ,
-  ◌+◌,
-  ◌-◌,
-  ◌≤◌,
-  List,
-  ◌++◌,
-  length,
-  take,
-  drop,
-  sym,
-  ◌∙◌,
-  ap,
-  length-drop,
-  drop_at,
-  length-take-le,
-  le_refl,
-  append-nil,
-  Option,
-  Some,
-  None,
-}
+use Rattle.std.proofs.Common.{◌≡◌, ℕ, ◌+◌, ◌-◌, ◌≤◌, List, ◌++◌, length, take, drop, sym, ◌∙◌, ap}
+use Rattle.std.proofs.Common.{length-drop, drop_at, length-take-le, le_refl, append-nil, Option}
+use Rattle.std.proofs.Common.{Some, None}
 use Rattle.std.proofs.Math.Seq.{take-length, take-add}
 use Rattle.std.proofs.lemmas.Slice.{take-put_mid_below}
 use Rattle.std.specs.Io.KnownBytes.{Consumes, IsAtEnd}

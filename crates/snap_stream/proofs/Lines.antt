@@ -1,28 +1,7 @@
 -- Two lines written one behind the other.
-use Rattle.std.proofs.Common.{
-  arith,
-  ◌≡◌,
-  ℕ,
-  ◌+◌,
-  List,
-  ◌++◌,
-  length,
-  take,
-  drop,
-  sym,
-  ◌∙◌,
-  ap,
-  subst,
-  Option,
-  true,
-  Result,
-  Ok,
-  Err,
-  OnOk,
-  OnErr,
-  is_ok,
-  take-append-drop,
-}
+use Rattle.std.proofs.Common.{arith, ◌≡◌, ℕ, ◌+◌, List, ◌++◌, length, take, drop, sym, ◌∙◌, ap}
+use Rattle.std.proofs.Common.{subst, Option, true, Result, Ok, Err, OnOk, OnErr, is_ok}
+use Rattle.std.proofs.Common.{take-append-drop}
 use Rattle.std.proofs.lemmas.List.{append_assoc, length-append}
 use Rattle.std.proofs.Math.Seq.{take-length, take-append_seam, take-append-add}
 use Rattle.std.specs.Io.KnownBytes.{Appends}

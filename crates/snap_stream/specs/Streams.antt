@@ -1,22 +1,6 @@
 -- What a program does to the known bytes of its streams.
-use Rattle.std.specs.Prelude.{
-  ◌≡◌,
-  ◌<◌,
-  ◌⊎◌,
-  ℕ,
-  Bool,
-  true,
-  false,
-  List,
-  ◌++◌,
-  length,
-  Option,
-  IfSome,
-  codes,
-  take,
-  string_bytes,
-  String,
-}
+use Rattle.std.specs.Prelude.{◌≡◌, ◌<◌, ◌⊎◌, ℕ, Bool, true, false, List, ◌++◌, length, Option}
+use Rattle.std.specs.Prelude.{IfSome, codes, take, string_bytes, String}
 use Rattle.std.specs.Global.{Global}
 use Rattle.std.specs.Option.{option_map}
 use Rattle.std.specs.Fmt.Cut.{EndsInDots}

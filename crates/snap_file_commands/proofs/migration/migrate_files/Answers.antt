@@ -8,15 +8,8 @@ use Rattle.snap_segment.specs.declared.migration.Which.{Which}
 use Rattle.snap_segment.specs.declared.migration.Which.TheVariants.{Old}
 use Rattle.snap_stream.specs.Streams.{AppendsBeginning}
 use Rattle.snap_file_commands.specs.Migration.{MigrationLeaves, migrated_line}
-use Rattle.snap_file_commands.proofs.Carried.{
-  by_refusal,
-  made_leaves,
-  migrated,
-  migration_keeps,
-  refused_reads,
-  told_apart,
-  untouched_leaves,
-}
+use Rattle.snap_file_commands.proofs.Carried.{by_refusal, made_leaves, migrated, migration_keeps}
+use Rattle.snap_file_commands.proofs.Carried.{refused_reads, told_apart, untouched_leaves}
 use Rattle.snap_file_commands.proofs.migration.migrate_files.Goals as goal
 
 pub returns-in-Err-clause-new_any_time : goal.returns-in-Err-clause-new_any_time

@@ -1,14 +1,7 @@
 use Rattle.std.proofs.Common.{◌<◌, ◌≤◌, length, take, refl, ap, arith}
 use Rattle.std.proofs.lemmas.Grind.{common_steps}
-use Rattle.snap_script.proofs.Runs.{
-  fed_none,
-  runs_finish,
-  runs_cut,
-  runs_end,
-  runs_stuck,
-  fed_more,
-  fed_flushed,
-}
+use Rattle.snap_script.proofs.Runs.{fed_none, runs_finish, runs_cut, runs_end, runs_stuck, fed_more}
+use Rattle.snap_script.proofs.Runs.{fed_flushed}
 use Rattle.snap_script.specs.declared.run.TheConstants.{MAX_LINE}
 use Rattle.snap_script.proofs.run.run_pieces.Goals as goal
 

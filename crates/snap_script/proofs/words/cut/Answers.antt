@@ -1,18 +1,5 @@
-use Rattle.std.proofs.Common.{
-  ℕ,
-  ◌≡◌,
-  ◌<◌,
-  ◌+◌,
-  Some,
-  None,
-  ◌∷◌,
-  length,
-  take,
-  drop,
-  ◌-◌,
-  length-drop,
-  arith,
-}
+use Rattle.std.proofs.Common.{ℕ, ◌≡◌, ◌<◌, ◌+◌, Some, None, ◌∷◌, length, take, drop, ◌-◌}
+use Rattle.std.proofs.Common.{length-drop, arith}
 use Rattle.std.proofs.lemmas.List.{take_all, length-take-le}
 use Rattle.std.specs.Prelude.{◌==◌}
 use Rattle.snap_script.specs.Words.{parts_at}

@@ -1,27 +1,10 @@
-use Rattle.std.proofs.Common.{
-  ◌≡◌,
-  ◌<◌,
-  ◌≤◌,
-  ℕ,
-  List,
-  Some,
-  ap,
-  arith,
-  get_or,
-  length,
-  refl,
-  slice_get,
-  string_bytes,
-  sym,
-  ◌∙◌,
-}
+use Rattle.std.proofs.Common.{◌≡◌, ◌<◌, ◌≤◌, ℕ, List, Some, ap, arith, get_or, length, refl}
+use Rattle.std.proofs.Common.{slice_get, string_bytes, sym, ◌∙◌}
 use Rattle.std.proofs.lemmas.Option.{IfSome_then, same_Some, slice_get_read, slice_get_within}
 use Rattle.snap_stream.specs.Streams.{file_line}
 use Rattle.snap_serve.specs.Serve.{cut_off_text}
-use Rattle.snap_serve.proofs.failure.remedy_line.Goals.{
-  in_default-why-via-in-WrongFile+else-len-eq0,
-  in_default-why-via-in_default-why,
-}
+use Rattle.snap_serve.proofs.failure.remedy_line.Goals.{in_default-why-via-in-WrongFile+else-len-eq0}
+use Rattle.snap_serve.proofs.failure.remedy_line.Goals.{in_default-why-via-in_default-why}
 use Rattle.snap_serve.proofs.failure.remedy_line.Goals as goal
 
 none_there : {A : Type 0} (xs ys : List A) (k : ℕ) (x : A) → xs ≡ ys → length xs ≤ k

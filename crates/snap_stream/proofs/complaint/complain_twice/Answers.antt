@@ -1,16 +1,5 @@
-use Rattle.std.proofs.Common.{
-  ◌≡◌,
-  ◌∙◌,
-  List,
-  ℕ,
-  IfSome,
-  string_bytes,
-  String,
-  Global,
-  sym,
-  subst,
-  Option,
-}
+use Rattle.std.proofs.Common.{◌≡◌, ◌∙◌, List, ℕ, IfSome, string_bytes, String, Global, sym, subst}
+use Rattle.std.proofs.Common.{Option}
 use Rattle.std.specs.Io.KnownBytes.{Appends}
 use Rattle.std.proofs.KnownBytes.{Appends-trans}
 use Rattle.snap_stream.specs.Streams.{AppendsBeginning, refused_line}

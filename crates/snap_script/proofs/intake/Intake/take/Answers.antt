@@ -1,19 +1,8 @@
 use Rattle.std.proofs.Common.{◌≡◌, ◌<◌, ◌∷◌, ◌++◌, [], length, refl, ap, ◌∙◌, append-nil, subst, arith}
 use Rattle.std.proofs.lemmas.Bool.Decides.{nat_tests}
-use Rattle.snap_script.proofs.Ends.{
-  held_more,
-  hold_ends,
-  line_ends,
-  on_err,
-  on_ok,
-  on_ok2,
-  part_fits,
-  some_held,
-  taken_held,
-  taken_line,
-  taken_more,
-  unended_line,
-}
+use Rattle.snap_script.proofs.Ends.{held_more, hold_ends, line_ends, on_err, on_ok, on_ok2}
+use Rattle.snap_script.proofs.Ends.{part_fits, some_held, taken_held, taken_line, taken_more}
+use Rattle.snap_script.proofs.Ends.{unended_line}
 use Rattle.snap_script.proofs.Lines.{one_line}
 use Rattle.snap_script.proofs.Steps.{empty_list}
 use Rattle.snap_script.specs.Script.{IsShort}
