@@ -248,7 +248,8 @@ def test_silent_connections_are_let_go(snapd, _):
             waits.sendall(update(0, 2, b"late"))
             disk.wait_for_hold()
             for stream in (quiet, begun):
-                while stream.gettimeout() and not readable(stream):
+                while not readable(stream):
+                    assert time.monotonic() - began < PATIENCE, "a silent connection isn't let go"
                     talks.sendall(SCAN)
                     assert received(talks, len(snapshot((1, b"hi")))) == snapshot((1, b"hi"))
                 assert to_its_end(stream) == b""

@@ -75,16 +75,54 @@ def changed(top, before, logic="logic"):
 BOTH = ("first", "second")
 OF_ALL = sorted(f"{name}/{it}" for name in ("low", "middle", "high") for it in BOTH)
 OF_UPPER = sorted(f"{name}/{it}" for name in ("middle", "high") for it in BOTH)
+OF_LOW, OF_MIDDLE = ([f"{name}/{it}" for it in BOTH] for name in ("low", "middle"))
 
 
-def test_a_digest_changes_with_each_text_of_the_crate_and_of_those_below(snapd, _):
+def test_a_digest_changes_with_each_text_of_the_crate_and_with_what_is_seen_of_those_below(snapd, _):
     for path in FILES:
         top = tree(snapd.folder / path.replace("/", "-"))
-        before = digests(top)
+        before, is_seen = digests(top), path != "proofs/more/Answers.antt"
         (top / "crates" / "middle" / path).write_text(FILES[path] + "more\n")
-        assert changed(top, before) == OF_UPPER, path
+        assert changed(top, before) == (OF_UPPER if is_seen else OF_MIDDLE), path
+        before = digests(top)
         (top / "crates" / "low" / path).write_text(FILES[path] + "more\n")
-        assert changed(top, before) == OF_ALL, path
+        assert changed(top, before) == (OF_ALL if is_seen else OF_LOW), path
+
+
+def test_above_a_crate_the_bodies_of_its_functions_are_not_seen_and_all_else_is(snapd, _):
+    top = tree(snapd.folder)
+    source, before = top / "crates" / "low" / "src" / "lib.rt", digests(top)
+    for old, new, wanted in (
+        ("        x + 1", "        x.add(1)", OF_LOW), ("    x - 1", "    x.sub(1)", OF_LOW), ("{ x < 9 }", "{ x < 8 }", OF_ALL),
+        ("less(x: u8)", "less(y: u8)", OF_ALL), ("impl Low", "impl Lower", OF_ALL), ("#[inline]", "#[cold]", OF_ALL),
+    ):
+        source.write_text(BODY.replace(old, new))
+        assert changed(top, before) == wanted, old
+    for more in ("const fn most() -> u8 {\n    9\n}\n", "macro_rules! least {\n}\nfn zero() -> u8 {\n    9\n}\n"):
+        source.write_text(BODY + more)
+        before = digests(top)
+        source.write_text(BODY + more.replace("9", "8"))
+        assert changed(top, before) == OF_ALL, more
+
+
+def test_a_digest_stays_where_comments_and_the_layout_of_imports_change(snapd, _):
+    top = tree(snapd.folder)
+    low = top / "crates" / "low"
+    words = low / "specs" / "Words.antt"
+    words.write_text("-- Some words.\nuse One.{a, b, c}\nuse One.{d}\nuse Two.{a}\ndefinition\n")
+    before = digests(top)
+    words.write_text("-- Words.\nuse Two.{a}\nuse One.{\n  d,\n  b,\n  a,\n  c,\n}\n  -- a definition\ndefinition\n")
+    (low / "src" / "lib.rt").write_text(BODY.replace("A crate", "The crate").replace("    /// One more.\n", "    // More.\n"))
+    assert changed(top, before) == []
+    words.write_text("use Two.{a, d}\nuse One.{a, b, c}\ndefinition\n")
+    assert changed(top, before) == OF_ALL
+
+
+def test_a_digest_changes_where_the_text_of_its_edit_is_gone(snapd, _):
+    top = tree(snapd.folder)
+    before = digests(top)
+    (top / "crates" / "low" / "src" / "lib.rt").write_text("//     x - 1\n" + BODY)
+    assert changed(top, before) == ["low/second"]
 
 
 def test_a_digest_changes_with_the_logic_the_line_and_the_files_names(snapd, _):
@@ -190,7 +228,7 @@ def test_a_run_of_the_kit_over_everything_is_recorded_where_each_edit_was_refuse
         assert read_lock(top) == {}
     edits = Edits.of(top)
     body = top / "crates" / "high" / "src" / "lib.rt"
-    body.write_text(body.read_text() + "// A change during the run.\n")
+    body.write_text(body.read_text() + "fn zero() {}\n")
     record_all(top, edits, Proofs(passed=9, edits=6))
     assert read_lock(top) == refusals(edits, lambda name: kit.release())
     assert {it[0] for it in Edits.of(top).unknown()} == {"high"}

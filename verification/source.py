@@ -1,4 +1,4 @@
-"""Where an edit lies in the source of its crate, and how the prover names the function there."""
+"""Where an edit lies in the source of its crate, how the prover names the function there, and what is seen of a source from outside."""
 
 import re
 from dataclasses import dataclass
@@ -92,3 +92,36 @@ def together(folder, edits):
                 return None
             texts[path] = text.replace(old, new)
     return texts
+
+
+def applies(folder, edit):
+    """Whether what an edit replaces still stands in its crate, once each."""
+    try:
+        return together(folder, [edit]) is not None
+    except OSError:
+        return False
+
+
+def body_of(lines, function):
+    """The lines of a function's body, from and to, or None where it has none or can't be told apart from the head."""
+    head = next(at for at in range(function.first - 1, function.last) if HEAD.match(lines[at]))
+    indent = HEAD.match(lines[head])[1]
+    if re.match(r"\s*(pub(\([a-z]+\))? )?const fn", lines[head]):
+        return None
+    for at in range(head, function.last - 1):
+        is_end_of_head = at == head or lines[at] == indent + "{" or lines[at].startswith(indent + ")")
+        if is_end_of_head and lines[at].endswith("{"):
+            return at + 1, function.last - 1
+    return None
+
+
+def without_bodies(text):
+    """A source without the bodies of its functions, which callers don't see. Where a file writes macros it stays whole, and so
+    do functions whose value a constant may be."""
+    if "macro_rules!" in text:
+        return text
+    lines, inside = text.split("\n"), set()
+    for function in functions_in(text, ""):
+        if body := body_of(lines, function):
+            inside.update(range(*body))
+    return "\n".join(line for at, line in enumerate(lines) if at not in inside)
