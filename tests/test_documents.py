@@ -197,3 +197,26 @@ def test_words_stand_for_what_is_there(snapd, random):
             defined = rf"(trait|struct|enum|const) {name}\b|^ *(pub )?(abbrev |record |data )(pub )?{name}(?= |$)"
             assert re.search(defined, source, re.M), f"{word}: {target} has no {name}"
         assert meaning.count("(1)") == where.count("(1)"), word
+
+
+# Names that two crates promise: each of the two interfaces was asked for by these names.
+TWICE = {"Reply": {"snap_frame", "snap_world"}, "Stopped": {"snap_restart", "snap_world"}}
+HANDED_ON = re.compile(r"^pub use ([\w:]+)::(?:\{([^}]*)\}|(\w+));", re.M)
+PUBLIC = re.compile(r"^pub (?:struct|enum|trait|type|union) (\w+)", re.M)
+
+
+def public_types(crate):
+    """The types and traits that a library of this checkout shows and has itself."""
+    source = (crate / "src" / "lib.rt").read_text()
+    handed = [(path, name) for path, names, one in HANDED_ON.findall(source) for name in re.findall(r"\w+", names or one)]
+    own = {name for path, name in handed if not path.startswith("snap_") and name[0].isupper() and not name.isupper()}
+    return own | set(PUBLIC.findall(source))
+
+
+def test_a_public_type_has_a_name_of_its_own(snapd, random):
+    homes = {}
+    for crate in sorted(it.parent.parent for it in TOP.glob("crates/snap_*/src/lib.rt")):
+        for name in public_types(crate):
+            homes.setdefault(name, set()).add(crate.name)
+    assert len(homes) > 100
+    assert {name: crates for name, crates in homes.items() if len(crates) > 1} == TWICE

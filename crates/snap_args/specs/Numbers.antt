@@ -2,9 +2,7 @@
 use Rattle.std.specs.Prelude.{◌≡◌, ◌≢◌, ◌⊎◌, ℕ, ◌<◌, ◌≤◌, ◌^◌, Option, Some, None, codes}
 use Rattle.std.specs.Str.Parse.{IsNumeral, digits_value, without_leading_plus}
 use Rattle.clap.specs.Words.{Text}
-use Rattle.snap_history.specs.declared.limits.TheConstants.{MAX_COUNT}
-use Rattle.snap_history.specs.declared.limits.TheConstants.{MAX_SCANNERS}
-use Rattle.snap_client.specs.declared.again.TheConstants.{MAX_TRIES}
+use Rattle.snap_order.specs.Limits.{MAX_COUNT, MAX_SCANNERS, MAX_TRIES}
 use Rattle.snap_order.specs.Order.{IsOneTo}
 use Rattle.snap_order.specs.declared.order.Level.{Level}
 use Rattle.snap_order.specs.declared.order.Level.TheVariants as level

@@ -1,10 +1,10 @@
 -- Which request goes with which words.
 use Rattle.std.specs.Prelude.{◌≡◌, ◌≢◌, ◌<◌, ℕ, List, [], ◌∷◌, length, Some, codes}
 use Rattle.clap.specs.Words.{Text}
-use Rattle.snap_frame.specs.declared.request.Request.{Request}
-use Rattle.snap_frame.specs.declared.request.Request.TheVariants.{Update, Scan, Status}
-use Rattle.snap_frame.specs.declared.request.TheConstants.{MAX_UPDATE_VALUE}
 use Rattle.snap_hex.specs.Text.{IsHex}
+use Rattle.snap_order.specs.Limits.{MAX_UPDATE_VALUE}
+use Rattle.snap_order.specs.request.Request.{Request}
+use Rattle.snap_order.specs.request.Request.TheVariants.{Update, Scan, Status}
 use Rattle.snap_order.specs.declared.order.Question.{Question}
 use Rattle.snap_order.specs.declared.order.Question.TheVariants as question
 use Rattle.snap_args.specs.Numbers.{IsNoLargeNumber, IsNoNumber, IsNumberOf}

@@ -1,6 +1,5 @@
 //! Why words are no order.
-use snap_frame::MAX_UPDATE_VALUE;
-use snap_order::{MAX_CLIENTS, MAX_IDLE};
+use snap_order::{MAX_CLIENTS, MAX_IDLE, MAX_UPDATE_VALUE};
 use std::alloc::AllocError;
 use thiserror::Error;
 

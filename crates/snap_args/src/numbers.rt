@@ -1,8 +1,7 @@
 //! The numbers among the words of a command, within their limits.
 ghost use Rattle.std.specs.Prelude.{◌≤◌, IfErr, IfOk, IfSome, MatchOption, Some, codes};
 ghost use Rattle.clap.specs.Words.{first_value, found_of};
-ghost use Rattle.snap_client.specs.declared.again.TheConstants.{MAX_TRIES};
-ghost use Rattle.snap_history.specs.declared.limits.TheConstants.{MAX_SCANNERS};
+ghost use Rattle.snap_order.specs.Limits.{MAX_SCANNERS, MAX_TRIES};
 ghost use Rattle.snap_order.specs.Order.{IsOneTo, IsPlace};
 ghost use Rattle.snap_order.specs.declared.order.TheConstants.{MAX_CLIENTS, MAX_IDLE};
 ghost use Rattle.snap_args.specs.Numbers.{IsClientsFault, IsConnectionsFault, IsIdleFault};
@@ -12,9 +11,7 @@ ghost use Rattle.snap_args.specs.Numbers.{IsTriesFault};
 
 use crate::WordFault;
 use clap::ArgMatches;
-use snap_client::MAX_TRIES;
-use snap_history::{MAX_COUNT, MAX_SCANNERS};
-use snap_order::{MAX_CLIENTS, MAX_IDLE};
+use snap_order::{MAX_CLIENTS, MAX_COUNT, MAX_IDLE, MAX_SCANNERS, MAX_TRIES};
 
 /// The place of a file's segment, within the limits.
 pub(crate) fn place(matches: &ArgMatches<'_>) -> Result<(u8, u8), WordFault>

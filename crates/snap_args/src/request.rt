@@ -1,7 +1,7 @@
 //! The words of a request.
 ghost use Rattle.std.specs.Prelude.{◌≤◌, IfErr, IfOk, codes, length, map};
 ghost use Rattle.clap.specs.Words.{found_of};
-ghost use Rattle.snap_frame.specs.Messages.{max_payload, payload};
+ghost use Rattle.snap_order.specs.Messages.{max_payload, payload};
 ghost use Rattle.snap_order.specs.Order.{request_of};
 ghost use Rattle.snap_args.specs.Requests.{IsQuestionOf, IsRequestFault, IsUpdateFault};
 ghost use Rattle.snap_args.specs.Requests.{IsUpdateOf};
@@ -11,9 +11,8 @@ use crate::words::is;
 use crate::{RequestFault, WordFault};
 use bytes::Bytes;
 use clap::ArgMatches;
-use snap_frame::{MAX_UPDATE_VALUE, Request};
 use snap_hex::read_hex;
-use snap_order::Question;
+use snap_order::{MAX_UPDATE_VALUE, Question, Request};
 use std::alloc::Global;
 
 /// What is asked of a server, whose request fits a frame.

@@ -10,8 +10,7 @@ use crate::WordFault;
 use crate::numbers::{clients_of, connections_of, idle_of, scanners_of};
 use crate::words::is;
 use clap::ArgMatches;
-use snap_history::MAX_COUNT;
-use snap_order::{Level, Serving};
+use snap_order::{Level, MAX_COUNT, Serving};
 use std::alloc::Global;
 
 /// A server's address, its files in order of segment, and its numbers.

@@ -1,9 +1,9 @@
 -- A text that is put together in place.
 use Rattle.std.proofs.Common.{◌≡◌, ℕ, ◌≤◌, List, length, refl, arith, le-leb}
 use Rattle.std.specs.Fmt.Cut.{cut_to}
-use Rattle.snap_disk.specs.Refusal.{name_of}
-use Rattle.snap_disk.specs.declared.refusal.Refusal.{Refusal}
-use Rattle.snap_disk.specs.declared.refusal.Refusal.TheVariants.{Malformed, NoSegment, TooLong, Conflict, OutOfStep, Fenced, Full, NoMemory, Exhausted, Damaged, Unformatted, AlreadyFormatted, DeviceFailed, WrongFile, TooLarge, NotNow, Worn}
+use Rattle.snap_stream.specs.Refusal.{name_of}
+use Rattle.snap_stream.specs.refusal.Refusal.{Refusal}
+use Rattle.snap_stream.specs.refusal.Refusal.TheVariants.{Malformed, NoSegment, TooLong, Conflict, OutOfStep, Fenced, Full, NoMemory, Exhausted, Damaged, Unformatted, AlreadyFormatted, DeviceFailed, WrongFile, TooLarge, NotNow, Worn}
 
 -- a text is cut to its own length
 pub cut_to_own : (text : List ℕ) → cut_to (length text) text ≡ text

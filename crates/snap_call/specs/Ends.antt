@@ -3,28 +3,28 @@ use Rattle.std.specs.Prelude.{◌≡◌, ◌⊎◌, ℕ, List, Option, None, Res
 use Rattle.std.specs.Io.KnownBytes.{Appends, Keeps}
 use Rattle.snap_client.specs.declared.fault.ClientFault.{ClientFault}
 use Rattle.snap_client.specs.declared.fault.ClientFault.TheVariants.{NoMemory}
-use Rattle.snap_disk.specs.declared.refusal.Refusal.TheVariants as refusal
 use Rattle.snap_frame.specs.declared.reply.Reply.{Reply}
 use Rattle.snap_frame.specs.declared.reply.Reply.TheVariants.{Refused, Stored}
 use Rattle.snap_frame.specs.declared.reply.Reply.TheVariants as reply
 use Rattle.snap_order.specs.declared.order.Question.{Question}
 use Rattle.snap_order.specs.declared.order.Question.TheVariants.{Health}
 use Rattle.snap_order.specs.declared.status.Status.{Status}
-use Rattle.snap_order.specs.declared.status.Ended.{Ended}
+use Rattle.snap_order.specs.declared.status.Exit.{Exit}
 use Rattle.snap_order.specs.declared.status.Status.TheVariants as status
 use Rattle.snap_stream.specs.Streams.{AppendsBeginning, Complains, refused_line}
+use Rattle.snap_stream.specs.refusal.Refusal.TheVariants as refusal
 use Rattle.snap_call.specs.Text.{answer_text, detailed_line, is_any_fenced, stored_line}
 
 -- it ends as refused, and standard error got a beginning of this line, and all of it where that is
 -- told
-pub record SaysRefused (text : List ℕ) (ended : Ended) (errs errs' : Option (List ℕ))
+pub record SaysRefused (text : List ℕ) (ended : Exit) (errs errs' : Option (List ℕ))
     : Type 0 where
   pub status : ended.status ≡ status.Refused
   pub beginning : AppendsBeginning errs errs' text
   pub whole : ended.is_told ≡ true → Appends errs errs' text
 
 -- memory was wanting
-abbrev pub WantsMemory : Ended → (errs errs' : Option (List ℕ)) → Type 0
+abbrev pub WantsMemory : Exit → (errs errs' : Option (List ℕ)) → Type 0
 WantsMemory ended errs errs' = SaysRefused (refused_line refusal.NoMemory) ended errs errs'
 
 -- how a call ends whose answer was printed: as refused where it asked for a fence and there is one
@@ -34,7 +34,7 @@ answer_status Health (reply.Status statuses) =
 answer_status question reply = status.Done
 
 -- the text was printed, nothing else was said, and it ends so
-pub record IsPrinted (how : Status) (text : List ℕ) (ended : Ended)
+pub record IsPrinted (how : Status) (text : List ℕ) (ended : Exit)
     (out out' errs errs' : Option (List ℕ)) : Type 0 where
   pub status : ended.status ≡ how
   pub told : ended.is_told ≡ true
@@ -42,20 +42,20 @@ pub record IsPrinted (how : Status) (text : List ℕ) (ended : Ended)
   pub silent : Keeps errs errs'
 
 -- standard output failed behind a beginning of the text, which a complaint says
-pub record IsCutShort (text : List ℕ) (ended : Ended) (out out' errs errs' : Option (List ℕ))
+pub record IsCutShort (text : List ℕ) (ended : Exit) (out out' errs errs' : Option (List ℕ))
     : Type 0 where
   pub status : ended.status ≡ status.Failed
   pub beginning : AppendsBeginning out out' text
   pub said : Complains None ended.is_told errs errs'
 
 -- the text was printed, or cut short
-abbrev pub PrintsInPlace : (how : Status) → List ℕ → Ended → (out out' errs errs' : Option (List ℕ))
+abbrev pub PrintsInPlace : (how : Status) → List ℕ → Exit → (out out' errs errs' : Option (List ℕ))
     → Type 0
 PrintsInPlace how text ended out out' errs errs' =
     IsPrinted how text ended out out' errs errs' ⊎ IsCutShort text ended out out' errs errs'
 
 -- the same, or memory was wanting before the first byte
-abbrev pub Prints : (how : Status) → List ℕ → Ended → (out out' errs errs' : Option (List ℕ)) → Type 0
+abbrev pub Prints : (how : Status) → List ℕ → Exit → (out out' errs errs' : Option (List ℕ)) → Type 0
 Prints how text ended out out' errs errs' = PrintsInPlace how text ended out out' errs errs'
     ⊎ (WantsMemory ended errs errs' × Keeps out out')
 
@@ -66,14 +66,14 @@ IsRead (reply.Status statuses) = Unit {0}
 IsRead reply = ⊥
 
 -- there is no answer, which a complaint says
-pub record GivesUp (ended : Ended) (errs errs' : Option (List ℕ)) : Type 0 where
+pub record GivesUp (ended : Exit) (errs errs' : Option (List ℕ)) : Type 0 where
   pub status : ended.status ≡ status.Failed
   pub said : Complains None ended.is_told errs errs'
 
 -- How a call ends that asked this and is answered so: `out` and `out'` are what standard output held before and
 -- after, `errs` and `errs'` what standard error did. Memory is wanting only for the text of a read, and where the
 -- client itself found none. Behind the reply to an update, stored or refused, it never is.
-abbrev pub EndsAsked : Question → Result Reply ClientFault → Ended
+abbrev pub EndsAsked : Question → Result Reply ClientFault → Exit
     → (out out' errs errs' : Option (List ℕ)) → Type 0
 EndsAsked question (Ok (Refused why detail)) ended out out' errs errs' =
     SaysRefused (detailed_line why detail) ended errs errs' × Keeps out out'

@@ -2,9 +2,6 @@
 use Rattle.std.specs.Prelude.{ℕ, ◌+◌, Bool, true, false, List, [], ◌∷◌, ◌++◌, codes, if◌then◌else◌}
 use Rattle.std.specs.List.{list_any}
 use Rattle.std.specs.Fmt.{decimal}
-use Rattle.snap_disk.specs.Refusal.{refusal_text}
-use Rattle.snap_disk.specs.declared.refusal.Refusal.{Refusal}
-use Rattle.snap_slot.specs.Text.{line}
 use Rattle.snap_frame.specs.declared.reply.Reply.{Reply}
 use Rattle.snap_frame.specs.declared.reply.Reply.TheVariants.{Stored, Snapshot, Status, Refused}
 use Rattle.snap_frame.specs.declared.entries.SegmentValue.{SegmentValue}
@@ -12,6 +9,12 @@ use Rattle.snap_frame.specs.declared.entries.SegmentStatus.{SegmentStatus}
 use Rattle.snap_hex.specs.Text.{hex_text}
 use Rattle.snap_order.specs.declared.order.Question.{Question}
 use Rattle.snap_order.specs.declared.order.Question.TheVariants.{Health}
+use Rattle.snap_stream.specs.Refusal.{refusal_text}
+use Rattle.snap_stream.specs.refusal.Refusal.{Refusal}
+
+-- a text with a line feed behind it
+abbrev pub line : List ℕ → List ℕ
+line text = text ++ (10 ∷ [])
 
 -- the lines of these, the first of which is number i
 abbrev pub lines_from : {X : Type 0} → (ℕ → X → List ℕ) → ℕ → List X → List ℕ

@@ -12,10 +12,9 @@ ghost use Rattle.snap_call.specs.Text.{answer_text, detailed_line, stored_line};
 use crate::line::{detailed_line, stored_line};
 use crate::print::{answer_of, is_any_fenced};
 use snap_client::{ClientFault, call_again};
-use snap_disk::Refusal;
-use snap_frame::{Reply, Request};
-use snap_order::{Calling, Ended, Question, Status};
-use snap_stream::{complain, complain_of_refusal, write_whole};
+use snap_frame::Reply;
+use snap_order::{Calling, Exit, Question, Request, Status};
+use snap_stream::{Refusal, complain, complain_of_refusal, write_whole};
 use std::alloc::Global;
 use std::io::{Read, Write};
 
@@ -37,7 +36,7 @@ pub fn ask<R: Read + Drop, C: Write + Drop, F: FnMut() -> Option<(R, C)>, W: Wri
     connect: &mut F,
     writer: &mut W,
     errors: &mut E,
-) -> Ended
+) -> Exit
     requires limits { IsCallable order.now }
     requires callable { F.IsAlwaysCallable connect.old }
 
@@ -101,14 +100,14 @@ fn say_stored<W: Write, E: Write>(
     number: u64,
     writer: &mut W,
     errors: &mut E,
-) -> Ended
+) -> Exit
     ensures { PrintsInPlace status.Done (stored_line number) result
         (W.contents writer.old) (W.contents writer.new)
         (E.contents errors.old) (E.contents errors.new) }
 {
     let line = stored_line(number);
     let Err(error) = write_whole(writer, line.as_str().as_bytes()) else {
-        return Ended {
+        return Exit {
             status: Status::Done,
             is_told: true,
         };
@@ -118,7 +117,7 @@ fn say_stored<W: Write, E: Write>(
         errors,
         &format_args!("stored {number}, but standard output: {error}"),
     );
-    Ended {
+    Exit {
         status: Status::Failed,
         is_told,
     }
@@ -131,7 +130,7 @@ fn print<W: Write, E: Write>(
     reply: &Reply,
     writer: &mut W,
     errors: &mut E,
-) -> Ended
+) -> Exit
     requires { IsRead reply.now }
     ensures { Prints (answer_status question.now reply.now) (answer_text question.now reply.now)
         result (W.contents writer.old) (W.contents writer.new)
@@ -141,20 +140,20 @@ fn print<W: Write, E: Write>(
         return stop(errors);
     };
     let Err(error) = write_whole(writer, text.as_slice()) else {
-        return Ended {
+        return Exit {
             status: status_of(question, reply),
             is_told: true,
         };
     };
     let is_told = complain(alloc, errors, &format_args!("standard output: {error}"));
-    Ended {
+    Exit {
         status: Status::Failed,
         is_told,
     }
 }
 
 /// Says that the server refused the request, with the refusal's detail. It takes no memory.
-fn refuse<E: Write>(why: Refusal, detail: u64, errors: &mut E) -> Ended
+fn refuse<E: Write>(why: Refusal, detail: u64, errors: &mut E) -> Exit
     ensures { SaysRefused (detailed_line why detail) result (E.contents errors.old)
         (E.contents errors.new) }
 {
@@ -163,29 +162,29 @@ fn refuse<E: Write>(why: Refusal, detail: u64, errors: &mut E) -> Ended
         Ok(()) => true,
         Err(_) => false,
     };
-    Ended {
+    Exit {
         status: Status::Refused,
         is_told,
     }
 }
 
 /// Says that memory was wanting. It takes none.
-fn stop<E: Write>(errors: &mut E) -> Ended
+fn stop<E: Write>(errors: &mut E) -> Exit
     ensures { WantsMemory result (E.contents errors.old) (E.contents errors.new) }
 {
-    Ended {
+    Exit {
         status: Status::Refused,
         is_told: complain_of_refusal(errors, Refusal::NoMemory),
     }
 }
 
 /// Says that there is no answer, and what to do.
-fn give_up<E: Write>(alloc: Global, address: &str, fault: ClientFault, errors: &mut E) -> Ended
+fn give_up<E: Write>(alloc: Global, address: &str, fault: ClientFault, errors: &mut E) -> Exit
     ensures { GivesUp result (E.contents errors.old) (E.contents errors.new) }
 {
     let remedy = remedy_of(fault);
     let is_told = complain(alloc, errors, &format_args!("{address}: {fault}: {remedy}"));
-    Ended {
+    Exit {
         status: Status::Failed,
         is_told,
     }

@@ -4,7 +4,7 @@ ghost use Rattle.std.specs.Fmt.InlineText.{inline_text};
 ghost use Rattle.snap_call.specs.Text.{detailed_line, stored_line};
 
 use itoa::Buffer;
-use snap_disk::Refusal;
+use snap_stream::Refusal;
 use std::fmt::InlineText;
 
 /// More bytes than a line has: 15 of `snapd: refused `, two numbers of 20 digits at most, a name of 16 at

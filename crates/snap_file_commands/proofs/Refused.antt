@@ -1,5 +1,5 @@
 -- Why a command was refused, from the refusals that a segment answers.
-use Rattle.std.proofs.Common.{rules, subst, sym, ◌≡◌, ℕ, ◌-◌, ◌^◌, List, refl, Option, Some, None, IsSome, Err}
+use Rattle.std.proofs.Common.{rules, ◌≡◌, ℕ, ◌-◌, ◌^◌, List, refl, Option, Some, None, IsSome, Err}
 use Rattle.std.specs.Io.KnownBytes.{Keeps}
 use Rattle.snap_disk.specs.Device.{Device}
 use Rattle.snap_disk.specs.declared.refusal.Refusal.{Refusal}
@@ -75,13 +75,9 @@ pub refused_count : (why : Refusal) (old new : ℕ) → CountsFailed why old new
 refused_count why old new counts = search rules
 
 -- and once a store was
-pub refused_store_count : (T : Type 0) (why : Refusal) (old mid new last : ℕ) → mid ≡ old
-    → last ≡ new → CountsRefusal {T = T} (Err why) mid new
-    → CountsEnd (Err (Refused why)) old last
-refused_store_count T why old mid new last same still counts =
-    let at : CountsEnd (Err (Refused why)) mid new = search rules in
-    subst (λ k. CountsEnd (Err (Refused why)) k last) same
-    (subst (λ k. CountsEnd (Err (Refused why)) mid k) (sym still) at)
+pub refused_store_count : (T : Type 0) (why : Refusal) (old new : ℕ)
+    → CountsRefusal {T = T} (Err why) old new → CountsEnd (Err (Refused why)) old new
+refused_store_count T why old new counts = search rules
 
 -- what a refused store leaves
 pub refused_keeps : (kept : Type 0) (why : Refusal) → ((why ≡ DeviceFailed → ⊥) → kept)
@@ -89,7 +85,8 @@ pub refused_keeps : (kept : Type 0) (why : Refusal) → ((why ≡ DeviceFailed �
 refused_keeps kept why keeps = search rules
 
 -- a put keeps what its store keeps
-pub put_keeps : (honest same kept : Type 0) (i n : ℕ) (v : List ℕ) (old new : Device)
-    (out out' : Option (List ℕ)) (end : End) → EndsStore honest i n v old new out out' end
-    → StoreKeeps kept end → PutKeeps same kept end
-put_keeps honest same kept i n v old new out out' end ends keeps = search rules
+pub put_keeps : (honest same segment kept : Type 0) (i n : ℕ) (v : List ℕ) (old new : Device)
+    (out out' : Option (List ℕ)) (end : End) → (segment → kept)
+    → EndsStore honest i n v old new out out' end → StoreKeeps segment end
+    → PutKeeps same kept end
+put_keeps honest same segment kept i n v old new out out' end weaker ends keeps = search rules

@@ -1,51 +1,78 @@
 -- What a store that succeeded leaves, in the words of the command.
-use Rattle.std.proofs.Common.{◌≡◌, ℕ, ◌+◌, ◌<◌, List, length, subst, Option, Some, None, IfSome, Ok, Err, inl, inr, arith, ap, length-append}
+use Rattle.std.proofs.Common.{◌≡◌, ◌⊎◌, ℕ, ◌+◌, ◌<◌, List, length, subst, sym, Option, Some, None}
+use Rattle.std.proofs.Common.{IfSome, Ok, Err, inl, inr, arith, ap, length-append}
 use Rattle.std.specs.Io.KnownBytes.{Consumes}
 use Rattle.snap_disk.specs.Device.{Device, IsSettled, LeavesOnly, MayLeave}
-use Rattle.snap_disk.specs.Laws.{then}
+use Rattle.snap_disk.specs.Laws.{then, weaker}
+use Rattle.snap_slot.specs.declared.layout.TheConstants.{FILE_LEN}
 use Rattle.snap_slot.specs.States.{IsEither}
 use Rattle.snap_slot.specs.Layout.{Head, Holds, IsFileOf}
+use Rattle.snap_segment.specs.Segment.{SegmentState}
 use Rattle.snap_stream.specs.Streams.{Had}
-use Rattle.snap_file_commands.specs.Commands.{IsStored, StoreLeaves, End, EndsStore, EndsPut}
+use Rattle.snap_file_commands.specs.Calls.{CountsCallsOf, CountsPut, CountsStore}
+use Rattle.snap_file_commands.specs.Commands.{IsStored, PutLeaves, End, EndsStore, EndsPut}
 use Rattle.snap_disk.specs.declared.refusal.Refusal.TheVariants.{Malformed, NoSegment, TooLong}
 use Rattle.snap_disk.specs.declared.refusal.Refusal.TheVariants.{Conflict, OutOfStep, Fenced, Full}
 use Rattle.snap_disk.specs.declared.refusal.Refusal.TheVariants.{NoMemory, Exhausted, Damaged}
 use Rattle.snap_disk.specs.declared.refusal.Refusal.TheVariants.{Unformatted, AlreadyFormatted}
 use Rattle.snap_disk.specs.declared.refusal.Refusal.TheVariants.{DeviceFailed, WrongFile, TooLarge}
 use Rattle.snap_disk.specs.declared.refusal.Refusal.TheVariants.{NotNow, Worn}
-use Rattle.snap_file_commands.specs.declared.failure.CommandFailure.TheVariants.{Refused, Input, Output, Unsaid}
+use Rattle.snap_file_commands.specs.declared.failure.CommandFailure.TheVariants.{Refused, Input}
+use Rattle.snap_file_commands.specs.declared.failure.CommandFailure.TheVariants.{Output, Unsaid}
 
-pub stored : (i n i' n' k : ℕ) (u v : List ℕ) (old new : Device) → i' ≡ i → n' ≡ n
-    → Head old.bytes i n → Holds old.bytes k u
-    → IsSettled new × ((b : List ℕ) → MayLeave new b → IsFileOf i' n' (k + 1) v b)
+-- the file holds what the segment that was opened on it does
+pub held : (i n i' n' k : ℕ) (u b : List ℕ) → i' ≡ i → n' ≡ n → length b ≡ FILE_LEN
+    → Head b i n × Holds b k u → IsFileOf i' n' k u b
+held i n i' n' k u b same_i same_n size holds = record {
+  size = size;
+  head = subst (λ (x : ℕ). Head b x n') (sym same_i)
+      (subst (λ (x : ℕ). Head b i x) (sym same_n) holds.0);
+  holds = holds.1;
+}
+
+pub stored : (i n k : ℕ) (u v : List ℕ) (old new : Device) → IsFileOf i n k u old.bytes
+    → IsSettled new × ((b : List ℕ) → MayLeave new b → IsFileOf i n (k + 1) v b)
     → IsStored i n k v old new
-stored i n i' n' k u v old new same_i same_n head held last = record {
+stored i n k u v old new file last = record {
   value = u;
-  head = head;
-  held = held;
+  head = file.head;
+  held = file.holds;
   settled = last.0;
-  lasts = λ b left. subst (λ x. IsFileOf x n (k + 1) v b) same_i
-      (subst (λ x. IsFileOf i' x (k + 1) v b) same_n (last.1 b left));
+  lasts = last.1;
 }
 
 -- an opening and a store behind it, in the words of the command
-pub store_leaves : {D : Type 0} (clock : D → ℕ) (might_have_left : D → ℕ → List ℕ
-    → Type 0) (old mid new : D) (device : Device) (i n i' n' k : ℕ) (u v : List ℕ) → i' ≡ i → n' ≡ n
-    → Head device.bytes i n → Holds device.bytes k u
-    → LeavesOnly clock might_have_left old mid (MayLeave device)
-    → LeavesOnly clock might_have_left mid new (IsEither i' n' k u v)
-    → LeavesOnly clock might_have_left old new (StoreLeaves i n v device)
-store_leaves clock might_have_left old mid new device i n i' n' k u v same_i same_n head holds first
-    second =
-    then clock might_have_left old mid new (MayLeave device) (IsEither i' n' k u v)
-    (StoreLeaves i n v device) first second (λ b left. inl left)
+pub put_leaves : {D : Type 0} (clock : D → ℕ) (might_have_left : D → ℕ → List ℕ → Type 0)
+    (honest : Type 0) (old : D) (mid new : SegmentState D) (device : Device)
+    (known : Option (List ℕ)) (i n : ℕ) (v : List ℕ) → honest → mid.index ≡ i → mid.count ≡ n
+    → Had known v → Head device.bytes i n × Holds device.bytes mid.number mid.value
+    → LeavesOnly clock might_have_left old mid.device (MayLeave device)
+    → (new ≡ mid) ⊎ (honest → LeavesOnly clock might_have_left mid.device new.device
+    (IsEither mid.index mid.count mid.number mid.value v))
+    → LeavesOnly clock might_have_left old new.device (PutLeaves i n known device)
+put_leaves {D} clock might_have_left honest old mid new device known i n v is same_i same_n had
+    holds first (inl same) =
+    let leaves : D → Type 0 = λ d.
+    LeavesOnly clock might_have_left old d (PutLeaves i n known device) in
+    subst (λ (s : SegmentState D). leaves s.device) (sym same)
+    (weaker clock might_have_left old mid.device (MayLeave device) (PutLeaves i n known device)
+    first (λ b left. inl left))
+put_leaves {D} clock might_have_left honest old mid new device known i n v is same_i same_n had
+    holds first (inr second) =
+    then clock might_have_left old mid.device new.device (MayLeave device)
+    (IsEither mid.index mid.count mid.number mid.value v) (PutLeaves i n known device) first
+    (second is) (λ b left. inl left)
     (λ b either. inr (
-      k,
-      u,
-      head,
-      holds,
-      subst (λ (x : ℕ). IsEither x n k u v b) same_i
-          (subst (λ (x : ℕ). IsEither i' x k u v b) same_n either),
+      v,
+      had,
+      (
+        mid.number,
+        mid.value,
+        holds.0,
+        holds.1,
+        subst (λ (x : ℕ). IsEither x n mid.number mid.value v b) same_i
+            (subst (λ (x : ℕ). IsEither mid.index x mid.number mid.value v b) same_n either),
+      ),
     ))
 
 -- a reader that gave more than a value's bytes had more
@@ -92,3 +119,28 @@ store_ends_put honest i n known v old new out out' (Err (Refused TooLarge)) had 
     (v, had, ends)
 store_ends_put honest i n known v old new out out' (Err (Refused NotNow)) had ends = (v, had, ends)
 store_ends_put honest i n known v old new out out' (Err (Refused Worn)) had ends = (v, had, ends)
+
+-- and where it was on the segment that was opened
+pub put_ends : (honest : Type 0) (i n i' n' : ℕ) (known : Option (List ℕ)) (v : List ℕ)
+    (old new : Device) (out out' : Option (List ℕ)) (end : End) → i' ≡ i → n' ≡ n → Had known v
+    → EndsStore honest i' n' v old new out out' end → EndsPut honest i n known old new out out' end
+put_ends honest i n i' n' known v old new out out' end same_i same_n had ends =
+    store_ends_put honest i n known v old new out out' end had
+    (subst (λ (x : ℕ). EndsStore honest x n v old new out out' end) same_i
+    (subst (λ (x : ℕ). EndsStore honest i' x v old new out out' end) same_n ends))
+
+-- the calls of an opening, and of a store behind it
+calls_behind : (calls before mid after : ℕ) (end : End) → mid ≡ before + 2
+    → CountsCallsOf calls end mid after → CountsCallsOf (calls + 2) end before after
+calls_behind calls before mid after (Ok s) opened counts = omega arith
+calls_behind calls before mid after (Err (Output error)) opened counts = omega arith
+calls_behind calls before mid after (Err (Unsaid number error)) opened counts = omega arith
+calls_behind calls before mid after (Err (Refused why)) opened counts = omega arith
+calls_behind calls before mid after (Err (Input error)) opened counts = omega arith
+
+pub put_calls : (before mid after : ℕ) (end : End) → mid ≡ before + 2
+    → CountsStore end mid after → CountsPut end before after
+put_calls before mid after end opened (inl four) =
+    inl (calls_behind 4 before mid after end opened four)
+put_calls before mid after end opened (inr five) =
+    inr (calls_behind 5 before mid after end opened five)

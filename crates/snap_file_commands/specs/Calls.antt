@@ -16,14 +16,18 @@ CountsCallsOf calls (Err (Unsaid number error)) before after = after ≡ before 
 CountsCallsOf calls (Err (Refused why)) before after = after ≤ before + calls
 CountsCallsOf calls (Err (Input error)) before after = after ≤ before + calls
 
--- an opening makes two, and a store behind it four, or five where the spare slot is open
+-- a store makes four calls, or five where the spare slot is open
 abbrev pub CountsStore : End → (before after : ℕ) → Type 0
-CountsStore end before after = CountsCallsOf 6 end before after ⊎ CountsCallsOf 7 end before after
+CountsStore end before after = CountsCallsOf 4 end before after ⊎ CountsCallsOf 5 end before after
+
+-- and an opening before it two
+abbrev pub CountsPut : End → (before after : ℕ) → Type 0
+CountsPut end before after = CountsCallsOf 6 end before after ⊎ CountsCallsOf 7 end before after
 
 -- `get` opens its file, once, and `check` reads it once
 abbrev pub CountsOrder : FileOrder → End → (before after : ℕ) → Type 0
 CountsOrder (Format file i n) end before after = CountsCallsOf 7 end before after
-CountsOrder (Put file i n) end before after = CountsStore end before after
+CountsOrder (Put file i n) end before after = CountsPut end before after
 CountsOrder (Get file i n) end before after = CountsCallsOf 2 end before after
 CountsOrder (Check file) end before after = CountsCallsOf 1 end before after
 

@@ -112,10 +112,6 @@ abbrev pub LeavesEither : (i n : ℕ) (v : List ℕ) (old : Device) → List ℕ
 LeavesEither i n v old b = (c : ℕ) × (u : List ℕ) × Head old.bytes i n × Holds old.bytes c u
     × IsEither i n c u v b
 
--- and before the file is read, what a crash before could leave
-abbrev pub StoreLeaves : (i n : ℕ) (v : List ℕ) (old : Device) → List ℕ → Type 0
-StoreLeaves i n v old b = MayLeave old b ⊎ LeavesEither i n v old b
-
 -- A value that is too long, or can't be read, leaves the device untouched.
 abbrev pub EndsPut : (honest : Type 0) (i n : ℕ) (known : Option (List ℕ)) (old new : Device)
     (out out' : Option (List ℕ)) → End → Type 0
@@ -125,6 +121,7 @@ EndsPut honest i n known old new out out' (Err (Refused refusal.TooLong)) =
 EndsPut honest i n known old new out out' end =
     (v : List ℕ) × Had known v × EndsStore honest i n v old new out out' end
 
+-- a crash during a put may leave what one before could, or what one during the store may
 abbrev pub PutLeaves : (i n : ℕ) (known : Option (List ℕ)) (old : Device) → List ℕ → Type 0
 PutLeaves i n known old b = MayLeave old b ⊎ ((v : List ℕ) × Had known v × LeavesEither i n v old b)
 

@@ -4,3 +4,4 @@ pub mod Commands
 pub mod Effects
 pub mod Migration
 pub mod Calls
+pub mod Acts

@@ -1,25 +1,29 @@
 //! The commands on one file, over any device, reader and writer.
 //!
-//! Each command answers the device and how it ended; `specs/Commands.antt` says what each end means
-//! for the device's bytes and for what was read and printed, and `specs/Effects.antt` which ends
-//! leave the device as it was. `act` alone turns an end into a status and a line on standard error.
-ghost use Rattle.std.specs.Prelude.{◌≡◌, ◌≢◌, ◌<◌, ◌≤◌, ◌-◌, ◌^◌, length};
-ghost use Rattle.snap_disk.specs.Device.{Device, LeavesOnly, MayLeave};
+//! Each command says how it ended, and leaves its device to its caller; `specs/Acts.antt` says what
+//! an act does in all, `specs/Commands.antt` what each end means for the device's bytes and for what
+//! was read and printed, and `specs/Effects.antt` which ends leave the device as it was. `act` alone
+//! turns an end into a status and a line on standard error.
+ghost use Rattle.std.specs.Prelude.{◌≡◌, ◌≢◌, ◌⊎◌, ◌<◌, ◌≤◌, ◌-◌, ◌^◌, length};
+ghost use Rattle.snap_disk.specs.Device.{Device};
 ghost use Rattle.snap_slot.specs.declared.layout.TheConstants.{FILE_LEN};
 ghost use Rattle.snap_history.specs.declared.limits.TheConstants.{MAX_COUNT};
 ghost use Rattle.snap_history.specs.Limits.{IsShort};
+ghost use Rattle.snap_slot.specs.Layout.{IsFileOf};
+ghost use Rattle.snap_slot.specs.States.{IsEither};
 ghost use Rattle.snap_segment.specs.Making.{IsFresh};
-ghost use Rattle.snap_file_commands.specs.Calls.{CountsCallsOf, CountsOrder, CountsStore};
-ghost use Rattle.snap_file_commands.specs.Commands.{CountsEnd, End, EndSays, EndsCheck, EndsFormat};
-ghost use Rattle.snap_file_commands.specs.Commands.{EndsGet, EndsOrder, EndsPut, EndsStore, OrderLeaves};
-ghost use Rattle.snap_file_commands.specs.Commands.{PutLeaves, StoreLeaves, status_at};
-ghost use Rattle.snap_file_commands.specs.Effects.{FormatKeeps, OrderKeeps, PutKeeps, StoreKeeps};
+ghost use Rattle.snap_file_commands.specs.Acts.{HasActed, IsCarriedOut};
+ghost use Rattle.snap_file_commands.specs.Calls.{CountsCallsOf, CountsPut, CountsStore};
+ghost use Rattle.snap_file_commands.specs.Commands.{CountsEnd, EndsCheck, EndsFormat, EndsGet};
+ghost use Rattle.snap_file_commands.specs.Commands.{EndsPut, EndsStore, OrderLeaves, PutLeaves};
+ghost use Rattle.snap_file_commands.specs.Effects.{AnyCrashLeaves, FormatKeeps, LeavesNoMore};
+ghost use Rattle.snap_file_commands.specs.Effects.{PutKeeps, StoreKeeps};
 ghost use Rattle.snap_order.specs.Order.{IsFileWithinLimits};
 
 use crate::CommandFailure;
 use snap_disk::{Disk, Refusal};
 use snap_history::MAX_VALUE_LEN;
-use snap_order::{Ended, FileOrder, Status};
+use snap_order::{Exit, FileOrder, Status};
 use snap_segment::{Segment, check, format};
 use snap_stream::{Cause, read_up_to, write_whole};
 use std::alloc::Global;
@@ -41,28 +45,22 @@ pub fn act<D: Disk, C: Cause, R: Read, W: Write, E: Write>(
     reader: &mut R,
     writer: &mut W,
     errors: &mut E,
-) -> (D, Ended)
+) -> (D, Exit)
     requires limits { IsFileWithinLimits order.now }
     requires headroom { D.failure_count disk < 2 ^ 64 - 1 }
     ensures honest { D.is_honest result.0 → D.is_honest disk }
 
-    // The status is that of an end which says what happened, what standard error got, and where
-    // the device is as it was.
-    ensures ends { (end : End) × (result.1.status ≡ status_at end)
-        × EndSays (C.may_give cause.now) order.now (length (D.device disk).bytes) end
-        result.1.is_told (E.contents errors.old) (E.contents errors.new)
-        × CountsEnd end (D.failure_count disk) (D.failure_count result.0)
-        × CountsOrder order.now end (D.clock disk) (D.clock result.0)
-        × OrderKeeps order.now (result.0 ≡ disk) (D.is_honest result.0 → LeavesOnly D.clock
-        D.might_have_left disk result.0 (MayLeave (D.device disk))) end
-        × EndsOrder order.now (D.is_honest result.0) (R.remaining reader.old) (D.device disk)
-        (D.device result.0) (W.contents writer.old) (W.contents writer.new) end }
+    // There is an end whose status it is, which says what happened to the file and what standard
+    // error got, and which leaves the device as it was where it is a refusal.
+    ensures ends { HasActed D.device D.failure_count D.is_honest D.clock D.might_have_left order.now
+        disk result.0 (R.remaining reader.old) (W.contents writer.old) (W.contents writer.new)
+        (C.may_give cause.now) (E.contents errors.old) (E.contents errors.new) result.1 }
 
     // A device of another length is left untouched.
     ensures wrong_length { length (D.device disk).bytes ≢ FILE_LEN → result.0 ≡ disk }
 
     // A crash at any time leaves what the order may leave.
-    ensures any_time { D.is_honest result.0 → LeavesOnly D.clock D.might_have_left disk result.0
+    ensures any_time { AnyCrashLeaves D.is_honest D.clock D.might_have_left disk result.0
         (OrderLeaves order.now (R.remaining reader.old) (D.device disk)) }
 {
     let len = disk.len();
@@ -70,7 +68,7 @@ pub fn act<D: Disk, C: Cause, R: Read, W: Write, E: Write>(
     match end {
         Ok(status) => {
             let is_told = true;
-            (disk, Ended { status, is_told })
+            (disk, Exit { status, is_told })
         }
         Err(failure) => (disk, failure.report_of(alloc, order, len, cause, errors)),
     }
@@ -80,65 +78,62 @@ pub fn act<D: Disk, C: Cause, R: Read, W: Write, E: Write>(
 fn carry_out<D: Disk, R: Read, W: Write>(
     alloc: Global,
     order: &FileOrder<'_>,
-    disk: D,
+    mut disk: D,
     reader: &mut R,
     writer: &mut W,
 ) -> (D, Result<Status, CommandFailure>)
     requires limits { IsFileWithinLimits order.now }
     requires headroom { D.failure_count disk < 2 ^ 64 - 1 }
     ensures honest { D.is_honest result.0 → D.is_honest disk }
-    ensures count { CountsEnd result.1 (D.failure_count disk) (D.failure_count result.0) }
-    ensures calls { CountsOrder order.now result.1 (D.clock disk) (D.clock result.0) }
-    ensures keeps { OrderKeeps order.now (result.0 ≡ disk) (D.is_honest result.0 → LeavesOnly
-        D.clock D.might_have_left disk result.0 (MayLeave (D.device disk))) result.1 }
-    ensures ends { EndsOrder order.now (D.is_honest result.0) (R.remaining reader.old)
-        (D.device disk) (D.device result.0) (W.contents writer.old) (W.contents writer.new)
-        result.1 }
+    ensures ends { IsCarriedOut D.device D.failure_count D.is_honest D.clock D.might_have_left
+        order.now disk result.0 (R.remaining reader.old) (W.contents writer.old)
+        (W.contents writer.new) result.1 }
     ensures wrong_length { length (D.device disk).bytes ≢ FILE_LEN → result.0 ≡ disk }
-    ensures any_time { D.is_honest result.0 → LeavesOnly D.clock D.might_have_left disk result.0
+    ensures any_time { AnyCrashLeaves D.is_honest D.clock D.might_have_left disk result.0
         (OrderLeaves order.now (R.remaining reader.old) (D.device disk)) }
 {
     match *order {
-        FileOrder::Format { index, count, .. } => format_file(alloc, disk, index, count, writer),
+        FileOrder::Format { index, count, .. } => {
+            let end = format_file(alloc, &mut disk, index, count, writer);
+            (disk, end)
+        }
         FileOrder::Put { index, count, .. } => put(alloc, disk, index, count, reader, writer),
         FileOrder::Get { index, count, .. } => get(alloc, disk, index, count, writer),
-        FileOrder::Check { .. } => check_file(alloc, disk, writer),
+        FileOrder::Check { .. } => {
+            let end = check_file(alloc, &mut disk, writer);
+            (disk, end)
+        }
     }
 }
 
 /// Formats the device and says so.
 fn format_file<D: Disk, W: Write>(
     alloc: Global,
-    mut disk: D,
+    disk: &mut D,
     index: u8,
     count: u8,
     writer: &mut W,
-) -> (D, Result<Status, CommandFailure>)
+) -> Result<Status, CommandFailure>
     requires below { index < count }
     requires few { count ≤ MAX_COUNT }
-    requires headroom { D.failure_count disk < 2 ^ 64 - 1 }
-    ensures honest { D.is_honest result.0 → D.is_honest disk }
-    ensures count { CountsEnd result.1 (D.failure_count disk) (D.failure_count result.0) }
-    ensures calls { CountsCallsOf 7 result.1 (D.clock disk) (D.clock result.0) }
-    ensures ends { EndsFormat (D.is_honest result.0) index count (D.device disk)
-        (D.device result.0) (W.contents writer.old) (W.contents writer.new) result.1 }
-    ensures keeps { FormatKeeps (result.0 ≡ disk) (D.is_honest result.0 → LeavesOnly D.clock
-        D.might_have_left disk result.0 (MayLeave (D.device disk))) result.1 }
-    ensures wrong_length { length (D.device disk).bytes ≢ FILE_LEN → result.0 ≡ disk }
-    ensures any_time { D.is_honest result.0 → LeavesOnly D.clock D.might_have_left disk result.0
-        (IsFresh index count (D.device disk)) }
+    requires headroom { D.failure_count disk.old < 2 ^ 64 - 1 }
+    ensures honest { D.is_honest disk.new → D.is_honest disk.old }
+    ensures count { CountsEnd result (D.failure_count disk.old) (D.failure_count disk.new) }
+    ensures calls { CountsCallsOf 7 result (D.clock disk.old) (D.clock disk.new) }
+    ensures ends { EndsFormat (D.is_honest disk.new) index count (D.device disk.old)
+        (D.device disk.new) (W.contents writer.old) (W.contents writer.new) result }
+    ensures keeps { FormatKeeps (disk.new ≡ disk.old)
+        (LeavesNoMore D.device D.is_honest D.clock D.might_have_left disk.old disk.new) result }
+    ensures wrong_length { length (D.device disk.old).bytes ≢ FILE_LEN → disk.new ≡ disk.old }
+    ensures any_time { AnyCrashLeaves D.is_honest D.clock D.might_have_left disk.old disk.new
+        (IsFresh index count (D.device disk.old)) }
 {
     // The line is made first, so that want of memory leaves the file as it is.
-    let Ok(line) = format!(in alloc; "formatted {index} of {count}\n") else {
-        return (disk, Err(CommandFailure::Refused(Refusal::NoMemory)));
-    };
-    match format(&mut disk, index, count) {
-        Ok(()) => {}
-        Err(why) => return (disk, Err(CommandFailure::Refused(why))),
-    }
+    let line = format!(in alloc; "formatted {index} of {count}\n")?;
+    format(disk, index, count)?;
     match write_whole(writer, line.as_bytes()) {
-        Ok(()) => (disk, Ok(Status::Done)),
-        Err(error) => (disk, Err(CommandFailure::Output(error))),
+        Ok(()) => Ok(Status::Done),
+        Err(error) => Err(CommandFailure::Output(error)),
     }
 }
 
@@ -156,14 +151,14 @@ fn put<D: Disk, R: Read, W: Write>(
     requires headroom { D.failure_count disk < 2 ^ 64 - 1 }
     ensures honest { D.is_honest result.0 → D.is_honest disk }
     ensures count { CountsEnd result.1 (D.failure_count disk) (D.failure_count result.0) }
-    ensures calls { CountsStore result.1 (D.clock disk) (D.clock result.0) }
+    ensures calls { CountsPut result.1 (D.clock disk) (D.clock result.0) }
     ensures ends { EndsPut (D.is_honest result.0) index count (R.remaining reader.old)
         (D.device disk) (D.device result.0) (W.contents writer.old) (W.contents writer.new)
         result.1 }
-    ensures keeps { PutKeeps (result.0 ≡ disk) (D.is_honest result.0 → LeavesOnly D.clock
-        D.might_have_left disk result.0 (MayLeave (D.device disk))) result.1 }
+    ensures keeps { PutKeeps (result.0 ≡ disk)
+        (LeavesNoMore D.device D.is_honest D.clock D.might_have_left disk result.0) result.1 }
     ensures wrong_length { length (D.device disk).bytes ≢ FILE_LEN → result.0 ≡ disk }
-    ensures any_time { D.is_honest result.0 → LeavesOnly D.clock D.might_have_left disk result.0
+    ensures any_time { AnyCrashLeaves D.is_honest D.clock D.might_have_left disk result.0
         (PutLeaves index count (R.remaining reader.old) (D.device disk)) }
 {
     // One byte more than a value may have shows that the input is too long.
@@ -175,53 +170,48 @@ fn put<D: Disk, R: Read, W: Write>(
     if len > MAX_VALUE_LEN {
         return (disk, Err(CommandFailure::Refused(Refusal::TooLong)));
     }
-    store(alloc, disk, index, count, &input[..len], writer)
-}
-
-/// Stores the value, and then says under which number.
-fn store<D: Disk, W: Write>(
-    alloc: Global,
-    disk: D,
-    index: u8,
-    count: u8,
-    value: &[u8],
-    writer: &mut W,
-) -> (D, Result<Status, CommandFailure>)
-    requires below { index < count }
-    requires few { count ≤ MAX_COUNT }
-    requires headroom { D.failure_count disk < 2 ^ 64 - 1 }
-    requires fits { IsShort value.now }
-    ensures honest { D.is_honest result.0 → D.is_honest disk }
-    ensures count { CountsEnd result.1 (D.failure_count disk) (D.failure_count result.0) }
-    ensures calls { CountsStore result.1 (D.clock disk) (D.clock result.0) }
-    ensures ends { EndsStore (D.is_honest result.0) index count value.now (D.device disk)
-        (D.device result.0) (W.contents writer.old) (W.contents writer.new) result.1 }
-    ensures keeps { StoreKeeps (D.is_honest result.0 → LeavesOnly D.clock
-        D.might_have_left disk result.0 (MayLeave (D.device disk))) result.1 }
-    ensures wrong_length { length (D.device disk).bytes ≢ FILE_LEN → result.0 ≡ disk }
-    ensures any_time { D.is_honest result.0 → LeavesOnly D.clock D.might_have_left disk result.0
-        (StoreLeaves index count value.now (D.device disk)) }
-{
     let mut segment = match Segment::open(alloc, disk, index, count) {
         Ok(segment) => segment,
         Err((why, disk)) => return (disk, Err(CommandFailure::Refused(why))),
     };
+    let end = store(alloc, &mut segment, &input[..len], writer);
+    (segment.into_device(), end)
+}
+
+/// Stores the value in the open segment, and then says under which number.
+fn store<D: Disk, W: Write>(
+    alloc: Global,
+    segment: &mut Segment<D>,
+    value: &[u8],
+    writer: &mut W,
+) -> Result<Status, CommandFailure>
+    requires unfenced { segment.old.begun ≡ None }
+    requires fits { IsShort value.now }
+    ensures honest { D.is_honest segment.new.device → D.is_honest segment.old.device }
+    ensures count { CountsEnd result (D.failure_count segment.old.device)
+        (D.failure_count segment.new.device) }
+    ensures calls { CountsStore result (D.clock segment.old.device) (D.clock segment.new.device) }
+
+    // What it says of the file is so of each that held what the segment holds.
+    ensures ends { (file : Device) → (D.is_honest segment.old.device → IsFileOf segment.old.index
+        segment.old.count segment.old.number segment.old.value file.bytes)
+        → EndsStore (D.is_honest segment.new.device) segment.old.index segment.old.count value.now
+        file (D.device segment.new.device) (W.contents writer.old) (W.contents writer.new) result }
+    ensures keeps { StoreKeeps (segment.new ≡ segment.old) result }
+
+    // It changes nothing, or a crash leaves the value from before it or the new one.
+    ensures any_time { (segment.new ≡ segment.old)
+        ⊎ AnyCrashLeaves D.is_honest D.clock D.might_have_left segment.old.device segment.new.device
+        (IsEither segment.old.index segment.old.count segment.old.number segment.old.value
+        value.now) }
+{
     // The line is made first, so that want of memory leaves the file as it is.
     let number = segment.number() + 1;
-    let Ok(line) = format!(in alloc; "stored {number}\n") else {
-        return (
-            segment.into_device(),
-            Err(CommandFailure::Refused(Refusal::NoMemory)),
-        );
-    };
-    match segment.store(value) {
-        Ok(_) => {}
-        Err(why) => return (segment.into_device(), Err(CommandFailure::Refused(why))),
-    }
-    let disk = segment.into_device();
+    let line = format!(in alloc; "stored {number}\n")?;
+    segment.store(value)?;
     match write_whole(writer, line.as_bytes()) {
-        Ok(()) => (disk, Ok(Status::Done)),
-        Err(error) => (disk, Err(CommandFailure::Unsaid { number, error })),
+        Ok(()) => Ok(Status::Done),
+        Err(error) => Err(CommandFailure::Unsaid { number, error }),
     }
 }
 
@@ -242,8 +232,7 @@ fn get<D: Disk, W: Write>(
     ensures ends { EndsGet (D.is_honest result.0) index count (D.device disk)
         (W.contents writer.old) (W.contents writer.new) result.1 }
     ensures wrong_length { length (D.device disk).bytes ≢ FILE_LEN → result.0 ≡ disk }
-    ensures any_time { D.is_honest result.0 → LeavesOnly D.clock D.might_have_left disk result.0
-        (MayLeave (D.device disk)) }
+    ensures any_time { LeavesNoMore D.device D.is_honest D.clock D.might_have_left disk result.0 }
 {
     let segment = match Segment::open(alloc, disk, index, count) {
         Ok(segment) => segment,
@@ -258,33 +247,28 @@ fn get<D: Disk, W: Write>(
 /// Writes the findings. Where they have no answer the status says so, and no text of failure comes.
 fn check_file<D: Disk, W: Write>(
     alloc: Global,
-    mut disk: D,
+    disk: &mut D,
     writer: &mut W,
-) -> (D, Result<Status, CommandFailure>)
-    requires headroom { D.failure_count disk < 2 ^ 64 - 1 }
-    ensures honest { D.is_honest result.0 → D.is_honest disk }
-    ensures count { CountsEnd result.1 (D.failure_count disk) (D.failure_count result.0) }
-    ensures calls { CountsCallsOf 1 result.1 (D.clock disk) (D.clock result.0) }
-    ensures ends { EndsCheck (D.is_honest result.0) (D.device disk) (W.contents writer.old)
-        (W.contents writer.new) result.1 }
-    ensures wrong_length { length (D.device disk).bytes ≢ FILE_LEN → result.0 ≡ disk }
-    ensures any_time { D.is_honest result.0 → LeavesOnly D.clock D.might_have_left disk result.0
-        (MayLeave (D.device disk)) }
+) -> Result<Status, CommandFailure>
+    requires headroom { D.failure_count disk.old < 2 ^ 64 - 1 }
+    ensures honest { D.is_honest disk.new → D.is_honest disk.old }
+    ensures count { CountsEnd result (D.failure_count disk.old) (D.failure_count disk.new) }
+    ensures calls { CountsCallsOf 1 result (D.clock disk.old) (D.clock disk.new) }
+    ensures ends { EndsCheck (D.is_honest disk.new) (D.device disk.old) (W.contents writer.old)
+        (W.contents writer.new) result }
+    ensures wrong_length { length (D.device disk.old).bytes ≢ FILE_LEN → disk.new ≡ disk.old }
+    ensures any_time { LeavesNoMore D.device D.is_honest D.clock D.might_have_left
+        disk.old disk.new }
 {
-    let findings = match check(&mut disk) {
-        Ok(findings) => findings,
-        Err(why) => return (disk, Err(CommandFailure::Refused(why))),
-    };
-    let Ok(text) = findings.to_string(alloc) else {
-        return (disk, Err(CommandFailure::Refused(Refusal::NoMemory)));
-    };
+    let findings = check(disk)?;
+    let text = findings.to_string(alloc)?;
     let status = if findings.answer.is_some() {
         Status::Done
     } else {
         Status::Refused
     };
     match write_whole(writer, text.as_bytes()) {
-        Ok(()) => (disk, Ok(status)),
-        Err(error) => (disk, Err(CommandFailure::Output(error))),
+        Ok(()) => Ok(status),
+        Err(error) => Err(CommandFailure::Output(error)),
     }
 }

@@ -4,9 +4,9 @@ ghost use Rattle.snap_file_commands.specs.Failure.{Says, SaysOf, status_of};
 
 use crate::second_line::line_behind;
 use snap_disk::Refusal;
-use snap_order::{Ended, FileOrder, Status};
+use snap_order::{Exit, FileOrder, Status};
 use snap_stream::{Cause, complain, complain_of_refusal, complain_twice};
-use std::alloc::Global;
+use std::alloc::{AllocError, Global};
 use std::io::{self, Write};
 use thiserror::Error;
 
@@ -27,6 +27,28 @@ pub enum CommandFailure {
     Unsaid { number: u64, error: io::Error },
 }
 
+impl From<Refusal> for CommandFailure {
+    ghost use Rattle.snap_file_commands.specs.declared.failure.CommandFailure.TheVariants.{Refused};
+
+    ghost from_gives = { λ why failure. failure ≡ Refused why };
+
+    fn from(why: Refusal) -> CommandFailure {
+        CommandFailure::Refused(why)
+    }
+}
+
+/// A growth of memory was refused.
+impl From<AllocError> for CommandFailure {
+    ghost use Rattle.snap_disk.specs.declared.refusal.Refusal.TheVariants.{NoMemory};
+    ghost use Rattle.snap_file_commands.specs.declared.failure.CommandFailure.TheVariants.{Refused};
+
+    ghost from_gives = { λ _ failure. failure ≡ Refused NoMemory };
+
+    fn from(_error: AllocError) -> CommandFailure {
+        CommandFailure::Refused(Refusal::NoMemory)
+    }
+}
+
 impl CommandFailure {
     /// A refusal has a status of its own. Each other failure is of a stream.
     pub fn status(&self) -> Status
@@ -40,18 +62,18 @@ impl CommandFailure {
 
     /// Says on standard error why the command ended, as one line that begins `snapd: `. A refusal's
     /// line takes no memory.
-    pub fn report<E: Write>(&self, alloc: Global, errors: &mut E) -> Ended
+    pub fn report<E: Write>(&self, alloc: Global, errors: &mut E) -> Exit
         ensures status { result.status ≡ status_of self.now }
         ensures says { Says self.now result.is_told (E.contents errors.old)
             (E.contents errors.new) }
     {
         match self {
-            CommandFailure::Refused(why) => Ended {
+            CommandFailure::Refused(why) => Exit {
                 status: Status::Refused,
                 is_told: complain_of_refusal(errors, *why),
             },
             CommandFailure::Input(_) | CommandFailure::Output(_) | CommandFailure::Unsaid { .. } =>
-                Ended {
+                Exit {
                     status: Status::Failed,
                     is_told: complain(alloc, errors, self),
                 },
@@ -69,7 +91,7 @@ impl CommandFailure {
         len: u64,
         cause: &C,
         errors: &mut E,
-    ) -> Ended
+    ) -> Exit
         ensures status { result.status ≡ status_of self.now }
         ensures says { SaysOf self.now (C.may_give cause.now) order.now len
             result.is_told (E.contents errors.old) (E.contents errors.new) }
@@ -77,7 +99,7 @@ impl CommandFailure {
         match self {
             CommandFailure::Refused(why) => {
                 let more = line_behind(alloc, order, len, *why, cause);
-                Ended {
+                Exit {
                     status: Status::Refused,
                     is_told: complain_twice(errors, *why, more),
                 }

@@ -1,27 +1,27 @@
 //! Carries a file of the old format over to a new one, over any two devices and any writer.
 //!
-//! `specs/Migration.antt` says what each end means for both devices and for what was printed.
+//! `specs/Acts.antt` says what an act on a pair does in all, and `specs/Migration.antt` what each
+//! end means for both devices and for what was printed.
 ghost use Rattle.std.specs.Prelude.{◌≡◌, ◌≢◌, ◌<◌, ◌≤◌, ◌+◌, ◌-◌, ◌^◌, ◌++◌, length, IfOk, IsOk};
 ghost use Rattle.std.specs.Prelude.{codes};
 ghost use Rattle.std.specs.Fmt.{decimal};
 ghost use Rattle.std.specs.Prelude.{string_bytes, string_capacity, string_len};
-ghost use Rattle.snap_disk.specs.Device.{Device, LeavesOnly, MayLeave};
+ghost use Rattle.snap_disk.specs.Device.{Device};
 ghost use Rattle.snap_slot.specs.declared.layout.TheConstants.{FILE_LEN};
 ghost use Rattle.snap_history.specs.declared.limits.TheConstants.{MAX_COUNT};
 ghost use Rattle.snap_old_slot.specs.declared.layout.TheConstants.{OLD_FILE_LEN};
 ghost use Rattle.snap_order.specs.Order.{IsPlace};
-ghost use Rattle.snap_file_commands.specs.Calls.{CountsPair};
-ghost use Rattle.snap_file_commands.specs.Migration.{CountsMigration, EndsMigration, MigrationEnd};
-ghost use Rattle.snap_file_commands.specs.Migration.{MigrationKeeps, MigrationLeaves, MigrationReads};
-ghost use Rattle.snap_file_commands.specs.Migration.{MigrationSays, SaysMigration, migrated_beginning};
-ghost use Rattle.snap_file_commands.specs.Migration.{migration_status, migration_status_of};
+ghost use Rattle.snap_file_commands.specs.Acts.{HasActedOnPair, IsCarriedOver};
+ghost use Rattle.snap_file_commands.specs.Effects.{AnyCrashLeaves, LeavesNoMore};
+ghost use Rattle.snap_file_commands.specs.Migration.{MigrationLeaves, SaysMigration};
+ghost use Rattle.snap_file_commands.specs.Migration.{migrated_beginning, migration_status_of};
 
 use crate::CommandFailure;
 use crate::remedy::{of_new, of_old};
 use crate::second_line::line_behind_role;
 use itoa::Buffer;
 use snap_disk::{Disk, Refusal};
-use snap_order::{Ended, Migration, Status};
+use snap_order::{Exit, Migration, Status};
 use snap_segment::{Which, migrate};
 use snap_stream::{Cause, complain_twice, write_whole};
 use std::alloc::{AllocError, Global};
@@ -58,14 +58,14 @@ impl MigrationFailure {
         order: &Migration<'_>,
         causes: &Causes<'_, C>,
         errors: &mut E,
-    ) -> Ended
+    ) -> Exit
         ensures status { result.status ≡ migration_status_of self.now }
         ensures says { SaysMigration self.now (C.may_give causes.now.old.now)
             (C.may_give causes.now.new.now) order.now result.is_told (E.contents errors.old)
             (E.contents errors.new) }
     {
         match self {
-            MigrationFailure::OfFile { which, why } => Ended {
+            MigrationFailure::OfFile { which, why } => Exit {
                 status: Status::Refused,
                 is_told: match which {
                     Which::Old => {
@@ -101,29 +101,19 @@ pub fn act_pair<O: Disk, N: Disk, C: Cause, W: Write, E: Write>(
     causes: &Causes<'_, C>,
     writer: &mut W,
     errors: &mut E,
-) -> (O, N, Ended)
+) -> (O, N, Exit)
     requires place { IsPlace order.now.index order.now.count }
     requires old_headroom { O.failure_count old < 2 ^ 64 - 1 }
     requires new_headroom { N.failure_count new < 2 ^ 64 - 1 }
     ensures old_honest { O.is_honest result.0 → O.is_honest old }
     ensures new_honest { N.is_honest result.1 → N.is_honest new }
 
-    // The status is that of an end which says what happened, what standard error got, and which of
-    // the devices are as they were.
-    ensures ends { (end : MigrationEnd) × (result.2.status ≡ migration_status end)
-        × MigrationSays (C.may_give causes.now.old.now) (C.may_give causes.now.new.now) order.now
-        end result.2.is_told (E.contents errors.old) (E.contents errors.new)
-        × CountsMigration end (O.failure_count old) (O.failure_count result.0)
-        (N.failure_count new) (N.failure_count result.1)
-        × CountsPair 2 end (O.clock old) (O.clock result.0)
-        × CountsPair 7 end (N.clock new) (N.clock result.1)
-        × MigrationReads end (O.is_honest result.0
-        → (O.device result.0).bytes ≡ (O.device old).bytes)
-        × MigrationKeeps end (result.0 ≡ old) (result.1 ≡ new) (N.is_honest result.1
-        → LeavesOnly N.clock N.might_have_left new result.1 (MayLeave (N.device new)))
-        × EndsMigration order.now.index order.now.count (O.is_honest result.0)
-        (N.is_honest result.1) (O.device old) (N.device new) (N.device result.1)
-        (W.contents writer.old) (W.contents writer.new) end }
+    // There is an end whose status it is, which says what happened to both files and what standard
+    // error got, and which of the devices are as they were.
+    ensures ends { HasActedOnPair O.device O.failure_count O.is_honest O.clock N.device
+        N.failure_count N.is_honest N.clock N.might_have_left order.now old result.0 new result.1
+        (W.contents writer.old) (W.contents writer.new) C.may_give causes.now
+        (E.contents errors.old) (E.contents errors.new) result.2 }
 
     // Where a length is wrong, both devices are left untouched.
     ensures wrong_old_length { length (O.device old).bytes ≢ OLD_FILE_LEN
@@ -133,17 +123,17 @@ pub fn act_pair<O: Disk, N: Disk, C: Cause, W: Write, E: Write>(
 
     // A crash at any time leaves of the old file what one before could leave, and of the new one
     // what a migration may leave.
-    ensures old_any_time { O.is_honest result.0 → LeavesOnly O.clock O.might_have_left old result.0
-        (MayLeave (O.device old)) }
-    ensures new_any_time { O.is_honest result.0 → N.is_honest result.1
-        → LeavesOnly N.clock N.might_have_left new result.1
+    ensures old_any_time { LeavesNoMore O.device O.is_honest O.clock O.might_have_left
+        old result.0 }
+    ensures new_any_time { O.is_honest result.0
+        → AnyCrashLeaves N.is_honest N.clock N.might_have_left new result.1
         (MigrationLeaves order.now.index order.now.count (O.device old) (N.device new)) }
 {
     let (old, new, end) = migrate_files(alloc, order, old, new, writer);
     match end {
         Ok(status) => {
             let is_told = true;
-            (old, new, Ended { status, is_told })
+            (old, new, Exit { status, is_told })
         }
         Err(failure) => (old, new, failure.report(alloc, order, causes, errors)),
     }
@@ -162,25 +152,17 @@ fn migrate_files<O: Disk, N: Disk, W: Write>(
     requires new_headroom { N.failure_count new < 2 ^ 64 - 1 }
     ensures old_honest { O.is_honest result.0 → O.is_honest old }
     ensures new_honest { N.is_honest result.1 → N.is_honest new }
-    ensures count { CountsMigration result.2 (O.failure_count old) (O.failure_count result.0)
-        (N.failure_count new) (N.failure_count result.1) }
-    ensures old_calls { CountsPair 2 result.2 (O.clock old) (O.clock result.0) }
-    ensures new_calls { CountsPair 7 result.2 (N.clock new) (N.clock result.1) }
-    ensures reads { MigrationReads result.2 (O.is_honest result.0
-        → (O.device result.0).bytes ≡ (O.device old).bytes) }
-    ensures keeps { MigrationKeeps result.2 (result.0 ≡ old) (result.1 ≡ new) (N.is_honest result.1
-        → LeavesOnly N.clock N.might_have_left new result.1 (MayLeave (N.device new))) }
-    ensures ends { EndsMigration order.now.index order.now.count (O.is_honest result.0)
-        (N.is_honest result.1) (O.device old) (N.device new) (N.device result.1)
+    ensures ends { IsCarriedOver O.device O.failure_count O.is_honest O.clock N.device
+        N.failure_count N.is_honest N.clock N.might_have_left order.now old result.0 new result.1
         (W.contents writer.old) (W.contents writer.new) result.2 }
     ensures wrong_old_length { length (O.device old).bytes ≢ OLD_FILE_LEN
         → (result.0 ≡ old) × (result.1 ≡ new) }
     ensures wrong_new_length { length (N.device new).bytes ≢ FILE_LEN
         → (result.0 ≡ old) × (result.1 ≡ new) }
-    ensures old_any_time { O.is_honest result.0 → LeavesOnly O.clock O.might_have_left old result.0
-        (MayLeave (O.device old)) }
-    ensures new_any_time { O.is_honest result.0 → N.is_honest result.1
-        → LeavesOnly N.clock N.might_have_left new result.1
+    ensures old_any_time { LeavesNoMore O.device O.is_honest O.clock O.might_have_left
+        old result.0 }
+    ensures new_any_time { O.is_honest result.0
+        → AnyCrashLeaves N.is_honest N.clock N.might_have_left new result.1
         (MigrationLeaves order.now.index order.now.count (O.device old) (N.device new)) }
 {
     let (mut old, mut new) = (old, new);

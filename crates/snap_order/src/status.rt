@@ -32,7 +32,7 @@ impl Status {
 
 /// How a command ended.
 #[derive(Clone, Copy, Debug, PartialEq, Eq)]
-pub struct Ended {
+pub struct Exit {
     /// How the program ends.
     pub status: Status,
     /// Whether standard error took the whole line that says why a command ended early. It is true

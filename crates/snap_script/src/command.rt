@@ -4,9 +4,8 @@ ghost use Rattle.snap_script.specs.Ends.{EndSays, status_of};
 ghost use Rattle.snap_script.specs.Script.{Runs};
 
 use crate::{ScriptEnd, script};
-use snap_disk::Refusal;
-use snap_order::{Ended, Status};
-use snap_stream::{complain, complain_of_refusal};
+use snap_order::{Exit, Status};
+use snap_stream::{Refusal, complain, complain_of_refusal};
 use std::alloc::Global;
 use std::io::{Read, Write};
 use std::sync::Wait;
@@ -14,25 +13,25 @@ use std::sync::Wait;
 impl ScriptEnd {
     /// Says on standard error why the script ended early, as a complaint, which begins `snapd: `. That
     /// memory was wanting is said without taking any.
-    pub fn report<E: Write>(&self, alloc: Global, errors: &mut E) -> Ended
+    pub fn report<E: Write>(&self, alloc: Global, errors: &mut E) -> Exit
         ensures status { result.status ≡ status_of self.now }
         ensures says { EndSays self.now result.is_told (E.contents errors.old)
             (E.contents errors.new) }
     {
         match self {
-            ScriptEnd::Done => Ended {
+            ScriptEnd::Done => Exit {
                 status: Status::Done,
                 is_told: true,
             },
-            ScriptEnd::BadLine { .. } | ScriptEnd::TooLong { .. } => Ended {
+            ScriptEnd::BadLine { .. } | ScriptEnd::TooLong { .. } => Exit {
                 status: Status::Misused,
                 is_told: complain(alloc, errors, self),
             },
-            ScriptEnd::NoMemory => Ended {
+            ScriptEnd::NoMemory => Exit {
                 status: Status::Refused,
                 is_told: complain_of_refusal(errors, Refusal::NoMemory),
             },
-            ScriptEnd::ReadFailed(_) | ScriptEnd::WriteFailed(_) => Ended {
+            ScriptEnd::ReadFailed(_) | ScriptEnd::WriteFailed(_) => Exit {
                 status: Status::Failed,
                 is_told: complain(alloc, errors, self),
             },
@@ -49,7 +48,7 @@ pub fn play<X: Wait, R: Read, W: Write, E: Write>(
     reader: &mut R,
     writer: &mut W,
     errors: &mut E,
-) -> Ended
+) -> Exit
     ensures { (end : ScriptEnd) × (result.status ≡ status_of end)
         × EndSays end result.is_told (E.contents errors.old) (E.contents errors.new)
         × Runs (R.remaining reader.old) (R.remaining reader.new)

@@ -7,6 +7,7 @@ use Rattle.std.specs.Net.Text.{socket_text}
 use Rattle.std.specs.declared.io.Error.{Error}
 use Rattle.std.specs.declared.net.socket_addr.SocketAddr.{SocketAddr}
 use Rattle.snap_disk.specs.Device.{Device}
+use Rattle.snap_disk.specs.declared.disk.Disk as Disk
 use Rattle.snap_disk.specs.declared.refusal.Refusal.{Refusal}
 use Rattle.snap_disk.specs.declared.refusal.Refusal.TheVariants as refusal
 use Rattle.snap_history.specs.Pairs.{Pairs}
@@ -14,6 +15,8 @@ use Rattle.snap_segment.specs.Segment.{SegmentState}
 use Rattle.snap_writer.specs.Writer.{WriterState}
 use Rattle.snap_stream.specs.Streams.{AppendsBeginning, Complains, SaysLines, file_line}
 use Rattle.snap_stream.specs.Streams.{refused_line}
+use Rattle.snap_order.specs.declared.order.Serving.{Serving}
+use Rattle.snap_order.specs.declared.status.Exit.{Exit}
 use Rattle.snap_order.specs.declared.status.Status.{Status}
 use Rattle.snap_order.specs.declared.status.Status.TheVariants as status
 use Rattle.snap_restart.specs.Opened.{IsOpened, IsStopped, recovered}
@@ -22,11 +25,14 @@ use Rattle.snap_restart.specs.Report.{report_text}
 use Rattle.snap_restart.specs.declared.report.Report.{Report}
 use Rattle.snap_server.specs.Dealing.{GivesSoMany}
 use Rattle.snap_server.specs.declared.listen.Arrival.{Arrival}
+use Rattle.snap_server.specs.declared.listen.Listen as Listen
+use Rattle.snap_server.specs.declared.listen.Locate as Locate
 use Rattle.snap_server.specs.declared.listen.Unaccepted.{Unaccepted}
 use Rattle.snap_server.specs.declared.fault.RunFault.{RunFault}
 use Rattle.snap_server.specs.declared.fault.RunFault.TheVariants as run
 use Rattle.snap_server.specs.declared.fault.ServerFault.{ServerFault}
 use Rattle.snap_server.specs.declared.fault.ServerFault.TheVariants as faults
+use Rattle.snap_serve.specs.declared.bind.Bind as Bind
 use Rattle.snap_serve.specs.declared.failure.HostFailure.{HostFailure}
 use Rattle.snap_serve.specs.declared.failure.HostFailure.TheVariants.{Refused, NoMemory, Address}
 use Rattle.snap_serve.specs.declared.failure.HostFailure.TheVariants.{Output, Server}
@@ -60,18 +66,19 @@ opening_text report a = report_text report ++ listening_line a
 abbrev pub whole_text : Report → SocketAddr → ℕ → List ℕ
 whole_text report a k = opening_text report a ++ served_line k
 
--- Each of the devices was opened, and the report says what was found. Whatever is served then, a crash
--- of all devices at any moment is recovered as one memory (`AreOpened`).
-pub record IsReportOf {D : Type 0} (device : D → Device) (failures : D → ℕ) (honest : D → Type 0)
-    (clock : D → ℕ) (might_have_left : D → ℕ → List ℕ → Type 0) (devices : List D)
-    (report : Report) : Type 0 where
+-- ---- its devices (`Disk.Ghosts D` is what `Disk` lets one say of a device of type D)
+
+-- Each of the devices was opened, and the report says what was found. Whatever is served then, a
+-- crash of all devices at any moment is recovered as one memory (`AreOpened`).
+pub record IsReportOf {D : Type 0} (disk : Disk.Ghosts D) (devices : List D) (report : Report)
+    : Type 0 where
   pub segments : List (SegmentState D)
-  pub opened : Pairs (IsOpened device failures honest clock might_have_left (length devices))
-      devices segments
+  pub opened : Pairs (IsOpened disk.device disk.failure_count disk.is_honest disk.clock
+      disk.might_have_left (length devices)) devices segments
   pub says : report.segments.items ≡ map recovered segments
   pub writers : List (WriterState D)
   pub theirs : segments ≡ map (λ (w : WriterState D). w.segment) writers
-  pub crash : AreOpened device honest clock might_have_left devices writers
+  pub crash : AreOpened disk.device disk.is_honest disk.clock disk.might_have_left devices writers
 
 -- the device of this segment, where there is one, has so many bytes
 abbrev pub IsLengthAt : {D : Type 0} (device : D → Device) (devices : List D) (segment len : ℕ)
@@ -81,14 +88,16 @@ IsLengthAt {D} device devices segment len = (d : D) → slice_get devices segmen
 
 -- the opening of these devices was refused at this segment, whose device has so many bytes, and a
 -- crash leaves what one before could
-abbrev pub IsStopOf : {D : Type 0} (device : D → Device) (failures : D → ℕ) (honest : D → Type 0)
-    (clock : D → ℕ) (might_have_left : D → ℕ → List ℕ → Type 0) (devices : List D) → ℕ → Refusal
-    → ℕ → Type 0
-IsStopOf device failures honest clock might_have_left devices segment why len =
-    (news : List _)
-    × IsStopped device failures honest clock might_have_left devices news why segment
-    × StayKept device honest clock might_have_left devices news
-    × IsLengthAt device news segment len
+pub record IsStopOf {D : Type 0} (disk : Disk.Ghosts D) (devices : List D) (segment : ℕ)
+    (why : Refusal) (len : ℕ) : Type 0 where
+  -- the devices as they came back
+  pub news : List D
+  pub stopped : IsStopped disk.device disk.failure_count disk.is_honest disk.clock
+      disk.might_have_left devices news why segment
+  pub kept : StayKept disk.device disk.is_honest disk.clock disk.might_have_left devices news
+  pub len_is : IsLengthAt disk.device news segment len
+
+-- ---- where it listens
 
 -- a listener that was bound, at the address that it tells itself
 abbrev pub ListensAt : {L : Type 0} (bound : L → Type 0) (is_at : L → SocketAddr → Type 0) → L
@@ -106,21 +115,45 @@ abbrev pub HaveCome : {L : Type 0} → (accepts : L → Result Arrival Unaccepte
     → ℕ → Type 0
 HaveCome {L} accepts l k = (last : L) × GivesSoMany accepts k l last
 
+-- What is known of where a server is to listen.
+pub record Site (L : Type 0) : Type 1 where
+  -- this listener may be the server's own, at this address
+  pub listens_at : L → SocketAddr → Type 0
+  -- why it may have none, or one that can't tell where it is
+  pub refuses : Error → Type 0
+  -- this listener may refuse connections
+  pub may_fail : L → Type 0
+  -- so many connections came from this listener
+  pub gave : L → ℕ → Type 0
+
+-- the site of this address, where `binder` binds it
+abbrev pub site_at : {B L : Type 0} → Bind.Ghosts B L → Locate.Ghosts L → Listen.Ghosts L
+    → (binder : B) (address : List ℕ) → Site L
+site_at bind locate listen binder address = record {
+  listens_at = ListensAt (bind.binds binder address) locate.is_at;
+  refuses = IsRefused (bind.binds binder address) (bind.refuses binder address) locate.is_untold;
+  may_fail = listen.refuses;
+  gave = HaveCome listen.accepts;
+}
+
+-- ---- what it has written
+
 -- Of the text no more than a beginning was written: no address but that of the server's listener,
 -- and no number but the one that was asked for and has come from it.
-abbrev pub IsCutShort : {L : Type 0} (listens : L → SocketAddr → Type 0) (came : L → ℕ → Type 0)
-    (connections : Option ℕ) → Report → (out out' : Option (List ℕ)) → Type 0
-IsCutShort {L} listens came connections report out out' =
+abbrev pub IsCutShort : {L : Type 0} (site : Site L) (connections : Option ℕ) → Report
+    → (out out' : Option (List ℕ)) → Type 0
+IsCutShort {L} site connections report out out' =
     AppendsBeginning out out' (report_text report)
-    ⊎ ((l : L) × (a : SocketAddr) × listens l a × (AppendsBeginning out out' (opening_text report a)
-    ⊎ ((k : ℕ) × (connections ≡ Some k) × came l k
+    ⊎ ((l : L) × (a : SocketAddr) × site.listens_at l a
+    × (AppendsBeginning out out' (opening_text report a)
+    ⊎ ((k : ℕ) × (connections ≡ Some k) × site.gave l k
     × AppendsBeginning out out' (whole_text report a k))))
 
 -- want of memory cuts no line short, and comes before the last one
-abbrev pub IsStarved : {L : Type 0} (listens : L → SocketAddr → Type 0) → Report
-    → (out out' : Option (List ℕ)) → Type 0
-IsStarved {L} listens report out out' = Keeps out out'
-    ⊎ ((l : L) × (a : SocketAddr) × listens l a × (Appends out out' (report_text report)
+abbrev pub IsStarved : {L : Type 0} (site : Site L) → Report → (out out' : Option (List ℕ))
+    → Type 0
+IsStarved {L} site report out out' = Keeps out out'
+    ⊎ ((l : L) × (a : SocketAddr) × site.listens_at l a × (Appends out out' (report_text report)
     ⊎ Appends out out' (opening_text report a)))
 
 -- What was written of a server whose threads or sockets failed: it said that it listens once it had
@@ -132,41 +165,63 @@ IsFaulted report a out out' faults.NoPoll = Appends out out' (report_text report
 IsFaulted report a out out' faults.NoThread = Appends out out' (report_text report)
 IsFaulted report a out out' faults.NoMemory = ⊥
 
--- The server opened its files and then ended so. `listens` says which listener may be its own and
--- at which address that is, `refused` why it has none or can't tell where, `deaf` that this listener
--- may refuse connections, `came` that so many came from it, and `out` and `out'` what the writer
--- held before and after.
-abbrev pub EndsServing : {L : Type 0} (listens : L → SocketAddr → Type 0) (refused : Error → Type 0)
-    (deaf : L → Type 0) (came : L → ℕ → Type 0) (connections : Option ℕ) → Report
-    → (out out' : Option (List ℕ)) → End → Type 0
-EndsServing {L} listens refused deaf came connections report out out' (Ok k) =
-    (l : L) × (a : SocketAddr) × listens l a × (connections ≡ Some k) × came l k
-    × Appends out out' (whole_text report a k)
-EndsServing listens refused deaf came connections report out out'
-    (Err (Refused segment why len)) = ⊥
-EndsServing listens refused deaf came connections report out out' (Err NoMemory) =
-    IsStarved listens report out out'
-EndsServing listens refused deaf came connections report out out' (Err (Address error)) =
-    refused error × Appends out out' (report_text report)
-EndsServing listens refused deaf came connections report out out' (Err (Output error)) =
-    IsCutShort listens came connections report out out'
-EndsServing {L} listens refused deaf came connections report out out' (Err (Server fault)) =
-    (l : L) × (a : SocketAddr) × listens l a × (fault ≡ faults.AcceptFailed → deaf l)
-    × IsFaulted report a out out' fault
+-- ---- how it ends
 
--- The same from the opening on. `IsReport` says which reports are of its devices, and `IsStop`
--- where and why their opening may be refused, and how many bytes the file there has.
-abbrev pub EndsHost : {L : Type 0} (IsReport : Report → Type 0) (IsStop : ℕ → Refusal → ℕ → Type 0)
-    (listens : L → SocketAddr → Type 0) (refused : Error → Type 0) (deaf : L → Type 0)
-    (came : L → ℕ → Type 0) (connections : Option ℕ) (out out' : Option (List ℕ)) → End → Type 0
-EndsHost IsReport IsStop listens refused deaf came connections out out'
-    (Err (Refused segment why len)) =
-    IsStop segment why len × Keeps out out'
-EndsHost IsReport IsStop listens refused deaf came connections out out' end =
-    (report : Report) × IsReport report
-    × EndsServing listens refused deaf came connections report out out' end
+-- a server that has served so many connections
+pub record HasServed {L : Type 0} (site : Site L) (connections : Option ℕ) (report : Report)
+    (out out' : Option (List ℕ)) (k : ℕ) : Type 0 where
+  pub listener : L
+  pub address : SocketAddr
+  -- the listener is its own, at this address
+  pub is_there : site.listens_at listener address
+  -- so many connections were asked for
+  pub asked : connections ≡ Some k
+  -- and so many have come from it
+  pub came : site.gave listener k
+  -- all of the text was written
+  pub text : Appends out out' (whole_text report address k)
+
+-- a server whose threads or sockets failed
+pub record HasFailed {L : Type 0} (site : Site L) (report : Report) (out out' : Option (List ℕ))
+    (fault : ServerFault) : Type 0 where
+  pub listener : L
+  pub address : SocketAddr
+  -- the listener is its own, at this address
+  pub is_there : site.listens_at listener address
+  -- accepting failed only where the listener may fail
+  pub deaf : fault ≡ faults.AcceptFailed → site.may_fail listener
+  -- what was written is what is written before such a fault
+  pub text : IsFaulted report address out out' fault
+
+-- The server opened its files and then ended so; `out` and `out'` are what the writer held before
+-- and after.
+abbrev pub EndsServing : {L : Type 0} (site : Site L) (connections : Option ℕ) → Report
+    → (out out' : Option (List ℕ)) → End → Type 0
+EndsServing site connections report out out' (Ok k) =
+    HasServed site connections report out out' k
+EndsServing site connections report out out' (Err (Refused segment why len)) = ⊥
+EndsServing site connections report out out' (Err NoMemory) = IsStarved site report out out'
+EndsServing site connections report out out' (Err (Address error)) =
+    site.refuses error × Appends out out' (report_text report)
+EndsServing site connections report out out' (Err (Output error)) =
+    IsCutShort site connections report out out'
+EndsServing site connections report out out' (Err (Server fault)) =
+    HasFailed site report out out' fault
+
+-- The same from the opening of its devices on.
+abbrev pub EndsHost : {D L : Type 0} (disk : Disk.Ghosts D) (devices : List D) (site : Site L)
+    (connections : Option ℕ) (out out' : Option (List ℕ)) → End → Type 0
+EndsHost disk devices site connections out out' (Err (Refused segment why len)) =
+    IsStopOf disk devices segment why len × Keeps out out'
+EndsHost disk devices site connections out out' end =
+    (report : Report) × IsReportOf disk devices report
+    × EndsServing site connections report out out' end
 
 -- ---- the steps
+
+-- this line names the address at which the listener is
+abbrev pub IsNamed : {L : Type 0} (site : Site L) → L → (line : List ℕ) → Type 0
+IsNamed site l line = (a : SocketAddr) × site.listens_at l a × (line ≡ listening_line a)
 
 -- a text was not written whole
 abbrev pub PrintFails : (out out' : Option (List ℕ)) (text : List ℕ) → HostFailure → Type 0
@@ -175,11 +230,10 @@ PrintFails out out' text NoMemory = Keeps out out'
 PrintFails out out' text failure = ⊥
 
 -- the address was not bound or not told, or there was no memory for the line that names it
-abbrev pub ListenFails : {L : Type 0} (listens : L → SocketAddr → Type 0) (refused : Error → Type 0)
-    → HostFailure → Type 0
-ListenFails listens refused (Address error) = refused error
-ListenFails {L} listens refused NoMemory = (l : L) × (a : SocketAddr) × listens l a
-ListenFails listens refused failure = ⊥
+abbrev pub ListenFails : {L : Type 0} (site : Site L) → HostFailure → Type 0
+ListenFails site (Address error) = site.refuses error
+ListenFails {L} site NoMemory = (l : L) × (a : SocketAddr) × site.listens_at l a
+ListenFails site failure = ⊥
 
 -- what the program ends with where its server ended so
 abbrev pub failure_of : RunFault → HostFailure
@@ -195,8 +249,9 @@ cut_off_text file segment count =
     codes "it has no byte: a format that was cut off: go on with snapd format "
     ++ (file ++ (codes " --index " ++ (decimal segment ++ (codes " --count " ++ decimal count))))
 
--- of a refusal at this segment, whose file has so many bytes, what stands behind the refusal's line:
--- a line that names the file, save for want of memory, and of a file without a byte how to go on
+-- of a refusal at this segment, whose file has so many bytes, what stands behind the refusal's
+-- line: a line that names the file, save for want of memory, and of a file without a byte how to go
+-- on
 abbrev pub IsRemedy : {F : Type 0} (path : F → List ℕ) (files : List F) (segment : ℕ) → Refusal
     → (len : ℕ) → List ℕ → Type 0
 IsRemedy path files segment why len more = (file : _) → slice_get files segment ≡ Some file
@@ -220,3 +275,17 @@ abbrev pub SaysEnd : {F : Type 0} (path : F → List ℕ) (files : List F) → E
     (old new : Option (List ℕ)) → Type 0
 SaysEnd path files (Ok k) is_told old new = (is_told ≡ true) × Keeps old new
 SaysEnd path files (Err failure) is_told old new = SaysFailure path files failure is_told old new
+
+-- ---- all of it
+
+-- Status, standard error and what was written tell of one end: `errs` and `errs'` are what standard
+-- error held before and after, `out` and `out'` what the writer did.
+pub record TellsItsEnd {D L : Type 0} (disk : Disk.Ghosts D) (devices : List D) (site : Site L)
+    (order : Serving) (ended : Exit) (errs errs' out out' : Option (List ℕ)) : Type 0 where
+  pub end : End
+  -- the status is the end's
+  pub status : ended.status ≡ status_at end
+  -- standard error got what is said of such an end
+  pub says : SaysEnd (λ file. file.now) order.files.items end ended.is_told errs errs'
+  -- and the server came to that end, with what was written then
+  pub ends : EndsHost disk devices site order.connections out out' end

@@ -4,7 +4,7 @@ ghost use Rattle.snap_serve.specs.Serve.{IsRemedy, SaysFailure, cut_off_text, st
 ghost use Rattle.snap_stream.specs.Streams.{file_line};
 
 use snap_disk::Refusal;
-use snap_order::{Ended, Serving, Status};
+use snap_order::{Exit, Serving, Status};
 use snap_server::ServerFault;
 use snap_stream::{Cause, complain, complain_of_refusal, complain_twice};
 use std::alloc::Global;
@@ -39,7 +39,7 @@ impl HostFailure {
         order: &Serving<'_>,
         causes: &[C],
         errors: &mut E,
-    ) -> Ended
+    ) -> Exit
         ensures status { result.status ≡ status_of self.now }
         ensures says { SaysFailure (λ file. file.now) order.now.files.items self.now
             result.is_told (E.contents errors.old) (E.contents errors.new) }
@@ -48,12 +48,12 @@ impl HostFailure {
         match self {
             HostFailure::Refused { segment, why, len } => {
                 let more = remedy_line(alloc, &order.files, causes, *segment, *why, *len);
-                Ended {
+                Exit {
                     status: Status::Refused,
                     is_told: complain_twice(errors, *why, more),
                 }
             }
-            HostFailure::NoMemory => Ended {
+            HostFailure::NoMemory => Exit {
                 status: Status::Refused,
                 is_told: complain_of_refusal(errors, Refusal::NoMemory),
             },
@@ -75,11 +75,11 @@ impl HostFailure {
 }
 
 /// The end of a server whose stream or socket failed.
-fn failed(is_told: bool) -> Ended
+fn failed(is_told: bool) -> Exit
     ensures status { result.status ≡ Status.Failed }
     ensures told { result.is_told ≡ is_told }
 {
-    Ended {
+    Exit {
         status: Status::Failed,
         is_told,
     }

@@ -51,7 +51,8 @@ pub(crate) fn print_served<W: Write>(
     }
 }
 
-/// Writes a text at once.
+/// Writes a text at once and flushes it, which no clause can tell: a flush leaves what the writer
+/// holds the same.
 pub(crate) fn print_line<W: Write>(text: &String, writer: &mut W) -> io::Result<()>
     ensures whole { OnOk result
         (Appends (W.contents writer.old) (W.contents writer.new) (string_bytes text.now)) }

@@ -1,10 +1,9 @@
 //! A server from its files to its end.
 ghost use Rattle.std.specs.Prelude.{◌≡◌, ◌-◌, ◌^◌, ◌<◌, length, All, IfOk, IfErr, string_bytes};
-ghost use Rattle.std.specs.declared.net.socket_addr.SocketAddr.{SocketAddr};
 ghost use Rattle.snap_order.specs.Order.{IsServable};
 ghost use Rattle.snap_restart.specs.Closed.{AreBack};
-ghost use Rattle.snap_serve.specs.Serve.{End, EndsHost, EndsServing, IsLengthAt, IsReportOf, IsStopOf};
-ghost use Rattle.snap_serve.specs.Serve.{HaveCome, IsRefused, ListenFails, ListensAt, SaysEnd, failure_of, listening_line, status_at};
+ghost use Rattle.snap_serve.specs.Serve.{EndsHost, EndsServing, IsLengthAt, IsNamed, ListenFails};
+ghost use Rattle.snap_serve.specs.Serve.{TellsItsEnd, failure_of, site_at};
 
 use crate::announcement::Announcement;
 use crate::bind::Bind;
@@ -13,7 +12,7 @@ use crate::report::{print_report, print_served};
 use crate::stores::serve_store;
 use crate::watch::Watch;
 use snap_disk::Disk;
-use snap_order::{Ended, Serving, Status};
+use snap_order::{Exit, Serving, Status};
 use snap_restart::{Report, Store, open_all};
 use snap_server::{Gate, Limits, Locate, Note, RunFault, ServerFault};
 use snap_stream::Cause;
@@ -25,8 +24,8 @@ use std::sync::Wait;
 use std::thread::Threads;
 use std::time::Duration;
 
-/// The rest after a fault of the listener, in milliseconds: with the longer ones behind further faults
-/// accepting ends after three minutes.
+/// The rest after a fault of the listener, in milliseconds: with the longer ones behind further
+/// faults accepting ends after three minutes.
 const FAULT_REST: u64 = 20;
 
 /// What a server meets at its edge.
@@ -52,9 +51,9 @@ pub struct Edge<'a, B, G, N, H, C> {
 /// ends.
 ///
 /// All files are opened first. Then the report of the opening is written, and the address is bound.
-/// Once all threads are there, `listening ADDRESS` is written and flushed, with the address that the
-/// listener which is served on tells of itself; then as many connections are served as the order says,
-/// or without end; and at the end `served K` is written.
+/// Once all threads are there, `listening ADDRESS` is written, with the address that the listener
+/// which is served on tells of itself; then as many connections are served as the order says, or
+/// without end; and at the end `served K` is written. Each of the three is flushed.
 /// Nothing is served before the report and the line are out.
 ///
 /// Why it ended early goes to `errors`, as one line that begins `snapd: `; behind the line of a
@@ -67,7 +66,7 @@ pub fn host<X, D, B, G, N, H, C, W, E>(
     edge: Edge<'_, B, G, N, H, C>,
     writer: &mut W,
     errors: &mut E,
-) -> Ended
+) -> Exit
 where
     X: Threads + Wait + Clock + Net + Sync + Send + Copy,
     D: Disk + Send + Drop,
@@ -84,22 +83,15 @@ where
     requires headroom { All (λ d. D.failure_count d < 2 ^ 64 - 1) devices.items }
     requires note { N.IsAlwaysCallable edge.note.now }
 
-    // The status is that of an end which says what was written, to the writer and to `errors`.
-    ensures { (end : End) × (result.status ≡ status_at end)
-        × SaysEnd (λ file. file.now) order.now.files.items end result.is_told
-        (E.contents errors.old) (E.contents errors.new)
-        × EndsHost (IsReportOf D.device D.failure_count D.is_honest D.clock D.might_have_left
-        devices.items) (IsStopOf D.device D.failure_count D.is_honest D.clock D.might_have_left
-        devices.items)
-        (ListensAt (B.binds edge.entry.bind.now order.now.address.now) B.Listener.is_at)
-        (IsRefused (B.binds edge.entry.bind.now order.now.address.now)
-        (B.refuses edge.entry.bind.now order.now.address.now) B.Listener.is_untold)
-        B.Listener.refuses (HaveCome B.Listener.accepts) order.now.connections
-        (W.contents writer.old) (W.contents writer.new) end }
+    // The status, `errors` and the writer tell of one end, to which these devices and this site led.
+    ensures ends { TellsItsEnd D.Disk devices.items
+        (site_at B.Bind B.Listener.Locate B.Listener.Listen edge.entry.bind.now
+        order.now.address.now) order.now result (E.contents errors.old) (E.contents errors.new)
+        (W.contents writer.old) (W.contents writer.new) }
 {
     let causes = edge.causes;
     match open_and_serve(rt, alloc, order, devices, edge, writer) {
-        Ok(_) => Ended {
+        Ok(_) => Exit {
             status: Status::Done,
             is_told: true,
         },
@@ -130,13 +122,9 @@ where
     requires devices { length devices.items ≡ length order.now.files.items }
     requires headroom { All (λ d. D.failure_count d < 2 ^ 64 - 1) devices.items }
     requires note { N.IsAlwaysCallable edge.note.now }
-    ensures { EndsHost (IsReportOf D.device D.failure_count D.is_honest D.clock D.might_have_left
-        devices.items) (IsStopOf D.device D.failure_count D.is_honest D.clock D.might_have_left
-        devices.items)
-        (ListensAt (B.binds edge.entry.bind.now order.now.address.now) B.Listener.is_at)
-        (IsRefused (B.binds edge.entry.bind.now order.now.address.now)
-        (B.refuses edge.entry.bind.now order.now.address.now) B.Listener.is_untold)
-        B.Listener.refuses (HaveCome B.Listener.accepts) order.now.connections
+    ensures ends { EndsHost D.Disk devices.items
+        (site_at B.Bind B.Listener.Locate B.Listener.Listen edge.entry.bind.now
+        order.now.address.now) order.now.connections
         (W.contents writer.old) (W.contents writer.new) result }
 {
     match open_all(alloc, devices, usize::from(order.scanners)) {
@@ -182,12 +170,10 @@ where
     W: Write,
     requires back { AreBack store.writers.items store.scanners.items }
     requires note { N.IsAlwaysCallable edge.note.now }
-    ensures { EndsServing
-        (ListensAt (B.binds edge.entry.bind.now order.now.address.now) B.Listener.is_at)
-        (IsRefused (B.binds edge.entry.bind.now order.now.address.now)
-        (B.refuses edge.entry.bind.now order.now.address.now) B.Listener.is_untold)
-        B.Listener.refuses (HaveCome B.Listener.accepts) order.now.connections
-        report.now (W.contents writer.old) (W.contents writer.new) result }
+    ensures ends { EndsServing
+        (site_at B.Bind B.Listener.Locate B.Listener.Listen edge.entry.bind.now
+        order.now.address.now) order.now.connections report.now
+        (W.contents writer.old) (W.contents writer.new) result }
 {
     match print_report(alloc, report, writer) {
         Ok(()) => {}
@@ -251,13 +237,11 @@ fn listen<B: Bind>(
 ) -> Result<(B::Listener, Announcement), HostFailure>
 where
     B::Listener: Drop,
-    ensures bound { IfOk result (λ made. (a : SocketAddr)
-        × ListensAt (B.binds bind.now address.now) B.Listener.is_at made.0 a
-        × (string_bytes made.1.line ≡ listening_line a)) }
-    ensures failed { IfErr result
-        (ListenFails (ListensAt (B.binds bind.now address.now) B.Listener.is_at)
-        (IsRefused (B.binds bind.now address.now) (B.refuses bind.now address.now)
-        B.Listener.is_untold)) }
+    ensures bound { IfOk result (λ made. IsNamed
+        (site_at B.Bind B.Listener.Locate B.Listener.Listen bind.now address.now)
+        made.0 (string_bytes made.1.line)) }
+    ensures failed { IfErr result (ListenFails
+        (site_at B.Bind B.Listener.Locate B.Listener.Listen bind.now address.now)) }
 {
     let listener = match bind.bind(address) {
         Ok(listener) => listener,

@@ -1,7 +1,6 @@
 //! The threads that store, and the workers' desks.
-ghost use Rattle.std.specs.Prelude.{◌≡◌, ◌+◌, ℕ, length, slice_get, Some, IfOk, IfErr, OnOk};
+ghost use Rattle.std.specs.Prelude.{◌≡◌, ◌+◌, length, Some, IfOk, IfErr, OnOk};
 ghost use Rattle.snap_register.specs.Rule.{segments};
-ghost use Rattle.snap_register.specs.Seat.{Known};
 ghost use Rattle.snap_service.specs.Memory.{AreWriters, IsOf};
 ghost use Rattle.snap_restart.specs.Closed.{AreBack};
 ghost use Rattle.snap_serve.specs.Scanners.{AreScanners};

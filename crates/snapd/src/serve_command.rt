@@ -10,7 +10,7 @@ use log::{LevelFilter, warn};
 use snap_args::is_everywhere;
 use snap_devices::{FileDisk, FileFault, Lock};
 use snap_log::{Destination, Lines, write_lines};
-use snap_order::{Ended, Serving};
+use snap_order::{Exit, Serving};
 use snap_serve::{Edge, Network, host, log_note};
 use snap_server::{NoGate, Note, ServerFault};
 use std::alloc::Global;
@@ -121,7 +121,7 @@ pub fn serve<X, W, E>(
     writer: &mut W,
     errors: &mut E,
     mut logged: E,
-) -> Result<Ended, ServerFault>
+) -> Result<Exit, ServerFault>
 where
     X: Threads + Wait + Clock + Net + Sync + Send + Copy,
     W: Write,
@@ -137,7 +137,7 @@ where
     thread::scope(
         thread::scope_env(),
         rt,
-        |scope| -> Result<Ended, ServerFault>
+        |scope| -> Result<Exit, ServerFault>
             requires { IsSync X.row × IsServable order.now
                 × (length devices.items ≡ length order.now.files.items)
                 × All IsUncalled devices.items }
@@ -192,7 +192,7 @@ fn host_logged<X, W, E>(
     log: &Lines<'_, X>,
     writer: &mut W,
     errors: &mut E,
-) -> Ended
+) -> Exit
 where
     X: Threads + Wait + Clock + Net + Sync + Send + Copy,
     W: Write,

@@ -5,7 +5,7 @@ mod rooms;
 mod talks;
 
 use gates::Holding;
-use rooms::{Plan, Ready, Seen, held_files, host_over, new_files};
+use rooms::{Barred, Plan, Ready, Seen, held_files, host_over, host_printing, new_files};
 use snap_order::Status;
 use snap_server::{Locate, NoGate, Tcp};
 use std::net::{Ipv4Addr, SocketAddr};
@@ -26,7 +26,12 @@ fn listen(rt: &HostRuntime) -> io::Result<(Tcp, SocketAddr)> {
 }
 
 /// Whether the server printed this behind its report, with its address, and said nothing else.
-fn printed(rt: &HostRuntime, seen: &Seen, address: SocketAddr, served: u64) -> Result<bool, Fail> {
+fn printed(
+    rt: &HostRuntime,
+    seen: &Seen<Vec<u8>>,
+    address: SocketAddr,
+    served: u64,
+) -> Result<bool, Fail> {
     let report = format!(in rt.alloc(); "segment 0 {FOUND}\nsegment 1 {FOUND}\nsegments 2\n")?;
     let text = format!(in rt.alloc(); "{report}listening {address}\nserved {served}\n")?;
     Ok(
@@ -44,6 +49,23 @@ fn serves_no_connection(rt: HostRuntime) -> Result<(), Fail> {
     let plan = Plan::of(2, Some(0));
     let seen = host_over(&rt, rt.alloc(), files, &ready, plan, &NoGate)?;
     assert!(rt; printed(&rt, &seen, address, 0)?);
+    Ok(())
+}
+
+#[test]
+fn flushes_each_text(rt: HostRuntime) -> Result<(), Fail> {
+    let (tcp, address) = listen(&rt)?;
+    let ready = Ready::new(&tcp, address);
+    let files = new_files(rt.alloc())?;
+    let plan = Plan::of(1, Some(0));
+    let out = Barred {
+        bytes: Vec::new(rt.alloc()),
+    };
+    let seen = host_printing(&rt, rt.alloc(), files, &ready, plan, &NoGate, out)?;
+    let report = format!(in rt.alloc(); "segment 0 {FOUND}\nsegment 1 {FOUND}\nsegments 2\n")?;
+    let text = format!(in rt.alloc(); "{report}|listening {address}\n|served 0\n|")?;
+    assert!(rt; seen.status == Status::Done);
+    assert!(rt; seen.out.bytes.as_slice() == text.as_bytes());
     Ok(())
 }
 

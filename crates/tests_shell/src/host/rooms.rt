@@ -10,7 +10,7 @@ use snap_server::{Arrival, Gate, Listen, Locate, Note, Tcp, Unaccepted};
 use snap_slot::FILE_LEN;
 use snap_stream::Unknown;
 use std::alloc::{AllocError, Global};
-use std::io;
+use std::io::{self, Write};
 use std::net::{Net, SocketAddr};
 use std::rt::Clock;
 use std::sync::atomic::AtomicU64;
@@ -87,10 +87,28 @@ impl Plan {
 
 /// What came of a server.
 #[derive(Drop)]
-pub(crate) struct Seen {
+pub(crate) struct Seen<W: Drop> {
     pub status: Status,
-    pub out: Vec<u8>,
+    pub out: W,
     pub errors: Vec<u8>,
+}
+
+/// Keeps what is written, with a bar wherever it was flushed.
+#[derive(Drop)]
+pub(crate) struct Barred {
+    pub bytes: Vec<u8>,
+}
+
+impl Write for Barred {
+    fn write(&mut self, bytes: &[u8]) -> io::Result<usize> {
+        self.bytes.extend_from_slice(bytes)?;
+        Ok(bytes.len())
+    }
+
+    fn flush(&mut self) -> io::Result<()> {
+        self.bytes.push(b'|')?;
+        Ok(())
+    }
 }
 
 /// How many turns of yielding a held store waits at most.
@@ -124,7 +142,7 @@ pub(crate) fn host_over<X, D, B, G>(
     bind: &B,
     plan: Plan,
     gate: &G,
-) -> Result<Seen, AllocError>
+) -> Result<Seen<Vec<u8>>, AllocError>
 where
     X: Threads + Wait + Clock + Net + Sync + Send + Copy,
     D: Disk + Send + Drop,
@@ -132,12 +150,33 @@ where
     B::Listener: Drop,
     G: Gate + Sync,
 {
+    host_printing(rt, alloc, devices, bind, plan, gate, Vec::new(alloc))
+}
+
+/// The same, with this writer for what it prints.
+pub(crate) fn host_printing<X, D, B, G, W>(
+    rt: &X,
+    alloc: Global,
+    devices: Vec<D>,
+    bind: &B,
+    plan: Plan,
+    gate: &G,
+    out: W,
+) -> Result<Seen<W>, AllocError>
+where
+    X: Threads + Wait + Clock + Net + Sync + Send + Copy,
+    D: Disk + Send + Drop,
+    B: Bind,
+    B::Listener: Drop,
+    G: Gate + Sync,
+    W: Write + Drop,
+{
     if devices.len() != 2 || !devices.iter().all(|disk| disk.failures() < 9) {
         return Err(AllocError);
     }
     let mut seen = Seen {
         status: Status::Failed,
-        out: Vec::new(alloc),
+        out,
         errors: Vec::new(alloc),
     };
     let order = Serving {

@@ -1,18 +1,115 @@
-use Rattle.std.proofs.Common.{rules}
+use Rattle.std.proofs.Common.{rules, ◌≡◌, ℕ, [], take, subst, sym, ap, ◌∙◌, Err}
+use Rattle.std.proofs.KnownBytes.{Keeps-refl}
+use Rattle.snap_disk.specs.Device.{LeavesOnly, MayLeave}
 use Rattle.snap_stream.proofs.Known.{had}
-use Rattle.snap_file_commands.proofs.Stored.{store_ends_put}
-use Rattle.snap_file_commands.proofs.Refused.{put_keeps}
+use Rattle.snap_file_commands.specs.Calls.{CountsPut}
+use Rattle.snap_file_commands.specs.Commands.{CountsEnd, EndsPut, PutLeaves}
+use Rattle.snap_file_commands.specs.Effects.{LeavesNoMore}
+use Rattle.snap_file_commands.specs.declared.failure.CommandFailure.TheVariants.{Refused}
+use Rattle.snap_file_commands.proofs.Refused.{put_keeps, refused_count, refused_keeps, refused_open}
+use Rattle.snap_file_commands.proofs.Stored.{held, put_calls, put_ends, put_leaves, store_ends_put}
 use Rattle.snap_file_commands.proofs.commands.put.Goals as goal
+
+pub returns-in-Err-open-clause-count : goal.returns-in-Err-open-clause-count
+returns-in-Err-open-clause-count g c =
+    refused_count c.in-Err-open.why _ _ c.in-Err-open.ensures.count_err
+
+pub returns-in-Err-open-clause-ends : goal.returns-in-Err-open-clause-ends
+returns-in-Err-open-clause-ends g c =
+    let device = g.D.Disk.device in
+    let honest = g.D.Disk.is_honest c.in-Err-open.disk in
+    let out = g.W.Write.contents c.args.writer.now in
+    let came = c.in-Ok.ensures in
+    let answer = c.in-Err-open.ensures in
+    let why = c.in-Err-open.why in
+    let v = take c.in-Ok.len c.read_up_to.new.buffer in
+    store_ends_put honest c.args.index c.args.count (g.R.Read.remaining c.args.reader.now) v
+    (device c.args.disk) (device c.in-Err-open.disk) out out (Err (Refused why))
+    (had _ _ v came.came (came.ended (search rules)))
+    (refused_open honest c.args.index c.args.count v (device c.args.disk)
+    (device c.in-Err-open.disk) out out why answer.refusals answer.refused (Keeps-refl out))
+
+pub returns-in-Err-open-clause-keeps : goal.returns-in-Err-open-clause-keeps
+returns-in-Err-open-clause-keeps g c =
+    let device = g.D.Disk.device in
+    let honest = g.D.Disk.is_honest c.in-Err-open.disk in
+    let out = g.W.Write.contents c.args.writer.now in
+    let answer = c.in-Err-open.ensures in
+    let why = c.in-Err-open.why in
+    let kept = LeavesNoMore device g.D.Disk.is_honest g.D.Disk.clock g.D.Disk.might_have_left
+    c.args.disk c.in-Err-open.disk in
+    put_keeps honest (c.in-Err-open.disk ≡ c.args.disk) kept kept c.args.index c.args.count []
+    (device c.args.disk) (device c.in-Err-open.disk) out out (Err (Refused why)) (λ k. k)
+    (refused_open honest c.args.index c.args.count [] (device c.args.disk)
+    (device c.in-Err-open.disk) out out why answer.refusals answer.refused (Keeps-refl out))
+    (refused_keeps kept why (λ other. answer.any_time_err))
+
+pub returns-clause-honest : goal.returns-clause-honest
+returns-clause-honest g c = λ honest. c.in-Ok-open.ensures.honest_ok
+    (c.store-end.ensures.honest (subst g.D.Disk.is_honest c.into_device.ensures.device honest))
+
+pub returns-clause-count : goal.returns-clause-count
+returns-clause-count g c =
+    let failures = g.D.Disk.failure_count in
+    subst (λ (d : g.row.D.Denot). CountsEnd c.store-end.result (failures c.args.disk) (failures d))
+    (sym c.into_device.ensures.device)
+    (subst (λ (k : ℕ). CountsEnd c.store-end.result k (failures c.store-end.new.segment.device))
+    c.in-Ok-open.ensures.count_ok c.store-end.ensures.count)
+
+pub returns-clause-calls : goal.returns-clause-calls
+returns-clause-calls g c =
+    let clock = g.D.Disk.clock in
+    subst (λ (d : g.row.D.Denot). CountsPut c.store-end.result (clock c.args.disk) (clock d))
+    (sym c.into_device.ensures.device)
+    (put_calls _ _ _ c.store-end.result c.in-Ok-open.ensures.calls_ok c.store-end.ensures.calls)
 
 pub returns-clause-ends : goal.returns-clause-ends
 returns-clause-ends g c =
+    let device = g.D.Disk.device in
     let came = c.in-Ok.ensures in
-    store_ends_put _ _ _ _ _ _ _ _ _ _
-    (had _ _ _ came.came (came.ended (search rules))) c.store.ensures.ends
-
-pub returns-clause-wrong_length : goal.returns-clause-wrong_length
-returns-clause-wrong_length g c = c.store.ensures.wrong_length
+    let segment = c.in-Ok-open.segment in
+    let opened = c.in-Ok-open.ensures in
+    subst (λ (d : g.row.D.Denot). EndsPut (g.D.Disk.is_honest d) c.args.index c.args.count
+    (g.R.Read.remaining c.args.reader.now) (device c.args.disk) (device d)
+    (g.W.Write.contents c.args.writer.now) (g.W.Write.contents c.store-end.new.writer)
+    c.store-end.result)
+    (sym c.into_device.ensures.device)
+    (put_ends _ _ _ _ _ _ _ _ _ _ _ c.store-end.result opened.opened.0 opened.opened.1
+    (had _ _ _ came.came (came.ended (search rules)))
+    (c.store-end.ensures.ends (device c.args.disk) (λ honest. held c.args.index c.args.count
+    segment.index segment.count segment.number segment.value (device c.args.disk).bytes
+    opened.opened.0 opened.opened.1 opened.file_length (opened.holds honest))))
 
 pub returns-clause-keeps : goal.returns-clause-keeps
 returns-clause-keeps g c =
-    put_keeps _ _ _ _ _ _ _ _ _ _ _ c.store.ensures.ends c.store.ensures.keeps
+    let device = g.D.Disk.device in
+    let segment = c.in-Ok-open.segment in
+    let opened = c.in-Ok-open.ensures in
+    put_keeps _ _ _ _ _ _ _ _ _ _ _ c.store-end.result (λ same honest.
+    let is = c.into_device.ensures.device ∙ ap (λ s. s.device) same in
+    subst (λ (d : g.row.D.Denot). LeavesOnly g.D.Disk.clock g.D.Disk.might_have_left c.args.disk d
+    (MayLeave (device c.args.disk))) (sym is)
+    (opened.any_time_ok (subst g.D.Disk.is_honest is honest)))
+    (c.store-end.ensures.ends (device c.args.disk) (λ honest. held c.args.index c.args.count
+    segment.index segment.count segment.number segment.value (device c.args.disk).bytes
+    opened.opened.0 opened.opened.1 opened.file_length (opened.holds honest)))
+    c.store-end.ensures.keeps
+
+pub returns-clause-wrong_length : goal.returns-clause-wrong_length
+returns-clause-wrong_length g c = λ other. absurd (other c.in-Ok-open.ensures.file_length)
+
+pub returns-clause-any_time : goal.returns-clause-any_time
+returns-clause-any_time g c = λ honest.
+    let came = c.in-Ok.ensures in
+    let segment = c.in-Ok-open.segment in
+    let opened = c.in-Ok-open.ensures in
+    let is_honest = subst g.D.Disk.is_honest c.into_device.ensures.device honest in
+    let was_honest = c.store-end.ensures.honest is_honest in
+    subst (λ (d : g.row.D.Denot). LeavesOnly g.D.Disk.clock g.D.Disk.might_have_left c.args.disk d
+    (PutLeaves c.args.index c.args.count (g.R.Read.remaining c.args.reader.now)
+    (g.D.Disk.device c.args.disk))) (sym c.into_device.ensures.device)
+    (put_leaves g.D.Disk.clock g.D.Disk.might_have_left
+    (g.D.Disk.is_honest c.store-end.new.segment.device) c.args.disk segment c.store-end.new.segment
+    (g.D.Disk.device c.args.disk) _ c.args.index c.args.count _ is_honest opened.opened.0
+    opened.opened.1 (had _ _ _ came.came (came.ended (search rules))) (opened.holds was_honest)
+    (opened.any_time_ok was_honest) c.store-end.ensures.any_time)

@@ -39,17 +39,24 @@ returns-in-Ok-write_whole-clause-ends g c =
     ≡ migrated_line c.args.order.now.index c.args.order.now.count c.in-Ok-migrate.number =
     c.as_bytes.ensures.value ∙ c.end_line.ensures
     ∙ ap (λ (l : List ℕ). l ++ (decimal c.in-Ok-migrate.number ++ codes "\n"))
-    c.in-Ok.ensures.text in (
-      c.in-Ok-migrate.number,
-      search rules,
-      (λ old_honest new_honest. migrated c.args.order.now.index c.args.order.now.count
-          c.in-Ok-migrate.number (g.O.Disk.device c.args.old) (g.N.Disk.device c.args.new)
-          (g.N.Disk.device c.migrate.new.new) (answer.old_read old_honest tt)
-          (answer.unformatted new_honest) (answer.last old_honest new_honest)
-          (answer.bytes old_honest new_honest)),
-      subst (λ (l : List ℕ). Appends (g.W.Write.contents c.args.writer.now)
-          (g.W.Write.contents c.write_whole.new.writer) l) line c.in-Ok-write_whole.ensures.whole,
-    )
+    c.in-Ok.ensures.text in record {
+      count = search rules;
+      old_calls = search rules;
+      new_calls = search rules;
+      reads = search rules;
+      keeps = tt;
+      ends = (
+        c.in-Ok-migrate.number,
+        search rules,
+        (λ old_honest new_honest. migrated c.args.order.now.index c.args.order.now.count
+            c.in-Ok-migrate.number (g.O.Disk.device c.args.old) (g.N.Disk.device c.args.new)
+            (g.N.Disk.device c.migrate.new.new) (answer.old_read old_honest tt)
+            (answer.unformatted new_honest) (answer.last old_honest new_honest)
+            (answer.bytes old_honest new_honest)),
+        subst (λ (l : List ℕ). Appends (g.W.Write.contents c.args.writer.now)
+            (g.W.Write.contents c.write_whole.new.writer) l) line c.in-Ok-write_whole.ensures.whole,
+      );
+    }
 
 pub returns-in-Ok-write_whole-clause-new_any_time :
     goal.returns-in-Ok-write_whole-clause-new_any_time
@@ -67,16 +74,23 @@ returns-clause-ends g c =
     ≡ migrated_line c.args.order.now.index c.args.order.now.count c.in-Ok-migrate.number =
     c.as_bytes.ensures.value ∙ c.end_line.ensures
     ∙ ap (λ (l : List ℕ). l ++ (decimal c.in-Ok-migrate.number ++ codes "\n"))
-    c.in-Ok.ensures.text in (
-      c.in-Ok-migrate.number,
-      (λ old_honest new_honest. migrated c.args.order.now.index c.args.order.now.count
-          c.in-Ok-migrate.number (g.O.Disk.device c.args.old) (g.N.Disk.device c.args.new)
-          (g.N.Disk.device c.migrate.new.new) (answer.old_read old_honest tt)
-          (answer.unformatted new_honest) (answer.last old_honest new_honest)
-          (answer.bytes old_honest new_honest)),
-      subst (λ (l : List ℕ). AppendsBeginning (g.W.Write.contents c.args.writer.now)
-          (g.W.Write.contents c.write_whole.new.writer) l) line c.write_whole.ensures.beginning,
-    )
+    c.in-Ok.ensures.text in record {
+      count = search rules;
+      old_calls = search rules;
+      new_calls = search rules;
+      reads = search rules;
+      keeps = tt;
+      ends = (
+        c.in-Ok-migrate.number,
+        (λ old_honest new_honest. migrated c.args.order.now.index c.args.order.now.count
+            c.in-Ok-migrate.number (g.O.Disk.device c.args.old) (g.N.Disk.device c.args.new)
+            (g.N.Disk.device c.migrate.new.new) (answer.old_read old_honest tt)
+            (answer.unformatted new_honest) (answer.last old_honest new_honest)
+            (answer.bytes old_honest new_honest)),
+        subst (λ (l : List ℕ). AppendsBeginning (g.W.Write.contents c.args.writer.now)
+            (g.W.Write.contents c.write_whole.new.writer) l) line c.write_whole.ensures.beginning,
+      );
+    }
 
 pub returns-clause-new_any_time : goal.returns-clause-new_any_time
 returns-clause-new_any_time g c = λ old_honest new_honest.
@@ -86,16 +100,20 @@ returns-clause-new_any_time g c = λ old_honest new_honest.
     (g.N.Disk.device c.args.new) (answer.old_read old_honest tt)
     (answer.any_time old_honest new_honest)
 
-pub returns-in-Err-clause-reads : goal.returns-in-Err-clause-reads
-returns-in-Err-clause-reads g c = refused_reads _ c.in-Err.which c.in-Err.why (λ other honest.
-    c.in-Err.ensures.old_same honest (λ same.
-    let both = told_apart c.in-Err.which Old c.in-Err.why DeviceFailed same in other both.0 both.1))
-
-pub returns-in-Err-clause-keeps : goal.returns-in-Err-clause-keeps
-returns-in-Err-clause-keeps g c =
-    let answer = c.in-Err.ensures in
-    migration_keeps _ _ _ c.in-Err.which c.in-Err.why answer.new_untouched
-    (λ is_new is_wrong. answer.wrong_new_same (ap₂ (λ (w : Which) (y : Refusal). Err (w, y)) is_new
-    is_wrong))
-    (λ is_new is_taken honest. answer.kept honest (answer.taken honest
-    (ap₂ (λ (w : Which) (y : Refusal). Err (w, y)) is_new is_taken)).0)
+pub returns-in-Err-clause-ends : goal.returns-in-Err-clause-ends
+returns-in-Err-clause-ends g c =
+    let answer = c.in-Err.ensures in record {
+      count = search rules;
+      old_calls = search rules;
+      new_calls = search rules;
+      reads = refused_reads _ c.in-Err.which c.in-Err.why (λ other honest.
+          answer.old_same honest (λ same.
+          let both = told_apart c.in-Err.which Old c.in-Err.why DeviceFailed same in
+          other both.0 both.1));
+      keeps = migration_keeps _ _ _ c.in-Err.which c.in-Err.why answer.new_untouched
+          (λ is_new is_wrong. answer.wrong_new_same
+          (ap₂ (λ (w : Which) (y : Refusal). Err (w, y)) is_new is_wrong))
+          (λ is_new is_taken honest. answer.kept honest (answer.taken honest
+          (ap₂ (λ (w : Which) (y : Refusal). Err (w, y)) is_new is_taken)).0);
+      ends = search rules;
+    }

@@ -10,12 +10,14 @@ returns-in-Ok g c =
     let files = c.args.order.now.files.items in
     let P : End → Type 0 = λ end. status.Done ≡ status_at end in
     let Q : End → Type 0 = λ end. SaysEnd {F = Bor (List ℕ)} (λ file. file.now) files end true
-    e e in (
-      c.open_and_serve.result,
-      subst P (sym c.in-Ok.is) refl,
-      subst Q (sym c.in-Ok.is) (refl, Keeps-refl e),
-      c.open_and_serve.ensures,
-    )
+    e e in record {
+      ends = record {
+        end = c.open_and_serve.result;
+        status = subst P (sym c.in-Ok.is) refl;
+        says = subst Q (sym c.in-Ok.is) (refl, Keeps-refl e);
+        ends = c.open_and_serve.ensures.ends;
+      };
+    }
 
 pub returns-in-Err : goal.returns-in-Err
 returns-in-Err g c =
@@ -24,9 +26,11 @@ returns-in-Err g c =
     let files = c.args.order.now.files.items in
     let P : End → Type 0 = λ end. c.report.result.status ≡ status_at end in
     let Q : End → Type 0 = λ end. SaysEnd {F = Bor (List ℕ)} (λ file. file.now) files end
-    c.report.result.is_told e f in (
-      c.open_and_serve.result,
-      subst P (sym c.in-Err.is) c.report.ensures.status,
-      subst Q (sym c.in-Err.is) c.report.ensures.says,
-      c.open_and_serve.ensures,
-    )
+    c.report.result.is_told e f in record {
+      ends = record {
+        end = c.open_and_serve.result;
+        status = subst P (sym c.in-Err.is) c.report.ensures.status;
+        says = subst Q (sym c.in-Err.is) c.report.ensures.says;
+        ends = c.open_and_serve.ensures.ends;
+      };
+    }
