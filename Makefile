@@ -1,7 +1,7 @@
 # Two commands for a stranger: `make demo` builds the program and runs its first job, `make test` runs every test.
 # They want the kit (`rt` on the PATH), python3 and gcc.
 
-.PHONY: build programs demo test test-all edits new-edits tests bench replicated clean
+.PHONY: build programs demo test test-all edits new-edits libraries tests bench replicated clean
 
 # The program is proved before it is built, with all that it stands on, on as many processors as there are. What this machine has
 # proved before is taken from its store, with FRESH=1 nothing.
@@ -30,6 +30,10 @@ new-edits:
 # The programs that tests and benchmarks run beside snapd.
 programs:
 	python3 verification/build.py try_faults try_bench
+
+# Lays the libraries that this machine has proved before where `rt check` looks, so that it begins at once in any crate.
+libraries:
+	python3 verification/libraries.py
 
 # The end-to-end tests alone.
 tests: programs

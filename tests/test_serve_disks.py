@@ -98,6 +98,19 @@ def test_a_start_on_a_failing_disk(snapd, _):
 
 # ---- a disk that waits ----
 
+def test_no_outcome_is_missed_by_a_worker_that_falls_asleep(snapd, _):
+    """A worker spins for less than a millisecond before it sleeps, and is woken only where it sleeps. Stores that take from less to more
+    than that have their outcomes come while it does the one, the other, or passes from one to the other."""
+    disk, number = Disk(snapd), 0
+    with Server(snapd, *segments(snapd, FRESH), env=disk.env, scanners=1) as server, server.connect() as stream:
+        for rest in range(0, 2000, 40):
+            disk.says(f"S0 sync rest {rest}")
+            for number in range(number + 1, number + 21):
+                stream.sendall(update(0, number, b"v"))
+                wanted = stored(number)
+                assert received(stream, len(wanted)) == wanted, f"stores of twice {rest} us"
+
+
 def test_a_scan_passes_a_held_update(snapd, _):
     """An update that waits for its disk holds up nobody: no scan, no other segment, no connection of its own worker."""
     disk = Disk(snapd)

@@ -16,6 +16,7 @@ from costs import costs  # noqa: E402
 from digests import Digests, Refusal, read_lock, write_lock  # noqa: E402
 from edits import OF_ONE_CRATE, SAMPLE, Edits, drawn, record_all, told  # noqa: E402
 from lanes import Plan, jobs_of, keep_apart, with_store  # noqa: E402
+from libraries import lay_all, lowest_first  # noqa: E402
 from proofs import Proofs, prove  # noqa: E402
 from source import function_of, functions_in, named, together  # noqa: E402
 from store import PROOF, QUICK, TESTS, Store, over  # noqa: E402
@@ -551,6 +552,53 @@ def test_a_run_that_asks_less_keeps_apart_what_it_proves(snapd, _):
     assert [kept.is_whole(program, False, it) for it in (["snapd"], ["snapd", "snapd.by-rattle"], [])] == [True, True, False]
     # The gate's own runs are as they were.
     assert not KitsStore(of_gate).give(None, False, "quick") and not KitsStore(of_gate).is_whole(program, False, ["snapd"])
+
+
+class Library:
+    """A crate of the kit's with a library, as far as it is asked for one."""
+
+    def __init__(self, folder, name, *uses):
+        self.folder, self.name, self.uses = str(folder / name), name, uses
+
+    def below(self):
+        return [below for it in self.uses for below in (*it.below(), it)]
+
+    def stamp(self):
+        return f"stamp of {self.name}"
+
+
+class Libraries:
+    """The libraries that a run has kept, by their names."""
+
+    def __init__(self, *names):
+        self.names, self.built = names, []
+
+    def key(self, crate):
+        return [it for it in self.built if it in {below.name for below in crate.below()}]
+
+    def give(self, crate, tests, key):
+        assert not tests and set(key) == {it.name for it in crate.below()}, "asked for before those below it are there"
+        if crate.name in self.names:
+            os.makedirs(f"{crate.folder}/out/rlib")
+        return crate.name in self.names
+
+    def is_built(self, crate):
+        self.built.append(crate.name)
+
+
+def test_kept_libraries_are_laid_where_a_check_looks(snapd, _):
+    """The lowest first, none above one that isn't there, and nothing of what lay there before."""
+    low = Library(snapd.folder, "low")
+    middle, other = Library(snapd.folder, "middle", low), Library(snapd.folder, "other", low)
+    high = Library(snapd.folder, "high", middle)
+    crates = [Library(snapd.folder, "top", high, other), high, other, middle, low]
+    for it in crates:
+        os.makedirs(f"{it.folder}/out/rlib")
+        pathlib.Path(it.folder, "out", "rlib", "stamp").write_text("stale")
+    assert lay_all(Libraries("low", "other", "high"), lowest_first(crates)) == ["middle", "high"]
+    stamps = {it.name: pathlib.Path(it.folder, "out", "rlib", "stamp") for it in crates}
+    assert {name: it.read_text() for name, it in stamps.items() if it.exists()} == {
+        "low": "stamp of low", "other": "stamp of other", "top": "stale"}
 
 
 def test_costs_go_by_when_each_module_was_written(snapd, _):

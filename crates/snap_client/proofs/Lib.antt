@@ -1,3 +1,3 @@
-pub mod Reading
-pub mod Hearing
-pub mod Trying
+pub mod Remainder
+pub mod Replies
+pub mod Tries

@@ -1,29 +1,9 @@
 -- The same request on one connection after another.
-use Rattle.std.specs.Prelude.{
-  ◌≡◌,
-  ℕ,
-  zero,
-  suc,
-  ◌⊎◌,
-  List,
-  Option,
-  Some,
-  None,
-  Result,
-  Ok,
-  Err,
-}
+use Rattle.std.specs.Prelude.{◌≡◌, ℕ, zero, suc, ◌⊎◌, List, Option, Some, None, Result, Ok, Err}
 use Rattle.snap_frame.specs.declared.request.Request.{Request}
 use Rattle.snap_frame.specs.declared.reply.Reply.{Reply}
 use Rattle.snap_client.specs.declared.fault.ClientFault.{ClientFault}
-use Rattle.snap_client.specs.declared.fault.ClientFault.TheVariants.{
-  ConnectFailed,
-  ReadFailed,
-  WriteFailed,
-  Ended,
-  BadReply,
-  NoMemory,
-}
+use Rattle.snap_client.specs.declared.fault.ClientFault.TheVariants.{ConnectFailed, ReadFailed, WriteFailed, Ended, BadReply, NoMemory}
 use Rattle.snap_client.specs.Calls.{ClientState, Calls, fresh}
 
 -- the same request may be answered on another connection

@@ -1,7 +1,7 @@
-pub mod Ordering
-pub mod Merging
+pub mod Order
+pub mod Merge
 pub mod Placed
-pub mod Living
-pub mod Cutting
-pub mod Lasting
-pub mod Staying
+pub mod Lives
+pub mod Crash
+pub mod Starts
+pub mod Durability

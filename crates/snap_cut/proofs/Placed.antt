@@ -6,18 +6,7 @@ use Rattle.snap_slot.specs.Layout.{IsFileOf}
 use Rattle.snap_segment.specs.Segment.{SegmentState}
 use Rattle.snap_register.specs.declared.plan.Plan.{Plan}
 use Rattle.snap_writer.specs.Writer.{WriterState, number_of, value_of}
-use Rattle.snap_writer.specs.Life.{
-  Place,
-  HasBegun,
-  IsShown,
-  IsAhead,
-  HoldsOf,
-  Leaves,
-  CrashLeaves,
-  IsWriterOf,
-  IsMidStore,
-  IsPlaceOf,
-}
+use Rattle.snap_writer.specs.Life.{Place, HasBegun, IsShown, IsAhead, HoldsOf, Leaves, CrashLeaves, IsWriterOf, IsMidStore, IsPlaceOf}
 
 -- the same file, by other names
 same_file : (i j n m k l : ℕ) (v w b : List ℕ) → i ≡ j → n ≡ m → k ≡ l → v ≡ w → IsFileOf i n k v b

@@ -2,14 +2,7 @@
 use Rattle.std.specs.Prelude.{◌≡◌, ℕ, ◌<◌, ◌≤◌, List, ◌++◌, length, map, Some, slice_get}
 use Rattle.snap_disk.specs.Device.{Device, MayLeave}
 use Rattle.snap_slot.specs.Layout.{IsFileOf}
-use Rattle.snap_history.specs.History.{
-  Update,
-  Start,
-  IsBeginning,
-  updates_of,
-  number_after,
-  value_after,
-}
+use Rattle.snap_history.specs.History.{Update, Start, IsBeginning, updates_of, number_after, value_after}
 use Rattle.snap_history.specs.Pairs.{Pairs}
 use Rattle.snap_writer.specs.Life.{Place, HasBegun, seen_at}
 

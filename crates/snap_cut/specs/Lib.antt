@@ -1,3 +1,3 @@
 pub mod Crash
 pub mod Laws
-pub mod Staying
+pub mod Durability

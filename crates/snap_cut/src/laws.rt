@@ -1,7 +1,7 @@
 //! The laws of a crash of all devices, whatever the writers and the scanners did: each law is a
 //! contract of a call that does nothing.
 ghost use Rattle.snap_cut.specs.Laws.{Lives, CutLaw, ConsistentLaw, MomentLaw, ScanLaw};
-ghost use Rattle.snap_cut.specs.Staying.{StaysLaw};
+ghost use Rattle.snap_cut.specs.Durability.{StaysLaw};
 
 use snap_disk::Disk;
 

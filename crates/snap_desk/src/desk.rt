@@ -3,7 +3,7 @@ ghost use Rattle.std.specs.Prelude.{◌≡◌, ℕ, IfSome, IfNone, length};
 ghost use Rattle.snap_register.specs.Rule.{segments};
 ghost use Rattle.snap_frame.specs.Messages.{IsInLimits};
 ghost use Rattle.snap_service.specs.Memory.{IsOf};
-ghost use Rattle.snap_desk.specs.Handing.{HasHanded, job_of};
+ghost use Rattle.snap_desk.specs.Handover.{HasHanded, job_of};
 ghost use Rattle.snap_desk.specs.Tells.{TellsUpdate};
 ghost use Rattle.snap_service.specs.Counted.{LooksOnce};
 ghost use Rattle.snap_service.specs.Answers.{
@@ -16,6 +16,7 @@ ghost use Rattle.snap_service.specs.Answers.{
 use crate::job::Asked;
 use crate::lent::Outcome;
 use crate::outbox::{Handed, Outbox, Window};
+use bytes::Bytes;
 use snap_disk::{Disk, Refusal};
 use snap_frame::{Reply, Request};
 use snap_memory::{Scanner, Snapshot};
@@ -83,7 +84,7 @@ fn ask<R: Wait + Copy + Clock, J: Asked>(
     scanner: &mut Scanner,
     segment: usize,
     number: u64,
-    value: &[u8],
+    value: &Bytes,
     key: usize,
 ) -> Option<Reply>
     requires windows { length outbox.old.windows ≡ segments scanner.old.plan }
@@ -96,14 +97,14 @@ fn ask<R: Wait + Copy + Clock, J: Asked>(
     ensures over { IfNone result (HasHanded outbox.old segment outbox.new) }
     ensures not_over { IfSome result (λ _. outbox.new ≡ outbox.old) }
 {
-    if let Some(reply) = refuse_place(scanner, segment, value) {
+    if let Some(reply) = refuse_place(scanner, segment, value.as_slice()) {
         return Some(reply);
     }
     let handed: Option<Handed<J>> = outbox.hand_over(segment, number, value, key);
     if handed.is_some() {
         return None;
     }
-    Some(answer_by_look(scanner, segment, number, value))
+    Some(answer_by_look(scanner, segment, number, value.as_slice()))
 }
 
 impl<R: Wait + Copy + Clock, M: Memory, D: Disk + Drop> Desk<R, M, D> {
@@ -130,7 +131,7 @@ impl<R: Wait + Copy + Clock, M: Memory, D: Disk + Drop> Desk<R, M, D> {
     }
 
     /// An update goes to its store. A look answers it where that can't be.
-    fn update(&mut self, segment: usize, number: u64, value: &[u8], key: usize) -> Option<Reply>
+    fn update(&mut self, segment: usize, number: u64, value: &Bytes, key: usize) -> Option<Reply>
         ensures answer { IfSome result (λ r.
             AnswersUpdate self.old segment number value.now r self.new) }
         ensures looks { LooksOnce self.old self.new }
@@ -215,7 +216,7 @@ impl<R: Wait + Copy + Clock, M: Memory, D: Disk + Drop> Service for Desk<R, M, D
                 segment,
                 number,
                 value,
-            } => self.update(usize::from(*segment), *number, value.as_slice(), key),
+            } => self.update(usize::from(*segment), *number, value, key),
             Request::Scan => Some(self.scan()),
             Request::Status => Some(self.status()),
         }

@@ -2,16 +2,17 @@
 ghost use Rattle.std.specs.Prelude.{◌≡◌, IfOk};
 ghost use Rattle.snap_history.specs.Limits.{IsShort};
 ghost use Rattle.snap_desk.specs.declared.job.Job.{Job};
-ghost use Rattle.snap_desk.specs.Handing.{no_job};
+ghost use Rattle.snap_desk.specs.Handover.{no_job};
 
-use std::alloc::{AllocError, Global};
+use bytes::Bytes;
+use std::alloc::AllocError;
 use std::marker::{Brand, Model};
 
-/// A value of its own, which is on its way to its store. Its bytes lie on the heap, so that handing it
-/// on copies none of them.
+/// A value that is on its way to its store. Its bytes are those of the request that brought it, so that
+/// handing it on copies none of them.
 #[derive(Drop)]
 pub struct Payload {
-    bytes: Vec<u8>,
+    bytes: Bytes,
 }
 
 impl Model for Payload {
@@ -20,19 +21,19 @@ impl Model for Payload {
 
     ghost Value = { List ℕ };
 
-    ghost view = { λ v. v.bytes.items };
+    ghost view = { λ v. v.bytes };
 
-    ghost invariant = { λ v. IsShort v.bytes.items };
+    ghost invariant = { λ v. IsShort v.bytes };
 }
 
 impl Payload {
-    /// A copy of the value.
-    pub fn of(alloc: Global, value: &[u8]) -> Result<Payload, AllocError>
+    /// This value, whose bytes are shared.
+    pub fn of(value: &Bytes) -> Result<Payload, AllocError>
         requires { IsShort value.now }
-        ensures { IfOk result (λ copy. copy ≡ value.now) }
+        ensures { IfOk result (λ payload. payload ≡ value.now) }
     {
-        let bytes = value.to_vec(alloc)?;
-        Ok(Payload { bytes })
+        let bytes: Result<Bytes, AllocError> = value.clone();
+        Ok(Payload { bytes: bytes? })
     }
 
     /// The value.

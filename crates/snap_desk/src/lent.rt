@@ -9,21 +9,22 @@ ghost use Rattle.snap_service.specs.Settled.{IsSettledAt, IsTellable, reply_of};
 ghost use Rattle.snap_desk.specs.Came.{Came};
 ghost use Rattle.snap_desk.specs.Store.{StandsAt};
 
+use crate::heap_writer::HeapWriter;
 use crate::job::Job;
 use crate::standing::{Standing, standing_of};
 use crossbeam_channel::Sender;
 use snap_disk::{Disk, Refusal};
 use snap_frame::Reply;
 use snap_memory::Scanner;
-use snap_service::{Memory, WriterOf};
+use snap_service::Memory;
 use std::marker::Model;
 use std::sync::Wait;
 
 /// A writer away from its store's thread, which waits for it. Wherever it is let go, it goes home.
 pub struct Lent<R: Wait + Copy, M: Memory, D: Disk + Drop> {
     pub rt: R,
-    pub home: Sender<WriterOf<M, D>>,
-    pub writer: WriterOf<M, D>,
+    pub home: Sender<HeapWriter<M, D>>,
+    pub writer: HeapWriter<M, D>,
 }
 
 impl<R: Wait + Copy, M: Memory, D: Disk + Drop> Drop for Lent<R, M, D> {
@@ -65,7 +66,7 @@ impl<R: Wait + Copy, M: Memory, D: Disk + Drop> Outcome<R, M, D> {
     pub fn stands(&self) -> Standing
         ensures { StandsAt self.now.writer result }
     {
-        Standing::of(&self.lent.writer)
+        Standing::of(self.lent.writer.as_ref())
     }
 
     /// Where the writer stands, in one word: twice its number, and one more where it is fenced.
@@ -75,7 +76,7 @@ impl<R: Wait + Copy, M: Memory, D: Disk + Drop> Outcome<R, M, D> {
         ensures open { self.now.writer.segment.begun ≡ None
             → result ≡ number_of self.now.writer * 2 }
     {
-        standing_of(&self.lent.writer)
+        standing_of(self.lent.writer.as_ref())
     }
 
     /// What the writer told: the segment's number, or why it refused the update.
@@ -101,7 +102,7 @@ impl<R: Wait + Copy, M: Memory, D: Disk + Drop> Outcome<R, M, D> {
         ensures short { result ≡ true → IsShort value.now }
         ensures memory { IsOf M.table M.plan self.now.writer.seat }
     {
-        if self.lent.writer.segment() != segment || self.job.number != number {
+        if self.lent.writer.as_ref().segment() != segment || self.job.number != number {
             return false;
         }
         self.job.value.as_slice() == value

@@ -8,6 +8,7 @@
 #![tactic(auto)]
 
 mod desk;
+mod heap_writer;
 mod job;
 mod lent;
 mod outbox;
@@ -16,8 +17,9 @@ mod standing;
 mod store;
 
 pub use desk::{Desk, answer_outcome};
+pub use heap_writer::HeapWriter;
 pub use job::{Job, Payload};
 pub use lent::{Lent, Outcome};
 pub use outbox::Window;
 pub use standing::Standing;
-pub use store::{StoreThread, Told, store_one};
+pub use store::{StoreThread, store_one};

@@ -2,10 +2,11 @@
 ghost use Rattle.std.specs.Prelude.{◌≡◌, ◌<◌, length, All, IfOk, OnErr, IfSome, IfNone};
 ghost use Rattle.snap_history.specs.Limits.{IsShort};
 ghost use Rattle.snap_frame.specs.Messages.{IsStatus};
-ghost use Rattle.snap_desk.specs.Handing.{HasHanded, job_of};
+ghost use Rattle.snap_desk.specs.Handover.{HasHanded, job_of};
 
 use crate::job::{Asked, Job, Payload};
 use crate::standing::status_in;
+use bytes::Bytes;
 use crossbeam_channel::{SendError, Sender};
 use snap_frame::SegmentStatus;
 use std::alloc::{AllocError, Global};
@@ -116,7 +117,7 @@ pub(crate) struct Outbox<R: Wait + Copy> {
 }
 
 impl<R: Wait + Copy> Model for Outbox<R> {
-    ghost use Rattle.snap_desk.specs.Handing.{Handing};
+    ghost use Rattle.snap_desk.specs.Handover.{Handing};
 
     ghost Value = { Handing };
 
@@ -150,11 +151,11 @@ impl<R: Wait + Copy> Outbox<R> {
     }
 
     /// The job of this worker's request with this key: an update to this number and value.
-    fn job(&self, number: u64, value: &[u8], key: usize) -> Result<Job, AllocError>
+    fn job(&self, number: u64, value: &Bytes, key: usize) -> Result<Job, AllocError>
         requires { IsShort value.now }
         ensures { IfOk result (λ job. job ≡ job_of self.now.worker key number value.now) }
     {
-        let value = Payload::of(self.alloc, value)?;
+        let value = Payload::of(value)?;
         Ok(Job {
             worker: self.worker,
             key,
@@ -180,7 +181,7 @@ impl<R: Wait + Copy> Outbox<R> {
         &mut self,
         segment: usize,
         number: u64,
-        value: &[u8],
+        value: &Bytes,
         key: usize,
     ) -> Result<Handed<J>, Unsent>
         requires job { J.job ≡ job_of self.old.worker key number value.now }
@@ -203,7 +204,7 @@ impl<R: Wait + Copy + Clock> Outbox<R> {
         &mut self,
         segment: usize,
         number: u64,
-        value: &[u8],
+        value: &Bytes,
         key: usize,
     ) -> Option<Handed<J>>
         requires job { J.job ≡ job_of self.old.worker key number value.now }

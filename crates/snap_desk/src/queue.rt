@@ -5,13 +5,13 @@ ghost use Rattle.snap_desk.specs.Store.{IsWaiting};
 
 use crate::job::Job;
 use crossbeam_channel::{Receiver, TryRecvError};
-use snap_patience::Patience;
+use snap_spin::Spin;
 use std::marker::Model;
 use std::sync::Wait;
 use std::thread;
 
-/// How often a store's thread looks for an update before it sleeps: for about half a millisecond.
-const LOOKS: u32 = 2_000;
+/// How often a store's thread asks for an update before it sleeps: for about half a millisecond.
+const SPINS: u32 = 2_000;
 
 /// The updates that come to a store. Its value is how many came and how many of them were taken, each
 /// from 0 again behind the largest number: all of them, or all but one, which waits here. So a contract
@@ -95,33 +95,33 @@ impl Queue {
         }
     }
 
-    /// The same. It looks before it sleeps as long as that pays.
-    fn receive<R: Wait>(&mut self, rt: &R, patience: &mut Patience) -> bool
+    /// The same. It spins before it sleeps as long as that pays.
+    fn receive<R: Wait>(&mut self, rt: &R, spin: &mut Spin) -> bool
         requires { self.old.came ≡ self.old.taken }
         ensures one { result ≡ true → IsWaiting self.new }
         ensures taken { self.new.taken ≡ self.old.taken }
         ensures none { result ≡ false → self.new ≡ self.old }
     {
-        if patience.may_look() {
-            for _ in 0..LOOKS {
+        if spin.is_due() {
+            for _ in 0..SPINS {
                 match self.look(rt) {
                     Ok(()) => return true,
                     Err(TryRecvError::Disconnected) => return false,
                     Err(TryRecvError::Empty) => thread::yield_now(),
                 }
             }
-            patience.rest();
+            spin.rest();
         }
         self.sleep(rt)
     }
 
     /// Waits until an update is there. Whether one is: else all windows are gone, and none is left.
-    pub(crate) fn wait<R: Wait>(&mut self, rt: &R, patience: &mut Patience) -> bool
+    pub(crate) fn wait<R: Wait>(&mut self, rt: &R, spin: &mut Spin) -> bool
         ensures one { result ≡ true → IsWaiting self.new }
         ensures taken { self.new.taken ≡ self.old.taken }
         ensures none { result ≡ false → self.new ≡ self.old }
     {
-        self.is_waiting() || self.receive(rt, patience)
+        self.is_waiting() || self.receive(rt, spin)
     }
 
     /// Takes the update that waits.

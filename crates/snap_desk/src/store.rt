@@ -4,6 +4,7 @@ ghost use Rattle.snap_register.specs.Seat.{own_of};
 ghost use Rattle.snap_service.specs.Updated.{IsUpdated};
 ghost use Rattle.snap_desk.specs.Store.{IsNew, IsTaken, IsIdle, StandsAt, StoresOne};
 
+use crate::heap_writer::HeapWriter;
 use crate::job::Job;
 use crate::lent::{Lent, Outcome};
 use crate::outbox::Window;
@@ -11,28 +12,19 @@ use crate::queue::Queue;
 use crate::standing::{Standing, standing_of};
 use crossbeam_channel::{Receiver, Sender, bounded, unbounded};
 use snap_disk::Disk;
-use snap_patience::Patience;
 use snap_service::{Memory, WriterOf};
+use snap_session::Done;
+use snap_spin::Spin;
 use std::alloc::{AllocError, Global};
 use std::marker::Model;
 use std::sync::atomic::{AtomicU64, Ordering};
 use std::sync::{Arc, Wait};
 
-/// What comes to a desk: the outcome of the request with this key, and which desk it is.
-#[derive(Drop)]
-pub struct Told<R: Wait + Copy, M: Memory, D: Disk + Drop> {
-    /// The place of the desk among its server's.
-    pub worker: usize,
-    /// The key that came with the request.
-    pub key: usize,
-    pub outcome: Outcome<R, M, D>,
-}
-
 /// Does one update, and lends its writer with the outcome.
 pub fn store_one<R: Wait + Copy, M: Memory, D: Disk + Drop>(
     rt: R,
-    home: Sender<WriterOf<M, D>>,
-    mut writer: WriterOf<M, D>,
+    home: Sender<HeapWriter<M, D>>,
+    mut writer: HeapWriter<M, D>,
     job: Job,
 ) -> Outcome<R, M, D>
     ensures job { result.job ≡ job }
@@ -65,14 +57,14 @@ fn window_of(
 pub struct StoreThread<R: Wait + Copy, M: Memory, D: Disk + Drop> {
     rt: R,
     /// None while it is lent.
-    writer: Option<WriterOf<M, D>>,
+    writer: Option<HeapWriter<M, D>>,
     /// Where the writer stands, or stood when it was lent.
     stands: Standing,
     queue: Queue,
-    patience: Patience,
+    spin: Spin,
     standing: Arc<AtomicU64, Global>,
-    home: Sender<WriterOf<M, D>>,
-    back: Receiver<WriterOf<M, D>>,
+    home: Sender<HeapWriter<M, D>>,
+    back: Receiver<HeapWriter<M, D>>,
 }
 
 impl<R: Wait + Copy, M: Memory, D: Disk + Drop> Model for StoreThread<R, M, D> {
@@ -102,10 +94,10 @@ impl<R: Wait + Copy, M: Memory, D: Disk + Drop> StoreThread<R, M, D> {
         let stands = Standing::of(&writer);
         let store = StoreThread {
             rt,
-            writer: Some(writer),
+            writer: Some(HeapWriter::new(alloc, writer)?),
             stands,
             queue: Queue::new(jobs),
-            patience: Patience::new(),
+            spin: Spin::new(),
             standing,
             home,
             back,
@@ -115,7 +107,7 @@ impl<R: Wait + Copy, M: Memory, D: Disk + Drop> StoreThread<R, M, D> {
 
     /// Takes the writer. Where it is lent, it is waited for; None where it will not come back. One that
     /// doesn't stand where it was lent isn't taken.
-    fn take_writer(&mut self) -> Option<WriterOf<M, D>>
+    fn take_writer(&mut self) -> Option<HeapWriter<M, D>>
         ensures taken { IfSome result (λ w. IsTaken self.old w) }
         ensures here { (w : _) → self.old.writer ≡ Some w → result ≡ Some w }
         ensures left { self.new ≡ record self.old { writer = None } }
@@ -124,7 +116,7 @@ impl<R: Wait + Copy, M: Memory, D: Disk + Drop> StoreThread<R, M, D> {
             return Some(writer);
         }
         let writer = self.back.recv(&self.rt).ok()?;
-        if Standing::of(&writer) != self.stands {
+        if Standing::of(writer.as_ref()) != self.stands {
             return None;
         }
         Some(writer)
@@ -133,10 +125,10 @@ impl<R: Wait + Copy, M: Memory, D: Disk + Drop> StoreThread<R, M, D> {
     /// Does this update by this writer, and lends the writer with the outcome.
     fn store(
         &mut self,
-        home: Sender<WriterOf<M, D>>,
-        writer: WriterOf<M, D>,
+        home: Sender<HeapWriter<M, D>>,
+        writer: HeapWriter<M, D>,
         job: Job,
-    ) -> Told<R, M, D>
+    ) -> Done<Outcome<R, M, D>>
         requires { self.old.writer ≡ None }
         ensures worker { result.worker ≡ job.worker }
         ensures key { result.key ≡ job.key }
@@ -151,7 +143,7 @@ impl<R: Wait + Copy, M: Memory, D: Disk + Drop> StoreThread<R, M, D> {
         let outcome = store_one(self.rt, home, writer, job);
         self.stands = outcome.stands();
         self.standing.store(outcome.standing(), Ordering::SeqCst);
-        Told {
+        Done {
             worker,
             key,
             outcome,
@@ -162,7 +154,7 @@ impl<R: Wait + Copy, M: Memory, D: Disk + Drop> StoreThread<R, M, D> {
     /// with the outcome. None where all windows are gone and no update is left, so that none will
     /// come, or where the writer will not come back, or no memory is left to lend it: nothing was
     /// done then, and an update that has come waits.
-    pub fn next(&mut self) -> Option<Told<R, M, D>>
+    pub fn next(&mut self) -> Option<Done<Outcome<R, M, D>>>
         ensures worker { IfSome result (λ t. t.worker ≡ t.outcome.job.worker) }
         ensures key { IfSome result (λ t. t.key ≡ t.outcome.job.key) }
         ensures stored { IfSome result (λ t.
@@ -170,10 +162,10 @@ impl<R: Wait + Copy, M: Memory, D: Disk + Drop> StoreThread<R, M, D> {
             self.old t.outcome self.new) }
         ensures none { IfNone result (IsIdle self.old self.new) }
     {
-        if !self.queue.wait(&self.rt, &mut self.patience) {
+        if !self.queue.wait(&self.rt, &mut self.spin) {
             return None;
         }
-        let home: Result<Sender<WriterOf<M, D>>, AllocError> = self.home.clone();
+        let home: Result<Sender<HeapWriter<M, D>>, AllocError> = self.home.clone();
         let Ok(home) = home else {
             return None;
         };
@@ -187,6 +179,6 @@ impl<R: Wait + Copy, M: Memory, D: Disk + Drop> StoreThread<R, M, D> {
         ensures taken { IfSome result (λ w. IsTaken self w) }
         ensures here { (w : _) → self.writer ≡ Some w → result ≡ Some w }
     {
-        self.take_writer()
+        Some(self.take_writer()?.into_inner())
     }
 }

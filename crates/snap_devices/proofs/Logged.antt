@@ -1,23 +1,6 @@
 -- One call more.
-use Rattle.std.proofs.Common.{
-  ◌≡◌,
-  inl,
-  inr,
-  ⊎_elim,
-  ℕ,
-  Bool,
-  List,
-  ◌∷◌,
-  length,
-  sym,
-  ◌∙◌,
-  subst,
-  arith,
-  replicate,
-  ◌++◌,
-  length-append,
-  length-take,
-}
+use Rattle.std.proofs.Common.{◌≡◌, inl, inr, ⊎_elim, ℕ, Bool, List, ◌∷◌, length, sym, ◌∙◌, subst, arith, replicate, ◌++◌, length-append}
+use Rattle.std.proofs.Common.{length-take}
 use Rattle.std.proofs.lemmas.List.{length-replicate}
 use Rattle.snap_disk.specs.Device.{Elapses}
 use Rattle.snap_devices.specs.CallLog.{fit, device_after, IsHonestCall, IsHonestLog, LeftSince}

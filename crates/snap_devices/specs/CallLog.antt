@@ -1,43 +1,10 @@
 -- The calls on a device whose bytes no code can know, and what it means that each did what the
 -- model says.
-use Rattle.std.specs.Prelude.{
-  ◌≡◌,
-  ◌⊎◌,
-  ℕ,
-  ◌≤◌,
-  ◌<◌,
-  Bool,
-  false,
-  ◌||◌,
-  List,
-  [],
-  ◌∷◌,
-  ◌++◌,
-  length,
-  take,
-  replicate,
-  slice_index_or,
-}
+use Rattle.std.specs.Prelude.{◌≡◌, ◌⊎◌, ℕ, ◌≤◌, ◌<◌, Bool, false, ◌||◌, List, [], ◌∷◌, ◌++◌, length, take, replicate, slice_index_or}
 use Rattle.std.proofs.Common.{inl, inr, arith}
-use Rattle.snap_disk.specs.Device.{
-  Device,
-  in_range,
-  part,
-  MayLeave,
-  IsUnchanged,
-  IsTouched,
-  IsSynced,
-  IsUnsynced,
-}
+use Rattle.snap_disk.specs.Device.{Device, in_range, part, MayLeave, IsUnchanged, IsTouched, IsSynced, IsUnsynced}
 use Rattle.snap_devices.specs.declared.call.Call.{Call}
-use Rattle.snap_devices.specs.declared.call.Call.TheVariants.{
-  Gave,
-  ReadFailed,
-  Wrote,
-  WriteFailed,
-  Synced,
-  SyncFailed,
-}
+use Rattle.snap_devices.specs.declared.call.Call.TheVariants.{Gave, ReadFailed, Wrote, WriteFailed, Synced, SyncFailed}
 
 -- the first len bytes, with zeros for those that lack
 unfoldable pub fit : ℕ → List ℕ → List ℕ

@@ -11,7 +11,7 @@ use Rattle.snap_disk.specs.declared.refusal.Refusal.TheVariants.{NotNow, Worn}
 use Rattle.snap_slot.specs.Layout.{IsUnformatted}
 use Rattle.snap_slot.specs.States.{IsAtRest}
 use Rattle.snap_old_slot.specs.Old.{OldHead, OldHolds}
-use Rattle.snap_segment.specs.Making.{IsMadeOrLeft, new_file}
+use Rattle.snap_segment.specs.Creation.{IsMadeOrLeft, new_file}
 use Rattle.snap_segment.specs.Migration.{IsPast}
 use Rattle.snap_segment.specs.Refusals.{IsMigrationRefusal}
 use Rattle.snap_segment.specs.declared.migration.Which.{Which}

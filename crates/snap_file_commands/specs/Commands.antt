@@ -13,7 +13,7 @@ use Rattle.snap_slot.specs.States.{IsAtRest, IsEither}
 use Rattle.snap_slot.specs.Findings.{AreFindings, IsNoOpening}
 use Rattle.snap_slot.specs.Text.{findings_text}
 use Rattle.snap_slot.specs.declared.findings.Findings.{Findings}
-use Rattle.snap_segment.specs.Making.{IsFresh}
+use Rattle.snap_segment.specs.Creation.{IsFresh}
 use Rattle.snap_file_commands.specs.Failure.{status_of, SaysOf}
 use Rattle.snap_stream.specs.Streams.{AppendsBeginning, Had}
 use Rattle.snap_file_commands.specs.declared.failure.CommandFailure.{CommandFailure}

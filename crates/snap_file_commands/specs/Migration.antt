@@ -10,8 +10,8 @@ use Rattle.snap_slot.specs.declared.layout.TheConstants.{FILE_LEN}
 use Rattle.snap_slot.specs.Layout.{IsFileOf, IsFormatted, IsUnformatted}
 use Rattle.snap_slot.specs.States.{IsAtRest}
 use Rattle.snap_old_slot.specs.Old.{OldHead, OldHolds}
-use Rattle.snap_old_slot.specs.Reading.{IsNoOldOpening}
-use Rattle.snap_segment.specs.Making.{new_file}
+use Rattle.snap_old_slot.specs.Found.{IsNoOldOpening}
+use Rattle.snap_segment.specs.Creation.{new_file}
 use Rattle.snap_segment.specs.Migration.{CountsFault}
 use Rattle.snap_segment.specs.declared.migration.Which.TheVariants.{Old, New}
 use Rattle.snap_stream.specs.Streams.{AppendsBeginning, SaysLines, file_line, refused_line}

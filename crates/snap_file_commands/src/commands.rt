@@ -11,7 +11,7 @@ ghost use Rattle.snap_history.specs.declared.limits.TheConstants.{MAX_COUNT};
 ghost use Rattle.snap_history.specs.Limits.{IsShort};
 ghost use Rattle.snap_slot.specs.Layout.{IsFileOf};
 ghost use Rattle.snap_slot.specs.States.{IsEither};
-ghost use Rattle.snap_segment.specs.Making.{IsFresh};
+ghost use Rattle.snap_segment.specs.Creation.{IsFresh};
 ghost use Rattle.snap_file_commands.specs.Acts.{HasActed, IsCarriedOut};
 ghost use Rattle.snap_file_commands.specs.Calls.{CountsCallsOf, CountsPut, CountsStore};
 ghost use Rattle.snap_file_commands.specs.Commands.{CountsEnd, EndsCheck, EndsFormat, EndsGet};

@@ -1,33 +1,12 @@
 -- How long the payloads of replies are.
-use Rattle.std.proofs.Common.{
-  ◌≡◌,
-  ◌+◌,
-  ◌*◌,
-  ◌≤◌,
-  List,
-  [],
-  ◌∷◌,
-  length,
-  flat_map,
-  All,
-  refl,
-  arith,
-  length-append,
-}
+use Rattle.std.proofs.Common.{◌≡◌, ◌+◌, ◌*◌, ◌≤◌, List, [], ◌∷◌, length, flat_map, All, refl, arith, length-append}
 use Rattle.std.proofs.lemmas.List.Elements.{All-tail}
 use Rattle.snap_history.specs.declared.limits.TheConstants.{MAX_VALUE_LEN}
 use Rattle.snap_frame.specs.declared.entries.SegmentValue.{SegmentValue}
 use Rattle.snap_frame.specs.declared.entries.SegmentStatus.{SegmentStatus}
 use Rattle.snap_frame.specs.declared.reply.Reply.{Reply}
 use Rattle.snap_frame.specs.declared.reply.Reply.TheVariants.{Stored, Snapshot, Status, Refused}
-use Rattle.snap_frame.specs.Messages.{
-  max_payload,
-  value_bytes,
-  status_bytes,
-  IsValue,
-  says,
-  IsInLimits,
-}
+use Rattle.snap_frame.specs.Messages.{max_payload, value_bytes, status_bytes, IsValue, says, IsInLimits}
 
 -- each status has nine bytes
 pub length-statuses : (es : List SegmentStatus) → length (flat_map status_bytes es) ≡ 9 * length es

@@ -1,19 +1,5 @@
 -- Frames, and the payloads of requests and replies (docs/FORMATS.md, "Frames and messages").
-use Rattle.std.specs.Prelude.{
-  ◌≡◌,
-  ℕ,
-  ◌≤◌,
-  Bool,
-  true,
-  false,
-  List,
-  [],
-  ◌∷◌,
-  ◌++◌,
-  length,
-  flat_map,
-  All,
-}
+use Rattle.std.specs.Prelude.{◌≡◌, ℕ, ◌≤◌, Bool, true, false, List, [], ◌∷◌, ◌++◌, length, flat_map, All}
 use Rattle.std.specs.Int.{w32, w64, to_be_bytes}
 use Rattle.snap_disk.specs.Refusal.{code_of}
 use Rattle.snap_history.specs.Limits.{IsNumber, IsShort}

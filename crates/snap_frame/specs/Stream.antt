@@ -1,29 +1,9 @@
 -- What a feed holds, and what it answers.
 use Rattle.bytes.specs.Filled.{Filled}
 use Rattle.tokio_util.specs.Codec.LengthDelimited.{codec_layout}
-use Rattle.std.specs.Prelude.{
-  ◌≡◌,
-  ℕ,
-  get_or,
-  ◌≤◌,
-  ◌<◌,
-  ◌^◌,
-  ◌⊎◌,
-  List,
-  [],
-  ◌++◌,
-  length,
-  Option,
-  Some,
-  None,
-  Result,
-  Ok,
-  Err,
-}
+use Rattle.std.specs.Prelude.{◌≡◌, ℕ, get_or, ◌≤◌, ◌<◌, ◌^◌, ◌⊎◌, List, [], ◌++◌, length, Option, Some, None, Result, Ok, Err}
 use Rattle.std.specs.Int.{w32, to_be_bytes}
-use Rattle.tokio_util.specs.declared.codec.length_delimited.LengthDelimitedCodec.{
-  LengthDelimitedCodec,
-}
+use Rattle.tokio_util.specs.declared.codec.length_delimited.LengthDelimitedCodec.{LengthDelimitedCodec}
 use Rattle.tokio_util.specs.declared.codec.length_delimited.DecodeState.{DecodeState}
 use Rattle.tokio_util.specs.declared.codec.length_delimited.DecodeState.TheVariants.{Head, Data}
 use Rattle.tokio_util.specs.Codec.LengthField.{Layout, default_layout}

@@ -1,5 +1,5 @@
 //! The head of a frame.
-ghost use Rattle.std.specs.Prelude.{◌≡◌, ◌≤◌, ◌+◌, ◌<◌, ◌++◌, length, OnOk, OnErr};
+ghost use Rattle.std.specs.Prelude.{◌≡◌, ◌≤◌, ◌+◌, ◌<◌, ◌++◌, length, IsOk, OnOk, OnErr};
 ghost use Rattle.std.specs.Int.{w32, to_be_bytes};
 ghost use Rattle.snap_frame.specs.Messages.{max_payload};
 
@@ -13,12 +13,14 @@ pub const MAX_PAYLOAD: usize = 66_000;
 const HEAD_LEN: usize = 4;
 
 /// Writes the length of a payload behind what the buffer holds, and makes room for the payload, so
-/// that nothing behind it can fail. Where memory is refused the buffer's bytes are as they were.
+/// that nothing behind it can fail. Where memory is refused the buffer's bytes are as they were; none
+/// is asked for where there is room for all of it.
 pub(crate) fn start_frame(payload_len: usize, out: &mut BytesMut) -> Result<(), AllocError>
     requires { payload_len ≤ max_payload }
     ensures head { OnOk result (out.new.items ≡ out.old.items ++ to_be_bytes w32 payload_len) }
     ensures room { OnOk result (payload_len ≤ out.new.spare) }
     ensures err { OnErr result (out.new.items ≡ out.old.items) }
+    ensures fits { 4 + payload_len ≤ out.old.spare → IsOk result }
 {
     out.reserve(HEAD_LEN + payload_len)?;
     out.extend_reserved(&(payload_len as u32).to_be_bytes());

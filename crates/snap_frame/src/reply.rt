@@ -11,6 +11,7 @@ ghost use Rattle.std.specs.Prelude.{
   length,
   drop,
   slice_index,
+  IsOk,
   OnOk,
   OnErr,
   IfOk,
@@ -191,13 +192,15 @@ pub(crate) fn read_reply(payload: BytesMut) -> Result<Option<Reply>, AllocError>
 /// Writes the frame of a reply behind what the buffer holds.
 ///
 /// Its numbers, lengths and counts are within the limits of replies, so its payload fits a frame.
-/// The only refusal is [`Refusal::NoMemory`], and the buffer's bytes are then as they were.
+/// The only refusal is [`Refusal::NoMemory`], and the buffer's bytes are then as they were. It doesn't
+/// come where the buffer has room for the frame.
 #[tactic(auto, using(crate::proofs::Lengths::says_fits))]
 pub fn write_reply(reply: &Reply, out: &mut BytesMut) -> Result<(), Refusal>
     requires { IsInLimits reply.now }
     ensures fits { length (says reply.now) ≤ max_payload }
     ensures ok { OnOk result (out.new.items ≡ out.old.items ++ frame (says reply.now)) }
     ensures err { OnErr result (out.new.items ≡ out.old.items) }
+    ensures room { length (frame (says reply.now)) ≤ out.old.spare → IsOk result }
     ensures memory { IfErr result (λ why. why ≡ Refusal.NoMemory) }
 {
     match append_reply(reply, out) {
@@ -210,6 +213,7 @@ fn append_reply(reply: &Reply, out: &mut BytesMut) -> Result<(), AllocError>
     requires { IsInLimits reply.now }
     ensures ok { OnOk result (out.new.items ≡ out.old.items ++ frame (says reply.now)) }
     ensures err { OnErr result (out.new.items ≡ out.old.items) }
+    ensures room { length (frame (says reply.now)) ≤ out.old.spare → IsOk result }
 {
     match reply {
         Reply::Stored(number) => {

@@ -10,6 +10,7 @@ ghost use Rattle.std.specs.Prelude.{
   length,
   drop,
   slice_index,
+  IsOk,
   OnOk,
   OnErr,
   IfOk,
@@ -94,11 +95,12 @@ pub(crate) fn read_request(mut payload: BytesMut) -> Result<Option<Request>, All
 ///
 /// The payload has at most [`MAX_PAYLOAD`] bytes, so an update's value at most
 /// [`MAX_UPDATE_VALUE`]. The only refusal is [`Refusal::NoMemory`], and the buffer's bytes are then
-/// as they were.
+/// as they were. It doesn't come where the buffer has room for the frame.
 pub fn write_request(request: &Request, out: &mut BytesMut) -> Result<(), Refusal>
     requires { length (payload request.now) ≤ max_payload }
     ensures ok { OnOk result (out.new.items ≡ out.old.items ++ frame (payload request.now)) }
     ensures err { OnErr result (out.new.items ≡ out.old.items) }
+    ensures room { length (frame (payload request.now)) ≤ out.old.spare → IsOk result }
     ensures memory { IfErr result (λ why. why ≡ Refusal.NoMemory) }
 {
     match append_request(request, out) {
@@ -111,6 +113,7 @@ fn append_request(request: &Request, out: &mut BytesMut) -> Result<(), AllocErro
     requires { length (payload request.now) ≤ max_payload }
     ensures ok { OnOk result (out.new.items ≡ out.old.items ++ frame (payload request.now)) }
     ensures err { OnErr result (out.new.items ≡ out.old.items) }
+    ensures room { length (frame (payload request.now)) ≤ out.old.spare → IsOk result }
 {
     match request {
         Request::Update {

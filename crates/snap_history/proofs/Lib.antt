@@ -1,6 +1,6 @@
 pub mod Moments
 pub mod Beginnings
 pub mod Lists
-pub mod Pairing
+pub mod Pairs
 pub mod Memories
-pub mod Taking
+pub mod Removals

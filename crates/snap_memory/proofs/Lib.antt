@@ -1,4 +1,4 @@
-pub mod Gathering
-pub mod Answering
+pub mod Collects
+pub mod ScanAnswer
 pub mod Popped
-pub mod Keeping
+pub mod Kept

@@ -2,15 +2,7 @@
 use Rattle.std.specs.Prelude.{◌≡◌, ℕ, ◌+◌, ◌<◌, ◌≤◌, List, ◌∷◌, ◌++◌, length, Some, slice_get}
 use Rattle.snap_history.specs.History.{Update, IsBeginning}
 use Rattle.snap_register.specs.Rule.{segments}
-use Rattle.snap_register.specs.Seat.{
-  Known,
-  looked,
-  number_in,
-  value_in,
-  HasFoundUpdate,
-  IsMemory,
-  IsValue,
-}
+use Rattle.snap_register.specs.Seat.{Known, looked, number_in, value_in, HasFoundUpdate, IsMemory, IsValue}
 use Rattle.snap_register.specs.declared.view.View.{View}
 use Rattle.snap_register.specs.declared.view.View.TheVariants.{Collected, Borrowed}
 use Rattle.snap_scan.specs.Looks.{most_looks}

@@ -4,7 +4,7 @@ use Rattle.std.proofs.lemmas.Bool.{cases_eq}
 use Rattle.snap_disk.specs.Device.{part}
 use Rattle.snap_slot.specs.Layout.{IsClosed, gate_at, body_at}
 use Rattle.snap_old_slot.specs.Old.{OldOpen, OldHolds}
-use Rattle.snap_old_slot.specs.Reading.{IsOldSlotOf}
+use Rattle.snap_old_slot.specs.Found.{IsOldSlotOf}
 use Rattle.snap_slot.proofs.Readings.{closed_is, open_is}
 use Rattle.snap_slot.specs.declared.slot.Flaw.{Flaw}
 use Rattle.snap_slot.specs.declared.slot.Slot.{Slot}

@@ -1,27 +1,6 @@
 -- An old file is read in one way only.
-use Rattle.std.proofs.Common.{
-  ◌≡◌,
-  ◌⊎◌,
-  inr,
-  ⊎_elim,
-  ℕ,
-  ◌-◌,
-  List,
-  length,
-  slice_index,
-  Option,
-  Some,
-  None,
-  MatchOption,
-  IfOk,
-  IfErr,
-  refl,
-  sym,
-  ◌∙◌,
-  ap,
-  subst,
-  arith,
-}
+use Rattle.std.proofs.Common.{◌≡◌, ◌⊎◌, inr, ⊎_elim, ℕ, ◌-◌, List, length, slice_index, Option, Some, None, MatchOption, IfOk, IfErr}
+use Rattle.std.proofs.Common.{refl, sym, ◌∙◌, ap, subst, arith}
 use Rattle.std.specs.Option.{ok_or}
 use Rattle.std.proofs.lemmas.Bool.{cases_eq}
 use Rattle.snap_disk.specs.Device.{part}
@@ -30,14 +9,9 @@ use Rattle.snap_slot.specs.Layout.{IsClosed, IsUnformatted, gate_at, body_at}
 use Rattle.snap_slot.specs.Findings.{IsOfBytes}
 use Rattle.snap_slot.specs.declared.header.Header.{Header}
 use Rattle.snap_slot.specs.declared.header.Header.TheVariants as header
-use Rattle.snap_slot.proofs.Readings.{
-  open_same,
-  not_open_and_closed,
-  head_same,
-  not_head_and_unformatted,
-}
+use Rattle.snap_slot.proofs.Readings.{open_same, not_open_and_closed, head_same, not_head_and_unformatted}
 use Rattle.snap_old_slot.specs.Old.{old_mark, OldOpen, OldHolds, OldHead}
-use Rattle.snap_old_slot.specs.Reading.{IsOldHeaderOf, IsOldHeld, IsOldFound, IsNoOldOpening}
+use Rattle.snap_old_slot.specs.Found.{IsOldHeaderOf, IsOldHeld, IsOldFound, IsNoOldOpening}
 use Rattle.snap_old_slot.specs.declared.recovery.OldFound.{OldFound}
 
 -- a slot is open with one number and one value, and isn't closed too

@@ -1,2 +1,2 @@
 pub mod Old
-pub mod Reading
+pub mod Found

@@ -6,7 +6,7 @@ ghost use Rattle.snap_slot.specs.declared.layout.TheConstants.{BLOCK_LEN};
 ghost use Rattle.snap_old_slot.specs.declared.layout.TheConstants.{OLD_FILE_LEN, OLD_SLOT_COUNT};
 ghost use Rattle.snap_slot.specs.Findings.{IsOfBytes};
 ghost use Rattle.snap_old_slot.specs.Old.{OldHolds};
-ghost use Rattle.snap_old_slot.specs.Reading.{
+ghost use Rattle.snap_old_slot.specs.Found.{
   IsOldHeaderOf,
   IsOldSlotOf,
   IsOldHeld,

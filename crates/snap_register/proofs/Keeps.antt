@@ -1,37 +1,6 @@
 -- Each step keeps the rule.
-use Rattle.std.proofs.Common.{
-  ◌≡◌,
-  ◌≢◌,
-  ℕ,
-  ◌+◌,
-  ◌-◌,
-  ◌/◌,
-  ◌%◌,
-  ◌^◌,
-  ◌<◌,
-  ◌≤◌,
-  ◌==◌,
-  ⊎_elim,
-  List,
-  [],
-  ◌∷◌,
-  ◌++◌,
-  length,
-  get_or,
-  set,
-  refl,
-  ap,
-  sym,
-  subst,
-  ◌∙◌,
-  arith,
-  get_or-set_same,
-  get_or-set_other,
-  false,
-  cond,
-  eq-eqb,
-  ne_eqb,
-}
+use Rattle.std.proofs.Common.{◌≡◌, ◌≢◌, ℕ, ◌+◌, ◌-◌, ◌/◌, ◌%◌, ◌^◌, ◌<◌, ◌≤◌, ◌==◌, ⊎_elim, List, [], ◌∷◌, ◌++◌, length, get_or, set}
+use Rattle.std.proofs.Common.{refl, ap, sym, subst, ◌∙◌, arith, get_or-set_same, get_or-set_other, false, cond, eq-eqb, ne_eqb}
 use Rattle.std.proofs.lemmas.List.{set-get_or, length-set}
 use Rattle.std.proofs.lemmas.Nat.{div-mul-add}
 use mathlib.Core.List.{IsPrefix}
@@ -48,48 +17,11 @@ use Rattle.snap_register.specs.declared.plan.Plan.{Plan}
 use Rattle.snap_register.specs.declared.plan.Pool.{Pool}
 use Rattle.snap_register.specs.declared.plan.SeatView.{SeatView}
 use Rattle.snap_register.specs.History.{entry, sight, only, count, line, record_words, start_at}
-use Rattle.snap_register.specs.Rule.{
-  segments,
-  buffers,
-  width,
-  given,
-  cell,
-  IsLegal,
-  IsBelow,
-  total,
-  on,
-  far,
-  beyond,
-  other,
-  pins_of,
-  Register,
-  Pinned,
-  Knows,
-  Kept,
-  Learns,
-  pinning,
-  giving,
-  glanced,
-  read,
-}
+use Rattle.snap_register.specs.Rule.{segments, buffers, width, given, cell, IsLegal, IsBelow, total, on, far, beyond, other, pins_of}
+use Rattle.snap_register.specs.Rule.{Register, Pinned, Knows, Kept, Learns, pinning, giving, glanced, read}
 use Rattle.snap_register.proofs.Lines.{prefix_self, count_prefix, record_prefix, legal_prefix}
-use Rattle.snap_register.proofs.Places.{
-  given_same,
-  given_behind,
-  cell_behind,
-  given_cell,
-  given_inside,
-  word_inside,
-}
-use Rattle.snap_register.proofs.Sums.{
-  total_set,
-  total_same,
-  total_one,
-  on_here,
-  on_not,
-  far_none,
-  far_here,
-}
+use Rattle.snap_register.proofs.Places.{given_same, given_behind, cell_behind, given_cell, given_inside, word_inside}
+use Rattle.snap_register.proofs.Sums.{total_set, total_same, total_one, on_here, on_not, far_none, far_here}
 
 -- f, but y at j
 abbrev pub turn : {A : Type 0} → (ℕ → A) → ℕ → A → ℕ → A

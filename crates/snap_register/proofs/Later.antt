@@ -1,32 +1,6 @@
 -- What a seat keeps as it looks.
-use Rattle.std.proofs.Common.{
-  ◌≡◌,
-  ℕ,
-  ◌+◌,
-  ◌-◌,
-  ◌*◌,
-  ◌/◌,
-  ◌^◌,
-  ◌<◌,
-  ◌≤◌,
-  List,
-  [],
-  ◌∷◌,
-  ◌++◌,
-  length,
-  get_or,
-  set,
-  refl,
-  ap,
-  sym,
-  subst,
-  ◌∙◌,
-  arith,
-  get_or-set_same,
-  get_or-set_other,
-  append_assoc,
-  length-append,
-}
+use Rattle.std.proofs.Common.{◌≡◌, ℕ, ◌+◌, ◌-◌, ◌*◌, ◌/◌, ◌^◌, ◌<◌, ◌≤◌, List, [], ◌∷◌, ◌++◌, length, get_or, set, refl, ap, sym, subst}
+use Rattle.std.proofs.Common.{◌∙◌, arith, get_or-set_same, get_or-set_other, append_assoc, length-append}
 use Rattle.std.proofs.lemmas.List.{length-set, set-get_or}
 use mathlib.Core.List.{IsPrefix}
 use mathlib.Core.Logic.{dite}

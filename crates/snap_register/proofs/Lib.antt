@@ -5,13 +5,13 @@ pub mod Sums
 pub mod Blocks
 pub mod Keeps
 pub mod Pools
-pub mod Joining
+pub mod Joins
 pub mod Later
 pub mod Views
 pub mod Opens
 pub mod Updates
-pub mod Looks
+pub mod SeatLooks
 pub mod Drafts
-pub mod Pushing
+pub mod Pairs
 pub mod Packed
 mod Vectors

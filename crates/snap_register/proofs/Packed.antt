@@ -1,35 +1,16 @@
 -- Registers that open with packed values.
-use Rattle.std.proofs.Common.{
-  ◌≡◌,
-  ℕ,
-  ◌*◌,
-  ◌^◌,
-  ◌<◌,
-  ◌≤◌,
-  List,
-  length,
-  map,
-  take,
-  slice_get,
-  Some,
-  refl,
-  ap,
-  sym,
-  subst,
-  ◌∙◌,
-  arith,
-  mul-le-mul_right,
-}
+use Rattle.std.proofs.Common.{◌≡◌, ℕ, ◌*◌, ◌^◌, ◌<◌, ◌≤◌, List, length, map, take, slice_get, Some, refl, ap, sym, subst, ◌∙◌, arith}
+use Rattle.std.proofs.Common.{mul-le-mul_right}
 use Rattle.std.proofs.lemmas.List.{length-map, take_all}
 use Rattle.std.proofs.lemmas.Option.{get_or_from_slice_get, slice_get-map}
 use Rattle.std.specs.Prelude.{option_map}
 use Rattle.snap_history.specs.Pairs.{Pairs}
-use Rattle.snap_history.proofs.Pairing.{element, partner}
+use Rattle.snap_history.proofs.Pairs.{element, partner}
 use Rattle.snap_register.specs.declared.plan.Opening.{Opening}
 use Rattle.snap_register.specs.declared.plan.Plan.{Plan}
 use Rattle.snap_register.specs.declared.plan.Start.{Start}
 use Rattle.snap_register.specs.History.{no_start, start_at}
-use Rattle.snap_register.specs.Packing.{value_at, IsBlock}
+use Rattle.snap_register.specs.Words.{value_at, IsBlock}
 use Rattle.snap_register.specs.Rule.{segments, seats}
 use Rattle.snap_register.specs.Setup.{start_of, plan_with, IsReady}
 use Rattle.snap_register.specs.Parts.{IsOpening, IsPacked}

@@ -1,43 +1,8 @@
 -- The writer's steps keep the rule: a check of a buffer, a load and a store in the free one, a
 -- publication.
-use Rattle.std.proofs.Common.{
-  ◌≡◌,
-  ◌≢◌,
-  ℕ,
-  ◌+◌,
-  ◌-◌,
-  ◌*◌,
-  ◌^◌,
-  ◌<◌,
-  ◌≤◌,
-  ◌==◌,
-  List,
-  [],
-  ◌∷◌,
-  ◌++◌,
-  length,
-  get_or,
-  set,
-  refl,
-  ap,
-  sym,
-  subst,
-  ◌∙◌,
-  arith,
-  length-append,
-  get_or-set_same,
-  get_or-set_other,
-  false,
-  cond,
-}
-use Rattle.std.proofs.lemmas.List.{
-  get_or_append_left,
-  get_or_push,
-  get_or-take,
-  length-take-le,
-  set-get_or,
-  length-set,
-}
+use Rattle.std.proofs.Common.{◌≡◌, ◌≢◌, ℕ, ◌+◌, ◌-◌, ◌*◌, ◌^◌, ◌<◌, ◌≤◌, ◌==◌, List, [], ◌∷◌, ◌++◌, length, get_or, set, refl, ap, sym}
+use Rattle.std.proofs.Common.{subst, ◌∙◌, arith, length-append, get_or-set_same, get_or-set_other, false, cond}
+use Rattle.std.proofs.lemmas.List.{get_or_append_left, get_or_push, get_or-take, length-take-le, set-get_or, length-set}
 use mathlib.Core.List.{IsPrefix}
 use mathlib.Core.Logic.{dite}
 use mathlib.Core.Option as maybe
@@ -52,75 +17,16 @@ use Rattle.snap_register.specs.declared.plan.Plan.{Plan}
 use Rattle.snap_register.specs.declared.plan.Pool.{Pool}
 use Rattle.snap_register.specs.declared.plan.SeatView.{SeatView}
 use Rattle.snap_register.specs.History.{entry, only, count, number, record_words}
-use Rattle.snap_register.specs.Rule.{
-  segments,
-  seats,
-  buffers,
-  width,
-  given,
-  cell,
-  Follows,
-  IsLegal,
-  IsBelow,
-  IsWriter,
-  Has,
-  total,
-  on,
-  far,
-  beyond,
-  other,
-  pins_of,
-  Register,
-  Pinned,
-  Knows,
-  Kept,
-  checked,
-  reused,
-  redrafted,
-  without_last,
-  published,
-}
-use Rattle.snap_register.proofs.Lines.{
-  prefix_self,
-  prefix_push,
-  only_push_other,
-  count_push_same,
-  count_push_other,
-  record_last,
-  none_between,
-  legal_push,
-  legal_prefix,
-  follows_later,
-}
-use Rattle.snap_register.proofs.Places.{
-  cell_same,
-  given_behind,
-  cell_behind,
-  given_cell,
-  cell_inside,
-  word_inside,
-}
-use Rattle.snap_register.proofs.Sums.{
-  total_same,
-  total_le,
-  none_on,
-  far_none,
-  far_le,
-  other_ne,
-  beyond_next,
-}
+use Rattle.snap_register.specs.Rule.{segments, seats, buffers, width, given, cell, Follows, IsLegal, IsBelow, IsWriter, Has, total, on}
+use Rattle.snap_register.specs.Rule.{far, beyond, other, pins_of, Register, Pinned, Knows, Kept, checked, reused, redrafted}
+use Rattle.snap_register.specs.Rule.{without_last, published}
+use Rattle.snap_register.proofs.Lines.{prefix_self, prefix_push, only_push_other, count_push_same, count_push_other, record_last}
+use Rattle.snap_register.proofs.Lines.{none_between, legal_push, legal_prefix, follows_later}
+use Rattle.snap_register.proofs.Places.{cell_same, given_behind, cell_behind, given_cell, cell_inside, word_inside}
+use Rattle.snap_register.proofs.Sums.{total_same, total_le, none_on, far_none, far_le, other_ne, beyond_next}
 use Rattle.std.proofs.Common.{append_assoc}
-use Rattle.snap_register.proofs.Keeps.{
-  turn,
-  turn_here,
-  turn_else,
-  pins_at,
-  pins_else,
-  register_stays,
-  pinned_stays,
-  seats_stay,
-  own_plan,
-}
+use Rattle.snap_register.proofs.Keeps.{turn, turn_here, turn_else, pins_at, pins_else, register_stays, pinned_stays, seats_stay}
+use Rattle.snap_register.proofs.Keeps.{own_plan}
 
 append_later : {A : Type 0} (a b c h h' : List A) → a ++ b ≡ h → h ++ c ≡ h' → a ++ (b ++ c) ≡ h'
 append_later a b c h h' e f = sym (append_assoc a b c) ∙ (ap (λ l. l ++ c) e ∙ f)

@@ -1,37 +1,6 @@
 -- The registers' history as updates of a memory: what a seat knows, in a caller's words.
-use Rattle.std.proofs.Common.{
-  ◌≡◌,
-  ◌≢◌,
-  ℕ,
-  zero,
-  suc,
-  ◌+◌,
-  ◌<◌,
-  ◌≤◌,
-  ◌==◌,
-  Bool,
-  true,
-  false,
-  cond,
-  List,
-  [],
-  ◌∷◌,
-  ◌++◌,
-  length,
-  get_or,
-  Some,
-  None,
-  slice_get,
-  refl,
-  ap,
-  sym,
-  subst,
-  ◌∙◌,
-  arith,
-  append_assoc,
-  eq-eqb,
-  ne_eqb,
-}
+use Rattle.std.proofs.Common.{◌≡◌, ◌≢◌, ℕ, zero, suc, ◌+◌, ◌<◌, ◌≤◌, ◌==◌, Bool, true, false, cond, List, [], ◌∷◌, ◌++◌, length, get_or}
+use Rattle.std.proofs.Common.{Some, None, slice_get, refl, ap, sym, subst, ◌∙◌, arith, append_assoc, eq-eqb, ne_eqb}
 use Rattle.std.specs.Prelude.{if◌then◌else◌}
 use Rattle.std.proofs.lemmas.List.{map-append, append-nil}
 use Rattle.std.proofs.lemmas.Option.{same_Some}
@@ -39,57 +8,19 @@ use mathlib.Core.List.{IsPrefix}
 use mathlib.Core.Logic.{dite}
 use native.Mathlib.Decide.{ℕ_discrete}
 use Rattle.atomic_table.specs.Seated.{TableId}
-use Rattle.snap_history.specs.History.{
-  Update,
-  IsBeginning,
-  updates_of,
-  last_value,
-  number_after,
-  value_after,
-}
+use Rattle.snap_history.specs.History.{Update, IsBeginning, updates_of, last_value, number_after, value_after}
 use Rattle.snap_register.specs.declared.plan.Entry.{Entry}
 use Rattle.snap_register.specs.declared.plan.Plan.{Plan}
 use Rattle.snap_register.specs.declared.plan.SeatView.{SeatView}
 use Rattle.snap_register.specs.declared.view.View.{View}
 use Rattle.snap_register.specs.declared.view.View.TheVariants.{Collected, Borrowed}
-use Rattle.snap_register.specs.History.{
-  entry,
-  only,
-  count,
-  number,
-  start_at,
-  memory,
-  record_words,
-  update_of,
-  updates,
-  starts,
-}
+use Rattle.snap_register.specs.History.{entry, only, count, number, start_at, memory, record_words, update_of, updates, starts}
 use Rattle.snap_register.specs.Rule.{segments, Has, IsLegal, Follows}
 use Rattle.snap_register.specs.Rule as rule
-use Rattle.snap_register.specs.Packing.{value_at, size_at, IsBlock, AreBlocks, IsRecord}
-use Rattle.snap_register.specs.Held.{
-  held,
-  view_in,
-  taken,
-  Readable,
-  CanTake,
-  MayTake,
-  IsPinned,
-  IsShown,
-}
-use Rattle.snap_register.specs.Seat.{
-  known,
-  looked,
-  IsBelow,
-  Grows,
-  Looks,
-  HasLooked,
-  HasFoundUpdate,
-  IsValue,
-  IsView,
-  MayPublish,
-  Shows,
-}
+use Rattle.snap_register.specs.Words.{value_at, size_at, IsBlock, AreBlocks, IsRecord}
+use Rattle.snap_register.specs.Held.{held, view_in, taken, Readable, CanTake, MayTake, IsPinned, IsShown}
+use Rattle.snap_register.specs.Seat.{known, looked, IsBelow, Grows, Looks, HasLooked, HasFoundUpdate, IsValue, IsView, MayPublish}
+use Rattle.snap_register.specs.Seat.{Shows}
 use Rattle.snap_register.proofs.Lines.{find, prefix_trans, count_push_same, record_prefix}
 use Rattle.snap_register.proofs.Blocks.{record_of}
 use Rattle.snap_register.proofs.Views.{viewed}

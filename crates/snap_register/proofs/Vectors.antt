@@ -2,7 +2,7 @@
 -- are filled up with zeros to eight.
 use Rattle.std.proofs.Common.{◌≡◌, ℕ, ◌+◌, ◌∷◌, [], refl}
 use Rattle.std.specs.Int.{w64, to_le_bytes}
-use Rattle.snap_register.specs.Packing.{words_for}
+use Rattle.snap_register.specs.Words.{words_for}
 
 -- b"snapshot"
 letters : to_le_bytes w64 8390039475830484595

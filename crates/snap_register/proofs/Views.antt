@@ -1,30 +1,11 @@
 -- What a published record holds: its number, its value and its view.
-use Rattle.std.proofs.Common.{
-  ◌≡◌,
-  ℕ,
-  zero,
-  suc,
-  ◌+◌,
-  ◌*◌,
-  ◌<◌,
-  ◌≤◌,
-  List,
-  [],
-  ◌∷◌,
-  length,
-  get_or,
-  ap,
-  subst,
-  ◌∙◌,
-  arith,
-  suc-mul,
-}
+use Rattle.std.proofs.Common.{◌≡◌, ℕ, zero, suc, ◌+◌, ◌*◌, ◌<◌, ◌≤◌, List, [], ◌∷◌, length, get_or, ap, subst, ◌∙◌, arith, suc-mul}
 use mathlib.Core.List.{IsPrefix}
 use Rattle.snap_register.specs.declared.plan.Entry.{Entry}
 use Rattle.snap_register.specs.declared.plan.Plan.{Plan}
 use Rattle.snap_register.specs.History.{entry, only, number, count, record_words, start_at, memory}
 use Rattle.snap_register.specs.Rule.{segments, width, Follows, IsLegal}
-use Rattle.snap_register.specs.Packing.{value_at, size_at, behind, IsBlock, AreBlocks}
+use Rattle.snap_register.specs.Words.{value_at, size_at, behind, IsBlock, AreBlocks}
 use Rattle.snap_register.specs.Held.{Readable}
 use Rattle.snap_register.specs.Setup.{IsSized}
 use Rattle.snap_register.proofs.Blocks.{behind_small, size_small}

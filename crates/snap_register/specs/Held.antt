@@ -1,19 +1,5 @@
 -- What the buffers hold that a seat pins.
-use Rattle.std.specs.Prelude.{
-  ◌≡◌,
-  ◌≢◌,
-  ℕ,
-  ◌+◌,
-  ◌<◌,
-  ◌≤◌,
-  ◌++◌,
-  List,
-  [],
-  ◌∷◌,
-  slice_index,
-  slice_set,
-  length,
-}
+use Rattle.std.specs.Prelude.{◌≡◌, ◌≢◌, ℕ, ◌+◌, ◌<◌, ◌≤◌, ◌++◌, List, [], ◌∷◌, slice_index, slice_set, length}
 use mathlib.Core.List.{IsPrefix}
 use Rattle.snap_register.specs.declared.plan.Entry.{Entry}
 use Rattle.snap_register.specs.declared.plan.Plan.{Plan}
@@ -21,17 +7,8 @@ use Rattle.snap_register.specs.declared.plan.Pool.{Pool}
 use Rattle.snap_register.specs.declared.plan.SeatView.{SeatView}
 use Rattle.snap_register.specs.declared.view.View.{View}
 use Rattle.snap_register.specs.declared.view.View.TheVariants.{Collected, Borrowed}
-use Rattle.snap_register.specs.History.{
-  entry,
-  sight,
-  only,
-  start_at,
-  record_words,
-  memory,
-  number,
-  count,
-}
-use Rattle.snap_register.specs.Packing.{block_at, size_at, value_at, behind, IsBlock}
+use Rattle.snap_register.specs.History.{entry, sight, only, start_at, record_words, memory, number, count}
+use Rattle.snap_register.specs.Words.{block_at, size_at, value_at, behind, IsBlock}
 use Rattle.snap_register.specs.Rule.{segments, buffers, width, IsBelow}
 
 -- the words of the record that the seat pins on the register j

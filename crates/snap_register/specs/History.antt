@@ -5,7 +5,7 @@ use Rattle.snap_register.specs.declared.plan.Entry.{Entry}
 use Rattle.snap_register.specs.declared.plan.Sight.{Sight}
 use Rattle.snap_register.specs.declared.plan.Start.{Start}
 use Rattle.snap_register.specs.declared.plan.Plan.{Plan}
-use Rattle.snap_register.specs.Packing.{value_at}
+use Rattle.snap_register.specs.Words.{value_at}
 
 abbrev pub entry : ℕ → List ℕ → Entry
 entry i ws = record { segment = i; words = ws }

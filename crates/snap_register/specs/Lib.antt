@@ -3,6 +3,6 @@ pub mod Rule
 pub mod Setup
 pub mod Seat
 pub mod Parts
-pub mod Packing
+pub mod Words
 pub mod Held
 pub mod Steps

@@ -1,11 +1,11 @@
 -- The seats of one opening.
 use Rattle.std.specs.Prelude.{◌≡◌, ℕ, ◌+◌, List, [], length, slice_get, Some}
 use Rattle.snap_history.specs.Limits.{IsNumber}
-use Rattle.snap_register.specs.declared.packing.TheConstants.{BLOCK_WORDS}
+use Rattle.snap_register.specs.declared.words.TheConstants.{BLOCK_WORDS}
 use Rattle.snap_register.specs.declared.plan.Opening.{Opening}
 use Rattle.snap_register.specs.declared.plan.Plan.{Plan}
 use Rattle.snap_register.specs.History.{starts}
-use Rattle.snap_register.specs.Packing.{IsBlock}
+use Rattle.snap_register.specs.Words.{IsBlock}
 use Rattle.snap_register.specs.Rule.{segments}
 use Rattle.snap_register.specs.Seat.{Known}
 use Rattle.atomic_table.specs.Seated.{TableId}

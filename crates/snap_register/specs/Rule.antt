@@ -1,30 +1,8 @@
 -- The rule of the registers' words, and what each step tells. Word i is the current word of the
 -- register i: its buffer, times 2^56, and the pins on it. Behind these lie the given-back counts,
 -- and behind these the buffers.
-use Rattle.std.specs.Prelude.{
-  ◌≡◌,
-  ℕ,
-  ◌+◌,
-  ◌-◌,
-  ◌*◌,
-  ◌/◌,
-  ◌^◌,
-  ◌<◌,
-  ◌≤◌,
-  ◌==◌,
-  ltb,
-  cond,
-  List,
-  [],
-  ◌∷◌,
-  ◌++◌,
-  length,
-  slice_index,
-  slice_set,
-  take,
-  true,
-  false,
-}
+use Rattle.std.specs.Prelude.{◌≡◌, ℕ, ◌+◌, ◌-◌, ◌*◌, ◌/◌, ◌^◌, ◌<◌, ◌≤◌, ◌==◌, ltb, cond, List, [], ◌∷◌, ◌++◌, length, slice_index}
+use Rattle.std.specs.Prelude.{slice_set, take, true, false}
 use mathlib.Core.Option.{some}
 use mathlib.Core.List.{IsPrefix}
 use lib.ListN.{get_elem?}
@@ -35,7 +13,7 @@ use Rattle.snap_register.specs.declared.plan.Plan.{Plan}
 use Rattle.snap_register.specs.declared.plan.Pool.{Pool}
 use Rattle.snap_register.specs.declared.plan.SeatView.{SeatView}
 use Rattle.snap_register.specs.History.{entry, sight, only, count, number, record_words, memory}
-use Rattle.snap_register.specs.Packing.{value_at, IsRecord}
+use Rattle.snap_register.specs.Words.{value_at, IsRecord}
 
 abbrev pub segments : Plan → ℕ
 segments p = length p.start

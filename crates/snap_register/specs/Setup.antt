@@ -1,25 +1,9 @@
 -- What a seat keeps of its table, and the table's plan.
-use Rattle.std.specs.Prelude.{
-  ◌≡◌,
-  ℕ,
-  ◌+◌,
-  ◌*◌,
-  ◌^◌,
-  ◌<◌,
-  ◌≤◌,
-  List,
-  [],
-  ◌++◌,
-  length,
-  slice_index,
-  map,
-  replicate,
-  false,
-}
+use Rattle.std.specs.Prelude.{◌≡◌, ℕ, ◌+◌, ◌*◌, ◌^◌, ◌<◌, ◌≤◌, List, [], ◌++◌, length, slice_index, map, replicate, false}
 use Rattle.std.specs.List.{flat_map}
 use Rattle.snap_history.specs.Limits.{IsNumber}
 use Rattle.snap_history.specs.declared.limits.TheConstants.{MAX_COUNT}
-use Rattle.snap_register.specs.declared.packing.TheConstants.{BLOCK_WORDS}
+use Rattle.snap_register.specs.declared.words.TheConstants.{BLOCK_WORDS}
 use Rattle.snap_history.specs.declared.limits.TheConstants.{MAX_SCANNERS}
 use Rattle.snap_register.specs.declared.setup.Setup.{Setup}
 use Rattle.snap_register.specs.declared.plan.Opening.{Opening}
@@ -29,7 +13,7 @@ use Rattle.snap_register.specs.declared.plan.Pool.{Pool}
 use Rattle.snap_register.specs.declared.plan.SeatView.{SeatView}
 use Rattle.atomic_table.specs.Table.{Me}
 use Rattle.snap_register.specs.History.{start_at, count, number}
-use Rattle.snap_register.specs.Packing.{value_at, IsBlock}
+use Rattle.snap_register.specs.Words.{value_at, IsBlock}
 use Rattle.snap_register.specs.Held.{Readable}
 use Rattle.snap_register.specs.Rule.{segments, seats, buffers, width, size, IsWriter}
 

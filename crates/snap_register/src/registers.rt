@@ -3,15 +3,15 @@ ghost use Rattle.std.specs.Prelude.{◌≡◌, ℕ, ◌^◌, ◌<◌, ◌≤◌,
 ghost use Rattle.atomic_table.specs.Seated.{TableId};
 ghost use Rattle.snap_history.specs.Limits.{IsNumber, IsShort};
 ghost use Rattle.snap_history.specs.declared.limits.TheConstants.{MAX_COUNT};
-ghost use Rattle.snap_register.specs.declared.packing.TheConstants.{BLOCK_WORDS};
+ghost use Rattle.snap_register.specs.declared.words.TheConstants.{BLOCK_WORDS};
 ghost use Rattle.snap_history.specs.declared.limits.TheConstants.{MAX_SCANNERS};
 ghost use Rattle.snap_register.specs.declared.plan.Plan.{Plan};
-ghost use Rattle.snap_register.specs.Packing.{value_at, IsBlock};
+ghost use Rattle.snap_register.specs.Words.{value_at, IsBlock};
 ghost use Rattle.snap_register.specs.Parts.{IsOpening, AreWriters, AreReaders};
 
-use crate::opening::{Parts, open};
-use crate::packing::{BLOCK_WORDS, VALUE_WORDS, word_of};
 use crate::plan::Opening;
+use crate::tables::{Parts, open};
+use crate::words::{BLOCK_WORDS, VALUE_WORDS, word_of};
 use snap_history::MAX_VALUE_LEN;
 use std::alloc::{AllocError, Global};
 

@@ -8,11 +8,11 @@ use Rattle.snap_segment.specs.Segment.{SegmentState, IsKept}
 use Rattle.snap_history.specs.History.{Update, IsBeginning, updates_of}
 use Rattle.snap_history.specs.Pairs.{Pairs}
 use Rattle.snap_history.proofs.Beginnings.{beginning-self, beginning-trans, number-beginning}
-use Rattle.snap_history.proofs.Pairing.{partner, element, Pairs-right}
+use Rattle.snap_history.proofs.Pairs.{partner, element, Pairs-right}
 use Rattle.snap_register.specs.History.{starts}
 use Rattle.snap_register.specs.Seat.{Known, Grows, AreTogether, number_in, value_in}
-use Rattle.snap_memory.proofs.Gathering.{grows_self, grows_more}
-use Rattle.snap_memory.proofs.Answering.{same_value}
+use Rattle.snap_memory.proofs.Collects.{grows_self, grows_more}
+use Rattle.snap_memory.proofs.ScanAnswer.{same_value}
 use Rattle.snap_writer.specs.Writer.{WriterState, number_of, value_of}
 use Rattle.snap_writer.proofs.Shown.{number_grown, value_grown}
 use Rattle.snap_restart.specs.Closed.{AreBack, IsHistory, HoldsAfter, HasMet, IsTold, Rests}

@@ -11,7 +11,7 @@ use Rattle.snap_writer.specs.Writer.{WriterState}
 use Rattle.snap_writer.specs.Life.{Place, CrashLeaves}
 use Rattle.snap_cut.specs.Crash.{Begun, KeepMemory}
 use Rattle.snap_cut.specs.Laws.{IsSeatOf}
-use Rattle.snap_restart.specs.Crashing.{IsLifeFrom, AllHonest, GoesOn, AreOpened, StayKept}
+use Rattle.snap_restart.specs.Crash.{IsLifeFrom, AllHonest, GoesOn, AreOpened, StayKept}
 
 module _ {D : Type 0} (device : D → Device) (honest : D → Type 0) (clock : D → ℕ)
     (might_have_left : D → ℕ → List ℕ → Type 0) where

@@ -2,14 +2,14 @@
 //! at once. Nothing is served that was not recovered from every file and synced.
 #![tactic(auto)]
 
-mod closing;
+mod files;
 mod keep;
 mod laws;
-mod opening;
 mod report;
+mod shutdown;
 mod store;
 
+pub use files::Stopped;
 pub use laws::restart_laws;
-pub use opening::Stopped;
 pub use report::{Recovered, Report};
 pub use store::{LOOKS, Store, open_all};

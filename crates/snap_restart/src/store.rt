@@ -30,13 +30,13 @@ ghost use Rattle.snap_writer.specs.Writer.{IsPaired};
 ghost use Rattle.snap_restart.specs.Closed.{AreBack, IsHistory, HoldsAfter};
 ghost use Rattle.snap_restart.specs.Opened.{IsOpened, IsStopped, AreFresh, Starts};
 ghost use Rattle.snap_restart.specs.Opened.{recovered, contents};
-ghost use Rattle.snap_restart.specs.Crashing.{AreOpened, StayKept, AnyCut};
-ghost use Rattle.snap_restart.specs.Staying.{AllStays};
+ghost use Rattle.snap_restart.specs.Crash.{AreOpened, StayKept, AnyCut};
+ghost use Rattle.snap_restart.specs.Durability.{AllStays};
 
-use crate::closing::{gather, release_all};
+use crate::files::{Stopped, open_segments, release};
 use crate::keep::keep;
-use crate::opening::{Stopped, open_segments, release};
 use crate::report::{Recovered, Report};
+use crate::shutdown::{gather, release_all};
 use snap_disk::{Disk, Refusal};
 use snap_memory::Scanner;
 use snap_register::{Parts, ReadSeat, Registers, WriteSeat};

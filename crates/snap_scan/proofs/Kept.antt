@@ -1,68 +1,19 @@
 -- What a machine that was told one more number stands for.
-use Rattle.std.proofs.Common.{
-  ◌≡◌,
-  ◌≢◌,
-  ℕ,
-  ◌+◌,
-  ◌-◌,
-  ◌*◌,
-  ◌<◌,
-  ◌≤◌,
-  ◌⊎◌,
-  inl,
-  inr,
-  Bool,
-  true,
-  false,
-  List,
-  [],
-  ◌∷◌,
-  ◌++◌,
-  length,
-  slice_index,
-  slice_set,
-  refl,
-  ap,
-  sym,
-  ◌∙◌,
-  subst,
-  arith,
-}
+use Rattle.std.proofs.Common.{◌≡◌, ◌≢◌, ℕ, ◌+◌, ◌-◌, ◌*◌, ◌<◌, ◌≤◌, ◌⊎◌, inl, inr, Bool, true, false, List, [], ◌∷◌, ◌++◌, length}
+use Rattle.std.proofs.Common.{slice_index, slice_set, refl, ap, sym, ◌∙◌, subst, arith}
 use Rattle.std.specs.Prelude.{nat_lt, IsTrue, MatchBool, ◌↔◌, not, ◌==◌, ◌||◌, if◌then◌else◌}
 use Rattle.std.proofs.Math.Nat.{mul-le-mul_left}
-use Rattle.std.proofs.lemmas.List.{
-  length_push,
-  get_or_push,
-  get_or_append_left,
-  get_or-set_same,
-  get_or-set_other,
-  length-set,
-}
+use Rattle.std.proofs.lemmas.List.{length_push, get_or_push, get_or_append_left, get_or-set_same, get_or-set_other, length-set}
 use Rattle.std.proofs.lemmas.Bool.{cases_lt, cases_eq}
 use Rattle.std.proofs.lemmas.Bool.Decides.{nat_tests}
 use Rattle.snap_scan.specs.Looks.{IsNoFall}
 use Rattle.std.proofs.Math.Logic.{∥∥₁_elim}
 use Rattle.std.proofs.Props.{props}
-use Rattle.snap_scan.specs.Stands.{
-  StandsFor,
-  MayTell,
-  IsLooking,
-  IsUndecided,
-  IsRising,
-  AllLow,
-  Same,
-  IsChanged,
-}
+use Rattle.snap_scan.specs.Stands.{StandsFor, MayTell, IsLooking, IsUndecided, IsRising, AllLow, Same, IsChanged}
 use Rattle.snap_scan.specs.declared.machine.Machine.{Machine}
 use Rattle.snap_scan.specs.declared.next.Next.TheVariants.{Look, Clean, Borrow}
 use Rattle.snap_scan.proofs.Places.{same_collect, same_segment}
-use Rattle.snap_scan.proofs.Tell.{
-  low_push,
-  rising_push,
-  undecided_push,
-  undecided_before,
-  changed_push,
-}
+use Rattle.snap_scan.proofs.Tell.{low_push, rising_push, undecided_push, undecided_before, changed_push}
 use Rattle.snap_scan.proofs.Verdict.{look-next, looks-lt}
 
 -- the first numbers after a look

@@ -1,42 +1,11 @@
 -- What a list of looks says, and that its verdicts exclude each other.
-use Rattle.std.proofs.Common.{
-  ◌≡◌,
-  ◌≢◌,
-  ℕ,
-  zero,
-  suc,
-  ◌+◌,
-  ◌-◌,
-  ◌*◌,
-  ◌<◌,
-  ◌≤◌,
-  inl,
-  inr,
-  List,
-  length,
-  take,
-  slice_index,
-  refl,
-  ap,
-  sym,
-  ◌∙◌,
-  subst,
-  arith,
-}
+use Rattle.std.proofs.Common.{◌≡◌, ◌≢◌, ℕ, zero, suc, ◌+◌, ◌-◌, ◌*◌, ◌<◌, ◌≤◌, inl, inr, List, length, take, slice_index, refl, ap, sym}
+use Rattle.std.proofs.Common.{◌∙◌, subst, arith}
 use Rattle.std.proofs.Math.Nat.{mul-le-mul_left}
 use Rattle.std.proofs.lemmas.List.{length-take-le, get_or-take}
 use Rattle.snap_scan.specs.Looks.{IsClean, IsBorrow, IsDecided}
 use Rattle.snap_scan.specs.Course.{IsNext}
-use Rattle.snap_scan.specs.Stands.{
-  StandsFor,
-  Says,
-  IsLooking,
-  IsUndecided,
-  IsRising,
-  IsFirst,
-  AllLow,
-  Same,
-}
+use Rattle.snap_scan.specs.Stands.{StandsFor, Says, IsLooking, IsUndecided, IsRising, IsFirst, AllLow, Same}
 use Rattle.snap_scan.specs.declared.machine.Machine.{Machine}
 use Rattle.snap_scan.specs.declared.next.Next.{Next}
 use Rattle.snap_scan.specs.declared.next.Next.TheVariants.{Look, Clean, Borrow}

@@ -1,18 +1,5 @@
 -- Which numbers a scan's machine was told. It keeps only the first looks and the latest ones.
-use Rattle.std.specs.Prelude.{
-  ◌≡◌,
-  ℕ,
-  ◌+◌,
-  ◌*◌,
-  ◌<◌,
-  ◌≤◌,
-  List,
-  length,
-  slice_index,
-  Bool,
-  true,
-  false,
-}
+use Rattle.std.specs.Prelude.{◌≡◌, ℕ, ◌+◌, ◌*◌, ◌<◌, ◌≤◌, List, length, slice_index, Bool, true, false}
 use Rattle.snap_scan.specs.Looks.{IsClean, IsBorrow, IsNoFall}
 use Rattle.snap_scan.specs.declared.limits.TheConstants.{MAX_SEGMENTS}
 use Rattle.snap_scan.specs.declared.machine.Machine.{Machine}

@@ -19,14 +19,25 @@
 //! and specs/Course.antt what callers see of a scan: how many segments, the numbers told, what
 //! comes next, and how the last follows from the others. A scan keeps only its first looks and its
 //! latest ones; the list stands in proofs alone, and takes no memory.
+//!
+//! Why the answer is the memory of one moment is a law here, [`collect_laws`]. A scan looks at one
+//! segment after the other while writers go on, and each look tells the number that the segment has at
+//! that moment. Two collects with equal numbers have a moment between them at which each segment had just
+//! these numbers, so the entries that were seen with them are those of that moment. A segment whose number
+//! rose by two since the scan's first look began its last update after the scan did, so the moment that
+//! this update's own scan answered lies inside, too. specs/Collects.antt and specs/Laws.antt speak of any
+//! numbers and entries by moments, and of no register: those who keep one history in a list and those who
+//! share one between threads bring their own.
 #![tactic(auto)]
 
+mod laws;
 mod limits;
 mod machine;
 mod next;
 mod scan;
 mod told;
 
+pub use laws::collect_laws;
 pub use limits::{MAX_SEGMENTS, most_looks};
 pub use next::Next;
 pub use scan::Scan;

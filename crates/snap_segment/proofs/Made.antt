@@ -5,7 +5,7 @@ use Rattle.snap_disk.specs.Device.{Device, part, IsWritten}
 use Rattle.snap_disk.specs.Laws.{part_kept, index-part, part-cons}
 use Rattle.snap_slot.specs.Layout.{header_front, slots_of, fresh_file}
 use Rattle.snap_slot.specs.States.{IsPrepared}
-use Rattle.snap_segment.specs.Making.{new_file}
+use Rattle.snap_segment.specs.Creation.{new_file}
 
 -- a file is what stands before its header's gate, that gate, and what stands behind it
 in_three : (b : List ℕ) → length b ≡ 28672

@@ -24,14 +24,14 @@ ghost use Rattle.snap_slot.specs.Layout.{IsUnformatted, IsFormatted};
 ghost use Rattle.snap_slot.specs.States.{IsAtRest};
 ghost use Rattle.snap_old_slot.specs.declared.layout.TheConstants.{OLD_FILE_LEN};
 ghost use Rattle.snap_old_slot.specs.Old.{OldHead, OldHolds};
-ghost use Rattle.snap_old_slot.specs.Reading.{IsOldFound, IsNoOldOpening};
+ghost use Rattle.snap_old_slot.specs.Found.{IsOldFound, IsNoOldOpening};
 ghost use Rattle.snap_segment.specs.Refusals.{IsMigrationRefusal};
 ghost use Rattle.snap_segment.specs.Segment.{CountsRefusal};
-ghost use Rattle.snap_segment.specs.Making.{IsMadeOrLeft, new_file};
+ghost use Rattle.snap_segment.specs.Creation.{IsMadeOrLeft, new_file};
 ghost use Rattle.snap_segment.specs.Migration.{CountsFault, IsRead};
 
-use crate::making::make_file;
-use crate::opening::read_all;
+use crate::creation::make_file;
+use crate::recovery::read_all;
 use snap_disk::{Disk, Refusal};
 use snap_old_slot::{OLD_FILE_LEN, OldFound, recover_old};
 use snap_slot::FILE_LEN;

@@ -5,7 +5,7 @@ use Rattle.snap_disk.specs.declared.disk.Disk as Disk
 use Rattle.snap_history.specs.Pairs.{Pairs}
 use Rattle.snap_writer.specs.Writer.{WriterState}
 use Rattle.snap_restart.specs.Opened.{IsOpened, recovered}
-use Rattle.snap_restart.specs.Crashing.{AreOpened}
+use Rattle.snap_restart.specs.Crash.{AreOpened}
 use Rattle.snap_restart.specs.declared.report.Report.{Report}
 use Rattle.snap_serve.specs.declared.failure.HostFailure.TheVariants.{Refused, NoMemory, Address}
 use Rattle.snap_serve.specs.declared.failure.HostFailure.TheVariants.{Output, Server}

@@ -20,10 +20,10 @@ use Rattle.snap_order.specs.declared.status.Exit.{Exit}
 use Rattle.snap_order.specs.declared.status.Status.{Status}
 use Rattle.snap_order.specs.declared.status.Status.TheVariants as status
 use Rattle.snap_restart.specs.Opened.{IsOpened, IsStopped, recovered}
-use Rattle.snap_restart.specs.Crashing.{AreOpened, StayKept}
+use Rattle.snap_restart.specs.Crash.{AreOpened, StayKept}
 use Rattle.snap_restart.specs.Report.{report_text}
 use Rattle.snap_restart.specs.declared.report.Report.{Report}
-use Rattle.snap_server.specs.Dealing.{GivesSoMany}
+use Rattle.snap_server.specs.Deals.{GivesSoMany}
 use Rattle.snap_server.specs.declared.listen.Arrival.{Arrival}
 use Rattle.snap_server.specs.declared.listen.Listen as Listen
 use Rattle.snap_server.specs.declared.listen.Locate as Locate

@@ -5,17 +5,16 @@ ghost use Rattle.snap_service.specs.Memory.{AreWriters, IsOf};
 ghost use Rattle.snap_restart.specs.Closed.{AreBack};
 ghost use Rattle.snap_serve.specs.Scanners.{AreScanners};
 ghost use Rattle.snap_server.specs.Announced.{Announced};
-ghost use Rattle.snap_server.specs.Dealing.{GivesSoMany};
+ghost use Rattle.snap_server.specs.Deals.{GivesSoMany};
 
 use crate::watch::Watch;
-use snap_desk::{Desk, Outcome, StoreThread, Told, Window};
+use snap_desk::{Desk, Outcome, StoreThread, Window};
 use snap_disk::{Disk, Refusal};
 use snap_memory::{Scanner, Snapshot};
 use snap_restart::Store;
-use snap_server::{
-    Announce, Background, Done, Gate, Limits, Listen, Note, RunFault, ServerFault, run,
-};
+use snap_server::{Announce, Gate, Limits, Listen, Note, RunFault, ServerFault, run};
 use snap_service::{Memory, WriterOf, name_writers};
+use snap_session::{Background, Done};
 use snap_writer::Writer;
 use std::alloc::{AllocError, Global};
 use std::marker::Brand;
@@ -38,19 +37,11 @@ impl<R: Wait + Copy, M: Memory, D: Disk + Drop, H: Watch + Drop> Background
     type Outcome = Outcome<R, M, D>;
 
     fn next_done(&mut self) -> Option<Done<Outcome<R, M, D>>> {
-        let Told {
-            worker,
-            key,
-            outcome,
-        } = self.store.next()?;
-        if outcome.told() == Err(Refusal::DeviceFailed) {
-            self.watch.unstored(self.segment, outcome.number());
+        let done = self.store.next()?;
+        if done.outcome.told() == Err(Refusal::DeviceFailed) {
+            self.watch.unstored(self.segment, done.outcome.number());
         }
-        Some(Done {
-            worker,
-            key,
-            outcome,
-        })
+        Some(done)
     }
 }
 
@@ -157,41 +148,6 @@ where
     Ok((desks, stores))
 }
 
-/// Serves by these desks and stores, as [`run`] does.
-fn serve_parts<M, X, D, L, G, N, H, A, T>(
-    rt: &X,
-    alloc: Global,
-    parts: (Vec<Desk<X, M, D>>, Vec<Storing<X, M, D, H>>),
-    listener: L,
-    limits: Limits,
-    gate: &G,
-    note: &N,
-    announce: &A,
-    to: &mut T,
-) -> Result<u64, RunFault>
-where
-    M: Memory + Send,
-    X: Threads + Wait + Clock + Net + Sync + Send + Copy,
-    D: Disk + Send + Drop,
-    L: Listen + Drop,
-    G: Gate + Sync,
-    N: Fn(&Note) + Sync,
-    H: Watch + Send + Drop,
-    A: Announce<T>,
-    requires note { N.IsAlwaysCallable note.now }
-    ensures asked { IfOk result (λ k. limits.connections ≡ Some k) }
-    ensures accepted { IfOk result (λ k. (left : L) × GivesSoMany L.accepts k listener left) }
-    ensures deaf { IfErr result (λ why.
-        why ≡ RunFault.Server ServerFault.AcceptFailed → L.refuses listener) }
-    ensures announced { Announced (A.announces announce.now) (A.fails announce.now)
-        to.old result to.new }
-{
-    let (desks, stores) = parts;
-    run(
-        rt, alloc, listener, desks, stores, limits, gate, note, announce, to,
-    )
-}
-
 /// Serves the memory of these writers and scanners, as [`run`] does.
 fn serve_memory<M, X, D, L, G, N, H, A, T>(
     rt: &X,
@@ -226,7 +182,9 @@ where
         to.old result to.new }
 {
     match open_parts::<M, X, D, H>(*rt, alloc, writers, scanners, watch) {
-        Ok(parts) => serve_parts(rt, alloc, parts, listener, limits, gate, note, announce, to),
+        Ok((desks, stores)) => run(
+            rt, alloc, listener, desks, stores, limits, gate, note, announce, to,
+        ),
         Err(fault) => Err(RunFault::Server(fault)),
     }
 }

@@ -7,12 +7,6 @@ pub trait Watch {
     fn unstored(&self, segment: usize, number: u64);
 }
 
-impl<W: Watch> Watch for &W {
-    fn unstored(&self, segment: usize, number: u64) {
-        W::unstored(*self, segment, number);
-    }
-}
-
 /// Watches nothing.
 #[derive(Clone, Copy, Drop)]
 pub struct NoWatch;

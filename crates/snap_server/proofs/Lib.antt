@@ -1,6 +1,6 @@
-mod Sharing
-mod Listing
-mod Turning
+mod SharedService
+mod TurnList
+mod Turns
 mod Round
 mod Made
-mod Dealing
+mod Deals

@@ -1,45 +1,11 @@
 -- How a round gives each connection of the list one turn.
-use Rattle.std.proofs.Common.{
-  ◌≡◌,
-  ◌≢◌,
-  ◌⊎◌,
-  ℕ,
-  ◌+◌,
-  ◌<◌,
-  List,
-  [],
-  ◌∷◌,
-  ◌++◌,
-  length,
-  take,
-  drop,
-  get_or,
-  length-take,
-  append-nil,
-  append_assoc,
-  Option,
-  Some,
-  None,
-  IsSome,
-  inl,
-  inr,
-  refl,
-  sym,
-  ◌∙◌,
-  ap,
-  subst,
-  arith,
-  Contains,
-}
+use Rattle.std.proofs.Common.{◌≡◌, ◌≢◌, ◌⊎◌, ℕ, ◌+◌, ◌<◌, List, [], ◌∷◌, ◌++◌, length, take, drop, get_or, length-take, append-nil}
+use Rattle.std.proofs.Common.{append_assoc, Option, Some, None, IsSome, inl, inr, refl, sym, ◌∙◌, ap, subst, arith, Contains}
 use mathlib.Core.Logic.{∥∥₁_elim}
 use mathlib.Core.HLevel.{⊥_prop}
 use Rattle.std.proofs.lemmas.Bool.{cases_eq}
 use Rattle.std.proofs.lemmas.List.{get_or-take, get_or_default, drop_more, take_more, take_all}
-use Rattle.std.proofs.lemmas.List.Elements.{
-  Contains-append_left,
-  Contains-push,
-  Contains-push_cases,
-}
+use Rattle.std.proofs.lemmas.List.Elements.{Contains-append_left, Contains-push, Contains-push_cases}
 use Rattle.slab.specs.Slab.{Slab, get}
 use Rattle.slab.proofs.SlabLemmas.{Contains-cons, Contains-cons_cases}
 use Rattle.snap_frame.specs.declared.request.Request.{Request}
@@ -49,10 +15,10 @@ use Rattle.snap_session.proofs.Runs.{moves_joins}
 use Rattle.snap_server.specs.declared.connection.Connection.{Connection}
 use Rattle.snap_server.specs.declared.connection.Stage.{Stage}
 use Rattle.snap_server.specs.declared.connection.Stage.TheVariants.{Idle, Listed, Over}
-use Rattle.snap_server.specs.Listing.{Lists, KeepsOthers, again_behind}
+use Rattle.snap_server.specs.TurnList.{Lists, KeepsOthers, again_behind}
 use Rattle.snap_server.specs.Scene.{scene}
-use Rattle.snap_server.specs.Turning.{HadRounds, HadTurn, HadItsTurn}
-use Rattle.snap_server.proofs.Listing.{same_value}
+use Rattle.snap_server.specs.Turns.{HadRounds, HadTurn, HadItsTurn}
+use Rattle.snap_server.proofs.TurnList.{same_value}
 
 -- a key is on a list or not
 contains_or : (keys : List ℕ) (key : ℕ) → Contains keys key ⊎ (Contains keys key → ⊥)

@@ -1,16 +1,5 @@
 -- Whether a server was announced, by how it ended.
-use Rattle.std.specs.Prelude.{
-  ◌≡◌,
-  ◌&&◌,
-  ℕ,
-  Bool,
-  true,
-  false,
-  if◌then◌else◌,
-  Result,
-  Ok,
-  Err,
-}
+use Rattle.std.specs.Prelude.{◌≡◌, ◌&&◌, ℕ, Bool, true, false, if◌then◌else◌, Result, Ok, Err}
 use Rattle.snap_server.specs.declared.fault.RunFault.{RunFault}
 use Rattle.snap_server.specs.declared.fault.RunFault.TheVariants.{Server, Announcement}
 use Rattle.snap_server.specs.declared.fault.ServerFault.TheVariants as faults

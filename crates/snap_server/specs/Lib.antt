@@ -1,8 +1,8 @@
-pub mod Dealing
+pub mod Deals
 pub mod Scene
-pub mod Sharing
-pub mod Listing
-pub mod Standing
-pub mod Turning
+pub mod SharedService
+pub mod TurnList
+pub mod Stages
+pub mod Turns
 pub mod Announced
-pub mod Working
+pub mod Work

@@ -1,7 +1,7 @@
 //! One connection of a worker.
 ghost use Rattle.std.specs.Prelude.{◌≡◌, ◌↔◌, ◌≤◌, None, OnSome, IfSome, IsSome, length, true, false};
-ghost use Rattle.snap_session.specs.Talk.{Stays, HoldsFrameAnd, start, most_owed};
-ghost use Rattle.snap_session.specs.Turns.{Turns, StandsAt, TakesRounds};
+ghost use Rattle.snap_session.specs.Talk.{HoldsFrameAnd, start, most_owed};
+ghost use Rattle.snap_session.specs.Turns.{StandsAt, TakesRounds};
 ghost use Rattle.snap_server.specs.Scene.{scene};
 ghost use Rattle.snap_server.specs.declared.connection.TheConstants.{PIECE};
 
@@ -64,8 +64,9 @@ pub struct Connection {
 }
 
 impl Connection {
-    ghost use Rattle.snap_server.specs.Listing.{enlisted};
-    ghost use Rattle.snap_server.specs.Standing.{MayEnd};
+    ghost use Rattle.snap_server.specs.SharedService.{IsTurn};
+    ghost use Rattle.snap_server.specs.TurnList.{enlisted};
+    ghost use Rattle.snap_server.specs.Stages.{MayEnd};
 
     /// Nothing came yet and nothing is owed.
     pub fn new(alloc: Global, arrival: Arrival) -> Connection
@@ -121,7 +122,7 @@ impl Connection {
         key: usize,
         piece: &mut [u8; PIECE],
     ) -> Turn
-        ensures goes { Turns Stays S.gives service.old service.new self.old.session None None None None self.new.session }
+        ensures goes { IsTurn S.gives service.old service.new self.old.session self.new.session }
         ensures stands { StandsAt result self.new.session None }
         ensures bounded { length self.old.session.owed ≤ most_owed → length self.new.session.owed ≤ most_owed }
         ensures under { self.old.session.asked ≡ None
@@ -149,7 +150,7 @@ impl Connection {
     pub fn take_outcome<S: Service>(&mut self, service: &mut S, outcome: S::Outcome) -> bool
     where
         S::Outcome: Drop,
-        ensures goes { Turns Stays S.gives service.old service.new self.old.session None None None None self.new.session }
+        ensures goes { IsTurn S.gives service.old service.new self.old.session self.new.session }
         ensures answered { self.old.session.over ≡ None → self.new.session.asked ≡ None }
         ensures held { self.new.session.held ≡ self.old.session.held }
         ensures nobody { self.old.session.asked ≡ None → self.new.session ≡ self.old.session }

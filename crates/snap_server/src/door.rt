@@ -7,7 +7,8 @@ use crossbeam_channel::{Receiver, SendError, Sender, unbounded};
 use mio::Waker;
 use std::alloc::{AllocError, Global};
 use std::rt::Clock;
-use std::sync::Wait;
+use std::sync::atomic::{AtomicBool, Ordering};
+use std::sync::{Arc, Wait};
 use std::thread;
 use std::time::Duration;
 
@@ -43,11 +44,16 @@ pub trait Hand {
 
 /// Where connections and mail for a worker are put, apart, so that no outcome waits behind those that
 /// arrive. A wake is lost once its waker is dropped, so a door outlives its worker.
+///
+/// A wake is a call of the system, and a worker that doesn't sleep needs none: it looks into its inbox by
+/// itself. So before a worker sleeps it says so, and then looks once more; and who puts something here asks
+/// afterwards whether it sleeps. In whichever order the two come, one of them sees what the other did.
 #[derive(Drop)]
 pub struct Door<O: Drop> {
     arrivals: Sender<Arrival>,
     mail: Sender<Mail<O>>,
     waker: Waker,
+    sleeps: Arc<AtomicBool, Global>,
     /// Whose door it is: the place of its worker. Only clauses read it.
     place: usize,
 }
@@ -57,6 +63,8 @@ pub struct Door<O: Drop> {
 pub struct Inbox<O: Drop> {
     pub arrivals: Receiver<Arrival>,
     pub mail: Receiver<Mail<O>>,
+    /// Whether its worker sleeps, or is about to.
+    sleeps: Arc<AtomicBool, Global>,
     /// The place of the worker that has it. Only clauses read it.
     place: usize,
 }
@@ -69,18 +77,54 @@ impl<O: Drop> Door<O> {
     {
         let (arrivals, arrived) = unbounded(alloc)?;
         let (mail, came) = unbounded(alloc)?;
+        let sleeps = Arc::new(alloc, AtomicBool::new(false))?;
+        let inbox = Inbox {
+            arrivals: arrived,
+            mail: came,
+            sleeps: Arc::try_clone(&sleeps)?,
+            place,
+        };
         let door = Door {
             arrivals,
             mail,
             waker,
-            place,
-        };
-        let inbox = Inbox {
-            arrivals: arrived,
-            mail: came,
+            sleeps,
             place,
         };
         Ok((door, inbox))
+    }
+
+    /// Wakes the worker, if it sleeps; `false` where that was refused.
+    fn wake(&self) -> bool {
+        !self.sleeps.load(Ordering::SeqCst) || self.waker.wake().is_ok()
+    }
+}
+
+impl<O: Drop> Inbox<O> {
+    /// Whether something lies in it.
+    pub fn has_some(&self) -> bool {
+        !self.mail.is_empty() || self.has_arrivals()
+    }
+
+    /// Whether connections lie in it.
+    pub fn has_arrivals(&self) -> bool {
+        !self.arrivals.is_empty()
+    }
+
+    /// Says that its worker is about to sleep, and then looks whether something lies in it. Then the worker
+    /// may not, and is awake.
+    pub fn may_sleep(&self) -> bool {
+        self.sleeps.store(true, Ordering::SeqCst);
+        if self.has_some() {
+            self.is_awake();
+            return false;
+        }
+        true
+    }
+
+    /// Says that its worker sleeps no more.
+    pub fn is_awake(&self) {
+        self.sleeps.store(false, Ordering::SeqCst);
     }
 }
 
@@ -91,11 +135,11 @@ impl<O: Drop> Hand for Door<O> {
     ghost takes = { λ _ _. Unit {0} };
 
     fn hand<X: Wait + Clock>(&self, rt: &X, arrival: Arrival) -> bool {
-        sent(rt, &self.arrivals, arrival) && self.waker.wake().is_ok()
+        sent(rt, &self.arrivals, arrival) && self.wake()
     }
 
     fn post<X: Wait + Clock>(&self, rt: &X, mail: Mail<O>) -> bool {
-        sent(rt, &self.mail, mail) && self.waker.wake().is_ok()
+        sent(rt, &self.mail, mail) && self.wake()
     }
 }
 

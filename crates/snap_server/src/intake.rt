@@ -1,6 +1,6 @@
 //! Takes connections from a listener, while there is room for them.
 ghost use Rattle.std.specs.Prelude.{◌≡◌, ◌⊎◌, IfErr, IfNone, IfOk, IfSome, Ok, Err};
-ghost use Rattle.snap_server.specs.Dealing.{AsksInVain, Gives};
+ghost use Rattle.snap_server.specs.Deals.{AsksInVain, Gives};
 
 use crate::listen::{Arrival, Listen, Unaccepted};
 use crate::note::Note;

@@ -3,11 +3,10 @@ ghost use Rattle.std.specs.Prelude.{◌≡◌, ◌⊎◌, [], All, IfOk, IfErr, 
 ghost use Rattle.std.specs.List.{range_with_len};
 ghost use Rattle.std.specs.Thread.{IsSync, IsSend};
 ghost use Rattle.snap_server.specs.Announced.{Announced, end_of, was_announced};
-ghost use Rattle.snap_server.specs.Dealing.{Deals, GivesSoMany};
+ghost use Rattle.snap_server.specs.Deals.{Deals, GivesSoMany};
 
-use crate::accepting::Dealer;
+use crate::acceptor::Dealer;
 use crate::announce::Announce;
-use crate::background::Background;
 use crate::door::{Door, Hand, Mail};
 use crate::fault::{RunFault, ServerFault};
 use crate::gate::{Gate, Gated};
@@ -16,9 +15,9 @@ use crate::listen::Listen;
 use crate::note::Note;
 use crate::room::Room;
 use crate::silence::Silence;
+use crate::threads::{Work, have_served, start_backgrounds, start_workers};
 use crate::worker::Worker;
-use crate::working::{Work, have_served, start_backgrounds, start_workers};
-use snap_session::Service;
+use snap_session::{Background, Service};
 use std::alloc::Global;
 use std::net::Net;
 use std::rt::Clock;

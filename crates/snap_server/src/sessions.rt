@@ -5,11 +5,11 @@ ghost use Rattle.std.specs.VecDeque.{deque_len, deque_capacity};
 ghost use Rattle.std.specs.List.{Contains};
 ghost use Rattle.slab.specs.Slab.{get, slab_len, SameValues};
 ghost use Rattle.snap_session.specs.Talk.{Talk, Moves, start};
-ghost use Rattle.snap_server.specs.Sharing.{AreSessions, IsTurn};
-ghost use Rattle.snap_server.specs.Listing.{Lists, enlisted, listed_behind, again_behind, KeepsOthers};
+ghost use Rattle.snap_server.specs.SharedService.{AreSessions, IsTurn};
+ghost use Rattle.snap_server.specs.TurnList.{Lists, enlisted, listed_behind, again_behind, KeepsOthers};
 ghost use Rattle.snap_server.specs.Scene.{scene};
-ghost use Rattle.snap_server.specs.Standing.{Waits, HasEnded};
-ghost use Rattle.snap_server.specs.Turning.{HadRounds};
+ghost use Rattle.snap_server.specs.Stages.{Waits, HasEnded};
+ghost use Rattle.snap_server.specs.Turns.{HadRounds};
 ghost use Rattle.snap_server.specs.declared.connection.TheConstants.{PIECE};
 
 use crate::connection::{Connection, Ended, Ending, PIECE, Stage};

@@ -2,8 +2,8 @@
 ghost use Rattle.std.specs.Prelude.{◌≡◌, ◌⊎◌, ◌++◌, ◌∷◌, ℕ, List, [], Some, OnOk, IfOk, IfErr, true, false};
 ghost use Rattle.slab.specs.Slab.{get, slab_len};
 ghost use Rattle.snap_session.specs.Talk.{Moves};
-ghost use Rattle.snap_server.specs.Listing.{KeepsOthers};
-ghost use Rattle.snap_server.specs.Turning.{HadTurn, HadItsTurn};
+ghost use Rattle.snap_server.specs.TurnList.{KeepsOthers};
+ghost use Rattle.snap_server.specs.Turns.{HadTurn, HadItsTurn};
 ghost use Rattle.snap_server.specs.declared.connection.TheConstants.{PIECE};
 
 use crate::connection::{Connection, Ended, Ending, PIECE};
@@ -14,10 +14,10 @@ use crate::note::Note;
 use crate::room::Room;
 use crate::sessions::Sessions;
 use crate::silence::{Look, Silence};
-use crate::working::Work;
+use crate::threads::Work;
 use mio::{Events, Poll, Token, Waker};
-use snap_patience::Patience;
 use snap_session::{End, Service};
+use snap_spin::Spin;
 use std::alloc::Global;
 use std::net::Net;
 use std::rt::Clock;
@@ -31,9 +31,9 @@ const INBOX: Token = Token(usize::MAX);
 /// How many events one wait tells at most.
 const MAX_EVENTS: usize = 256;
 
-/// How often a worker looks for events before it sleeps: for some longer than a fast disk takes for the
+/// How often a worker asks for events before it sleeps: for some longer than a fast disk takes for the
 /// store whose outcome it waits for, about a sixth of a millisecond.
-const LOOKS: u32 = 400;
+const SPINS: u32 = 400;
 
 /// What one worker owns.
 #[derive(Drop)]
@@ -47,13 +47,9 @@ where
     /// of its own.
     events: Events,
     inbox: Inbox<S::Outcome>,
-    /// Whether there may be mail in the inbox.
-    has_mail: bool,
-    /// Whether there may be connections in the inbox.
-    has_arrivals: bool,
     sessions: Sessions<S>,
     is_open: bool,
-    patience: Patience,
+    spin: Spin,
     /// How long its connections may say nothing; without end where none is given.
     silence: Option<Silence>,
     /// When it last looked for those that do.
@@ -70,20 +66,19 @@ fn fault_of(error: io::Error) -> ServerFault
     }
 }
 
-/// Lists the connections that are ready, and lets those go whose peers are gone. Whether there is mail.
+/// Lists the connections that are ready, and lets those go whose peers are gone.
 fn list_ready<S: Service + Drop, N: Fn(&Note)>(
     sessions: &mut Sessions<S>,
     events: &Events,
     room: &Room,
     note: &N,
-) -> bool
+)
     requires { N.IsAlwaysCallable note.now }
     ensures service { sessions.new.service ≡ sessions.old.service }
 {
-    let mut has_mail = false;
     for event in events {
         match event.token() {
-            INBOX => has_mail = true,
+            INBOX => {}
             Token(key) => {
                 if event.is_error() {
                     look_at(sessions, key, &Look::Lost, room, note);
@@ -92,7 +87,6 @@ fn list_ready<S: Service + Drop, N: Fn(&Note)>(
             }
         }
     }
-    has_mail
 }
 
 /// Looks at a connection that has no turn, and lets it go if it may stay no longer.
@@ -165,11 +159,9 @@ where
             poll,
             events,
             inbox,
-            has_mail: false,
-            has_arrivals: false,
             sessions: Sessions::new(alloc, service),
             is_open: true,
-            patience: Patience::new(),
+            spin: Spin::new(),
             silence,
             looked: None,
         };
@@ -181,9 +173,6 @@ where
     fn read_mail<X: Wait>(&mut self, rt: &X)
         ensures moves { Moves S.gives self.old.sessions.service self.new.sessions.service }
     {
-        if !self.has_mail {
-            return;
-        }
         match self.inbox.mail.try_recv(rt) {
             Ok(Mail::Done { key, outcome }) => self.sessions.tell(key, outcome),
             Ok(Mail::Close) => self.close(),
@@ -191,7 +180,7 @@ where
                 self.silence = Some(Silence::last());
                 self.close();
             }
-            Err(_) => self.has_mail = false,
+            Err(_) => {}
         }
     }
 
@@ -201,8 +190,6 @@ where
         ensures closed { self.new.is_open ≡ false }
     {
         self.is_open = false;
-        // All connections were handed over before.
-        self.has_arrivals = true;
     }
 
     /// Takes one connection, where some wait.
@@ -210,12 +197,8 @@ where
         requires { N.IsAlwaysCallable note.now }
         ensures service { self.new.sessions.service ≡ self.old.sessions.service }
     {
-        if !self.has_arrivals {
-            return;
-        }
-        match self.inbox.arrivals.try_recv(rt) {
-            Ok(arrival) => self.welcome(arrival, room, note),
-            Err(_) => self.has_arrivals = false,
+        if let Ok(arrival) = self.inbox.arrivals.try_recv(rt) {
+            self.welcome(arrival, room, note);
         }
     }
 
@@ -280,29 +263,54 @@ where
             .map_err(|_| ServerFault::PollFailed)
     }
 
+    /// Spins until something is ready or lies in the inbox. Whether it is so.
+    fn spin_until_ready(&mut self) -> Result<bool, ServerFault>
+        ensures sessions { self.new.sessions ≡ self.old.sessions }
+        ensures fault { IfErr result (λ fault. fault ≡ ServerFault.PollFailed) }
+    {
+        for _ in 0..SPINS {
+            self.wait_for(Some(Duration::ZERO))?;
+            if !self.events.is_empty() || self.inbox.has_some() {
+                return Ok(true);
+            }
+            thread::yield_now();
+        }
+        Ok(false)
+    }
+
+    /// Sleeps until something is ready, it is woken, or it is time to look for silent connections: not at
+    /// all where something lies in the inbox.
+    fn sleep(&mut self) -> Result<(), ServerFault>
+        ensures sessions { self.new.sessions ≡ self.old.sessions }
+        ensures fault { IfErr result (λ fault. fault ≡ ServerFault.PollFailed) }
+    {
+        if !self.inbox.may_sleep() {
+            return self.wait_for(Some(Duration::ZERO));
+        }
+        let slept = match self.silence {
+            Some(silence) => self.wait_for(Some(silence.rest)),
+            None => self.wait_for(None),
+        };
+        self.inbox.is_awake();
+        slept
+    }
+
     /// Waits until something is ready, or it is time to look for silent connections: not at all while
-    /// some are on the list, or mail is left.
+    /// some are on the list, or something lies in the inbox.
     fn wait(&mut self) -> Result<(), ServerFault>
         ensures sessions { self.new.sessions ≡ self.old.sessions }
         ensures fault { IfErr result (λ fault. fault ≡ ServerFault.PollFailed) }
     {
-        if self.has_mail || self.has_arrivals || self.sessions.turns() != 0 {
+        if self.inbox.has_some() || self.sessions.turns() != 0 {
             return self.wait_for(Some(Duration::ZERO));
         }
-        if self.patience.may_look() {
-            for _ in 0..LOOKS {
-                self.wait_for(Some(Duration::ZERO))?;
-                if !self.events.is_empty() {
-                    return Ok(());
-                }
-                thread::yield_now();
+        if self.spin.is_due() {
+            if self.spin_until_ready()? {
+                return Ok(());
             }
-            self.patience.rest();
+            self.spin.rest();
         }
-        match self.silence {
-            Some(silence) => self.wait_for(Some(silence.rest)),
-            None => self.wait_for(None),
-        }
+        self.sleep()
     }
 
     /// Looks for connections that say nothing, where it is time.
@@ -343,9 +351,7 @@ where
         requires { N.IsAlwaysCallable note.now }
         ensures moves { Moves S.gives self.old.sessions.service self.new.sessions.service }
     {
-        let is_woken = list_ready(&mut self.sessions, &self.events, room, note);
-        self.has_mail |= is_woken;
-        self.has_arrivals |= is_woken;
+        list_ready(&mut self.sessions, &self.events, room, note);
         self.read_mail(rt);
         self.take_arrival(rt, room, note);
     }
@@ -367,7 +373,8 @@ where
     {
         let mut piece = [0u8; PIECE];
         for _ in rt.forever() {
-            if !self.is_open && !self.has_arrivals && self.sessions.is_empty() {
+            // All connections were handed over before it was closed.
+            if !self.is_open && !self.inbox.has_arrivals() && self.sessions.is_empty() {
                 return Ok(());
             }
             self.wait()?;
@@ -383,7 +390,7 @@ impl<S: Service + Drop> Work for Worker<S>
 where
     S::Outcome: Drop,
 {
-    ghost use Rattle.snap_server.specs.Working.{HasServed};
+    ghost use Rattle.snap_server.specs.Work.{HasServed};
 
     ghost serves = { λ worker. (last : _) × HasServed S.gives worker last };
 

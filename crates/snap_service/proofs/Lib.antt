@@ -1,4 +1,4 @@
 pub mod Told
-pub mod Meeting
+pub mod Meetings
 pub mod Lines
 pub mod Places

@@ -1,30 +1,6 @@
 -- Lists of entries.
-use Rattle.std.proofs.Common.{
-  ◌≡◌,
-  ℕ,
-  zero,
-  suc,
-  ◌+◌,
-  ◌<◌,
-  ◌≤◌,
-  All,
-  List,
-  [],
-  ◌∷◌,
-  ◌++◌,
-  length,
-  map,
-  take,
-  slice_get,
-  slice_index_or,
-  Some,
-  refl,
-  ap,
-  sym,
-  subst,
-  ◌∙◌,
-  arith,
-}
+use Rattle.std.proofs.Common.{◌≡◌, ℕ, zero, suc, ◌+◌, ◌<◌, ◌≤◌, All, List, [], ◌∷◌, ◌++◌, length, map, take, slice_get, slice_index_or}
+use Rattle.std.proofs.Common.{Some, refl, ap, sym, subst, ◌∙◌, arith}
 use Rattle.std.proofs.lemmas.List.{length-map}
 use Rattle.std.proofs.lemmas.List.Elements.{All-push}
 use Rattle.std.proofs.lemmas.Option.{slice_get-get_or, same_Some}
@@ -34,7 +10,7 @@ use Rattle.snap_history.proofs.Beginnings.{number-beginning}
 use Rattle.snap_register.specs.History.{starts}
 use Rattle.snap_register.specs.Rule.{segments}
 use Rattle.snap_register.specs.Seat.{Known, IsBelow, number_in, value_in}
-use Rattle.snap_register.proofs.Pushing.{take_next}
+use Rattle.snap_register.proofs.Pairs.{take_next}
 use Rattle.snap_memory.specs.Scans.{IsSnapshot}
 use Rattle.snap_frame.specs.declared.entries.SegmentValue.{SegmentValue}
 use Rattle.snap_frame.specs.Messages.{IsValue, AreEntries}

@@ -7,17 +7,9 @@ use Rattle.snap_writer.specs.Writer.{WriterState, number_of, value_of}
 use Rattle.snap_writer.specs.Judge.{IsJudged, IsAnswer}
 use Rattle.snap_writer.specs.Update.{Advances, Fails}
 use Rattle.snap_writer.specs.declared.judgement.Judgement.{Judgement}
-use Rattle.snap_writer.specs.declared.judgement.Judgement.TheVariants.{
-  TooLong,
-  Stored,
-  Conflict,
-  OutOfStep,
-  Exhausted,
-  Fenced,
-  Worn,
-  Go,
-}
-use Rattle.snap_writer.proofs.Judging.{some_rule}
+use Rattle.snap_writer.specs.declared.judgement.Judgement.TheVariants.{TooLong, Stored, Conflict, OutOfStep, Exhausted, Fenced, Worn}
+use Rattle.snap_writer.specs.declared.judgement.Judgement.TheVariants.{Go}
+use Rattle.snap_writer.proofs.Judgements.{some_rule}
 use Rattle.snap_service.specs.Settled.{MayRefuse, IsTellable}
 
 module _ {D : Type 0} (old new : WriterState D) (k : ℕ) (v : List ℕ) where

@@ -1,12 +1,7 @@
 -- What the service answers, from what its scanner had seen before to what it has seen after.
 use Rattle.std.specs.Prelude.{◌≡◌, ℕ, ◌<◌, ◌≤◌, ◌⊎◌, List, length, map}
 use Rattle.snap_disk.specs.declared.refusal.Refusal.{Refusal}
-use Rattle.snap_disk.specs.declared.refusal.Refusal.TheVariants.{
-  NoSegment,
-  TooLong,
-  NoMemory,
-  Worn,
-}
+use Rattle.snap_disk.specs.declared.refusal.Refusal.TheVariants.{NoSegment, TooLong, NoMemory, Worn}
 use Rattle.snap_history.specs.declared.limits.TheConstants.{MAX_VALUE_LEN}
 use Rattle.snap_history.specs.Limits.{IsShort}
 use Rattle.snap_scan.specs.Looks.{most_looks}

@@ -1,15 +1,5 @@
 -- What an update does to its writer, and what a meeting does behind it.
-use Rattle.std.specs.Prelude.{
-  ◌≡◌,
-  ◌≢◌,
-  ℕ,
-  List,
-  length,
-  Result,
-  None,
-  OnOk,
-  OnErr,
-}
+use Rattle.std.specs.Prelude.{◌≡◌, ◌≢◌, ℕ, List, length, Result, None, OnOk, OnErr}
 use Rattle.snap_disk.specs.declared.refusal.Refusal.{Refusal}
 use Rattle.snap_disk.specs.Device.{Device, IsSettled, CountsCalls, MayLeave, LeavesOnly}
 use Rattle.snap_slot.specs.Layout.{IsFileOf}

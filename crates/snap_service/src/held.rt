@@ -10,9 +10,9 @@ ghost use Rattle.snap_service.specs.Answers.{AnswersUpdate, AnswersScan};
 ghost use Rattle.snap_service.specs.Updated.{IsUpdatedAndTold};
 ghost use Rattle.snap_service.specs.Counted.{next_count, CountsNothing, LooksOnce};
 
-use crate::judging::answer_by_look;
 use crate::memory::{Memory, WriterOf};
-use crate::scanning::answer_scan;
+use crate::scans::answer_scan;
+use crate::verdict::answer_by_look;
 use snap_disk::Disk;
 use snap_frame::{Reply, SegmentStatus};
 use snap_memory::Scanner;

@@ -8,17 +8,17 @@
 #![tactic(auto)]
 
 mod held;
-mod judging;
 mod lock;
 mod memory;
 mod node;
-mod scanning;
-mod settling;
+mod scans;
+mod settlement;
 mod shared;
+mod verdict;
 
-pub use judging::{answer_by_look, refuse_place};
 pub use memory::{Memory, WriterOf, name_writers};
 pub use node::Node;
-pub use scanning::answer_scan;
-pub use settling::{reply_told, settle, update};
+pub use scans::answer_scan;
+pub use settlement::{reply_told, settle, update};
 pub use shared::Shared;
+pub use verdict::{answer_by_look, refuse_place};

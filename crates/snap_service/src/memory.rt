@@ -26,7 +26,7 @@ ghost use Rattle.snap_service.specs.Memory.{IsOf, AreWriters, no_table, no_plan}
 ghost use Rattle.snap_service.specs.Settled.{IsSettledAt, IsTellable, reply_of};
 ghost use Rattle.snap_service.specs.Updated.{IsUpdated, IsUpdatedAndTold, HasMet};
 
-use crate::settling::{reply_told, settle, update};
+use crate::settlement::{reply_told, settle, update};
 use snap_disk::{Disk, Refusal};
 use snap_frame::Reply;
 use snap_memory::Scanner;

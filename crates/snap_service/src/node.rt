@@ -12,9 +12,9 @@ ghost use Rattle.snap_service.specs.Answers.{
 };
 
 use crate::held::Pen;
-use crate::judging::refuse_place;
 use crate::memory::Memory;
 use crate::shared::Shared;
+use crate::verdict::refuse_place;
 use snap_disk::{Disk, Refusal};
 use snap_frame::{Reply, Request};
 use snap_memory::{Scanner, Snapshot};

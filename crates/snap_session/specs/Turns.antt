@@ -1,20 +1,5 @@
 -- What a session does to its reader and its writer.
-use Rattle.std.specs.Prelude.{
-  ◌≡◌,
-  ◌≤◌,
-  ◌<◌,
-  ◌⊎◌,
-  ℕ,
-  zero,
-  suc,
-  List,
-  [],
-  ◌++◌,
-  length,
-  Option,
-  Some,
-  None,
-}
+use Rattle.std.specs.Prelude.{◌≡◌, ◌≤◌, ◌<◌, ◌⊎◌, ℕ, zero, suc, List, [], ◌++◌, length, Option, Some, None}
 use Rattle.std.specs.Io.KnownBytes.{Appends, Consumes, IsAtEnd}
 use Rattle.snap_frame.specs.declared.request.Request.{Request}
 use Rattle.snap_frame.specs.Stream.{IsPartial}
@@ -23,13 +8,7 @@ use Rattle.snap_session.specs.declared.turns.End.{End}
 use Rattle.snap_session.specs.declared.turns.End.TheVariants as ends
 use Rattle.snap_frame.specs.declared.frame_buffer.Failure.TheVariants as failures
 use Rattle.snap_session.specs.declared.turns.Turn.{Turn}
-use Rattle.snap_session.specs.declared.turns.Turn.TheVariants.{
-  Again,
-  NeedsInput,
-  NeedsRoom,
-  NeedsOutcome,
-  Over,
-}
+use Rattle.snap_session.specs.declared.turns.Turn.TheVariants.{Again, NeedsInput, NeedsRoom, NeedsOutcome, Over}
 use Rattle.snap_session.specs.Talk.{Talk, Goes, GoesBy, Stays, HasTaken, start, most_answers}
 
 -- Bytes that were read were taken in, and bytes that were given out were written.

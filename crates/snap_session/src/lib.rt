@@ -8,10 +8,12 @@
 //! holds of each of several sessions on one service.
 #![tactic(auto)]
 
+mod background;
 mod service;
 mod session;
 mod turns;
 
+pub use background::{Background, Done};
 pub use service::Service;
 pub use session::{MAX_OWED, Session, Wants};
 pub use turns::{End, Turn, proceed, serve};

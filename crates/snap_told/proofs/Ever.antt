@@ -6,7 +6,7 @@ use Rattle.atomic_table.specs.Table.{State}
 use Rattle.snap_disk.specs.Device.{Device}
 use Rattle.snap_history.specs.History.{Update, Start, IsBeginning}
 use Rattle.snap_history.proofs.Beginnings.{beginning-trans}
-use Rattle.snap_history.proofs.Pairing.{element, partner}
+use Rattle.snap_history.proofs.Pairs.{element, partner}
 use Rattle.snap_register.specs.declared.plan.Plan.{Plan}
 use Rattle.snap_register.specs.declared.plan.SeatView.{SeatView}
 use Rattle.snap_register.specs.History.{starts, updates}
@@ -20,15 +20,15 @@ use Rattle.snap_service.specs.Answers.{Answers}
 use Rattle.snap_writer.specs.Writer.{WriterState}
 use Rattle.snap_writer.specs.Life.{Place}
 use Rattle.snap_cut.specs.Crash.{Begun, IsRecovered}
-use Rattle.snap_cut.proofs.Lasting.{StartsAfter, kept_now}
-use Rattle.snap_restart.specs.Crashing.{AreOpened, GoesOn}
+use Rattle.snap_cut.proofs.Starts.{StartsAfter, kept_now}
+use Rattle.snap_restart.specs.Crash.{AreOpened, GoesOn}
 use Rattle.snap_restart.specs.Restarts.{First, Crashed, Interrupted}
 use Rattle.snap_told.specs.Told.{Stands, AreTold}
 use Rattle.snap_told.specs.Laws.{WasAnswered, AllStand, WasSeenIn}
 use Rattle.snap_told.specs.Ever.{WasTold, EverLaw}
-use Rattle.snap_told.proofs.Answering.{answered_stands}
-use Rattle.snap_told.proofs.Running.{run_told}
-use Rattle.snap_told.proofs.Standing.{stands_on, told_earlier, all_earlier, told_at, all_at}
+use Rattle.snap_told.proofs.ClientAnswers.{answered_stands}
+use Rattle.snap_told.proofs.Runs.{run_told}
+use Rattle.snap_told.proofs.Stands.{stands_on, told_earlier, all_earlier, told_at, all_at}
 
 -- what a seat had seen is a beginning of the history of the moment
 pub seen_then : (plan : Plan) (s : State (Unit {0}) SeatView) (kept : Kept plan s)

@@ -1,8 +1,8 @@
-pub mod Telling
-pub mod Reading
-pub mod Running
-pub mod Calling
-pub mod Standing
-pub mod Answering
+pub mod Replies
+pub mod Payloads
+pub mod Runs
+pub mod Calls
+pub mod Stands
+pub mod ClientAnswers
 pub mod Ever
-pub mod Hearing
+pub mod Premises

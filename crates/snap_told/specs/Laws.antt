@@ -22,7 +22,7 @@ use Rattle.snap_service.specs.Answers.{Answers, AnswersUpdate, AnswersScan, pair
 use Rattle.snap_client.specs.Calls.{ClientState, Calls, fresh}
 use Rattle.snap_cut.specs.Crash.{Has, Begun, IsRecovered}
 use Rattle.snap_cut.specs.Laws.{IsSeatOf, IsSeenIn}
-use Rattle.snap_restart.specs.Crashing.{IsLifeFrom, AreOpened, GoesOn}
+use Rattle.snap_restart.specs.Crash.{IsLifeFrom, AreOpened, GoesOn}
 use Rattle.snap_told.specs.Told.{Stands, IsSendable, AreTold}
 
 -- ---- a reply

@@ -1,28 +1,6 @@
 -- A fill for each device, whatever a crash left of them.
-use Rattle.std.proofs.Common.{
-  ◌≡◌,
-  ℕ,
-  zero,
-  suc,
-  ◌^◌,
-  ◌<◌,
-  inl,
-  inr,
-  List,
-  [],
-  ◌∷◌,
-  length,
-  map,
-  Some,
-  slice_get,
-  slice_set,
-  refl,
-  sym,
-  ◌∙◌,
-  ap,
-  subst,
-  arith,
-}
+use Rattle.std.proofs.Common.{◌≡◌, ℕ, zero, suc, ◌^◌, ◌<◌, inl, inr, List, [], ◌∷◌, length, map, Some, slice_get, slice_set, refl, sym}
+use Rattle.std.proofs.Common.{◌∙◌, ap, subst, arith}
 use Rattle.std.specs.Prelude.{◌||◌, false}
 use Rattle.std.specs.Global.{Vec}
 use Rattle.std.proofs.lemmas.List.{length-set, length-map}
@@ -32,21 +10,15 @@ use Rattle.snap_disk.specs.Device.{Device, in_range, opened, IsTouched, IsUnsync
 use Rattle.snap_disk.specs.Fills.{SomeFill}
 use Rattle.snap_disk.specs.declared.fill.Fill.{Fill}
 use Rattle.snap_disk.specs.declared.fill.Fill.TheVariants.{At}
-use Rattle.snap_disk.proofs.Filling.{vec_of, any_crash, any_failed_write}
+use Rattle.snap_disk.proofs.Fills.{vec_of, any_crash, any_failed_write}
 use Rattle.snap_history.proofs.Lists.{get-set_same, get-set_other}
-use Rattle.snap_world.specs.Crashes.{
-  CrashMayLeave,
-  SomeCrashLeaves,
-  AnyCrash,
-  CrashInsideAnyWrite,
-  AnyFault,
-}
+use Rattle.snap_world.specs.Crashes.{CrashMayLeave, SomeCrashLeaves, AnyCrash, CrashInsideAnyWrite, AnyFault}
 use Rattle.snap_world.specs.Devices.{AreRefilled, Changes, IsRefilled}
 use Rattle.snap_world.specs.inside.Drives.{device_of}
 use Rattle.snap_world.specs.Surface.{devices_of}
 use Rattle.snap_world.specs.declared.drive.Drive.{Drive}
 use Rattle.snap_world.specs.declared.world.World.{World}
-use Rattle.snap_world.proofs.Sweeping.{map_element}
+use Rattle.snap_world.proofs.Sweep.{map_element}
 
 -- each of them is short enough for an index
 abbrev pub AllSmall : List Device → Type 0

@@ -1,53 +1,15 @@
 -- One look of a writer's embedded scan, or of a scanner, as a step of the parts.
-use Rattle.std.proofs.Common.{
-  ⊎_elim,
-  ◌≡◌,
-  ℕ,
-  ◌<◌,
-  ◌≤◌,
-  inl,
-  inr,
-  List,
-  [],
-  ◌∷◌,
-  ◌++◌,
-  length,
-  get_or,
-  Some,
-  slice_get,
-  refl,
-  ap,
-  sym,
-  ◌∙◌,
-  subst,
-}
+use Rattle.std.proofs.Common.{⊎_elim, ◌≡◌, ℕ, ◌<◌, ◌≤◌, inl, inr, List, [], ◌∷◌, ◌++◌, length, get_or, Some, slice_get, refl, ap, sym}
+use Rattle.std.proofs.Common.{◌∙◌, subst}
 use Rattle.std.specs.Vec.{with_item}
 use Rattle.std.proofs.lemmas.Option.{same_Some}
 use Rattle.snap_scan.specs.Looks.{IsDecided}
 use Rattle.snap_world.specs.Answers.{ScanState, number_at}
 use Rattle.snap_world.specs.inside.Gathers.{Gathers, IsLookOf, IsUnderWay, RegistersStand}
-use Rattle.snap_world.specs.Machine.{
-  State,
-  WriterState,
-  ScannerState,
-  Begun,
-  Opened,
-  Step,
-  IsLook,
-  with_writer,
-  with_scanner,
-}
+use Rattle.snap_world.specs.Machine.{State, WriterState, ScannerState, Begun, Opened, Step, IsLook, with_writer, with_scanner}
 use Rattle.snap_world.specs.NodePhases.{LooksOn, up, actors_to}
 use Rattle.snap_world.specs.Phases.{Phases, writer_to, scanner_to}
-use Rattle.snap_world.specs.inside.Stands.{
-  PartsStand,
-  WriterStands,
-  ScannerStands,
-  HasBegun,
-  IsAtPhase,
-  IsScannerAt,
-  is_fenced,
-}
+use Rattle.snap_world.specs.inside.Stands.{PartsStand, WriterStands, ScannerStands, HasBegun, IsAtPhase, IsScannerAt, is_fenced}
 use Rattle.snap_world.specs.inside.Steps.{phases_of_parts}
 use Rattle.snap_world.specs.declared.event.Actor.TheVariants as actor
 use Rattle.snap_world.specs.declared.event.Event.TheVariants.{Look}
@@ -58,15 +20,9 @@ use Rattle.snap_world.specs.declared.writer.Writer.{Writer}
 use Rattle.snap_world.specs.declared.writer.WriterPhase.TheVariants as writer
 use Rattle.snap_world.specs.declared.scanner.Scanner.{Scanner}
 use Rattle.snap_world.specs.declared.scanner.ScannerPhase.TheVariants as scanner
-use Rattle.snap_world.proofs.Ending.{undecided}
-use Rattle.snap_world.proofs.Moves.{
-  the_writer,
-  the_scanner,
-  writer_moves,
-  scanner_moves,
-  has_answer,
-}
-use Rattle.snap_world.proofs.Phasing.{writer_moved, writer_kept, scanner_moved, scanner_kept}
+use Rattle.snap_world.proofs.ScanEnds.{undecided}
+use Rattle.snap_world.proofs.Moves.{the_writer, the_scanner, writer_moves, scanner_moves, has_answer}
+use Rattle.snap_world.proofs.PhaseMoves.{writer_moved, writer_kept, scanner_moved, scanner_kept}
 
 -- the parts with one writer, or one scanner, changed
 abbrev pub with_parts_writer : Parts → ℕ → Writer → Parts

@@ -1,77 +1,21 @@
 -- What stays of a world when one writer, one scanner or the history moves on.
-use Rattle.std.proofs.Common.{
-  ◌≡◌,
-  ◌≢◌,
-  ℕ,
-  ◌+◌,
-  ◌^◌,
-  ◌<◌,
-  ◌≤◌,
-  inl,
-  inr,
-  List,
-  [],
-  ◌∷◌,
-  ◌++◌,
-  length,
-  take,
-  get_or,
-  Option,
-  Some,
-  slice_get,
-  slice_set,
-  refl,
-  ap,
-  sym,
-  ◌∙◌,
-  subst,
-  arith,
-}
+use Rattle.std.proofs.Common.{◌≡◌, ◌≢◌, ℕ, ◌+◌, ◌^◌, ◌<◌, ◌≤◌, inl, inr, List, [], ◌∷◌, ◌++◌, length, take, get_or, Option, Some}
+use Rattle.std.proofs.Common.{slice_get, slice_set, refl, ap, sym, ◌∙◌, subst, arith}
 use Rattle.std.specs.Vec.{with_item}
 use Rattle.std.proofs.lemmas.List.{length-set, length_push}
 use Rattle.std.proofs.lemmas.Option.{slice_get_read, same_Some}
 use Rattle.std.proofs.lemmas.Bool.{cases_eq}
 use Rattle.snap_history.specs.History.{Update, from_nothing, number_after, value_after, IsMemory}
-use Rattle.snap_history.proofs.Moments.{
-  number-push,
-  number-push_other,
-  value-push,
-  value-push_other,
-  take-push,
-  number-le,
-}
+use Rattle.snap_history.proofs.Moments.{number-push, number-push_other, value-push, value-push_other, take-push, number-le}
 use Rattle.snap_scan.specs.Course.{IsNext}
 use Rattle.snap_scan.specs.declared.next.Next.{Next}
 use Rattle.snap_scan.specs.declared.next.Next.TheVariants.{Look, Clean, Borrow}
 use Rattle.snap_scan.specs.Looks.{IsDecided}
-use Rattle.snap_collect.proofs.Collecting.{Collects-none, Collects-same, IsMoment-same}
+use Rattle.snap_scan.proofs.Collects.{Collects-none, Collects-same, IsMoment-same}
 use Rattle.snap_world.specs.Answers.{ScanState, scan_from, IsAnswer, number_at, value_at}
-use Rattle.snap_world.specs.inside.Gathers.{
-  Gathers,
-  Gathered,
-  IsUnderWay,
-  RegisterStands,
-  IsView,
-  ViewStands,
-  RegistersStand,
-}
-use Rattle.snap_world.specs.Machine.{
-  State,
-  WriterState,
-  ScannerState,
-  with_writer,
-  with_scanner,
-  with_update,
-}
-use Rattle.snap_world.specs.inside.Stands.{
-  HasBegun,
-  HasAnswer,
-  WriterStands,
-  ScannerStands,
-  PartsStand,
-  IsAtPhase,
-  IsScannerAt,
-}
+use Rattle.snap_world.specs.inside.Gathers.{Gathers, Gathered, IsUnderWay, RegisterStands, IsView, ViewStands, RegistersStand}
+use Rattle.snap_world.specs.Machine.{State, WriterState, ScannerState, with_writer, with_scanner, with_update}
+use Rattle.snap_world.specs.inside.Stands.{HasBegun, HasAnswer, WriterStands, ScannerStands, PartsStand, IsAtPhase, IsScannerAt}
 use Rattle.snap_world.specs.declared.register.Register.{Register}
 use Rattle.snap_world.specs.declared.collector.Collector.{Collector}
 use Rattle.snap_world.specs.declared.parts.Parts.{Parts}
@@ -82,8 +26,8 @@ use Rattle.snap_world.specs.declared.writer.WriterPhase.TheVariants as writer
 use Rattle.snap_world.specs.declared.scanner.ScannerPhase.{ScannerPhase}
 use Rattle.snap_world.specs.declared.scanner.ScannerPhase.TheVariants as scanner
 use Rattle.snap_history.proofs.Lists.{get-set_same, get-set_other}
-use Rattle.snap_history.proofs.Pairing.{partner, Pairs-set, Pairs-left, Pairs-right, Pairs-map}
-use Rattle.snap_world.proofs.Looking.{register_at, number_now}
+use Rattle.snap_history.proofs.Pairs.{partner, Pairs-set, Pairs-left, Pairs-right, Pairs-map}
+use Rattle.snap_world.proofs.Looks.{register_at, number_now}
 
 -- a scan that was told nothing
 pub Gathers-none : (n : ℕ) (h : List Update) (c : Collector) → c.scan.segments ≡ n

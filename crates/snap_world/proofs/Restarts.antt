@@ -1,28 +1,6 @@
 -- The calls of a restart, as steps of the node.
-use Rattle.std.proofs.Common.{
-  ◌≡◌,
-  ◌≢◌,
-  ℕ,
-  ◌+◌,
-  ◌<◌,
-  inl,
-  inr,
-  true,
-  false,
-  List,
-  length,
-  map,
-  get_or,
-  Some,
-  slice_get,
-  slice_set,
-  refl,
-  ap,
-  sym,
-  ◌∙◌,
-  subst,
-  arith,
-}
+use Rattle.std.proofs.Common.{◌≡◌, ◌≢◌, ℕ, ◌+◌, ◌<◌, inl, inr, true, false, List, length, map, get_or, Some, slice_get, slice_set, refl}
+use Rattle.std.proofs.Common.{ap, sym, ◌∙◌, subst, arith}
 use Rattle.std.specs.Prelude.{option_map, nat_lt, if◌then◌else◌}
 use Rattle.std.specs.Vec.{with_item}
 use Rattle.std.proofs.Math.Seq.{map-set_same}
@@ -38,27 +16,15 @@ use Rattle.snap_disk.specs.declared.fill.Fill.{Fill}
 use Rattle.snap_slot.specs.Findings.{IsFound}
 use Rattle.snap_slot.specs.Layout.{IsFileOf}
 use Rattle.snap_history.proofs.Lists.{get-set_other}
-use Rattle.snap_history.proofs.Pairing.{element}
+use Rattle.snap_history.proofs.Pairs.{element}
 use Rattle.snap_history.specs.History.{from_nothing, number_after, value_after}
 use Rattle.snap_persist.specs.Stage.{PersistState, calls_left}
 use Rattle.snap_world.specs.Devices.{Changes, IsRefilled}
 use Rattle.snap_world.specs.inside.Drives.{device_of}
 use Rattle.snap_world.specs.Machine.{State}
 use Rattle.snap_world.specs.NodePhases.{node_to, after_opening_call}
-use Rattle.snap_world.specs.inside.NodeStands.{
-  NodeStands,
-  NodeStand,
-  IsDown,
-  IsRecovering,
-  IsRestarting,
-  IsNodeAt,
-}
-use Rattle.snap_world.specs.inside.NodeSteps.{
-  IsNodeStep,
-  store_left,
-  phases_of_node,
-  devices_of_node,
-}
+use Rattle.snap_world.specs.inside.NodeStands.{NodeStands, NodeStand, IsDown, IsRecovering, IsRestarting, IsNodeAt}
+use Rattle.snap_world.specs.inside.NodeSteps.{IsNodeStep, store_left, phases_of_node, devices_of_node}
 use Rattle.snap_world.specs.declared.drive.Drive.{Drive}
 use Rattle.snap_world.specs.declared.event.Event.TheVariants.{RestartCall, RestartFail}
 use Rattle.snap_world.specs.declared.event.Kind.TheVariants as kind
@@ -69,8 +35,8 @@ use Rattle.snap_world.specs.declared.node.NodePhase.TheVariants.{Down, Restartin
 use Rattle.snap_world.specs.declared.node.OpeningCall.{OpeningCall}
 use Rattle.snap_world.specs.declared.node.OpeningCall.TheVariants as opening
 use Rattle.snap_world.specs.declared.parts.Parts.{Parts}
-use Rattle.snap_world.proofs.Acting.{same_phases}
-use Rattle.snap_world.proofs.Following.{set_is}
+use Rattle.snap_world.proofs.Events.{same_phases}
+use Rattle.snap_world.proofs.Devices.{set_is}
 
 -- one device changes, after which a crash leaves no more than before
 down_set : (parts : Parts) (ds : List Drive) (x : State) (i : ℕ) (d e : Drive)

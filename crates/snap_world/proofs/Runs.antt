@@ -1,26 +1,6 @@
 -- One more step at the end of a run.
-use Rattle.std.proofs.Common.{
-  ◌≡◌,
-  ℕ,
-  ◌+◌,
-  ◌<◌,
-  List,
-  [],
-  ◌∷◌,
-  ◌++◌,
-  length,
-  take,
-  get_or,
-  Result,
-  Ok,
-  Err,
-  IfOk,
-  refl,
-  ap,
-  sym,
-  ◌∙◌,
-  subst,
-}
+use Rattle.std.proofs.Common.{◌≡◌, ℕ, ◌+◌, ◌<◌, List, [], ◌∷◌, ◌++◌, length, take, get_or, Result, Ok, Err, IfOk, refl, ap, sym, ◌∙◌}
+use Rattle.std.proofs.Common.{subst}
 use Rattle.std.proofs.lemmas.List.{take_more}
 use Rattle.std.specs.declared.alloc.AllocError.{AllocError}
 use Rattle.snap_history.specs.History.{IsBeginning}
@@ -31,34 +11,10 @@ use Rattle.snap_world.specs.Runs.{Configuration, Run}
 use Rattle.snap_world.specs.Surface.{StandsFor, IsRun, segments_of, configuration}
 use Rattle.snap_world.specs.declared.event.Actor.TheVariants.{Writer, Scanner}
 use Rattle.snap_world.specs.declared.event.Event.{Event}
-use Rattle.snap_world.specs.declared.event.Event.TheVariants.{
-  Begin,
-  Look,
-  Call,
-  Fail,
-  Show,
-  Acknowledge,
-  Scan,
-  Answer,
-  Crash,
-  Restart,
-  RestartCall,
-  RestartFail,
-  Serve,
-}
-use Rattle.snap_world.specs.declared.event.Reply.TheVariants.{
-  Begun as Begun_reply,
-  Number,
-  Called,
-  DeviceFailed,
-  Shown as Shown_reply,
-  Stored,
-  ScanBegun,
-  Memory,
-  Crashed,
-  Restarting,
-  NotNow,
-}
+use Rattle.snap_world.specs.declared.event.Event.TheVariants.{Begin, Look, Call, Fail, Show, Acknowledge, Scan, Answer, Crash, Restart}
+use Rattle.snap_world.specs.declared.event.Event.TheVariants.{RestartCall, RestartFail, Serve}
+use Rattle.snap_world.specs.declared.event.Reply.TheVariants.{Begun as Begun_reply, Number, Called, DeviceFailed, Shown as Shown_reply}
+use Rattle.snap_world.specs.declared.event.Reply.TheVariants.{Stored, ScanBegun, Memory, Crashed, Restarting, NotNow}
 use Rattle.snap_world.specs.declared.event.Reply.{Reply}
 use Rattle.snap_world.specs.declared.world.World.{World}
 

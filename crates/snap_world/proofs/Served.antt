@@ -1,43 +1,9 @@
 -- Which begun updates a restart takes, and the number and value of each segment after it.
-use Rattle.std.proofs.Common.{
-  ◌≡◌,
-  ◌≢◌,
-  ℕ,
-  zero,
-  suc,
-  ◌+◌,
-  ◌<◌,
-  ◌⊎◌,
-  inl,
-  inr,
-  Bool,
-  true,
-  false,
-  List,
-  [],
-  ◌∷◌,
-  ◌++◌,
-  Option,
-  Some,
-  None,
-  slice_get,
-  refl,
-  ap,
-  sym,
-  ◌∙◌,
-  subst,
-  arith,
-}
+use Rattle.std.proofs.Common.{◌≡◌, ◌≢◌, ℕ, zero, suc, ◌+◌, ◌<◌, ◌⊎◌, inl, inr, Bool, true, false, List, [], ◌∷◌, ◌++◌, Option, Some}
+use Rattle.std.proofs.Common.{None, slice_get, refl, ap, sym, ◌∙◌, subst, arith}
 use Rattle.std.specs.Prelude.{◌==◌, if◌then◌else◌}
 use Rattle.std.proofs.lemmas.Bool.Decides.{nat_tests}
-use Rattle.snap_history.specs.History.{
-  Update,
-  Start,
-  updates_of,
-  last_value,
-  number_after,
-  value_after,
-}
+use Rattle.snap_history.specs.History.{Update, Start, updates_of, last_value, number_after, value_after}
 use Rattle.snap_history.proofs.Moments.{updates-append, last-append, last_none}
 use Rattle.snap_world.specs.Machine.{WriterState, Pending, Free, Begun, Shown, begun_update, chosen}
 

@@ -1,29 +1,6 @@
 -- The end of a restart, as a step of the node.
-use Rattle.std.proofs.Common.{
-  ◌≡◌,
-  ℕ,
-  ◌+◌,
-  ◌%◌,
-  ◌<◌,
-  ◌≤◌,
-  ◌⊎◌,
-  inl,
-  inr,
-  Bool,
-  List,
-  length,
-  map,
-  replicate,
-  Some,
-  None,
-  slice_get,
-  refl,
-  ap,
-  sym,
-  ◌∙◌,
-  subst,
-  arith,
-}
+use Rattle.std.proofs.Common.{◌≡◌, ℕ, ◌+◌, ◌%◌, ◌<◌, ◌≤◌, ◌⊎◌, inl, inr, Bool, List, length, map, replicate, Some, None, slice_get}
+use Rattle.std.proofs.Common.{refl, ap, sym, ◌∙◌, subst, arith}
 use Rattle.std.specs.Prelude.{option_map}
 use Rattle.std.proofs.lemmas.List.{length-map}
 use Rattle.std.proofs.lemmas.Option.{slice_get-map, slice_get_within, same_Some}
@@ -36,53 +13,19 @@ use Rattle.snap_slot.proofs.Readings.{holds_same}
 use Rattle.snap_slot.proofs.Whole.{found_is, found_holds, found_rests}
 use Rattle.snap_history.specs.History.{Update, from_nothing, number_after, value_after, IsMemory}
 use Rattle.snap_history.specs.Pairs.{Pairs}
-use Rattle.snap_history.proofs.Pairing.{element, partner}
+use Rattle.snap_history.proofs.Pairs.{element, partner}
 use Rattle.snap_world.specs.Answers.{number_at}
 use Rattle.snap_persist.specs.Stage.{store_calls}
 use Rattle.snap_world.specs.Devices.{IsServed, AreServed}
-use Rattle.snap_world.specs.inside.Drives.{
-  IsReady,
-  DriveStands,
-  DrivesStand,
-  HoldsEither,
-  device_of,
-}
+use Rattle.snap_world.specs.inside.Drives.{IsReady, DriveStands, DrivesStand, HoldsEither, device_of}
 use Rattle.snap_world.specs.inside.Gathers.{RegisterStands, ViewStands}
-use Rattle.snap_world.specs.Machine.{
-  State,
-  WriterState,
-  ScannerState,
-  Begun,
-  Closed,
-  resting,
-  history_with,
-  served,
-}
+use Rattle.snap_world.specs.Machine.{State, WriterState, ScannerState, Begun, Closed, resting, history_with, served}
 use Rattle.snap_world.specs.NodePhases.{all_idle}
-use Rattle.snap_world.specs.inside.NodeStands.{
-  NodeStands,
-  WriterRests,
-  ScannerRests,
-  IsRecovering,
-  IsNodeAt,
-}
+use Rattle.snap_world.specs.inside.NodeStands.{NodeStands, WriterRests, ScannerRests, IsRecovering, IsNodeAt}
 use Rattle.snap_world.specs.inside.NodeSteps.{store_left}
 use Rattle.snap_world.specs.Phases.{Phases}
-use Rattle.snap_world.specs.inside.Serving.{
-  found_value,
-  IsReadable,
-  IsResumed,
-  IsRecovered,
-  AreRecovered,
-}
-use Rattle.snap_world.specs.inside.Stands.{
-  PartsStand,
-  WriterStands,
-  ScannerStands,
-  IsAtPhase,
-  IsScannerAt,
-  is_fenced,
-}
+use Rattle.snap_world.specs.inside.Recovery.{found_value, IsReadable, IsResumed, IsRecovered, AreRecovered}
+use Rattle.snap_world.specs.inside.Stands.{PartsStand, WriterStands, ScannerStands, IsAtPhase, IsScannerAt, is_fenced}
 use Rattle.snap_world.specs.inside.Steps.{phases_of_parts}
 use Rattle.snap_world.specs.declared.drive.Drive.{Drive}
 use Rattle.snap_persist.specs.declared.persist.NextCall.{NextCall}
@@ -96,10 +39,10 @@ use Rattle.snap_world.specs.declared.writer.WriterPhase.TheVariants as writer
 use Rattle.snap_world.specs.declared.scanner.Scanner.{Scanner}
 use Rattle.snap_world.specs.declared.scanner.ScannerPhase.{ScannerPhase}
 use Rattle.snap_world.specs.declared.scanner.ScannerPhase.TheVariants as scanner
-use Rattle.snap_world.proofs.Looking.{number_now}
+use Rattle.snap_world.proofs.Looks.{number_now}
 use Rattle.snap_world.proofs.Served.{Given, marks-exist, served-none, served-some}
-use Rattle.snap_world.proofs.Starting.{all_same}
-use Rattle.snap_world.proofs.Sweeping.{map_element, map_same}
+use Rattle.snap_world.proofs.NewWorld.{all_same}
+use Rattle.snap_world.proofs.Sweep.{map_element, map_same}
 
 module _ (w : Node) (x : State) (stands : NodeStands w x) (is_ready : w.phase ≡ Ready) where
   abbrev pub n : ℕ

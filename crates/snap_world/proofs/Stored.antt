@@ -1,30 +1,6 @@
 -- A device call of a store, as a step of the node.
-use Rattle.std.proofs.Common.{
-  ◌≡◌,
-  ◌≢◌,
-  ℕ,
-  ◌+◌,
-  ◌%◌,
-  ◌^◌,
-  ◌<◌,
-  ◌≤◌,
-  true,
-  List,
-  [],
-  ◌∷◌,
-  length,
-  map,
-  get_or,
-  Some,
-  slice_get,
-  slice_set,
-  refl,
-  ap,
-  sym,
-  ◌∙◌,
-  subst,
-  arith,
-}
+use Rattle.std.proofs.Common.{◌≡◌, ◌≢◌, ℕ, ◌+◌, ◌%◌, ◌^◌, ◌<◌, ◌≤◌, true, List, [], ◌∷◌, length, map, get_or, Some, slice_get}
+use Rattle.std.proofs.Common.{slice_set, refl, ap, sym, ◌∙◌, subst, arith}
 use Rattle.std.proofs.Math.Logic.{∥∥₁_elim, ∥∥₁_map}
 use Rattle.std.proofs.Props.{props}
 use Rattle.std.specs.Prelude.{option_map}
@@ -39,18 +15,12 @@ use Rattle.snap_persist.specs.Stage.{PersistState, calls_left, first_stage, afte
 use Rattle.snap_persist.specs.declared.persist.Stage.TheVariants as stage
 use Rattle.snap_history.specs.History.{from_nothing, number_after, value_after}
 use Rattle.snap_history.proofs.Lists.{get-set_other}
-use Rattle.snap_history.proofs.Pairing.{element, partner}
+use Rattle.snap_history.proofs.Pairs.{element, partner}
 use Rattle.snap_persist.specs.declared.persist.NextCall.{NextCall}
 use Rattle.snap_persist.specs.Stage.{store_calls}
 use Rattle.snap_world.specs.Calls.{store_call}
 use Rattle.snap_world.specs.Devices.{IsMade, IsMissed, Changes, DevicesMove}
-use Rattle.snap_world.specs.inside.Drives.{
-  IsReady,
-  IsStoreUnderWay,
-  DriveStands,
-  DrivesStand,
-  device_of,
-}
+use Rattle.snap_world.specs.inside.Drives.{IsReady, IsStoreUnderWay, DriveStands, DrivesStand, device_of}
 use Rattle.snap_world.specs.Machine.{State, WriterState, Begun, Step, with_writer}
 use Rattle.snap_world.specs.NodePhases.{WorldPhases, AfterCall, PhasesMove}
 use Rattle.snap_world.specs.inside.NodeStands.{NodeStands, NodeStand, IsUp, IsNodeAt}
@@ -69,9 +39,9 @@ use Rattle.snap_world.specs.declared.register.Register.{Register}
 use Rattle.snap_world.specs.declared.writer.Writer.{Writer}
 use Rattle.snap_world.specs.declared.writer.WriterPhase.{WriterPhase}
 use Rattle.snap_world.specs.declared.writer.WriterPhase.TheVariants as writer
-use Rattle.snap_world.proofs.Acting.{is_up, same_phases}
-use Rattle.snap_world.proofs.Calling.{stage_size, store_goes, store_ends, store_missed}
-use Rattle.snap_world.proofs.Following.{set_is, drives_change, nothing_grows}
+use Rattle.snap_world.proofs.Events.{is_up, same_phases}
+use Rattle.snap_world.proofs.Calls.{stage_size, store_goes, store_ends, store_missed}
+use Rattle.snap_world.proofs.Devices.{set_is, drives_change, nothing_grows}
 use Rattle.snap_world.proofs.Moves.{the_register}
 
 -- the node with one device, or its parts too, changed

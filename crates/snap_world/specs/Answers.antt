@@ -2,7 +2,7 @@
 -- many updates the history had then.
 use Rattle.std.specs.Prelude.{◌≡◌, ℕ, List, [], Option, Some, None, take}
 use Rattle.snap_history.specs.History.{Update, from_nothing, number_after, value_after, IsMemory}
-use Rattle.snap_collect.specs.Collects.{IsMoment}
+use Rattle.snap_scan.specs.Collects.{IsMoment}
 
 -- number and value of segment i after the first t updates
 abbrev pub number_at : List Update → ℕ → ℕ → ℕ

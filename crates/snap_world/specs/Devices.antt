@@ -15,24 +15,11 @@ use Rattle.snap_world.specs.Machine.{State, WriterState, Begun}
 use Rattle.snap_world.specs.NodePhases.{WorldPhases}
 use Rattle.snap_world.specs.declared.node.NodePhase.TheVariants.{Restarting}
 use Rattle.snap_world.specs.declared.event.Event.{Event}
-use Rattle.snap_world.specs.declared.event.Event.TheVariants.{
-  Call,
-  Fail,
-  Crash,
-  RestartCall,
-  RestartFail,
-  Serve,
-}
+use Rattle.snap_world.specs.declared.event.Event.TheVariants.{Call, Fail, Crash, RestartCall, RestartFail, Serve}
 use Rattle.snap_world.specs.declared.node.OpeningCall.{OpeningCall}
 use Rattle.snap_world.specs.declared.node.OpeningCall.TheVariants as opening
 use Rattle.snap_world.specs.declared.event.Reply.{Reply}
-use Rattle.snap_world.specs.declared.event.Reply.TheVariants.{
-  Called,
-  DeviceFailed,
-  Crashed,
-  Memory,
-  NotNow,
-}
+use Rattle.snap_world.specs.declared.event.Reply.TheVariants.{Called, DeviceFailed, Crashed, Memory, NotNow}
 
 -- this call of a store of this body block into this slot succeeded
 abbrev pub IsMade : ℕ → List ℕ → NextCall → Device → Device → Type 0

@@ -1,59 +1,18 @@
 -- The abstract machine: a history of updates, what each writer has begun or shown, where each scan
 -- began and looked last, and which moment it answers.
 use Rattle.std.proofs.Common.{suc}
-use Rattle.std.specs.Prelude.{
-  ◌≡◌,
-  ℕ,
-  Bool,
-  true,
-  false,
-  List,
-  [],
-  ◌∷◌,
-  ◌++◌,
-  length,
-  map,
-  Option,
-  Some,
-  None,
-  slice_get,
-  slice_set,
-}
+use Rattle.std.specs.Prelude.{◌≡◌, ℕ, Bool, true, false, List, [], ◌∷◌, ◌++◌, length, map, Option, Some, None, slice_get, slice_set}
 use Rattle.snap_history.specs.History.{Update, from_nothing, number_after, IsMemory}
 use Rattle.snap_scan.specs.Looks.{IsTurn, IsBorrow, IsDecided}
-use Rattle.snap_collect.specs.Collects.{IsMoment}
+use Rattle.snap_scan.specs.Collects.{IsMoment}
 use Rattle.snap_world.specs.Answers.{ScanState, scan_from, IsAnswer, number_at}
 use Rattle.snap_world.specs.declared.event.Actor.TheVariants.{Writer, Scanner}
 use Rattle.snap_world.specs.declared.event.Event.{Event}
-use Rattle.snap_world.specs.declared.event.Event.TheVariants.{
-  Begin,
-  Look,
-  Call,
-  Fail,
-  Show,
-  Acknowledge,
-  Scan,
-  Answer,
-  Crash,
-  Restart,
-  RestartCall,
-  RestartFail,
-  Serve,
-}
+use Rattle.snap_world.specs.declared.event.Event.TheVariants.{Begin, Look, Call, Fail, Show, Acknowledge, Scan, Answer, Crash, Restart}
+use Rattle.snap_world.specs.declared.event.Event.TheVariants.{RestartCall, RestartFail, Serve}
 use Rattle.snap_world.specs.declared.event.Reply.{Reply}
-use Rattle.snap_world.specs.declared.event.Reply.TheVariants.{
-  Begun as Begun_reply,
-  Number,
-  Called,
-  DeviceFailed,
-  Shown as Shown_reply,
-  Stored,
-  ScanBegun,
-  Memory,
-  Crashed,
-  Restarting,
-  NotNow,
-}
+use Rattle.snap_world.specs.declared.event.Reply.TheVariants.{Begun as Begun_reply, Number, Called, DeviceFailed, Shown as Shown_reply}
+use Rattle.snap_world.specs.declared.event.Reply.TheVariants.{Stored, ScanBegun, Memory, Crashed, Restarting, NotNow}
 
 -- what a writer has under way
 pub data Pending : Type 0 where

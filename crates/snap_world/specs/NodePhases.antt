@@ -1,24 +1,7 @@
 -- The phases of a world: of its node, of its writers and scanners, and of the stores on its
 -- devices.
-use Rattle.std.specs.Prelude.{
-  ◌≡◌,
-  ◌⊎◌,
-  ℕ,
-  ◌+◌,
-  ◌<◌,
-  nat_lt,
-  true,
-  if◌then◌else◌,
-  List,
-  [],
-  ◌∷◌,
-  ◌++◌,
-  length,
-  replicate,
-  Some,
-  slice_get,
-  slice_set,
-}
+use Rattle.std.specs.Prelude.{◌≡◌, ◌⊎◌, ℕ, ◌+◌, ◌<◌, nat_lt, true, if◌then◌else◌, List, [], ◌∷◌, ◌++◌, length, replicate, Some}
+use Rattle.std.specs.Prelude.{slice_get, slice_set}
 use Rattle.snap_scan.specs.Looks.{IsDecided}
 use Rattle.snap_history.specs.History.{from_nothing, number_after}
 use Rattle.snap_world.specs.Machine.{State, WriterState, Opened}
@@ -31,35 +14,11 @@ use Rattle.snap_persist.specs.Stage.{store_calls}
 use Rattle.snap_world.specs.Calls.{store_call, opening_kind}
 use Rattle.snap_world.specs.declared.event.Actor.TheVariants as actor
 use Rattle.snap_world.specs.declared.event.Event.{Event}
-use Rattle.snap_world.specs.declared.event.Event.TheVariants.{
-  Begin,
-  Look,
-  Show,
-  Acknowledge,
-  Scan,
-  Answer,
-  Call,
-  Fail,
-  Crash,
-  Restart,
-  RestartCall,
-  RestartFail,
-  Serve,
-}
+use Rattle.snap_world.specs.declared.event.Event.TheVariants.{Begin, Look, Show, Acknowledge, Scan, Answer, Call, Fail, Crash, Restart}
+use Rattle.snap_world.specs.declared.event.Event.TheVariants.{RestartCall, RestartFail, Serve}
 use Rattle.snap_world.specs.declared.event.Reply.{Reply}
-use Rattle.snap_world.specs.declared.event.Reply.TheVariants.{
-  Begun,
-  Number,
-  Shown,
-  Stored,
-  ScanBegun,
-  Called,
-  DeviceFailed,
-  Crashed,
-  Restarting as Restarting_reply,
-  Memory,
-  NotNow,
-}
+use Rattle.snap_world.specs.declared.event.Reply.TheVariants.{Begun, Number, Shown, Stored, ScanBegun, Called, DeviceFailed, Crashed}
+use Rattle.snap_world.specs.declared.event.Reply.TheVariants.{Restarting as Restarting_reply, Memory, NotNow}
 use Rattle.snap_world.specs.declared.node.NodePhase.{NodePhase}
 use Rattle.snap_world.specs.declared.node.NodePhase.TheVariants.{Up, Down, Restarting, Ready}
 use Rattle.snap_world.specs.declared.node.OpeningCall.{OpeningCall}

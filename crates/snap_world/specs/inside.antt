@@ -1,9 +1,9 @@
 pub mod Drives
 pub mod NodeStands
 pub mod NodeSteps
-pub mod Serving
+pub mod Recovery
 pub mod Gathers
 pub mod Stands
 pub mod Steps
 pub mod Fresh
-pub mod Halting
+pub mod Halt

@@ -21,7 +21,7 @@ ghost use Rattle.snap_world.specs.inside.Drives.{
   AreCrashed,
 };
 ghost use Rattle.snap_history.specs.Pairs.{Pairs};
-ghost use Rattle.snap_world.specs.inside.Serving.{found_value, AllReadable, IsResumed};
+ghost use Rattle.snap_world.specs.inside.Recovery.{found_value, AllReadable, IsResumed};
 ghost use Rattle.snap_persist.specs.declared.persist.NextCall.{NextCall};
 
 use crate::event::Kind;

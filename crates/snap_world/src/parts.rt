@@ -4,7 +4,7 @@ ghost use Rattle.snap_history.specs.declared.limits.TheConstants.{MAX_COUNT};
 ghost use Rattle.snap_world.specs.Start.{start_state, start_phases};
 ghost use Rattle.snap_world.specs.NodePhases.{NeedsMemory, up};
 ghost use Rattle.snap_world.specs.inside.Stands.{PartsStand, Stand};
-ghost use Rattle.snap_world.specs.inside.Halting.{IsHalted, IsScannerHalted};
+ghost use Rattle.snap_world.specs.inside.Halt.{IsHalted, IsScannerHalted};
 ghost use Rattle.snap_history.specs.Pairs.{Pairs};
 ghost use Rattle.snap_world.specs.inside.Steps.{IsActors, IsPartsStep, phases_of_parts};
 

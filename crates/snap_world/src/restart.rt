@@ -4,7 +4,7 @@ ghost use Rattle.snap_disk.specs.declared.fill.Fill.{Fill};
 ghost use Rattle.snap_world.specs.NodePhases.{after_opening_call};
 ghost use Rattle.snap_world.specs.inside.NodeStands.{NodeStand};
 ghost use Rattle.snap_world.specs.inside.NodeSteps.{IsNodeStep};
-ghost use Rattle.snap_world.specs.inside.Serving.{AllReadable, AreRecovered};
+ghost use Rattle.snap_world.specs.inside.Recovery.{AllReadable, AreRecovered};
 ghost use Rattle.snap_world.specs.declared.event.Event.{Event};
 
 use crate::drive::{Drive, crash_all, found_values, resume_all};

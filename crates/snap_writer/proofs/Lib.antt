@@ -1,5 +1,5 @@
 pub mod Shown
 pub mod Paired
-pub mod Resting
-pub mod Judging
-pub mod Living
+pub mod Rest
+pub mod Judgements
+pub mod Lives

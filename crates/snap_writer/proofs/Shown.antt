@@ -1,26 +1,8 @@
 -- What a seat's own number and value are after it has seen more, and after an update was shown.
-use Rattle.std.proofs.Common.{
-  ◌≡◌,
-  ℕ,
-  ◌+◌,
-  List,
-  [],
-  ◌∷◌,
-  ◌++◌,
-  ap,
-  sym,
-  ◌∙◌,
-  arith,
-}
+use Rattle.std.proofs.Common.{◌≡◌, ℕ, ◌+◌, List, [], ◌∷◌, ◌++◌, ap, sym, ◌∙◌, arith}
 use Rattle.std.proofs.lemmas.List.{append_assoc}
 use Rattle.snap_history.specs.History.{Update, updates_of, last_value, number_after, value_after}
-use Rattle.snap_history.proofs.Moments.{
-  updates-append,
-  last-append,
-  last_none,
-  number-push,
-  value-push,
-}
+use Rattle.snap_history.proofs.Moments.{updates-append, last-append, last_none, number-push, value-push}
 use Rattle.snap_register.specs.History.{starts}
 use Rattle.snap_register.specs.Seat.{Known, Grows, Shows, own_of, number_in, value_in}
 use Rattle.snap_writer.specs.Update.{IsSameSeat, EndsWith}

@@ -1,19 +1,5 @@
 -- The judge: which rule an update falls under, and what it is answered.
-use Rattle.std.specs.Prelude.{
-  ◌≡◌,
-  ◌≢◌,
-  ℕ,
-  ◌+◌,
-  ◌<◌,
-  ◌≤◌,
-  List,
-  length,
-  IsSome,
-  None,
-  Result,
-  Ok,
-  Err,
-}
+use Rattle.std.specs.Prelude.{◌≡◌, ◌≢◌, ℕ, ◌+◌, ◌<◌, ◌≤◌, List, length, IsSome, None, Result, Ok, Err}
 use Rattle.snap_disk.specs.declared.refusal.Refusal.{Refusal}
 use Rattle.snap_disk.specs.declared.refusal.Refusal.TheVariants as refusal
 use Rattle.snap_history.specs.declared.limits.TheConstants.{MAX_VALUE_LEN, LAST_NUMBER}
@@ -22,16 +8,8 @@ use Rattle.snap_register.specs.Rule.{segments}
 use Rattle.snap_scan.specs.Looks.{most_looks}
 use Rattle.snap_writer.specs.Writer.{WriterState, number_of, value_of}
 use Rattle.snap_writer.specs.declared.judgement.Judgement.{Judgement}
-use Rattle.snap_writer.specs.declared.judgement.Judgement.TheVariants.{
-  TooLong,
-  Stored,
-  Conflict,
-  OutOfStep,
-  Exhausted,
-  Fenced,
-  Worn,
-  Go,
-}
+use Rattle.snap_writer.specs.declared.judgement.Judgement.TheVariants.{TooLong, Stored, Conflict, OutOfStep, Exhausted, Fenced, Worn}
+use Rattle.snap_writer.specs.declared.judgement.Judgement.TheVariants.{Go}
 
 -- the update is one to the number after the last one shown
 abbrev pub IsNext : {D : Type 0} → WriterState D → ℕ → List ℕ → Type 0

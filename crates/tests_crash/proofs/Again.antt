@@ -5,7 +5,7 @@ use Rattle.std.proofs.lemmas.Option.{slice_get_within, slice_get-get_or, get_or_
 use Rattle.snap_disk.specs.Device.{Device}
 use Rattle.snap_history.specs.History.{Update}
 use Rattle.snap_history.specs.Pairs.{Pairs}
-use Rattle.snap_history.proofs.Pairing.{element}
+use Rattle.snap_history.proofs.Pairs.{element}
 use Rattle.snap_register.specs.declared.plan.Plan.{Plan}
 use Rattle.snap_register.specs.History.{starts}
 use Rattle.snap_register.specs.Seat.{Known}
@@ -13,14 +13,14 @@ use Rattle.snap_segment.specs.Segment.{SegmentState}
 use Rattle.snap_writer.specs.Writer.{WriterState}
 use Rattle.snap_writer.specs.Life.{Place, resting}
 use Rattle.snap_cut.specs.Crash.{Begun, IsRecovered}
-use Rattle.snap_cut.proofs.Lasting.{bytes_left}
+use Rattle.snap_cut.proofs.Starts.{bytes_left}
 use Rattle.snap_restart.specs.Closed.{IsHistory}
 use Rattle.snap_restart.specs.Opened.{IsOpened}
-use Rattle.snap_restart.specs.Crashing.{AreOpened, AnyCut}
-use Rattle.snap_restart.proofs.Returning.{get_map}
-use Rattle.snap_restart.proofs.Crashing.{unmap}
+use Rattle.snap_restart.specs.Crash.{AreOpened, AnyCut}
+use Rattle.snap_restart.proofs.Removals.{get_map}
+use Rattle.snap_restart.proofs.Crash.{unmap}
 use Rattle.tests_crash.specs.Again.{AreOfOne, GoOnBehind}
-use Rattle.tests_crash.proofs.Working.{at_rest_recovers}
+use Rattle.tests_crash.proofs.Premises.{at_rest_recovers}
 
 module _ {D : Type 0} (device : D → Device) (failures : D → ℕ) (honest : D → Type 0)
     (clock : D → ℕ) (might_have_left : D → ℕ → List ℕ → Type 0) where

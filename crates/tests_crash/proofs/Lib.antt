@@ -1,5 +1,5 @@
-pub mod Working
+pub mod Premises
 pub mod Together
-pub mod Staying
+pub mod Durability
 pub mod Again
 pub mod Moment

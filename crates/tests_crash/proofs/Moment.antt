@@ -11,23 +11,15 @@ use Rattle.snap_register.specs.declared.plan.Entry.{Entry}
 use Rattle.snap_register.specs.declared.plan.Plan.{Plan}
 use Rattle.snap_register.specs.declared.plan.SeatView.{SeatView}
 use Rattle.snap_register.specs.History.{updates, only}
-use Rattle.snap_register.specs.Rule.{
-  segments,
-  seats,
-  size,
-  IsWriter,
-  Kept,
-  first_role,
-  without_first_role,
-}
+use Rattle.snap_register.specs.Rule.{segments, seats, size, IsWriter, Kept, first_role, without_first_role}
 use Rattle.snap_register.specs.Setup.{first_view, opening_words, IsReady, IsFirst}
-use Rattle.snap_register.proofs.Joining.{gives}
+use Rattle.snap_register.proofs.Joins.{gives}
 use Rattle.snap_register.proofs.Opens.{opens, first_is, enough, bare, first_after}
 use Rattle.snap_register.proofs.Updates.{updates_count}
 use Rattle.snap_writer.specs.Writer.{WriterState}
 use Rattle.snap_writer.specs.Life.{Place, seen_at}
 use Rattle.snap_cut.specs.Laws.{IsSeatOf}
-use Rattle.snap_restart.specs.Crashing.{IsLifeFrom}
+use Rattle.snap_restart.specs.Crash.{IsLifeFrom}
 use Rattle.snap_restart.specs.Restarts.{Crashed}
 use Rattle.tests_crash.specs.Moment.{ShowNothing, HasNone, AtOnceLaw, OverLaw}
 

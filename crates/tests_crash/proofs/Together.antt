@@ -8,8 +8,8 @@ use Rattle.snap_history.specs.History.{Update, IsBeginning, number_after}
 use Rattle.snap_history.specs.Limits.{IsNumber, IsShort}
 use Rattle.snap_history.specs.declared.limits.TheConstants.{LAST_NUMBER}
 use Rattle.snap_history.proofs.Beginnings.{beginning-self}
-use Rattle.snap_history.proofs.Pairing.{element}
-use Rattle.snap_memory.proofs.Gathering.{grows_self}
+use Rattle.snap_history.proofs.Pairs.{element}
+use Rattle.snap_memory.proofs.Collects.{grows_self}
 use Rattle.snap_scan.specs.Looks.{most_looks}
 use Rattle.snap_register.specs.declared.plan.Plan.{Plan}
 use Rattle.snap_register.specs.History.{starts}
@@ -22,8 +22,8 @@ use Rattle.snap_writer.specs.declared.judgement.Judgement.TheVariants.{Go}
 use Rattle.snap_writer.specs.Life.{Place, in_store, resting, seen_at, Sees, Shows, StoresFirst, IsWriterOf}
 use Rattle.snap_cut.specs.Crash.{all_seen}
 use Rattle.snap_cut.specs.Laws.{IsLivedIn}
-use Rattle.snap_cut.proofs.Cutting.{cut_recovers}
-use Rattle.snap_restart.proofs.Returning.{get_map}
+use Rattle.snap_cut.proofs.Crash.{cut_recovers}
+use Rattle.snap_restart.proofs.Removals.{get_map}
 use Rattle.tests_crash.specs.Opened.{AreNew}
 use Rattle.tests_crash.specs.Together.{stored_unshown, AreTwo, IsRecoveredAt}
 

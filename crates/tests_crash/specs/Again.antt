@@ -8,7 +8,7 @@ use Rattle.snap_register.specs.Seat.{Known}
 use Rattle.snap_writer.specs.Writer.{WriterState}
 use Rattle.snap_writer.specs.Life.{resting, IsWriterOf}
 use Rattle.snap_cut.specs.Crash.{all_seen}
-use Rattle.snap_restart.specs.Crashing.{AllHonest, GoesOn}
+use Rattle.snap_restart.specs.Crash.{AllHonest, GoesOn}
 
 module _ {D : Type 0} (device : D → Device) (honest : D → Type 0) (clock : D → ℕ)
     (might_have_left : D → ℕ → List ℕ → Type 0) where

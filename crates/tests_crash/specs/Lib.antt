@@ -1,6 +1,6 @@
 pub mod Opened
 pub mod Worked
 pub mod Together
-pub mod Staying
+pub mod Durability
 pub mod Again
 pub mod Moment

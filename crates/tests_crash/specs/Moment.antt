@@ -8,7 +8,7 @@ use Rattle.snap_register.specs.Setup.{IsReady}
 use Rattle.snap_writer.specs.Writer.{WriterState}
 use Rattle.snap_writer.specs.Life.{Place, seen_at, CrashLeaves}
 use Rattle.snap_cut.specs.Crash.{Begun, IsRecovered}
-use Rattle.snap_restart.specs.Crashing.{IsLifeFrom, AllHonest, AreOpened}
+use Rattle.snap_restart.specs.Crash.{IsLifeFrom, AllHonest, AreOpened}
 use Rattle.snap_restart.specs.Restarts.{FollowCrash, Restarts}
 
 -- no update of any of n files

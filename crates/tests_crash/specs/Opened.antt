@@ -4,7 +4,7 @@ use Rattle.snap_disk.specs.Device.{Device}
 use Rattle.snap_history.specs.Pairs.{Pairs}
 use Rattle.snap_writer.specs.Writer.{WriterState}
 use Rattle.snap_restart.specs.Opened.{IsOpened, IsFresh}
-use Rattle.snap_restart.specs.Crashing.{AreOpened}
+use Rattle.snap_restart.specs.Crash.{AreOpened}
 
 -- these are the writers with which the files on these devices were opened
 pub record AreNew {D : Type 0} (device : D → Device) (failures : D → ℕ) (honest : D → Type 0)

@@ -9,7 +9,7 @@ ghost use Rattle.snap_writer.specs.Judge.{IsJudged};
 ghost use Rattle.snap_writer.specs.Life.{in_store};
 ghost use Rattle.tests_crash.specs.Worked.{IsRecoveredNow, KeepAStart, ComeThrough};
 ghost use Rattle.tests_crash.specs.Together.{AreTwo, IsRecoveredAt, stored_unshown};
-ghost use Rattle.tests_crash.specs.Staying.{IsAWriter, LosesNothing};
+ghost use Rattle.tests_crash.specs.Durability.{IsAWriter, LosesNothing};
 ghost use Rattle.tests_crash.specs.Opened.{AreNew};
 ghost use Rattle.tests_crash.specs.Again.{AreOfOne, GoOnBehind};
 ghost use Rattle.tests_crash.specs.Moment.{AtOnceLaw, OverLaw};

@@ -55,7 +55,7 @@ fn stopped(rt: &(impl Abort + AllocGlobal), devices: Vec<MemDisk>) -> Stopped<Me
 }
 
 /// The first writer's update.
-#[tactic(auto, using(snap_restart::proofs::Keeping::back_updated))]
+#[tactic(auto, using(snap_restart::proofs::Kept::back_updated))]
 fn update(
     rt: &impl Abort,
     store: &mut Store<MemDisk>,

@@ -1,4 +1,4 @@
-//! The tests of what serves: of `snap_service`, `snap_desk`, `snap_server` and `snap_patience`, by
+//! The tests of what serves: of `snap_service`, `snap_desk`, `snap_server` and `snap_spin`, by
 //! their public items alone. The tests of a room of the building stand in one crate of their own: a
 //! crate with tests is proved twice, and each crate of tests pays a start-up of its own.
 #![tactic(auto)]
@@ -8,10 +8,10 @@ mod desk;
 #[cfg(test)]
 mod frames;
 #[cfg(test)]
-mod patience;
-#[cfg(test)]
 mod server;
 #[cfg(test)]
 mod service;
+#[cfg(test)]
+mod spin;
 #[cfg(test)]
 mod stores;

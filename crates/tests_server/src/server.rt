@@ -1,10 +1,10 @@
 //! Servers over loopback, with both ends in one process.
 
-mod announcing;
+mod announcements;
+mod barrier;
 mod course;
 mod faults;
 mod floods;
-mod meeting;
 mod partings;
 mod shop;
 mod talks;

@@ -1,6 +1,6 @@
 //! Whole scripts: what they write, and how they end.
 mod lines;
-mod playing;
+mod streams;
 
 use snap_script::{LineFault, ScriptEnd, script};
 use snap_stream::TestStream;

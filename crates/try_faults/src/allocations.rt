@@ -80,7 +80,7 @@ fn print_calls(rt: &HostRuntime, devices: &Vec<MemDisk>) -> io::Result<()> {
 }
 
 /// The first writer's update.
-#[tactic(auto, using(snap_restart::proofs::Keeping::back_updated))]
+#[tactic(auto, using(snap_restart::proofs::Kept::back_updated))]
 fn update(store: &mut Store<MemDisk>, number: u64, value: &[u8]) -> Result<u64, Refusal>
     requires back { AreBack store.old.writers.items store.old.scanners.items }
     ensures back { AreBack store.new.writers.items store.new.scanners.items }

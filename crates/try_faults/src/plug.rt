@@ -15,10 +15,10 @@
 //! The line that says so is the same in every run. On standard error three more follow, which count where
 //! the pulls found the threads; no seed fixes that.
 mod device;
-mod opening;
 mod pull;
+mod recovery;
 mod rounds;
-mod running;
+mod run;
 mod tally;
 mod worker;
 

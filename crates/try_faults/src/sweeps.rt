@@ -14,7 +14,7 @@
 //! What it must print is worked out from the disk model by tests/oracle/restart_sweep.py.
 mod migration;
 mod noise;
-mod opening;
+mod recovery;
 mod segment;
 mod stop;
 mod subject;

@@ -9,14 +9,14 @@
 ghost use Rattle.std.specs.Prelude.{◌≡◌, ℕ, ◌+◌, slice_get, Some};
 ghost use Rattle.snap_restart.specs.Closed.{IsSeatAt};
 
-mod closing;
 mod draw;
+mod end;
 mod generation;
 mod seats;
 mod worker;
 
-use closing::end;
 use draw::plan_all;
+use end::end;
 use generation::{Outcome, SCANNERS, crash_all, stored_by, take_out, work_all};
 use snap_devices::MemDisk;
 use snap_restart::Store;

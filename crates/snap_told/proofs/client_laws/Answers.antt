@@ -1,4 +1,4 @@
-use Rattle.snap_told.proofs.Answering.{answered_stands}
+use Rattle.snap_told.proofs.ClientAnswers.{answered_stands}
 use Rattle.snap_told.proofs.client_laws.Goals as goal
 
 pub returns : goal.returns

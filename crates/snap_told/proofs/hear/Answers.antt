@@ -1,6 +1,6 @@
 use Rattle.std.proofs.Common.{subst}
 use Rattle.snap_client.specs.Calls.{ClientState, Calls}
-use Rattle.snap_told.proofs.Hearing.{hears}
+use Rattle.snap_told.proofs.Premises.{hears}
 use Rattle.snap_told.proofs.hear.Goals as goal
 
 pub returns : goal.returns

@@ -1,4 +1,4 @@
-use Rattle.snap_told.proofs.Hearing.{heard, first_heard}
+use Rattle.snap_told.proofs.Premises.{heard, first_heard}
 use Rattle.snap_told.proofs.heard_laws.Goals as goal
 
 pub returns-clause-heard : goal.returns-clause-heard

@@ -1,4 +1,4 @@
-use Rattle.snap_told.proofs.Telling.{stored, snapshot, replied}
+use Rattle.snap_told.proofs.Replies.{stored, snapshot, replied}
 use Rattle.snap_told.proofs.reply_laws.Goals as goal
 
 pub returns-clause-stored : goal.returns-clause-stored

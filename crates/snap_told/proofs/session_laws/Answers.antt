@@ -1,5 +1,5 @@
 use Rattle.std.proofs.Common.{◌++◌}
-use Rattle.snap_told.proofs.Running.{run_told}
+use Rattle.snap_told.proofs.Runs.{run_told}
 use Rattle.snap_told.proofs.session_laws.Goals as goal
 
 pub returns : goal.returns

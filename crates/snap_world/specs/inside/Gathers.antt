@@ -1,24 +1,11 @@
 -- What a scan in progress has seen of a history, and what a register holds of it.
-use Rattle.std.specs.Prelude.{
-  ◌≡◌,
-  ℕ,
-  ◌+◌,
-  ◌<◌,
-  ◌≤◌,
-  List,
-  length,
-  take,
-  slice_get,
-  Option,
-  Some,
-  None,
-}
+use Rattle.std.specs.Prelude.{◌≡◌, ℕ, ◌+◌, ◌<◌, ◌≤◌, List, length, take, slice_get, Option, Some, None}
 use Rattle.snap_history.specs.History.{Update, from_nothing, number_after, value_after, IsMemory}
 use Rattle.snap_history.specs.Pairs.{Pairs}
 use Rattle.snap_scan.specs.Course.{IsNext}
 use Rattle.snap_scan.specs.declared.next.Next.{Next}
 use Rattle.snap_scan.specs.declared.next.Next.TheVariants.{Look, Clean, Borrow}
-use Rattle.snap_collect.specs.Collects.{Collects}
+use Rattle.snap_scan.specs.Collects.{Collects}
 use Rattle.snap_world.specs.Answers.{ScanState, IsAnswer, number_at, value_at}
 use Rattle.snap_world.specs.Machine.{State, IsLook}
 use Rattle.snap_world.specs.declared.register.Register.{Register}

@@ -7,16 +7,7 @@ use Rattle.snap_history.specs.declared.limits.TheConstants.{MAX_COUNT}
 use Rattle.snap_scan.specs.Looks.{IsDecided}
 use Rattle.snap_world.specs.Answers.{ScanState, IsAnswer, number_at}
 use Rattle.snap_world.specs.inside.Gathers.{Gathers, IsUnderWay, RegistersStand}
-use Rattle.snap_world.specs.Machine.{
-  State,
-  WriterState,
-  ScannerState,
-  Free,
-  Begun,
-  Shown,
-  Closed,
-  Opened,
-}
+use Rattle.snap_world.specs.Machine.{State, WriterState, ScannerState, Free, Begun, Shown, Closed, Opened}
 use Rattle.snap_world.specs.declared.collector.Collector.{Collector}
 use Rattle.snap_world.specs.declared.parts.Parts.{Parts}
 use Rattle.snap_world.specs.declared.writer.Writer.{Writer}

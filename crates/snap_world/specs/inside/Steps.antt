@@ -5,15 +5,7 @@ use Rattle.snap_world.specs.NodePhases.{TellsWhether, PhasesMove, up}
 use Rattle.snap_world.specs.Phases.{Phases}
 use Rattle.snap_world.specs.inside.Stands.{PartsStand}
 use Rattle.snap_world.specs.declared.event.Event.{Event}
-use Rattle.snap_world.specs.declared.event.Event.TheVariants.{
-  Call,
-  Fail,
-  Crash,
-  Restart,
-  RestartCall,
-  RestartFail,
-  Serve,
-}
+use Rattle.snap_world.specs.declared.event.Event.TheVariants.{Call, Fail, Crash, Restart, RestartCall, RestartFail, Serve}
 use Rattle.snap_world.specs.declared.event.Reply.{Reply}
 use Rattle.snap_world.specs.declared.event.Reply.TheVariants.{NotNow}
 use Rattle.snap_world.specs.declared.parts.Parts.{Parts}

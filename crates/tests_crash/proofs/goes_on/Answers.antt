@@ -1,4 +1,4 @@
-use Rattle.tests_crash.proofs.Staying.{loses_nothing}
+use Rattle.tests_crash.proofs.Durability.{loses_nothing}
 use Rattle.tests_crash.proofs.goes_on.Goals as goal
 
 pub returns : goal.returns

@@ -1,4 +1,4 @@
-use Rattle.tests_crash.proofs.Working.{through_opened, through_stopped}
+use Rattle.tests_crash.proofs.Premises.{through_opened, through_stopped}
 use Rattle.tests_crash.proofs.open_and_give_back.Goals as goal
 
 pub returns-in-Ok : goal.returns-in-Ok

@@ -1,4 +1,4 @@
-use Rattle.tests_crash.proofs.Staying.{is_a_writer}
+use Rattle.tests_crash.proofs.Durability.{is_a_writer}
 use Rattle.tests_crash.proofs.open_and_go_on.Goals as goal
 
 pub goes_on-requires : goal.goes_on-requires

@@ -1,11 +1,5 @@
 use Rattle.std.proofs.Common.{ℕ, ◌+◌, ap, ◌∙◌}
-use Rattle.tests_crash.proofs.Together.{
-  two_popped,
-  below_last,
-  are_two,
-  first_goes,
-  second_goes,
-}
+use Rattle.tests_crash.proofs.Together.{two_popped, below_last, are_two, first_goes, second_goes}
 use Rattle.tests_crash.proofs.open_two.Goals as goal
 
 pub two_at_once-requires-clause-writers : goal.two_at_once-requires-clause-writers

@@ -1,4 +1,4 @@
-use Rattle.tests_crash.proofs.Working.{now, keep_a_start}
+use Rattle.tests_crash.proofs.Premises.{now, keep_a_start}
 use Rattle.tests_crash.proofs.worked.Goals as goal
 
 pub returns-in-Ok : goal.returns-in-Ok

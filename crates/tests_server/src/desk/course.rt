@@ -1,10 +1,10 @@
 //! What a desk's worker is asked while its stores work beside it.
 use crate::frames::SCAN;
 use crossbeam_channel::Receiver;
-use snap_desk::{Desk, Told};
+use snap_desk::{Desk, Outcome};
 use snap_devices::Held;
 use snap_service::Memory;
-use snap_session::{Session, Wants};
+use snap_session::{Done, Session, Wants};
 use std::alloc::{AllocError, Global};
 use std::rt::Clock;
 use std::sync::Wait;
@@ -31,7 +31,7 @@ pub(crate) enum Course {
 #[derive(Drop)]
 pub(crate) struct Worker<R: Wait + Copy, M: Memory> {
     pub alloc: Global,
-    pub inbox: Option<Receiver<Told<R, M, Held>>>,
+    pub inbox: Option<Receiver<Done<Outcome<R, M, Held>>>>,
     pub written: Vec<u8>,
 }
 
@@ -63,7 +63,7 @@ fn ask<R: Wait + Copy + Clock, M: Memory>(
 
 impl<R: Wait + Copy + Clock, M: Memory> Worker<R, M> {
     /// What comes next.
-    fn next(&self, rt: &R) -> Option<Told<R, M, Held>> {
+    fn next(&self, rt: &R) -> Option<Done<Outcome<R, M, Held>>> {
         match &self.inbox {
             Some(inbox) => inbox.recv(rt).ok(),
             None => None,

@@ -5,11 +5,12 @@ ghost use Rattle.snap_service.specs.Memory.{AreWriters, IsOf};
 
 use super::course::{Course, Worker};
 use crossbeam_channel::{Sender, bounded};
-use snap_desk::{Desk, StoreThread, Told, Window};
+use snap_desk::{Desk, Outcome, StoreThread, Window};
 use snap_devices::{Held, Waited};
 use snap_memory::{Scanner, Snapshot};
 use snap_restart::Store;
 use snap_service::{Memory, WriterOf, name_writers};
+use snap_session::Done;
 use snap_writer::Writer;
 use std::alloc::{AllocError, Global};
 use std::marker::Brand;
@@ -54,7 +55,7 @@ impl<R: Wait + Copy, M: Memory> Stores<R, M> {
 fn work_store<R: Wait + Copy, M: Memory>(
     rt: &R,
     store: &mut StoreThread<R, M, Held>,
-    desks: &[Sender<Told<R, M, Held>>],
+    desks: &[Sender<Done<Outcome<R, M, Held>>>],
 ) {
     for _ in rt.forever() {
         let Some(told) = store.next() else {
@@ -103,7 +104,7 @@ fn run_threads<R: Threads + Wait + Clock + Sync + Send + Copy, M: Memory + Send>
     stores: &mut [StoreThread<R, M, Held>],
     worker: &mut Worker<R, M>,
     desk: Desk<R, M, Held>,
-    desks: &[Sender<Told<R, M, Held>>],
+    desks: &[Sender<Done<Outcome<R, M, Held>>>],
     work: (Course, &[u8], &AtomicU64),
 ) -> Result<(), AllocError> {
     let ((), done) = join(

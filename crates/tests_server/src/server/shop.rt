@@ -4,8 +4,7 @@ use super::course::{Course, Stand};
 use crossbeam_channel::{Receiver, Sender};
 use snap_disk::Refusal;
 use snap_frame::{Reply, Request};
-use snap_server::{Background, Done};
-use snap_session::Service;
+use snap_session::{Background, Done, Service};
 use std::sync::Wait;
 
 /// An update that was handed over.

@@ -3,8 +3,7 @@
 use crossbeam_channel::{Receiver, Sender};
 use snap_disk::Refusal;
 use snap_frame::{Reply, Request};
-use snap_server::{Background, Done};
-use snap_session::Service;
+use snap_session::{Background, Done, Service};
 use std::alloc::{AllocError, Global};
 use std::rt::Clock;
 use std::sync::Wait;

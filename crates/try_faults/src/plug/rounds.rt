@@ -2,9 +2,9 @@
 ghost use Rattle.std.specs.Prelude.{◌+◌, ◌^◌, ◌<◌};
 
 use crate::plug::device::Plugged;
-use crate::plug::opening::{Opened, Past, judge, open};
 use crate::plug::pull::Pull;
-use crate::plug::running::{devices_behind, devices_of, past_of, run};
+use crate::plug::recovery::{Opened, Past, judge, open};
+use crate::plug::run::{devices_behind, devices_of, past_of, run};
 use crate::plug::tally::Tally;
 use snap_devices::MemDisk;
 use snap_disk::Fill;

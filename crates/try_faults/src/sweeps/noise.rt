@@ -1,6 +1,6 @@
 //! What is made of devices that give random bytes.
 use crate::sweeps::migration::migrate_words;
-use crate::sweeps::opening::{found, one_line};
+use crate::sweeps::recovery::{found, one_line};
 use snap_devices::{MemDisk, Noise};
 use snap_segment::{OLD_FILE_LEN, Segment, check, format};
 use snap_slot::FILE_LEN;

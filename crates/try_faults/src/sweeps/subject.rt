@@ -1,6 +1,6 @@
 //! The runs that are stopped.
 use crate::sweeps::migration::migration_cell;
-use crate::sweeps::opening::opening_cell;
+use crate::sweeps::recovery::opening_cell;
 use crate::sweeps::segment::{format_cell, store_cell, with_hi};
 use crate::sweeps::stop::{Garbage, Stop};
 use std::alloc::Global;

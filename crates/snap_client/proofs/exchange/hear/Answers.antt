@@ -3,8 +3,8 @@ use Rattle.std.proofs.KnownBytes.{Consumes-trans}
 use Rattle.snap_frame.specs.Stream.{Held, IsBytes, IsNextReply}
 use Rattle.snap_frame.specs.declared.reply_feed.ReplyFault.TheVariants.{Failed}
 use Rattle.snap_frame.specs.declared.frame_buffer.Failure.TheVariants.{TooLarge}
-use Rattle.snap_client.proofs.Reading.{few_bytes, bytes-append}
-use Rattle.snap_client.proofs.Hearing.{read_more}
+use Rattle.snap_client.proofs.Remainder.{few_bytes, bytes-append}
+use Rattle.snap_client.proofs.Replies.{read_more}
 use Rattle.snap_client.proofs.exchange.hear.Goals as goal
 
 pub returns-in-Err-push : goal.returns-in-Err-push

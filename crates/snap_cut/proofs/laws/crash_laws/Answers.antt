@@ -1,6 +1,6 @@
 use Rattle.snap_history.proofs.Beginnings.{beginning-trans}
 use Rattle.snap_register.specs.Rule.{segments}
-use Rattle.snap_cut.proofs.Cutting.{cut_recovers, moment_consistent, moment_recovers}
+use Rattle.snap_cut.proofs.Crash.{cut_recovers, moment_consistent, moment_recovers}
 use Rattle.snap_cut.proofs.laws.crash_laws.Goals as goal
 
 pub returns-clause-cut : goal.returns-clause-cut

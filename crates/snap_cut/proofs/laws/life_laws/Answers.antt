@@ -1,5 +1,5 @@
-use Rattle.snap_cut.proofs.Living.{life_fits}
-use Rattle.snap_cut.proofs.Staying.{stays}
+use Rattle.snap_cut.proofs.Lives.{life_fits}
+use Rattle.snap_cut.proofs.Durability.{stays}
 use Rattle.snap_cut.proofs.laws.life_laws.Goals as goal
 
 pub returns-clause-lives : goal.returns-clause-lives

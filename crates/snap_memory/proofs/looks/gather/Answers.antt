@@ -1,17 +1,8 @@
 use Rattle.std.proofs.Common.{◌≡◌, ℕ, ◌<◌, ◌≤◌, sym, subst, ◌∙◌}
 use Rattle.snap_scan.specs.declared.next.Next.{Next}
 use Rattle.snap_scan.specs.declared.next.Next.TheVariants.{Clean, Borrow}
-use Rattle.snap_memory.proofs.Gathering.{
-  Gathers-none,
-  Gathers-look,
-  told_fits,
-  takes_looks,
-  clean_some,
-  borrow_some,
-  clean_scan,
-  numbers_are,
-  borrowed_scan,
-}
+use Rattle.snap_memory.proofs.Collects.{Gathers-none, Gathers-look, told_fits, takes_looks, clean_some, borrow_some, clean_scan}
+use Rattle.snap_memory.proofs.Collects.{numbers_are, borrowed_scan}
 use Rattle.snap_memory.proofs.looks.gather.Goals as goal
 
 not_both : (v : Next) (j : ℕ) → v ≡ Clean → v ≡ Borrow j → ⊥

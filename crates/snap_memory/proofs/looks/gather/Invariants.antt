@@ -1,6 +1,6 @@
 use Rattle.std.proofs.Common.{◌-◌, length}
 use Rattle.snap_scan.specs.Looks.{most_looks}
-use Rattle.snap_memory.proofs.Gathering.{Gathers}
+use Rattle.snap_memory.proofs.Collects.{Gathers}
 use Rattle.snap_memory.proofs.looks.gather.Given as goal
 
 abbrev pub invariant-looks : goal.invariant-looks

@@ -1,17 +1,4 @@
-use Rattle.std.proofs.Common.{
-  ℕ,
-  inl,
-  inr,
-  ◌≤◌,
-  Some,
-  slice_get,
-  slice_index,
-  ap,
-  sym,
-  subst,
-  ◌∙◌,
-  arith,
-}
+use Rattle.std.proofs.Common.{ℕ, inl, inr, ◌≤◌, Some, slice_get, slice_index, ap, sym, subst, ◌∙◌, arith}
 use Rattle.std.proofs.lemmas.Bool.{cases_eq}
 use Rattle.snap_register.specs.Rule.{segments}
 use Rattle.snap_register.specs.Seat.{Known, IsValue}

@@ -1,7 +1,7 @@
 use Rattle.std.proofs.Common.{ℕ, ◌≤◌, Some, refl, ap, sym, subst, ◌∙◌, arith}
 use Rattle.snap_register.specs.Rule.{segments}
 use Rattle.snap_register.specs.Seat.{Known, IsValue}
-use Rattle.snap_memory.proofs.Keeping.{IsRead, read_more, read_kept}
+use Rattle.snap_memory.proofs.Kept.{IsRead, read_more, read_kept}
 use Rattle.snap_memory.proofs.looks.read_changed.Goals.{then-number, else-number}
 use Rattle.snap_memory.proofs.looks.read_changed.Goals as goal
 

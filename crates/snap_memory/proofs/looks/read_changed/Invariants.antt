@@ -1,5 +1,5 @@
 use Rattle.std.proofs.Common.{◌≡◌, ℕ, ◌<◌, ◌≤◌, length, slice_get}
-use Rattle.snap_memory.proofs.Keeping.{IsRead}
+use Rattle.snap_memory.proofs.Kept.{IsRead}
 use Rattle.snap_memory.proofs.looks.read_changed.Given as goal
 
 abbrev pub invariant-loop-i : goal.invariant-loop-i

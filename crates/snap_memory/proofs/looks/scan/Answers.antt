@@ -1,7 +1,7 @@
 use Rattle.std.proofs.Common.{sym, subst}
 use Rattle.snap_register.specs.Seat.{Known}
 use Rattle.snap_memory.specs.Scans.{IsScan, IsSnapshot}
-use Rattle.snap_memory.proofs.Answering.{snapshot_clean}
+use Rattle.snap_memory.proofs.ScanAnswer.{snapshot_clean}
 use Rattle.snap_memory.proofs.looks.scan.Goals as goal
 
 pub returns-in-Collected-clause-snapshot : goal.returns-in-Collected-clause-snapshot

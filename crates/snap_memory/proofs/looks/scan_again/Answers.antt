@@ -1,8 +1,8 @@
 use Rattle.std.proofs.Common.{sym, subst}
 use Rattle.snap_register.specs.Seat.{Known}
 use Rattle.snap_memory.specs.Scans.{IsScan, IsSnapshot}
-use Rattle.snap_memory.proofs.Answering.{snapshot_clean}
-use Rattle.snap_memory.proofs.Keeping.{kept_grown}
+use Rattle.snap_memory.proofs.ScanAnswer.{snapshot_clean}
+use Rattle.snap_memory.proofs.Kept.{kept_grown}
 use Rattle.snap_memory.proofs.looks.scan_again.Goals as goal
 
 pub read_changed-requires-clause-kept : goal.read_changed-requires-clause-kept

@@ -1,4 +1,4 @@
-use Rattle.snap_memory.proofs.Answering.{may_publish}
+use Rattle.snap_memory.proofs.ScanAnswer.{may_publish}
 use Rattle.snap_memory.proofs.update.prepare.Goals as goal
 
 pub returns-clause-view : goal.returns-clause-view

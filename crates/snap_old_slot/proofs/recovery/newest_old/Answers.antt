@@ -1,11 +1,5 @@
 use Rattle.std.proofs.Common.{⊎_elim, arith}
-use Rattle.snap_old_slot.proofs.Newest.{
-  held_answers,
-  next_numbers,
-  open_beside,
-  not_first_bad,
-  not_second_bad,
-}
+use Rattle.snap_old_slot.proofs.Newest.{held_answers, next_numbers, open_beside, not_first_bad, not_second_bad}
 use Rattle.snap_old_slot.proofs.recovery.newest_old.Goals as goal
 
 pub returns-in_default : goal.returns-in_default

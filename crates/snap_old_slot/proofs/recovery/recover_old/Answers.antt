@@ -4,7 +4,7 @@ use Rattle.snap_slot.specs.Findings.{IsOfBytes}
 use Rattle.snap_slot.specs.declared.header.Header.{Header}
 use Rattle.snap_slot.specs.declared.header.Header.TheVariants.{Open}
 use Rattle.snap_old_slot.specs.Old.{OldHead}
-use Rattle.snap_old_slot.specs.Reading.{IsOldHeaderOf, IsOldFound, IsNoOldOpening}
+use Rattle.snap_old_slot.specs.Found.{IsOldHeaderOf, IsOldFound, IsNoOldOpening}
 use Rattle.snap_old_slot.specs.declared.recovery.OldFound.{OldFound}
 use Rattle.snap_old_slot.proofs.Same.{wrong_old_file, old_damaged, old_found}
 use Rattle.snap_old_slot.proofs.recovery.recover_old.Goals as goal

@@ -1,4 +1,4 @@
-use Rattle.snap_restart.proofs.Lasting.{last, first}
+use Rattle.snap_restart.proofs.Starts.{last, first}
 use Rattle.snap_restart.proofs.laws.restart_laws.Goals as goal
 
 pub returns-clause-any_number : goal.returns-clause-any_number

@@ -5,10 +5,10 @@ use Rattle.snap_history.specs.Pairs.{Pairs}
 use Rattle.snap_register.specs.Seat.{Known}
 use Rattle.snap_restart.specs.Opened.{AreFresh, IsOpened, IsStopped, recovered}
 use Rattle.snap_restart.specs.Closed.{AreBack}
-use Rattle.snap_restart.proofs.Stopping.{stopped_last}
-use Rattle.snap_restart.proofs.Starting.{map_both, starts_are, fresh_are, back_are, paired_are}
-use Rattle.snap_restart.proofs.Crashing.{opened, kept_opened, kept_stopped}
-use Rattle.snap_restart.proofs.Staying.{stay_stored}
+use Rattle.snap_restart.proofs.Refusals.{stopped_last}
+use Rattle.snap_restart.proofs.NewSeats.{map_both, starts_are, fresh_are, back_are, paired_are}
+use Rattle.snap_restart.proofs.Crash.{opened, kept_opened, kept_stopped}
+use Rattle.snap_restart.proofs.Durability.{stay_stored}
 use Rattle.snap_restart.proofs.store.open_all.Goals as goal
 
 pub seat_writers-requires-clause-starts : goal.seat_writers-requires-clause-starts

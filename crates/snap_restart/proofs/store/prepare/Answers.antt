@@ -1,7 +1,7 @@
 use Rattle.std.proofs.Common.{◌≡◌, List, length, map, sym, ap, ◌∙◌}
 use Rattle.std.proofs.lemmas.List.{length-map}
 use Rattle.snap_restart.specs.Opened.{contents}
-use Rattle.snap_restart.proofs.Returning.{no_ok}
+use Rattle.snap_restart.proofs.Removals.{no_ok}
 use Rattle.snap_restart.proofs.store.prepare.Goals as goal
 
 same_long : {A B C : Type 0} (f : A → C) (g : B → C) (xs : List A) (ys : List B)

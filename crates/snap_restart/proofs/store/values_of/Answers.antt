@@ -2,9 +2,9 @@ use Rattle.std.proofs.Common.{rules, ◌≡◌, ℕ, ◌^◌, ◌<◌, ◌≤◌
 use Rattle.std.proofs.lemmas.List.{map-append, take_all}
 use Rattle.std.proofs.lemmas.Option.{slice_get_read}
 use Rattle.snap_history.proofs.Lists.{get-push}
-use Rattle.snap_register.proofs.Pushing.{map_next}
+use Rattle.snap_register.proofs.Pairs.{map_next}
 use Rattle.snap_restart.specs.Opened.{contents}
-use Rattle.snap_restart.proofs.Returning.{no_ok}
+use Rattle.snap_restart.proofs.Removals.{no_ok}
 use Rattle.snap_restart.proofs.store.values_of.Goals as goal
 
 abbrev contents_of : ℕ × Vec ℕ Global → ℕ × List ℕ

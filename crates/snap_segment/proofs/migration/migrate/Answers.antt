@@ -1,8 +1,8 @@
 use Rattle.std.proofs.Common.{◌≡◌, ℕ, List, false, ◌∙◌, rules}
 use Rattle.snap_disk.specs.Device.{LeavesOnly}
 use Rattle.snap_slot.specs.States.{IsAtRest}
-use Rattle.snap_segment.specs.Making.{IsMadeOrLeft, new_file}
-use Rattle.snap_segment.proofs.Migrating.{found_same, carried}
+use Rattle.snap_segment.specs.Creation.{IsMadeOrLeft, new_file}
+use Rattle.snap_segment.proofs.MigratedFile.{found_same, carried}
 use Rattle.snap_segment.proofs.migration.migrate.Goals as goal
 
 pub returns-in-Ok-make_file-clause-any_time : goal.returns-in-Ok-make_file-clause-any_time

@@ -1,4 +1,4 @@
-use Rattle.snap_segment.proofs.Migrating.{refused_for}
+use Rattle.snap_segment.proofs.MigratedFile.{refused_for}
 use Rattle.snap_segment.proofs.migration.read_old.Goals as goal
 
 pub returns-in-Ok-clause-refused : goal.returns-in-Ok-clause-refused

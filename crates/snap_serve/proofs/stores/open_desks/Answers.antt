@@ -1,6 +1,6 @@
 use Rattle.std.proofs.Common.{ℕ, length, ap, arith}
 use Rattle.std.proofs.lemmas.List.{length_push}
-use Rattle.snap_history.proofs.Taking.{taken}
+use Rattle.snap_history.proofs.Removals.{taken}
 use Rattle.snap_serve.proofs.stores.open_desks.Goals as goal
 
 pub open_desk-requires-clause-memory : goal.open_desk-requires-clause-memory

@@ -1,4 +1,4 @@
-use Rattle.snap_server.proofs.Dealing.{deals_accepted}
+use Rattle.snap_server.proofs.Deals.{deals_accepted}
 use Rattle.snap_server.proofs.server.accept_announced.Goals as goal
 
 pub returns-in-Ok-clause-accepted : goal.returns-in-Ok-clause-accepted

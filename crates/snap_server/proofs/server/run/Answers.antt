@@ -1,4 +1,4 @@
-use Rattle.snap_server.proofs.Dealing.{dealt_accepted}
+use Rattle.snap_server.proofs.Deals.{dealt_accepted}
 use Rattle.snap_server.proofs.server.run.Goals as goal
 
 pub returns-clause-accepted : goal.returns-clause-accepted

@@ -3,38 +3,12 @@ use Rattle.std.specs.Io.KnownBytes.{Consumes}
 use Rattle.snap_session.specs.Talk.{most_owed}
 use Rattle.snap_session.specs.Turns.{FewRounds, WholeRounds, most_rounds}
 use Rattle.snap_session.proofs.Known.{consumes_none, consumes_kept}
-use Rattle.snap_session.proofs.Holding.{holds_sent, holds_answered, holds_taken}
-use Rattle.snap_session.proofs.Rounding.{
-  scene,
-  only_sends,
-  reads_nothing,
-  answers_some,
-  reads_some,
-  one_more,
-  and_last,
-}
+use Rattle.snap_session.proofs.Held.{holds_sent, holds_answered, holds_taken}
+use Rattle.snap_session.proofs.Rounds.{scene, only_sends, reads_nothing, answers_some, reads_some, one_more, and_last}
 use Rattle.snap_session.proofs.Steps.{taken_asked, taken_owed}
-use Rattle.snap_session.proofs.Turning.{
-  Stood,
-  stood_sent,
-  begins,
-  then_round,
-  then_takes,
-  then_keeps,
-  then_ends,
-  few_left,
-  none_owed,
-  some_owed,
-  again_apart,
-  input_apart,
-  room_apart,
-  over_apart,
-  blocked_apart,
-  failed_apart,
-  on_any,
-  on_none,
-  or_new,
-}
+use Rattle.snap_session.proofs.TurnRuns.{Stood, stood_sent, begins, then_round, then_takes, then_keeps, then_ends, few_left, none_owed}
+use Rattle.snap_session.proofs.TurnRuns.{some_owed, again_apart, input_apart, room_apart, over_apart, blocked_apart, failed_apart}
+use Rattle.snap_session.proofs.TurnRuns.{on_any, on_none, or_new}
 use Rattle.snap_session.proofs.turns.proceed.Goals as goal
 use Rattle.snap_session.proofs.turns.proceed.Goals.{After-send_owed, In-Bytes}
 

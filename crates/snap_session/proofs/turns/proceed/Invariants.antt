@@ -1,7 +1,7 @@
 use Rattle.std.proofs.Common.{None, ◌≡◌, ◌≤◌, length, OnSome}
 use Rattle.snap_session.specs.Talk.{Stays, most_owed, HoldsFrameAnd}
 use Rattle.snap_session.specs.Turns.{Turns, WholeRounds}
-use Rattle.snap_session.proofs.Rounding.{scene}
+use Rattle.snap_session.proofs.Rounds.{scene}
 use Rattle.snap_session.proofs.turns.proceed.Given as goal
 
 abbrev pub invariant-loop : goal.invariant-loop

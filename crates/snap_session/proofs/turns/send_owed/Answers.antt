@@ -1,4 +1,4 @@
-use Rattle.snap_session.proofs.Turning.{sends_more}
+use Rattle.snap_session.proofs.TurnRuns.{sends_more}
 use Rattle.snap_session.proofs.turns.send_owed.Goals as goal
 
 pub loop-writer-preserved : goal.loop-writer-preserved

@@ -1,4 +1,4 @@
-use Rattle.snap_session.proofs.Turning.{begins, then_turns, serves}
+use Rattle.snap_session.proofs.TurnRuns.{begins, then_turns, serves}
 use Rattle.snap_session.proofs.turns.serve.Goals as goal
 use Rattle.snap_session.specs.Talk.{Talk, start}
 use Rattle.std.proofs.Common.{ap}

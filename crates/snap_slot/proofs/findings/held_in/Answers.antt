@@ -1,6 +1,6 @@
 use Rattle.std.proofs.Common.{◌≡◌, ⊎_elim, ℕ, ◌-◌, ◌<◌, length, sym, ◌∙◌, arith, rules}
 use Rattle.snap_slot.specs.declared.slot.Slot.TheVariants.{Closed, Open}
-use Rattle.snap_slot.proofs.Recovery.{slots_read}
+use Rattle.snap_slot.proofs.Recovered.{slots_read}
 use Rattle.snap_slot.proofs.findings.held_in.Goals as goal
 
 pub returns-in_default : goal.returns-in_default

@@ -3,7 +3,7 @@ use Rattle.std.proofs.lemmas.Option.{slice_get_read, same_Some}
 use Rattle.snap_disk.specs.declared.fill.Fill.{Fill}
 use Rattle.snap_world.specs.inside.Drives.{IsCrashed}
 use Rattle.snap_world.specs.declared.drive.Drive.{Drive}
-use Rattle.snap_world.proofs.Sweeping.{swept-none, swept-more, swept-all}
+use Rattle.snap_world.proofs.Sweep.{swept-none, swept-more, swept-all}
 use Rattle.snap_world.proofs.drive.crash_all.Goals as goal
 
 pub loop-i-init : goal.loop-i-init

@@ -2,8 +2,8 @@ use Rattle.std.proofs.Math.Logic.{∥∥₁_elim}
 use Rattle.std.proofs.Props.{props}
 use Rattle.std.proofs.Common.{◌≡◌, ◌<◌, length, refl, sym, ◌∙◌, arith}
 use Rattle.std.proofs.lemmas.Option.{slice_get_read}
-use Rattle.snap_world.specs.inside.Serving.{IsResumed}
-use Rattle.snap_world.proofs.Sweeping.{swept-more, swept-all}
+use Rattle.snap_world.specs.inside.Recovery.{IsResumed}
+use Rattle.snap_world.proofs.Sweep.{swept-more, swept-all}
 use Rattle.snap_world.proofs.drive.resume_all.Goals as goal
 
 pub resume-requires : goal.resume-requires

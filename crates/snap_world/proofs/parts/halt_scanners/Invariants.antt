@@ -1,5 +1,5 @@
-use Rattle.snap_world.specs.inside.Halting.{IsScannerHalted}
-use Rattle.snap_world.proofs.Sweeping.{Swept}
+use Rattle.snap_world.specs.inside.Halt.{IsScannerHalted}
+use Rattle.snap_world.proofs.Sweep.{Swept}
 use Rattle.snap_world.proofs.parts.halt_scanners.Given as goal
 
 abbrev pub invariant-loop-i : goal.invariant-loop-i

@@ -1,7 +1,7 @@
 use Rattle.std.proofs.Common.{◌≡◌, ◌<◌, length, refl, arith}
 use Rattle.std.proofs.lemmas.Option.{slice_get_read}
-use Rattle.snap_world.specs.inside.Halting.{IsHalted}
-use Rattle.snap_world.proofs.Sweeping.{swept-none, swept-more, swept-all}
+use Rattle.snap_world.specs.inside.Halt.{IsHalted}
+use Rattle.snap_world.proofs.Sweep.{swept-none, swept-more, swept-all}
 use Rattle.snap_world.proofs.parts.halt_writers.Goals as goal
 
 pub loop-i-init : goal.loop-i-init

@@ -1,5 +1,5 @@
-use Rattle.snap_world.specs.inside.Halting.{IsHalted}
-use Rattle.snap_world.proofs.Sweeping.{Swept}
+use Rattle.snap_world.specs.inside.Halt.{IsHalted}
+use Rattle.snap_world.proofs.Sweep.{Swept}
 use Rattle.snap_world.proofs.parts.halt_writers.Given as goal
 
 abbrev pub invariant-loop-i : goal.invariant-loop-i

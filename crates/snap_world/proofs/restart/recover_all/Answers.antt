@@ -1,24 +1,11 @@
 use Rattle.std.proofs.Math.Logic.{∥∥₁_elim}
 use Rattle.std.proofs.Props.{props}
-use Rattle.std.proofs.Common.{
-  ◌≡◌,
-  ℕ,
-  ◌<◌,
-  length,
-  Some,
-  slice_get,
-  refl,
-  ap,
-  sym,
-  ◌∙◌,
-  subst,
-  arith,
-}
+use Rattle.std.proofs.Common.{◌≡◌, ℕ, ◌<◌, length, Some, slice_get, refl, ap, sym, ◌∙◌, subst, arith}
 use Rattle.std.proofs.lemmas.Option.{slice_get_read, same_Some}
-use Rattle.snap_world.specs.inside.Serving.{IsRecovered, found_value}
+use Rattle.snap_world.specs.inside.Recovery.{IsRecovered, found_value}
 use Rattle.snap_world.specs.declared.drive.Drive.{Drive}
 use Rattle.snap_world.specs.declared.register.Register.{Register}
-use Rattle.snap_world.proofs.Sweeping.{swept-more, swept-all}
+use Rattle.snap_world.proofs.Sweep.{swept-more, swept-all}
 use Rattle.snap_world.proofs.restart.recover_all.Goals as goal
 
 pub found_value-requires-clause-size : goal.found_value-requires-clause-size

@@ -1,7 +1,7 @@
 use Rattle.std.proofs.Common.{◌≡◌, Some, slice_get}
-use Rattle.snap_world.specs.inside.Serving.{IsRecovered}
+use Rattle.snap_world.specs.inside.Recovery.{IsRecovered}
 use Rattle.snap_world.specs.declared.drive.Drive.{Drive}
-use Rattle.snap_world.proofs.Sweeping.{Swept}
+use Rattle.snap_world.proofs.Sweep.{Swept}
 use Rattle.snap_world.proofs.restart.recover_all.Given as goal
 
 abbrev pub invariant-loop-i : goal.invariant-loop-i

@@ -1,4 +1,4 @@
-use Rattle.snap_writer.proofs.Judging.{some_rule}
+use Rattle.snap_writer.proofs.Judgements.{some_rule}
 use Rattle.snap_writer.proofs.laws.judge_laws.Goals as goal
 
 pub returns-clause-some : goal.returns-clause-some

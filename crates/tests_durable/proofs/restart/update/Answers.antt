@@ -1,6 +1,6 @@
 use Rattle.std.proofs.Common.{◌≡◌, length, slice_get, refl, Some}
 use Rattle.std.proofs.lemmas.Option.{slice_get_read}
-use Rattle.snap_restart.proofs.Keeping.{back_updated}
+use Rattle.snap_restart.proofs.Kept.{back_updated}
 use Rattle.tests_durable.proofs.restart.update.Goals as goal
 
 pub returns : goal.returns

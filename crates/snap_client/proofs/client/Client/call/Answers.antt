@@ -1,4 +1,4 @@
-use Rattle.snap_client.proofs.Hearing.{has_failed}
+use Rattle.snap_client.proofs.Replies.{has_failed}
 use Rattle.snap_client.proofs.client.Client.call.Goals as goal
 
 pub returns-in-Err : goal.returns-in-Err

@@ -1,4 +1,4 @@
-use Rattle.snap_desk.specs.Handing.{job_of}
+use Rattle.snap_desk.specs.Handover.{job_of}
 use Rattle.snap_desk.proofs.desk.Desk.update.Given as goal
 
 abbrev pub ghosts-ask : goal.ghosts-ask

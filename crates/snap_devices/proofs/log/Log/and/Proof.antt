@@ -31,19 +31,8 @@ use denote.Triple.Clauses.{Clauses, Ended, closing}
 use denote.Triple.Entry.{on_entry, alive, Args}
 use denote.Triple.Spec.{Meets, triple_of}
 use denote.Triple.Table.{entered}
-use denote.Triple.Walked.{
-  says,
-  stay_none_ref,
-  stay_none_slice,
-  Stays,
-  walk_of,
-  Walks,
-  ends_at,
-  walked,
-  Goes-none_ref,
-  Goes-none_slice,
-  walk_Meets,
-}
+use denote.Triple.Walked.{says, stay_none_ref, stay_none_slice, Stays, walk_of, Walks, ends_at, walked, Goes-none_ref, Goes-none_slice}
+use denote.Triple.Walked.{walk_Meets}
 use Rattle.std.specs.contracts.marker.PhantomData as Mark
 use Rattle.snap_devices.proofs.Marked.{none, one, one_made}
 use Rattle.snap_devices.specs.contracts.log.Log as Log

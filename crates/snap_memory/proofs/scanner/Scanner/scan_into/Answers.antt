@@ -1,4 +1,4 @@
-use Rattle.snap_memory.proofs.Keeping.{fits_grown}
+use Rattle.snap_memory.proofs.Kept.{fits_grown}
 use Rattle.snap_memory.proofs.scanner.Scanner.scan_into.Goals as goal
 
 pub invariant_of-self : goal.invariant_of-self

@@ -2,7 +2,7 @@ use Rattle.std.proofs.Common.{◌≡◌, ℕ, ◌+◌, ◌<◌, ◌≤◌, ◌++
 use Rattle.atomic_table.specs.Table.{Me}
 use Rattle.snap_register.specs.declared.plan.SeatView.{SeatView}
 use Rattle.snap_register.specs.Held.{held}
-use Rattle.snap_register.specs.Packing.{piece, size_at}
+use Rattle.snap_register.specs.Words.{piece, size_at}
 use Rattle.snap_register.specs.Rule.{width}
 use Rattle.snap_register.proofs.Blocks.{piece_more, piece_length}
 use Rattle.snap_register.specs.Steps.{LiesAt, IsNext}

@@ -1,28 +1,10 @@
-use Rattle.std.proofs.Common.{
-  ◌≡◌,
-  ℕ,
-  ◌+◌,
-  ◌*◌,
-  ◌^◌,
-  ◌<◌,
-  ◌≤◌,
-  ◌++◌,
-  List,
-  length,
-  get_or,
-  ap,
-  sym,
-  subst,
-  ◌∙◌,
-  arith,
-  length-append,
-}
+use Rattle.std.proofs.Common.{◌≡◌, ℕ, ◌+◌, ◌*◌, ◌^◌, ◌<◌, ◌≤◌, ◌++◌, List, length, get_or, ap, sym, subst, ◌∙◌, arith, length-append}
 use Rattle.atomic_table.specs.Table.{Me}
 use Rattle.snap_register.specs.declared.plan.SeatView.{SeatView}
 use Rattle.snap_register.specs.declared.view.View.TheVariants.{Borrowed}
 use Rattle.snap_register.specs.Rule.{segments, width}
 use Rattle.snap_register.specs.Held.{held, taken, view_in}
-use Rattle.snap_register.specs.Packing.{IsWhole, AreBlocks, piece, size_at, block_at, behind}
+use Rattle.snap_register.specs.Words.{IsWhole, AreBlocks, piece, size_at, block_at, behind}
 use Rattle.snap_register.proofs.Blocks.{blocks_push, piece_length, behind_more}
 use Rattle.snap_register.proofs.Lines.{prefix_trans}
 use Rattle.snap_register.proofs.Views.{viewed, width_is}

@@ -2,7 +2,7 @@ use Rattle.std.proofs.Common.{◌≡◌, ◌≤◌, ◌+◌, ◌*◌, length}
 use mathlib.Core.List.{IsPrefix}
 use Rattle.snap_register.specs.declared.view.View.TheVariants.{Borrowed}
 use Rattle.snap_register.specs.Held.{held, taken}
-use Rattle.snap_register.specs.Packing.{AreBlocks, behind, size_at}
+use Rattle.snap_register.specs.Words.{AreBlocks, behind, size_at}
 use Rattle.snap_register.proofs.access.Access.copy_borrowed.Given as goal
 
 abbrev pub invariant-loop : goal.invariant-loop

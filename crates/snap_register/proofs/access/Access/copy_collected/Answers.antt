@@ -1,25 +1,11 @@
-use Rattle.std.proofs.Common.{
-  ◌≡◌,
-  ℕ,
-  ◌+◌,
-  ◌<◌,
-  ◌++◌,
-  List,
-  length,
-  ap,
-  sym,
-  subst,
-  ◌∙◌,
-  arith,
-  length-append,
-}
+use Rattle.std.proofs.Common.{◌≡◌, ℕ, ◌+◌, ◌<◌, ◌++◌, List, length, ap, sym, subst, ◌∙◌, arith, length-append}
 use Rattle.atomic_table.specs.Table.{Me}
 use Rattle.snap_register.specs.declared.plan.SeatView.{SeatView}
 use Rattle.snap_register.specs.declared.view.View.TheVariants.{Collected}
 use Rattle.snap_register.specs.declared.plan.Plan.{Plan}
 use Rattle.snap_register.specs.Rule.{segments}
 use Rattle.snap_register.specs.Held.{held, taken}
-use Rattle.snap_register.specs.Packing.{IsWhole, AreBlocks, piece, size_at, block_at}
+use Rattle.snap_register.specs.Words.{IsWhole, AreBlocks, piece, size_at, block_at}
 use Rattle.snap_register.proofs.Blocks.{blocks_push, piece_length}
 use Rattle.snap_register.proofs.Lines.{prefix_trans}
 use Rattle.snap_register.proofs.Drafts.{drafted, drafted_then, draft_is, held_drafted}

@@ -2,7 +2,7 @@ use Rattle.std.proofs.Common.{◌≡◌, ◌≤◌, ◌+◌, ◌*◌, length}
 use mathlib.Core.List.{IsPrefix}
 use Rattle.snap_register.specs.declared.view.View.TheVariants.{Collected}
 use Rattle.snap_register.specs.Held.{taken}
-use Rattle.snap_register.specs.Packing.{AreBlocks}
+use Rattle.snap_register.specs.Words.{AreBlocks}
 use Rattle.snap_register.proofs.access.Access.copy_collected.Given as goal
 
 abbrev pub invariant-loop-k : goal.invariant-loop-k

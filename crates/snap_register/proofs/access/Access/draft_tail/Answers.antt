@@ -1,29 +1,10 @@
-use Rattle.std.proofs.Common.{
-  ◌≡◌,
-  ℕ,
-  ◌+◌,
-  ◌-◌,
-  ◌*◌,
-  ◌<◌,
-  ◌++◌,
-  ◌∷◌,
-  [],
-  List,
-  length,
-  take,
-  drop,
-  ap,
-  sym,
-  subst,
-  ◌∙◌,
-  arith,
-  length-drop,
-}
+use Rattle.std.proofs.Common.{◌≡◌, ℕ, ◌+◌, ◌-◌, ◌*◌, ◌<◌, ◌++◌, ◌∷◌, [], List, length, take, drop, ap, sym, subst, ◌∙◌, arith}
+use Rattle.std.proofs.Common.{length-drop}
 use Rattle.std.proofs.lemmas.List.{take-append-drop, take_all}
 use Rattle.std.specs.Int.{w64, to_le_bytes}
 use Rattle.atomic_table.specs.Table.{Me}
 use Rattle.snap_register.specs.declared.plan.SeatView.{SeatView}
-use Rattle.snap_register.specs.Packing.{bytes_at, words_for}
+use Rattle.snap_register.specs.Words.{bytes_at, words_for}
 use Rattle.snap_register.proofs.Blocks.{tail_bytes}
 use Rattle.snap_register.proofs.access.Access.draft_tail.Goals as goal
 

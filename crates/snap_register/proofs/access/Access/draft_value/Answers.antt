@@ -1,25 +1,7 @@
-use Rattle.std.proofs.Common.{
-  ◌≡◌,
-  ℕ,
-  ◌+◌,
-  ◌-◌,
-  ◌*◌,
-  ◌++◌,
-  ◌∷◌,
-  [],
-  List,
-  length,
-  take,
-  drop,
-  get_or,
-  ap,
-  ◌∙◌,
-  arith,
-  length-append,
-}
+use Rattle.std.proofs.Common.{◌≡◌, ℕ, ◌+◌, ◌-◌, ◌*◌, ◌++◌, ◌∷◌, [], List, length, take, drop, get_or, ap, ◌∙◌, arith, length-append}
 use Rattle.std.proofs.lemmas.List.{get_or_append_left}
 use Rattle.std.specs.Int.{w64, to_le_bytes}
-use Rattle.snap_register.specs.Packing.{bytes_at}
+use Rattle.snap_register.specs.Words.{bytes_at}
 use Rattle.snap_register.proofs.Blocks.{bytes_push}
 use Rattle.snap_register.proofs.Drafts.{drafted, drafted_then, draft_is}
 use Rattle.snap_register.proofs.access.Access.draft_value.Goals as goal

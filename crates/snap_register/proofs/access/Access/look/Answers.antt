@@ -1,19 +1,4 @@
-use Rattle.std.proofs.Common.{
-  ◌≡◌,
-  ℕ,
-  ◌+◌,
-  ◌<◌,
-  ◌≤◌,
-  ◌/◌,
-  List,
-  length,
-  sym,
-  ap,
-  subst,
-  ◌∙◌,
-  arith,
-  get_or,
-}
+use Rattle.std.proofs.Common.{◌≡◌, ℕ, ◌+◌, ◌<◌, ◌≤◌, ◌/◌, List, length, sym, ap, subst, ◌∙◌, arith, get_or}
 use Rattle.atomic_table.specs.Table.{Me}
 use Rattle.snap_register.specs.declared.plan.Plan.{Plan}
 use Rattle.snap_register.specs.declared.plan.SeatView.{SeatView}

@@ -7,13 +7,10 @@ use Rattle.snap_register.specs.declared.plan.Plan.{Plan}
 use Rattle.snap_register.specs.declared.plan.SeatView.{SeatView}
 use Rattle.snap_register.specs.Rule.{Learns, IsLegal, with_received}
 use Rattle.snap_register.specs.Setup.{IsSized}
-use Rattle.snap_register.proofs.Joining.{shares, tells, adopts}
+use Rattle.snap_register.proofs.Joins.{shares, tells, adopts}
 use Rattle.snap_register.proofs.Later.{seated_shown, some_words}
 use Rattle.snap_register.proofs.access.Access.meet.Goals as goal
-use Rattle.snap_register.proofs.access.Access.meet.Goals.{
-  After-split_seat-answer,
-  After-join_seat-2,
-}
+use Rattle.snap_register.proofs.access.Access.meet.Goals.{After-split_seat-answer, After-join_seat-2}
 
 pub split_seat-messenger-requires : goal.split_seat-messenger-requires
 split_seat-messenger-requires c =

@@ -1,19 +1,4 @@
-use Rattle.std.proofs.Common.{
-  ◌≡◌,
-  ℕ,
-  ◌+◌,
-  ◌++◌,
-  ◌∷◌,
-  [],
-  List,
-  length,
-  refl,
-  ap,
-  sym,
-  subst,
-  ◌∙◌,
-  arith,
-}
+use Rattle.std.proofs.Common.{◌≡◌, ℕ, ◌+◌, ◌++◌, ◌∷◌, [], List, length, refl, ap, sym, subst, ◌∙◌, arith}
 use Rattle.atomic_table.specs.Table.{Me}
 use Rattle.snap_register.specs.declared.plan.Entry.{Entry}
 use Rattle.snap_register.specs.declared.plan.Plan.{Plan}
@@ -24,7 +9,7 @@ use Rattle.snap_register.specs.declared.view.View.TheVariants.{Collected, Borrow
 use Rattle.snap_register.specs.History.{entry, count, start_at}
 use Rattle.snap_register.specs.Rule.{segments, IsLegal, IsBelow, Follows}
 use Rattle.snap_register.specs.Held.{taken}
-use Rattle.snap_register.specs.Packing.{AreBlocks}
+use Rattle.snap_register.specs.Words.{AreBlocks}
 use Rattle.snap_register.proofs.Blocks.{block_stays}
 use Rattle.snap_register.proofs.Later.{publishes_count}
 use Rattle.snap_register.proofs.Updates.{follows_is}

@@ -3,7 +3,7 @@ use Rattle.std.proofs.lemmas.List.{take-take}
 use Rattle.atomic_table.specs.Table.{Me}
 use Rattle.snap_register.specs.declared.plan.SeatView.{SeatView}
 use Rattle.snap_register.specs.Held.{held}
-use Rattle.snap_register.specs.Packing.{bytes_at, length_at, words_for}
+use Rattle.snap_register.specs.Words.{bytes_at, length_at, words_for}
 use Rattle.snap_register.specs.Steps.{LiesAt}
 use Rattle.snap_register.proofs.access.Access.read_value.Goals as goal
 use Rattle.snap_register.proofs.access.Access.read_value.Goals.{After-read-length}

@@ -1,24 +1,5 @@
-use Rattle.std.proofs.Common.{
-  rules,
-  ◌≡◌,
-  ℕ,
-  ◌+◌,
-  ◌*◌,
-  ◌^◌,
-  ◌<◌,
-  ◌≤◌,
-  List,
-  Some,
-  slice_get,
-  slice_set,
-  length,
-  get_or,
-  ap,
-  sym,
-  subst,
-  ◌∙◌,
-  arith,
-}
+use Rattle.std.proofs.Common.{rules, ◌≡◌, ℕ, ◌+◌, ◌*◌, ◌^◌, ◌<◌, ◌≤◌, List, Some, slice_get, slice_set, length, get_or, ap, sym, subst}
+use Rattle.std.proofs.Common.{◌∙◌, arith}
 use mathlib.Core.Logic.{dite}
 use native.Mathlib.Decide.{ℕ_discrete}
 use Rattle.atomic_table.specs.Table.{Me}
@@ -26,7 +7,7 @@ use Rattle.snap_history.proofs.Lists.{get-set_same, get-set_other}
 use Rattle.snap_register.specs.declared.plan.SeatView.{SeatView}
 use Rattle.snap_register.specs.Rule.{segments, width}
 use Rattle.snap_register.specs.Held.{held, view_in}
-use Rattle.snap_register.specs.Packing.{IsWhole, size_at, block_at, behind}
+use Rattle.snap_register.specs.Words.{IsWhole, size_at, block_at, behind}
 use Rattle.snap_register.proofs.Blocks.{behind_more}
 use Rattle.snap_register.proofs.Views.{viewed, width_is}
 use Rattle.snap_register.proofs.access.Access.view.Goals as goal

@@ -1,6 +1,6 @@
 use Rattle.std.proofs.Common.{◌≡◌, ℕ, ◌<◌, length, slice_get, Some}
 use Rattle.snap_register.specs.Held.{held, view_in}
-use Rattle.snap_register.specs.Packing.{behind, size_at}
+use Rattle.snap_register.specs.Words.{behind, size_at}
 use Rattle.snap_register.proofs.access.Access.view.Given as goal
 
 abbrev pub invariant-loop-k : goal.invariant-loop-k

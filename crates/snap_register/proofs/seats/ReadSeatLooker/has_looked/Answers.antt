@@ -1,4 +1,4 @@
-use Rattle.snap_register.proofs.Looks.{has_looked, has_pin}
+use Rattle.snap_register.proofs.SeatLooks.{has_looked, has_pin}
 use Rattle.snap_register.proofs.seats.ReadSeatLooker.has_looked.Goals as goal
 
 pub returns : goal.returns

@@ -1,7 +1,7 @@
 use Rattle.std.proofs.Common.{sym, ◌∙◌}
 use Rattle.snap_register.specs.declared.plan.SeatView.{SeatView}
 use Rattle.snap_register.proofs.Updates.{number_is}
-use Rattle.snap_register.proofs.Looks.{look_seen, look_below, look_looked, look_sights}
+use Rattle.snap_register.proofs.SeatLooks.{look_seen, look_below, look_looked, look_sights}
 use Rattle.snap_register.proofs.seats.ReadSeatLooker.look.Goals as goal
 
 pub returns-clause-seen : goal.returns-clause-seen

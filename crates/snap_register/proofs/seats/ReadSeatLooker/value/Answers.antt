@@ -1,4 +1,4 @@
-use Rattle.snap_register.proofs.Looks.{value_is}
+use Rattle.snap_register.proofs.SeatLooks.{value_is}
 use Rattle.snap_register.proofs.seats.ReadSeatLooker.value.Goals as goal
 
 pub returns-clause-value : goal.returns-clause-value

@@ -1,4 +1,4 @@
-use Rattle.snap_register.proofs.Looks.{view_is}
+use Rattle.snap_register.proofs.SeatLooks.{view_is}
 use Rattle.snap_register.proofs.seats.ReadSeatLooker.view.Goals as goal
 
 pub returns-clause-view : goal.returns-clause-view

@@ -3,7 +3,7 @@ use Rattle.snap_segment.specs.Segment.{SegmentState}
 use Rattle.snap_writer.specs.Writer.{WriterState}
 use Rattle.snap_restart.specs.Closed.{HasMet}
 use Rattle.snap_restart.proofs.Meetings.{pairs_mapped, holds_after}
-use Rattle.snap_restart.proofs.Crashing.{any_cut}
+use Rattle.snap_restart.proofs.Crash.{any_cut}
 use Rattle.snap_restart.proofs.store.Store.close.Goals as goal
 
 pub returns-clause-devices : goal.returns-clause-devices

@@ -1,14 +1,6 @@
 use Rattle.std.proofs.Common.{[], ◌∷◌, ◌++◌, arith}
 use Rattle.snap_scan.specs.Stands.{StandsFor}
-use Rattle.snap_scan.proofs.Kept.{
-  close,
-  borrow,
-  StandsFor-next_segment,
-  StandsFor-end_collect,
-  of_picked,
-  turn_fits,
-  firsts_fit,
-}
+use Rattle.snap_scan.proofs.Kept.{close, borrow, StandsFor-next_segment, StandsFor-end_collect, of_picked, turn_fits, firsts_fit}
 use Rattle.snap_scan.proofs.machine.Machine.told.Goals as goal
 
 pub has_moved_twice-requires : goal.has_moved_twice-requires

@@ -1,10 +1,7 @@
 use Rattle.std.proofs.Common.{None}
-use Rattle.snap_session.proofs.Turning.{begins, then_answers}
+use Rattle.snap_session.proofs.TurnRuns.{begins, then_answers}
 use Rattle.snap_server.proofs.connection.Connection.take_outcome.Goals as goal
-use Rattle.snap_server.proofs.connection.Connection.take_outcome.Goals.{
-  then-is_none,
-  else-is_none,
-}
+use Rattle.snap_server.proofs.connection.Connection.take_outcome.Goals.{then-is_none, else-is_none}
 
 pub returns-clause-goes : goal.returns-clause-goes
 returns-clause-goes g c = elim c.if-is_none.branch [

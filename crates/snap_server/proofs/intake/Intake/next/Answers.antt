@@ -1,4 +1,4 @@
-use Rattle.snap_server.proofs.Dealing.{gives_behind, vain_behind}
+use Rattle.snap_server.proofs.Deals.{gives_behind, vain_behind}
 use Rattle.snap_server.proofs.intake.Intake.next.Goals as goal
 
 pub returns-in-Some-clause-came : goal.returns-in-Some-clause-came

@@ -1,5 +1,5 @@
 use Rattle.std.proofs.Common.{◌<◌}
-use Rattle.snap_server.specs.Dealing.{AsksInVain}
+use Rattle.snap_server.specs.Deals.{AsksInVain}
 use Rattle.snap_server.proofs.intake.Intake.next.Given as goal
 
 -- what was tried so far was refused

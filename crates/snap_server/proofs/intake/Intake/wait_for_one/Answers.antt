@@ -1,5 +1,5 @@
 use Rattle.std.proofs.Common.{[], refl}
-use Rattle.snap_server.proofs.Dealing.{vain_more}
+use Rattle.snap_server.proofs.Deals.{vain_more}
 use Rattle.snap_server.proofs.intake.Intake.wait_for_one.Goals as goal
 
 pub loop-init : goal.loop-init

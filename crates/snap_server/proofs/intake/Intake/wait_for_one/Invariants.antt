@@ -1,4 +1,4 @@
-use Rattle.snap_server.specs.Dealing.{AsksInVain}
+use Rattle.snap_server.specs.Deals.{AsksInVain}
 use Rattle.snap_server.proofs.intake.Intake.wait_for_one.Given as goal
 
 -- it was asked in vain so far

@@ -2,8 +2,8 @@ use Rattle.std.proofs.Common.{ℕ, ◌+◌, ◌≡◌, sym, ap, ◌∙◌, refl,
 use mathlib.Core.Logic.{∥∥₁_map}
 use Rattle.slab.specs.Slab.{Slab, get, slab_len}
 use Rattle.snap_server.specs.declared.connection.Connection.{Connection}
-use Rattle.snap_server.proofs.Sharing.{added_are, same_are}
-use Rattle.snap_server.proofs.Listing.{lists_added, lists_same, none_there}
+use Rattle.snap_server.proofs.SharedService.{added_are, same_are}
+use Rattle.snap_server.proofs.TurnList.{lists_added, lists_same, none_there}
 use Rattle.snap_server.proofs.sessions.Sessions.adopt.Goals.{then-is_err-via-then-is_err, then-is_err-via-else-is_err+then-is_err-2}
 use Rattle.snap_server.proofs.sessions.Sessions.adopt.Goals as goal
 

@@ -1,19 +1,11 @@
 use Rattle.std.proofs.Common.{arith, sym, ap, ◌∙◌, ◌≡◌, refl, true≢false}
 use mathlib.Core.Logic.{∥∥₁_map}
 use Rattle.snap_server.specs.declared.connection.Connection.{Connection}
-use Rattle.snap_server.proofs.Sharing.{written_are}
-use Rattle.snap_server.proofs.Listing.{
-  lists_enlisted,
-  lists_written,
-  lists_room,
-  written_len,
-  enlisted_same,
-  enlisted_at,
-  none_there,
-  written_others,
-}
-use Rattle.snap_server.specs.Listing.{listed_behind}
-use Rattle.snap_server.proofs.Turning.{behind_at, behind_same}
+use Rattle.snap_server.proofs.SharedService.{written_are}
+use Rattle.snap_server.proofs.TurnList.{lists_enlisted, lists_written, lists_room, written_len, enlisted_same, enlisted_at, none_there}
+use Rattle.snap_server.proofs.TurnList.{written_others}
+use Rattle.snap_server.specs.TurnList.{listed_behind}
+use Rattle.snap_server.proofs.Turns.{behind_at, behind_same}
 use Rattle.snap_server.proofs.sessions.Sessions.list.Goals as goal
 
 pub push_back_reserved-requires : goal.push_back_reserved-requires

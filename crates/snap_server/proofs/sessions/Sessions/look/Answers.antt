@@ -3,15 +3,9 @@ use mathlib.Core.Logic.{∥∥₁_map}
 use Rattle.snap_session.specs.Talk.{Talk}
 use Rattle.snap_server.specs.declared.connection.Connection.{Connection}
 use Rattle.snap_server.specs.declared.connection.Ending.{Ending}
-use Rattle.snap_server.specs.Standing.{MayEnd}
-use Rattle.snap_server.proofs.Sharing.{written_are}
-use Rattle.snap_server.proofs.Listing.{
-  lists_written,
-  written_at,
-  written_len,
-  not_both,
-  over_off,
-}
+use Rattle.snap_server.specs.Stages.{MayEnd}
+use Rattle.snap_server.proofs.SharedService.{written_are}
+use Rattle.snap_server.proofs.TurnList.{lists_written, written_at, written_len, not_both, over_off}
 use Rattle.snap_server.proofs.sessions.Sessions.look.Goals as goal
 
 pub invariant_of-self-in-Break-branch-2 : goal.invariant_of-self-in-Break-branch-2

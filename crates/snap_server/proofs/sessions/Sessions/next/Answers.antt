@@ -3,17 +3,9 @@ use mathlib.Core.Logic.{∥∥₁_map}
 use Rattle.slab.specs.Slab.{with_value}
 use Rattle.snap_server.specs.declared.connection.Connection.{Connection}
 use Rattle.snap_server.specs.declared.connection.Stage.TheVariants.{Idle}
-use Rattle.snap_server.specs.Listing.{Lists}
-use Rattle.snap_server.proofs.Sharing.{written_are}
-use Rattle.snap_server.proofs.Listing.{
-  lists_rest,
-  written_at,
-  written_others,
-  written_len,
-  none_first,
-  none_there,
-  same_value,
-}
+use Rattle.snap_server.specs.TurnList.{Lists}
+use Rattle.snap_server.proofs.SharedService.{written_are}
+use Rattle.snap_server.proofs.TurnList.{lists_rest, written_at, written_others, written_len, none_first, none_there, same_value}
 use Rattle.snap_server.proofs.sessions.Sessions.next.Goals as goal
 
 pub invariant_of-self-in-Some-clause-are : goal.invariant_of-self-in-Some-clause-are

@@ -2,20 +2,11 @@ use Rattle.std.proofs.Common.{arith, sym, ap, ◌∙◌, ◌≡◌, [], refl, tr
 use mathlib.Core.Logic.{∥∥₁_map}
 use Rattle.snap_session.specs.Talk.{Moves}
 use Rattle.snap_server.specs.declared.connection.Connection.{Connection}
-use Rattle.snap_server.proofs.Sharing.{moved, written_turned, removed_are, turn_at, last_at}
-use Rattle.snap_server.proofs.Listing.{
-  lists_written,
-  lists_removed,
-  none_there,
-  written_at,
-  written_len,
-  written_others,
-  enlisted_going,
-  over_off,
-  same_value,
-}
-use Rattle.snap_server.specs.Listing.{listed_behind}
-use Rattle.snap_server.proofs.Turning.{behind_at}
+use Rattle.snap_server.proofs.SharedService.{moved, written_turned, removed_are, turn_at, last_at}
+use Rattle.snap_server.proofs.TurnList.{lists_written, lists_removed, none_there, written_at, written_len, written_others}
+use Rattle.snap_server.proofs.TurnList.{enlisted_going, over_off, same_value}
+use Rattle.snap_server.specs.TurnList.{listed_behind}
+use Rattle.snap_server.proofs.Turns.{behind_at}
 use Rattle.snap_server.proofs.sessions.Sessions.tell.Goals as goal
 
 pub invariant_of-self-then-take_outcome-clause-are :

@@ -9,21 +9,13 @@ use Rattle.snap_server.specs.declared.connection.Connection.{Connection}
 use Rattle.snap_server.specs.declared.connection.Ending.{Ending}
 use Rattle.snap_server.specs.declared.connection.Stage.TheVariants.{Listed}
 use Rattle.snap_server.specs.declared.connection.TheConstants.{PIECE}
-use Rattle.snap_server.specs.Listing.{enlisted, listed_behind}
-use Rattle.snap_server.specs.Sharing.{IsTurn}
-use Rattle.snap_server.specs.Standing.{Waits, MayEnd}
-use Rattle.snap_server.proofs.Sharing.{moved, written_turned, turn_at, under_at}
-use Rattle.snap_server.proofs.Listing.{
-  lists_written,
-  none_there,
-  written_at,
-  written_len,
-  written_others,
-  not_both,
-  over_off,
-  same_value,
-}
-use Rattle.snap_server.proofs.Turning.{rounds_at, again_at}
+use Rattle.snap_server.specs.TurnList.{enlisted, listed_behind}
+use Rattle.snap_server.specs.SharedService.{IsTurn}
+use Rattle.snap_server.specs.Stages.{Waits, MayEnd}
+use Rattle.snap_server.proofs.SharedService.{moved, written_turned, turn_at, under_at}
+use Rattle.snap_server.proofs.TurnList.{lists_written, none_there, written_at, written_len, written_others, not_both, over_off}
+use Rattle.snap_server.proofs.TurnList.{same_value}
+use Rattle.snap_server.proofs.Turns.{rounds_at, again_at}
 use Rattle.snap_server.proofs.sessions.Sessions.turn.Goals as goal
 
 -- it waits for one of the three

@@ -1,9 +1,6 @@
 use Rattle.std.proofs.Common.{[], ap, refl}
 use Rattle.snap_server.proofs.worker.Worker.read_mail.Goals as goal
 
-pub returns-then-not-self : goal.returns-then-not-self
-returns-then-not-self g c = record { moves = ([], [], refl) }
-
 pub returns-in-Ok-Close : goal.returns-in-Ok-Close
 returns-in-Ok-Close g c =
     record { moves = ([], [], ap (λ s. s.service) c.close.ensures.sessions) }

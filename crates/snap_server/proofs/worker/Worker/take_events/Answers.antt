@@ -5,9 +5,9 @@ use Rattle.snap_server.proofs.worker.Worker.take_events.Goals as goal
 pub returns : goal.returns
 returns g c = record {
   moves = moves_joins g.S.Service.gives c.args.self.now.sessions.service
-      c.list_ready-is_woken.new.sessions.service c.take_arrival.new.self.sessions.service
-      ([], [], c.list_ready-is_woken.ensures.service)
-      (moves_joins g.S.Service.gives c.list_ready-is_woken.new.sessions.service
+      c.list_ready.new.sessions.service c.take_arrival.new.self.sessions.service
+      ([], [], c.list_ready.ensures.service)
+      (moves_joins g.S.Service.gives c.list_ready.new.sessions.service
       c.read_mail.new.self.sessions.service c.take_arrival.new.self.sessions.service
       c.read_mail.ensures.moves ([], [], c.take_arrival.ensures.service));
 }

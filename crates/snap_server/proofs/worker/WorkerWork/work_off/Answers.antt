@@ -1,4 +1,4 @@
-use Rattle.snap_server.specs.Working.{HasServed}
+use Rattle.snap_server.specs.Work.{HasServed}
 use Rattle.snap_server.proofs.worker.WorkerWork.work_off.Goals as goal
 
 pub returns-in-Ok : goal.returns-in-Ok

@@ -1,6 +1,6 @@
 use Rattle.std.proofs.Common.{◌≡◌, ℕ, ◌+◌, length, ap, sym, ◌∙◌, arith}
 use Rattle.std.proofs.lemmas.List.{length_push, length-drop}
-use Rattle.snap_history.proofs.Taking.{taken}
+use Rattle.snap_history.proofs.Removals.{taken}
 use Rattle.snap_service.proofs.shared.Shared.new.Goals as goal
 
 pub new-requires-clause-memory : goal.new-requires-clause-memory

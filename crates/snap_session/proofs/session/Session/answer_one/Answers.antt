@@ -1,36 +1,9 @@
-use Rattle.std.proofs.Common.{
-  ◌≡◌,
-  [],
-  length,
-  refl,
-  ap,
-  subst,
-  sym,
-  inl,
-  inr,
-  ◌∙◌,
-  Some,
-  None,
-  arith,
-}
+use Rattle.std.proofs.Common.{◌≡◌, [], length, refl, ap, subst, sym, inl, inr, ◌∙◌, Some, None, arith}
 use Rattle.snap_frame.specs.declared.frame_buffer.Failure.TheVariants.{TooLarge, NoMemory}
 use Rattle.snap_session.specs.Talk.{refused_malformed, refused_too_large}
 use Rattle.snap_frame.specs.Messages.{says}
-use Rattle.snap_session.proofs.Steps.{
-  rests,
-  by_more,
-  gives_up,
-  answers,
-  refuses,
-  found_first,
-  hands,
-  came_free,
-  owes_free,
-  owes_some,
-  owes_over,
-  asked_of,
-  over_of,
-}
+use Rattle.snap_session.proofs.Steps.{rests, by_more, gives_up, answers, refuses, found_first, hands, came_free, owes_free, owes_some}
+use Rattle.snap_session.proofs.Steps.{owes_over, asked_of, over_of}
 use Rattle.snap_frame.specs.Stream.{HasLongLength}
 use Rattle.snap_session.proofs.session.Session.answer_one.Goals as goal
 

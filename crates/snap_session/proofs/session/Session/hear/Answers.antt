@@ -1,8 +1,8 @@
 use Rattle.std.proofs.Common.{◌≡◌, ◌<◌, None, length, subst, sym, ◌∙◌, ap}
 use Rattle.snap_frame.specs.Stream.{Held, IsPartial, HasLongLength}
 use Rattle.snap_session.specs.Talk.{Talk, longest_frame}
-use Rattle.snap_session.proofs.Holding.{partial_is_short}
-use Rattle.snap_session.proofs.Hearing.{asked_leaves, malformed_leaves, too_large_leaves}
+use Rattle.snap_session.proofs.Held.{partial_is_short}
+use Rattle.snap_session.proofs.FeedAnswers.{asked_leaves, malformed_leaves, too_large_leaves}
 use Rattle.snap_session.proofs.session.Session.hear.Goals as goal
 
 pub invariant_of-self-in-Ok-Some : goal.invariant_of-self-in-Ok-Some

@@ -1,7 +1,7 @@
 use Rattle.std.proofs.Common.{◌≡◌, ℕ, ◌⊎◌, inl, inr, refl, ◌∙◌}
 use Rattle.snap_scan.specs.declared.next.Next.{Next}
 use Rattle.snap_scan.specs.declared.next.Next.TheVariants.{Look, Clean, Borrow}
-use Rattle.snap_world.proofs.Ending.{decided}
+use Rattle.snap_world.proofs.ScanEnds.{decided}
 use Rattle.snap_world.proofs.collector.Collector.is_done.Goals as goal
 
 not_look : (v : Next) (j : ℕ) → (v ≡ Clean) ⊎ ((x : ℕ) × (v ≡ Borrow x)) → v ≡ Look j → ⊥

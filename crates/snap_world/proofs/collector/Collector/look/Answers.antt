@@ -2,7 +2,7 @@ use Rattle.std.proofs.Math.Logic.{∥∥₁_elim}
 use Rattle.std.proofs.Props.{props}
 use Rattle.std.proofs.Common.{◌≡◌, ◌<◌, length, slice_set, arith, refl, ap, sym, ◌∙◌}
 use Rattle.snap_scan.specs.declared.next.Next.TheVariants.{Look}
-use Rattle.snap_world.proofs.Looking.{register_at, told_fits, turn_within, look_other, look_borrow}
+use Rattle.snap_world.proofs.Looks.{register_at, told_fits, turn_within, look_other, look_borrow}
 use Rattle.snap_world.proofs.collector.Collector.look.Goals as goal
 
 pub told-requires-clause-rising : goal.told-requires-clause-rising

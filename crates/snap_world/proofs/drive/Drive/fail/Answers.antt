@@ -5,7 +5,7 @@ use Rattle.snap_world.specs.Devices.{IsMissed}
 use Rattle.snap_world.specs.inside.Drives.{device_of}
 use Rattle.snap_world.specs.declared.drive.Drive.{Drive}
 use Rattle.snap_persist.specs.declared.persist.NextCall.{NextCall}
-use Rattle.snap_world.proofs.Calling.{write_missed, sync_missed}
+use Rattle.snap_world.proofs.Calls.{write_missed, sync_missed}
 use Rattle.snap_world.proofs.drive.Drive.fail.Goals as goal
 use Rattle.snap_world.proofs.drive.Drive.fail.Goals.{in-Write, in-Sync}
 

@@ -4,7 +4,7 @@ use Rattle.std.specs.declared.alloc.AllocError.{AllocError}
 use Rattle.snap_world.specs.inside.NodeSteps.{IsNodeStep, phases_of_node}
 use Rattle.snap_world.specs.inside.Steps.{IsPartsStep}
 use Rattle.snap_world.specs.declared.event.Reply.{Reply}
-use Rattle.snap_world.proofs.Acting.{acts, is_up, with_parts, refuses, needs_up}
+use Rattle.snap_world.proofs.Events.{acts, is_up, with_parts, refuses, needs_up}
 use Rattle.snap_world.proofs.node.Node.act.Goals as goal
 
 pub step-requires : goal.step-requires

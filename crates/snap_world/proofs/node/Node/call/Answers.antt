@@ -1,21 +1,4 @@
-use Rattle.std.proofs.Common.{
-  ◌≡◌,
-  ℕ,
-  ◌+◌,
-  ◌%◌,
-  ◌^◌,
-  ◌<◌,
-  ◌≤◌,
-  List,
-  ◌∷◌,
-  length,
-  refl,
-  ap,
-  sym,
-  ◌∙◌,
-  subst,
-  arith,
-}
+use Rattle.std.proofs.Common.{◌≡◌, ℕ, ◌+◌, ◌%◌, ◌^◌, ◌<◌, ◌≤◌, List, ◌∷◌, length, refl, ap, sym, ◌∙◌, subst, arith}
 use Rattle.std.proofs.Math.Logic.{∥∥₁_elim}
 use Rattle.std.proofs.Props.{props}
 use Rattle.snap_history.specs.History.{from_nothing, number_after}
@@ -26,27 +9,11 @@ use Rattle.snap_world.specs.Calls.{store_call}
 use Rattle.snap_world.specs.Devices.{IsMade}
 use Rattle.snap_world.specs.inside.Drives.{device_of}
 use Rattle.snap_world.specs.declared.drive.Drive.{Drive}
-use Rattle.snap_world.proofs.Acting.{is_up, refuses}
-use Rattle.snap_world.proofs.Calling.{going_done, not_done}
+use Rattle.snap_world.proofs.Events.{is_up, refuses}
+use Rattle.snap_world.proofs.Calls.{going_done, not_done}
 use Rattle.snap_world.proofs.Sizes.{register_fits, writer_fits}
-use Rattle.snap_world.proofs.Stored.{
-  found,
-  call_goes,
-  call_ends,
-  call_moves,
-  call_stores,
-  there,
-  storing,
-  size,
-  slot_low,
-  number_is,
-  same_value,
-  fits,
-  room,
-  parts_of,
-  store_within,
-  drive_fits,
-}
+use Rattle.snap_world.proofs.Stored.{found, call_goes, call_ends, call_moves, call_stores, there, storing, size, slot_low, number_is}
+use Rattle.snap_world.proofs.Stored.{same_value, fits, room, parts_of, store_within, drive_fits}
 use Rattle.snap_world.proofs.node.Node.call.Goals as goal
 
 pub returns-then-not-may_store : goal.returns-then-not-may_store

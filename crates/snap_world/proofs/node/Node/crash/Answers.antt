@@ -6,8 +6,8 @@ use Rattle.snap_world.specs.NodePhases.{WorldPhases, all_idle}
 use Rattle.snap_world.specs.inside.Steps.{phases_of_parts}
 use Rattle.snap_world.specs.declared.node.Node.{Node}
 use Rattle.snap_world.specs.declared.node.NodePhase.TheVariants.{Down}
-use Rattle.snap_world.proofs.Acting.{same_phases}
-use Rattle.snap_world.proofs.Crashing.{goes_down, halted_phases, crashed_devices, crashed_calls}
+use Rattle.snap_world.proofs.Events.{same_phases}
+use Rattle.snap_world.proofs.Crash.{goes_down, halted_phases, crashed_devices, crashed_calls}
 use Rattle.snap_world.proofs.node.Node.crash.Goals as goal
 
 pub returns : goal.returns

@@ -2,18 +2,8 @@ use Rattle.std.proofs.Common.{refl, ap}
 use Rattle.std.proofs.Math.Logic.{∥∥₁_elim}
 use Rattle.std.proofs.Props.{props}
 use Rattle.snap_persist.specs.Stage.{calls_left}
-use Rattle.snap_world.proofs.Acting.{is_up, refuses}
-use Rattle.snap_world.proofs.Stored.{
-  call_fails,
-  fail_moves,
-  there,
-  storing,
-  size,
-  slot_low,
-  parts_of,
-  store_within,
-  drive_fits,
-}
+use Rattle.snap_world.proofs.Events.{is_up, refuses}
+use Rattle.snap_world.proofs.Stored.{call_fails, fail_moves, there, storing, size, slot_low, parts_of, store_within, drive_fits}
 use Rattle.snap_world.proofs.node.Node.fail.Goals as goal
 
 pub returns-then-not-may_store : goal.returns-then-not-may_store

@@ -2,7 +2,7 @@ use Rattle.std.proofs.Common.{◌≡◌, length, refl, subst, arith}
 use Rattle.snap_world.specs.Phases.{WriterIs}
 use Rattle.snap_world.specs.inside.Steps.{phases_of_parts}
 use Rattle.snap_world.specs.declared.writer.WriterPhase.TheVariants as writer
-use Rattle.snap_world.proofs.Phasing.{writer_is, no_writer}
+use Rattle.snap_world.proofs.PhaseMoves.{writer_is, no_writer}
 use Rattle.snap_world.proofs.Sizes.{writer_fits, writer_there, writers_size}
 use Rattle.snap_world.proofs.Stored.{parts_of}
 use Rattle.snap_world.proofs.node.Node.may_store.Goals as goal

@@ -1,19 +1,4 @@
-use Rattle.std.proofs.Common.{
-  ◌≡◌,
-  ℕ,
-  false,
-  [],
-  length,
-  map,
-  replicate,
-  Some,
-  slice_get,
-  refl,
-  ap,
-  sym,
-  ◌∙◌,
-  subst,
-}
+use Rattle.std.proofs.Common.{◌≡◌, ℕ, false, [], length, map, replicate, Some, slice_get, refl, ap, sym, ◌∙◌, subst}
 use Rattle.std.proofs.lemmas.List.{length-map}
 use Rattle.snap_slot.specs.States.{IsAtRest}
 use Rattle.snap_persist.specs.Stage.{calls_left}
@@ -27,9 +12,9 @@ use Rattle.snap_world.specs.Start.{start_world_phases}
 use Rattle.snap_world.specs.declared.node.Node.{Node}
 use Rattle.snap_world.specs.declared.node.NodePhase.TheVariants.{Up}
 use Rattle.snap_world.specs.declared.writer.WriterPhase.TheVariants as writer
-use Rattle.snap_world.proofs.Acting.{same_phases}
-use Rattle.snap_world.proofs.Starting.{all_same}
-use Rattle.snap_world.proofs.Sweeping.{map_element}
+use Rattle.snap_world.proofs.Events.{same_phases}
+use Rattle.snap_world.proofs.NewWorld.{all_same}
+use Rattle.snap_world.proofs.Sweep.{map_element}
 use Rattle.snap_world.proofs.node.Node.new.Goals as goal
 
 ready_of : (i n : ℕ) (d : Drive) → IsFormatted i n d → IsReady i n 0 [] (device_of d) d.persist

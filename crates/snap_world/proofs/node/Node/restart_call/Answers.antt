@@ -8,7 +8,7 @@ use Rattle.snap_world.specs.NodePhases.{after_opening_call}
 use Rattle.snap_world.specs.declared.drive.Drive.{Drive}
 use Rattle.snap_world.specs.declared.node.NodePhase.TheVariants.{Restarting}
 use Rattle.snap_world.specs.declared.node.OpeningCall.TheVariants as opening
-use Rattle.snap_world.proofs.Crashing.{few_drives}
+use Rattle.snap_world.proofs.Crash.{few_drives}
 use Rattle.snap_world.proofs.Restarts.{opening_within, sync_step, read_step, a_file}
 use Rattle.snap_world.proofs.node.Node.restart_call.Goals as goal
 

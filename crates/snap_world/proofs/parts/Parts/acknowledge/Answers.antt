@@ -8,14 +8,7 @@ use Rattle.snap_world.specs.declared.writer.Writer.{Writer}
 use Rattle.snap_world.specs.declared.writer.WriterPhase.TheVariants as writer
 use Rattle.snap_world.proofs.Moves.{the_writer, the_register, writer_moves, same_read}
 use Rattle.snap_world.specs.NodePhases.{up}
-use Rattle.snap_world.proofs.Phasing.{
-  writer_is,
-  other_writer,
-  no_writer,
-  writer_moved,
-  refused,
-  came,
-}
+use Rattle.snap_world.proofs.PhaseMoves.{writer_is, other_writer, no_writer, writer_moved, refused, came}
 use Rattle.snap_world.proofs.Sizes.{writers_size, writer_fits, writer_there, register_fits}
 use Rattle.snap_world.proofs.parts.Parts.acknowledge.Goals as goal
 

@@ -8,7 +8,7 @@ use Rattle.snap_world.specs.declared.scanner.Scanner.{Scanner}
 use Rattle.snap_world.specs.declared.scanner.ScannerPhase.TheVariants as scanner
 use Rattle.snap_world.proofs.Moves.{the_scanner, scanner_moves, same_read}
 use Rattle.snap_world.specs.NodePhases.{up}
-use Rattle.snap_world.proofs.Phasing.{scanner_is, other_scanner, scanner_moved, refused, came}
+use Rattle.snap_world.proofs.PhaseMoves.{scanner_is, other_scanner, scanner_moved, refused, came}
 use Rattle.snap_world.proofs.parts.Parts.answer.Goals as goal
 
 pub returns-in_ok-values-in-Ready-clause-step : goal.returns-in_ok-values-in-Ready-clause-step

@@ -1,19 +1,4 @@
-use Rattle.std.proofs.Common.{
-  ◌≡◌,
-  ℕ,
-  ◌-◌,
-  ◌^◌,
-  ◌<◌,
-  ◌≤◌,
-  List,
-  length,
-  refl,
-  ap,
-  subst,
-  ◌∙◌,
-  sym,
-  arith,
-}
+use Rattle.std.proofs.Common.{◌≡◌, ℕ, ◌-◌, ◌^◌, ◌<◌, ◌≤◌, List, length, refl, ap, subst, ◌∙◌, sym, arith}
 use Rattle.snap_history.specs.History.{from_nothing, number_after}
 use Rattle.snap_world.specs.Answers.{scan_from}
 use Rattle.snap_world.specs.Machine.{WriterState, Begun, Free, with_writer}
@@ -22,10 +7,10 @@ use Rattle.snap_world.specs.inside.Stands.{WriterStands, IsAtPhase, is_fenced}
 use Rattle.snap_world.specs.inside.Steps.{phases_of_parts}
 use Rattle.snap_world.specs.declared.writer.Writer.{Writer}
 use Rattle.snap_world.specs.declared.writer.WriterPhase.TheVariants as writer
-use Rattle.snap_world.proofs.Looking.{number_now}
+use Rattle.snap_world.proofs.Looks.{number_now}
 use Rattle.snap_world.proofs.Moves.{the_writer, the_register, writer_moves, Gathers-none, same_read}
 use Rattle.snap_world.specs.NodePhases.{up}
-use Rattle.snap_world.proofs.Phasing.{writer_is, other_writer, writer_moved, refused, came}
+use Rattle.snap_world.proofs.PhaseMoves.{writer_is, other_writer, writer_moved, refused, came}
 use Rattle.snap_world.proofs.Sizes.{segments_most, writer_fits, writer_there, register_fits}
 use Rattle.snap_world.proofs.parts.Parts.begin.Goals as goal
 

@@ -4,7 +4,7 @@ use Rattle.snap_world.specs.inside.Stands.{HasBegun, WriterStands, IsAtPhase, is
 use Rattle.snap_world.specs.declared.writer.Writer.{Writer}
 use Rattle.snap_world.specs.declared.writer.WriterPhase.TheVariants as writer
 use Rattle.snap_world.proofs.Moves.{the_writer, writer_stays}
-use Rattle.snap_world.proofs.Phasing.{writer_is, writer_moved}
+use Rattle.snap_world.proofs.PhaseMoves.{writer_is, writer_moved}
 use Rattle.snap_world.proofs.Sizes.{writer_fits, writer_there}
 use Rattle.snap_world.proofs.parts.Parts.end_store.Goals as goal
 

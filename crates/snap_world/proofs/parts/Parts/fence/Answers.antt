@@ -4,7 +4,7 @@ use Rattle.snap_world.specs.inside.Stands.{WriterStands}
 use Rattle.snap_world.specs.declared.writer.Writer.{Writer}
 use Rattle.snap_world.specs.declared.writer.WriterPhase.TheVariants as writer
 use Rattle.snap_world.proofs.Moves.{the_writer, writer_moves}
-use Rattle.snap_world.proofs.Phasing.{writer_moved}
+use Rattle.snap_world.proofs.PhaseMoves.{writer_moved}
 use Rattle.snap_world.proofs.Sizes.{writer_fits}
 use Rattle.snap_world.proofs.parts.Parts.fence.Goals as goal
 

@@ -10,19 +10,11 @@ use Rattle.snap_world.specs.declared.event.Actor.TheVariants as actor
 use Rattle.snap_world.specs.declared.event.Event.TheVariants.{Look}
 use Rattle.snap_world.specs.declared.event.Reply.TheVariants.{Number}
 use Rattle.snap_world.specs.declared.scanner.ScannerPhase.TheVariants as scanner
-use Rattle.snap_world.proofs.Ending.{look_from}
-use Rattle.snap_world.proofs.LookingOn.{
-  looks_up,
-  Tells,
-  scanner_under_way,
-  scanner_may_look,
-  scanner_looks,
-  scanner_stays,
-  scanner_ends,
-  scanner_goes,
-}
+use Rattle.snap_world.proofs.ScanEnds.{look_from}
+use Rattle.snap_world.proofs.LookingOn.{looks_up, Tells, scanner_under_way, scanner_may_look, scanner_looks, scanner_stays}
+use Rattle.snap_world.proofs.LookingOn.{scanner_ends, scanner_goes}
 use Rattle.snap_world.proofs.Moves.{same_read}
-use Rattle.snap_world.proofs.Phasing.{scanner_is, other_scanner, refused, came}
+use Rattle.snap_world.proofs.PhaseMoves.{scanner_is, other_scanner, refused, came}
 use Rattle.snap_world.proofs.parts.Parts.look_scanner.Goals as goal
 use Rattle.snap_world.proofs.parts.Parts.look_scanner.Goals.{then-is_done, else-is_done}
 

@@ -10,19 +10,11 @@ use Rattle.snap_world.specs.declared.event.Actor.TheVariants as actor
 use Rattle.snap_world.specs.declared.event.Event.TheVariants.{Look}
 use Rattle.snap_world.specs.declared.event.Reply.TheVariants.{Number}
 use Rattle.snap_world.specs.declared.writer.WriterPhase.TheVariants as writer
-use Rattle.snap_world.proofs.Ending.{look_from}
-use Rattle.snap_world.proofs.LookingOn.{
-  looks_up,
-  Tells,
-  writer_under_way,
-  writer_may_look,
-  writer_looks,
-  writer_stays,
-  writer_ends,
-  writer_goes,
-}
+use Rattle.snap_world.proofs.ScanEnds.{look_from}
+use Rattle.snap_world.proofs.LookingOn.{looks_up, Tells, writer_under_way, writer_may_look, writer_looks, writer_stays, writer_ends}
+use Rattle.snap_world.proofs.LookingOn.{writer_goes}
 use Rattle.snap_world.proofs.Moves.{same_read}
-use Rattle.snap_world.proofs.Phasing.{writer_is, other_writer, refused, came}
+use Rattle.snap_world.proofs.PhaseMoves.{writer_is, other_writer, refused, came}
 use Rattle.snap_world.proofs.Sizes.{writer_fits, writer_there}
 use Rattle.snap_world.proofs.parts.Parts.look_writer.Goals as goal
 use Rattle.snap_world.proofs.parts.Parts.look_writer.Goals.{then-is_done, else-is_done}

@@ -1,6 +1,6 @@
 use Rattle.std.proofs.Common.{refl}
 use Rattle.snap_world.specs.declared.parts.Parts.{Parts}
-use Rattle.snap_world.proofs.Starting.{starts, starts_idle}
+use Rattle.snap_world.proofs.NewWorld.{starts, starts_idle}
 use Rattle.snap_world.proofs.parts.Parts.new.Goals as goal
 
 pub returns : goal.returns

@@ -8,14 +8,7 @@ use Rattle.snap_world.specs.declared.scanner.Scanner.{Scanner}
 use Rattle.snap_world.specs.declared.scanner.ScannerPhase.TheVariants as scanner
 use Rattle.snap_world.proofs.Moves.{the_scanner, scanner_moves, Gathers-none, same_read}
 use Rattle.snap_world.specs.NodePhases.{up}
-use Rattle.snap_world.proofs.Phasing.{
-  scanner_is,
-  other_scanner,
-  no_scanner,
-  scanner_moved,
-  refused,
-  came,
-}
+use Rattle.snap_world.proofs.PhaseMoves.{scanner_is, other_scanner, no_scanner, scanner_moved, refused, came}
 use Rattle.snap_world.proofs.Sizes.{segments_least, segments_most}
 use Rattle.snap_world.proofs.parts.Parts.scan.Goals as goal
 

@@ -1,23 +1,6 @@
 use Rattle.std.proofs.Math.Logic.{∥∥₁_elim}
 use Rattle.std.proofs.Props.{props}
-use Rattle.std.proofs.Common.{
-  ◌≡◌,
-  ◌+◌,
-  ◌<◌,
-  ◌≤◌,
-  ◌^◌,
-  [],
-  ◌∷◌,
-  ◌++◌,
-  length,
-  take,
-  refl,
-  ap,
-  subst,
-  ◌∙◌,
-  sym,
-  arith,
-}
+use Rattle.std.proofs.Common.{◌≡◌, ◌+◌, ◌<◌, ◌≤◌, ◌^◌, [], ◌∷◌, ◌++◌, length, take, refl, ap, subst, ◌∙◌, sym, arith}
 use Rattle.snap_history.specs.History.{from_nothing, number_after, IsMemory}
 use Rattle.snap_world.specs.Answers.{number_at}
 use Rattle.snap_world.specs.Machine.{WriterState, Shown, with_update}
@@ -27,17 +10,9 @@ use Rattle.snap_world.specs.inside.Steps.{phases_of_parts}
 use Rattle.snap_world.specs.declared.register.Register.{Register}
 use Rattle.snap_world.specs.declared.writer.Writer.{Writer}
 use Rattle.snap_world.specs.declared.writer.WriterPhase.TheVariants as writer
-use Rattle.snap_world.proofs.Moves.{
-  the_writer,
-  the_register,
-  own_moment,
-  world_shows,
-  shown_register,
-  shown_view,
-  same_read,
-}
+use Rattle.snap_world.proofs.Moves.{the_writer, the_register, own_moment, world_shows, shown_register, shown_view, same_read}
 use Rattle.snap_world.specs.NodePhases.{up}
-use Rattle.snap_world.proofs.Phasing.{writer_is, other_writer, writer_moved, refused, came}
+use Rattle.snap_world.proofs.PhaseMoves.{writer_is, other_writer, writer_moved, refused, came}
 use Rattle.snap_world.proofs.Sizes.{writer_fits, writer_there, register_fits}
 use Rattle.snap_world.proofs.parts.Parts.show.Goals as goal
 

@@ -1,6 +1,6 @@
 use Rattle.std.proofs.Common.{rules, ◌≡◌, [], None, refl}
-use Rattle.snap_writer.proofs.Resting.{rests}
-use Rattle.snap_writer.proofs.Living.{went_on, lived_first}
+use Rattle.snap_writer.proofs.Rest.{rests}
+use Rattle.snap_writer.proofs.Lives.{went_on, lived_first}
 use Rattle.snap_writer.proofs.writer.Writer.update.Goals as goal
 
 pub returns-in-TooLong-clause-any_time : goal.returns-in-TooLong-clause-any_time

@@ -1,5 +1,5 @@
 use Rattle.std.proofs.Common.{rules, ◌≡◌, ℕ, ◌+◌, length, ap, subst, arith}
-use Rattle.snap_history.proofs.Taking.{taken}
+use Rattle.snap_history.proofs.Removals.{taken}
 use Rattle.snap_restart.specs.Closed.{IsSeatAt}
 use Rattle.try_faults.proofs.threads.generation.clients_of.Goals as goal
 

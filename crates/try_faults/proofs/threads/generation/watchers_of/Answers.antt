@@ -1,6 +1,6 @@
 use Rattle.std.proofs.Common.{ℕ, length, ap, arith}
 use Rattle.std.proofs.lemmas.List.{length_push}
-use Rattle.snap_history.proofs.Taking.{taken}
+use Rattle.snap_history.proofs.Removals.{taken}
 use Rattle.try_faults.proofs.threads.generation.watchers_of.Goals as goal
 
 pub new-requires : goal.new-requires

@@ -1,2 +1,0 @@
-pub mod Collects
-pub mod Laws

@@ -1,0 +1,58 @@
+-- Lists whose items are taken one after another.
+use Rattle.std.proofs.Common.{◌≡◌, ℕ, zero, suc, ◌+◌, ◌<◌, ◌≤◌, List, [], ◌∷◌, ◌++◌, length, map, take, drop, slice_get, Some, refl, ap}
+use Rattle.std.proofs.Common.{sym, ◌∙◌, arith}
+use Rattle.std.proofs.lemmas.Option.{slice_get_within}
+use Rattle.std.proofs.lemmas.List.{drop-drop, take-append-drop, take-take, drop-take, map-append}
+
+get_dropped : {A : Type 0} (k : ℕ) (xs : List A) (x : A) (rest : List A) → drop k xs ≡ x ∷ rest
+    → slice_get xs k ≡ Some x
+get_dropped zero [] x rest e = absurd cc
+get_dropped zero (y ∷ xs) x rest e = cc
+get_dropped (suc k) [] x rest e = absurd cc
+get_dropped (suc k) (y ∷ xs) x rest e = get_dropped k xs x rest e
+
+-- the first k items of a list are taken, and now this one
+pub record Taken {A : Type 0} (k : ℕ) (xs : List A) (x : A) (rest : List A) : Type 0 where
+  pub head : drop k xs ≡ x ∷ rest
+  pub at : slice_get xs k ≡ Some x
+  pub inside : k < length xs
+  -- what is left when they are n
+  pub left : (n : ℕ) → n ≡ k + 1 → rest ≡ drop n xs
+  pub front : (n : ℕ) → n ≡ k + 1 → take n xs ≡ take k xs ++ x ∷ []
+
+pub taken : {A : Type 0} (k : ℕ) (xs : List A) (x : A) (left rest : List A) → left ≡ drop k xs
+    → left ≡ x ∷ rest → Taken k xs x rest
+taken k xs x left rest is next =
+    let head : drop k xs ≡ x ∷ rest = sym is ∙ next in
+    let at = get_dropped k xs x rest head in
+    record {
+      head = head;
+      at = at;
+      inside = slice_get_within xs k x at;
+      left = λ n on. ap (drop 1) (sym head) ∙ drop-drop 1 k xs ∙ ap (λ m. drop m xs) (sym on);
+      front = λ n on. ap (λ m. take m xs) on ∙ sym (take-append-drop k (take (k + 1) xs))
+          ∙ ((λ i. take-take k (k + 1) xs (omega arith) i ++ drop-take k 1 xs i)
+          ∙ ap (λ l. take k xs ++ take 1 l) head);
+    }
+
+-- the same of what a function makes of each
+pub map_front : {A B : Type 0} (f : A → B) (k : ℕ) (xs : List A) (x : A) (rest : List A)
+    → Taken k xs x rest → (n : ℕ) → n ≡ k + 1
+    → map f (take n xs) ≡ map f (take k xs) ++ f x ∷ []
+map_front f k xs x rest next n on =
+    ap (map f) (next.front n on) ∙ map-append f (take k xs) (x ∷ [])
+
+-- none is left, so all are taken
+pub all_taken : {A : Type 0} (k : ℕ) (xs rest : List A) → rest ≡ drop k xs → length rest ≡ 0
+    → take k xs ≡ xs
+all_taken zero [] rest is none = refl
+all_taken (suc k) [] rest is none = refl
+all_taken zero (x ∷ xs) rest is none = absurd (let long = ap length is in omega arith)
+all_taken (suc k) (x ∷ xs) rest is none = ap (λ l. x ∷ l) (all_taken k xs rest is none)
+
+pub none_after : {A : Type 0} (k : ℕ) (xs rest : List A) → rest ≡ drop k xs → length rest ≡ 0
+    → length xs ≤ k
+none_after zero [] rest is none = omega arith
+none_after (suc k) [] rest is none = omega arith
+none_after zero (x ∷ xs) rest is none = absurd (let long = ap length is in omega arith)
+none_after (suc k) (x ∷ xs) rest is none = let h = none_after k xs rest is none in omega arith

@@ -1,0 +1,49 @@
+use Rattle.std.proofs.Common.{rules, ◌≡◌, ℕ, ◌<◌, List, subst, sym, ap, ◌∙◌, arith, refl}
+use Rattle.atomic_table.specs.Seated.{TableId}
+use Rattle.snap_register.specs.declared.plan.Plan.{Plan}
+use Rattle.snap_register.specs.Rule.{segments}
+use Rattle.snap_register.specs.Seat.{Known}
+use Rattle.snap_register.specs.Parts.{IsNewSeat, AreReaders}
+use Rattle.snap_register.proofs.Joins.{seats_reader}
+use Rattle.snap_register.proofs.Places.{word_inside}
+use Rattle.snap_register.proofs.Opens.{enough, bare, first_after, readers_more, new_seat}
+use Rattle.snap_register.proofs.tables.seat_readers.Goals as goal
+
+pub split_seat-seat-requires : goal.split_seat-seat-requires
+split_seat-seat-requires c =
+    let inv = c.loop-k.invariant in
+    let own : c.loop-k.first_seat.table_id ≡ c.deref.result.now.shared.table_id = search rules in
+    let sized = c.requires.sized.0 in
+    let some_segments : 0 < segments c.loop-k.first_seat.me.0.plan =
+    subst (λ (p : Plan). 0 < segments p) (sym inv.plan)
+    (subst (λ (z : ℕ). 0 < z) sized.segments_are sized.some) in
+    let more = enough (Unit {0}) _ _ _ inv.first (omega arith) in (
+      own,
+      subst (λ (t : TableId). 0 < t.words) own (subst (λ (z : ℕ). 0 < z) (sym inv.first.words_are)
+          (word_inside c.loop-k.first_seat.me.0.plan 0 some_segments)),
+      seats_reader (Unit {0}) _ _ _ inv.first.received_none
+          (bare (Unit {0}) _ _ _ inv.first) more.0 more.1,
+    )
+
+pub loop-k-preserved : goal.loop-k-preserved
+loop-k-preserved c =
+    let inv = c.loop-k.invariant in
+    let split = c.split_seat-seat.ensures in
+    let given = c.in_ok-access_of.ensures in
+    let z : TableId = c.args.first_seat.now.table_id in
+    let p : Plan = c.args.first_seat.now.me.0.plan in
+    let me = given.1 ∙ split.4 in
+    let words = ap (λ (t : TableId). t.words) split.0 in
+    let first = inv.first in
+    let new : IsNewSeat z p 0 0 c.of.result =
+    new_seat (Unit {0}) z p 0 0 c.of.result _ _ _ me c.of.ensures (given.0
+    ∙ (split.3 ∙ inv.table)) inv.plan first.seen_is refl refl refl in
+    record {
+      table = search rules;
+      plan = search rules;
+      first = first_after (Unit {0}) _ _ _ _ _ c.loop-k.first_seat.me _ first
+          (omega arith) words split.2;
+      count = search rules;
+      each = subst (λ (xs : List Known). AreReaders z p xs) (sym c.in_ok-push.ensures.items)
+          (readers_more z p c.loop-k.readers.items c.of.result inv.each new);
+    }

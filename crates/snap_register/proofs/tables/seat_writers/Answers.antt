@@ -1,0 +1,55 @@
+use Rattle.std.proofs.Common.{rules, ◌≡◌, ℕ, ◌+◌, ◌<◌, List, subst, sym, ap, ◌∙◌, arith, refl}
+use Rattle.atomic_table.specs.Seated.{TableId}
+use Rattle.snap_register.specs.declared.plan.Plan.{Plan}
+use Rattle.snap_register.specs.Rule.{segments}
+use Rattle.snap_register.specs.Seat.{Known}
+use Rattle.snap_register.specs.Parts.{IsNewSeat, AreWriters}
+use Rattle.snap_register.proofs.Joins.{gives}
+use Rattle.snap_register.proofs.Places.{word_inside}
+use Rattle.snap_register.proofs.Opens.{enough, bare, first_after, writers_more, new_seat}
+use Rattle.snap_register.proofs.tables.seat_writers.Goals as goal
+
+pub split_seat-seat-requires : goal.split_seat-seat-requires
+split_seat-seat-requires c =
+    let inv = c.loop-i.invariant in
+    let own : c.loop-i.first_seat.table_id ≡ c.deref.result.now.shared.table_id = search rules in
+    let sized = c.requires.sized.0 in
+    let some_segments : 0 < segments c.loop-i.first_seat.me.0.plan =
+    subst (λ (p : Plan). 0 < segments p) (sym inv.plan)
+    (subst (λ (z : ℕ). 0 < z) sized.segments_are sized.some) in
+    let e = sized.segments_are in
+    let more = enough (Unit {0}) _ _ _ inv.first (omega arith) in (
+      own,
+      subst (λ (t : TableId). 0 < t.words) own (subst (λ (z : ℕ). 0 < z) (sym inv.first.words_are)
+          (word_inside c.loop-i.first_seat.me.0.plan 0 some_segments)),
+      gives (Unit {0}) _ _ _ inv.first.seen_end_is inv.first.pool_end_is (let a = inv.low in let b =
+          inv.high in omega arith) (bare (Unit {0}) _ _ _ inv.first) more.0 more.1,
+    )
+
+pub loop-i-preserved : goal.loop-i-preserved
+loop-i-preserved c =
+    let inv = c.loop-i.invariant in
+    let split = c.split_seat-seat.ensures in
+    let given = c.in_ok-access_of.ensures in
+    let z : TableId = c.args.first_seat.now.table_id in
+    let p : Plan = c.args.first_seat.now.me.0.plan in
+    let me = given.1 ∙ split.4 in
+    let words = ap (λ (t : TableId). t.words) split.0 in
+    let first = inv.first in
+    let new : IsNewSeat z p c.loop-i.i (c.loop-i.i + 1) c.of.result =
+    new_seat (Unit {0}) z p _ _ c.of.result _ _ _ me c.of.ensures (given.0
+    ∙ (split.3 ∙ inv.table)) inv.plan first.seen_is inv.low
+    (ap (λ (n : ℕ). n + 1) inv.low) refl in
+    let more = writers_more z p c.loop-i.writers.items c.of.result inv.each
+    (subst (λ (n : ℕ). IsNewSeat z p n (n + 1) c.of.result) (sym inv.count) new) in
+    let e = c.requires.sized.0.segments_are in
+    record {
+      table = search rules;
+      plan = search rules;
+      first = first_after (Unit {0}) _ _ _ _ _ c.loop-i.first_seat.me _ first
+          (omega arith) words split.2;
+      low = search rules;
+      high = search rules;
+      count = search rules;
+      each = subst (λ (xs : List Known). AreWriters z p xs) (sym c.in_ok-push.ensures.items) more;
+    }

@@ -1,0 +1,23 @@
+use Rattle.std.proofs.Common.{◌≡◌, ℕ, length, take, drop, ap, ◌∙◌, arith}
+use Rattle.std.specs.Prelude.{replicate}
+use Rattle.std.proofs.lemmas.List.{drop-replicate}
+use Rattle.std.proofs.lemmas.Slice.{take-put_mid, drop-put_mid}
+use Rattle.snap_register.proofs.words.tail_word.Goals as goal
+
+pub returns-clause-front : goal.returns-clause-front
+returns-clause-front c =
+    let n : ℕ = length c.args.bytes.now in
+    ap (take n) c.word_of.ensures
+    ∙ (take-put_mid 0 _ (replicate 8 0) c.copy_from_slice.new.self n
+    (let e : length c.copy_from_slice.new.self ≡ n =
+    ap length c.copy_from_slice.ensures.after in omega arith) (omega arith)
+    ∙ c.copy_from_slice.ensures.after)
+
+pub returns-clause-zeros : goal.returns-clause-zeros
+returns-clause-zeros c =
+    let n : ℕ = length c.args.bytes.now in
+    ap (drop n) c.word_of.ensures
+    ∙ (drop-put_mid 0 _ (replicate 8 0) c.copy_from_slice.new.self n (omega arith) (omega arith)
+    (let e : length c.copy_from_slice.new.self ≡ n =
+    ap length c.copy_from_slice.ensures.after in omega arith)
+    ∙ drop-replicate n 8 0)

@@ -1,0 +1,43 @@
+//! The sizes of a record: numbers and values as words.
+ghost use Rattle.std.specs.Prelude.{◌≡◌, ◌≤◌, ◌<◌, ◌+◌, ◌-◌, length, take, drop, replicate};
+ghost use Rattle.std.specs.Int.{w64, to_le_bytes};
+ghost use Rattle.snap_history.specs.declared.limits.TheConstants.{MAX_VALUE_LEN};
+ghost use Rattle.snap_register.specs.Words.{words_for};
+
+use snap_history::MAX_VALUE_LEN;
+
+/// The most words that a value takes.
+pub(crate) const VALUE_WORDS: usize = MAX_VALUE_LEN / 8;
+
+/// The most words that a number, a length and a value take.
+pub(crate) const BLOCK_WORDS: usize = 2 + VALUE_WORDS;
+
+/// How many words a number, a length and a value of this many bytes take.
+pub(crate) fn block_size(length: usize) -> usize
+    requires { length ≤ MAX_VALUE_LEN }
+    ensures { result ≡ 2 + words_for length }
+{
+    2 + (length + 7) / 8
+}
+
+/// The word of eight bytes, of which the first is the lowest.
+pub(crate) fn word_of(bytes: &[u8]) -> u64
+    requires { length bytes.now ≡ 8 }
+    ensures { to_le_bytes w64 result ≡ bytes.now }
+{
+    u64::from_le_bytes([
+        bytes[0], bytes[1], bytes[2], bytes[3], bytes[4], bytes[5], bytes[6], bytes[7],
+    ])
+}
+
+/// The word of fewer than eight bytes, of which the first is the lowest, and zeros behind them.
+pub(crate) fn tail_word(bytes: &[u8]) -> u64
+    requires { length bytes.now < 8 }
+    ensures front { take (length bytes.now) (to_le_bytes w64 result) ≡ bytes.now }
+    ensures zeros { drop (length bytes.now) (to_le_bytes w64 result)
+        ≡ replicate (8 - length bytes.now) 0 }
+{
+    let mut word = [0; 8];
+    word[..bytes.len()].copy_from_slice(bytes);
+    word_of(&word)
+}

@@ -1,0 +1,34 @@
+-- Lists whose items are taken one after another.
+use Rattle.std.proofs.Common.{◌≡◌, ℕ, zero, suc, ◌+◌, List, [], ◌∷◌, ◌++◌, length, map, take, Some, slice_get, Option, None, Result, Ok, Err, IfOk, refl, ap, subst, ◌∙◌, arith}
+use Rattle.std.specs.Prelude.{◌<◌, All, IsSome, IsErr}
+use Rattle.std.proofs.lemmas.Option.{get_or_from_slice_get}
+use Rattle.std.proofs.lemmas.List.{length-append, length-map, length-take-le}
+use Rattle.snap_history.proofs.Removals.{Taken}
+
+pub get_map : {A B : Type 0} (f : A → B) (ws : List A) (k : ℕ) (x : A) → slice_get ws k ≡ Some x → slice_get (map f ws) k ≡ Some (f x)
+get_map f [] k x e = absurd cc
+get_map f (w ∷ ws) zero x e = let h : w ≡ x = cc in ap (λ y. Some (f y)) h
+get_map f (w ∷ ws) (suc k) x e = get_map f ws k x e
+
+-- what holds of each item holds of the next one
+pub all_dropped : {A : Type 0} (P : A → Type 0) (k : ℕ) (ws : List A) (x : A) (rest : List A)
+    → All P ws → Taken k ws x rest → P x
+all_dropped P k ws x rest all next =
+    subst P (get_or_from_slice_get ws k x x next.at) (all k x next.inside)
+
+-- none comes where none is left
+pub none_comes : {A : Type 0} (next : Option A) (n : ℕ) → (0 < n → IsSome next)
+    → ((x : A) → next ≡ Some x → ⊥) → n ≡ 0
+none_comes (Some x) n some none = absurd (none x refl)
+none_comes None zero some none = refl
+none_comes None (suc n) some none = absurd (let is = some (omega arith) in cc)
+
+-- so many items are there after k of them
+pub so_far : {A B : Type 0} (f : A → B) (old items : List B) (ss : List A) (k : ℕ)
+    → items ≡ old ++ map f (take k ss) → k < length ss → length items ≡ length old + k
+so_far f old items ss k is low = ap length is ∙ length-append old (map f (take k ss))
+    ∙ ap (λ n. length old + n) (length-map (take k ss) f ∙ length-take-le k ss (omega arith))
+
+pub no_ok : {T E : Type 0} (result : Result T E) (P : T → Type 0) → IsErr result → IfOk result P
+no_ok (Ok x) P is = absurd cc
+no_ok (Err e) P is = tt

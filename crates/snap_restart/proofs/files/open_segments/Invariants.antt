@@ -1,0 +1,22 @@
+use Rattle.std.proofs.Common.{◌≡◌, ◌≤◌, [], length, take, drop}
+use Rattle.std.specs.Prelude.{vec_capacity}
+use Rattle.std.specs.Vec.Iter.{into_iter_items, into_iter_len}
+use Rattle.snap_history.specs.declared.limits.TheConstants.{MAX_COUNT}
+use Rattle.snap_history.specs.Pairs.{Pairs}
+use Rattle.snap_restart.specs.Opened.{IsOpened}
+use Rattle.snap_restart.proofs.files.open_segments.Given as goal
+
+abbrev pub invariant-opening : goal.invariant-opening
+invariant-opening g l = record {
+  rest : into_iter_items l.rest ≡ drop (length l.segments.items) l.fn.devices.items;
+  long : into_iter_len l.rest ≡ length (into_iter_items l.rest);
+  opened : Pairs (IsOpened g.D.Disk.device g.D.Disk.failure_count g.D.Disk.is_honest g.D.Disk.clock g.D.Disk.might_have_left (length l.fn.devices.items)) (take (length l.segments.items) l.fn.devices.items) l.segments.items;
+  within : length l.segments.items ≤ length l.fn.devices.items;
+  count : l.count ≡ length l.fn.devices.items;
+  room : length l.fn.devices.items ≤ vec_capacity l.segments;
+  emptied : l.emptied.items ≡ [];
+  space : MAX_COUNT ≤ vec_capacity l.emptied;
+}
+
+abbrev pub decreases-opening : goal.decreases-opening
+decreases-opening g l = into_iter_len l.rest

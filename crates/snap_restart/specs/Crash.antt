@@ -1,0 +1,114 @@
+-- What the writers and scanners of one opening that are back tell of any crash before.
+use Rattle.std.specs.Prelude.{◌≡◌, ℕ, ◌<◌, ◌≤◌, List, ◌++◌, length, map, Some, slice_get}
+use mathlib.Core.Option.{some}
+use lib.ListN.{get_elem?}
+use Rattle.atomic_table.specs.Table.{State}
+use Rattle.snap_disk.specs.Device.{Device}
+use Rattle.snap_history.specs.History.{Update, Start, IsBeginning, updates_of, number_after, value_after}
+use Rattle.snap_history.specs.Pairs.{Pairs}
+use Rattle.snap_register.specs.declared.plan.Plan.{Plan}
+use Rattle.snap_register.specs.declared.plan.SeatView.{SeatView}
+use Rattle.snap_register.specs.History.{starts, updates}
+use Rattle.snap_register.specs.Rule.{segments, Kept}
+use Rattle.snap_register.specs.Seat.{Known}
+use Rattle.snap_writer.specs.Writer.{WriterState}
+use Rattle.snap_writer.specs.Life.{Place, Lived, IsIn, CrashLeaves, IsWriterOf}
+use Rattle.snap_cut.specs.Crash.{IsConsistent, Begun, IsRecovered, KeepMemory, Recovers}
+use Rattle.snap_cut.specs.Laws.{IsSeatOf}
+
+module _ {D : Type 0} (device : D → Device) (honest : D → Type 0) (clock : D → ℕ)
+    (might_have_left : D → ℕ → List ℕ → Type 0) where
+  -- the place lies in a life that began with this writer of segment i
+  abbrev pub IsLifeFrom : List (WriterState D) → ℕ → Place D → Type 0
+  IsLifeFrom writers i p = (a z : WriterState D) × (life : List (WriterState D))
+      × (slice_get writers i ≡ Some a)
+      × Lived device honest clock might_have_left a life z
+      × IsIn device honest clock might_have_left z a life p
+
+  -- Whatever these writers do from now on: at any moment of their registers a crash of all devices is
+  -- recovered as the memory after the whole history of that moment, of which each seat has seen a
+  -- beginning, followed by at most one begun update of each writer.
+  abbrev pub AnyMoment : Plan → List (WriterState D) → Type 0
+  AnyMoment plan writers = (s : State (Unit {0}) SeatView) (kept : Kept plan s)
+      (places : List (Place D)) (files : List (List ℕ)) → length places ≡ length writers
+      → ((i : ℕ) (p : Place D) → slice_get places i ≡ Some p
+      → IsLifeFrom writers i p × IsSeatOf s.views i p)
+      → Pairs (λ _. CrashLeaves device honest clock might_have_left) places files
+      → ((j : ℕ) (v : SeatView) → get_elem? s.views j ≡ some v
+      → IsBeginning (updates v.seen) (updates kept.history))
+      × IsRecovered (length writers) (starts plan) (updates kept.history) (Begun places) files
+
+  -- the same, told from an earlier start, where these writers began behind the base
+  abbrev pub AnyMomentAfter : Plan → Start → List Update → List (WriterState D) → Type 0
+  AnyMomentAfter plan start base writers = (s : State (Unit {0}) SeatView) (kept : Kept plan s)
+      (places : List (Place D)) (files : List (List ℕ)) → length places ≡ length writers
+      → ((i : ℕ) (p : Place D) → slice_get places i ≡ Some p
+      → IsLifeFrom writers i p × IsSeatOf s.views i p)
+      → Pairs (λ _. CrashLeaves device honest clock might_have_left) places files
+      → IsRecovered (length writers) start (base ++ updates kept.history) (Begun places) files
+
+  -- The history goes on over a crash: the writers begin with the memory after it and then some of the
+  -- updates that were begun there, at most one of each segment, and what they show stands behind.
+  pub record GoesOn (plan : Plan) (start : Start) (h : List Update) (crashed : List (Place D))
+      (writers : List (WriterState D)) : Type 0 where
+    pub more : List Update
+    pub were_begun : (j : ℕ) (u : Update) → slice_get more j ≡ Some u
+        → (u.segment < length writers) × Begun crashed u.segment u.value
+    pub once : (i : ℕ) → updates_of i more ≤ 1
+    pub starts_are : (i : ℕ) (w : WriterState D) → slice_get writers i ≡ Some w
+        → (w.segment.number ≡ number_after start (h ++ more) i)
+        × (w.segment.value ≡ value_after start (h ++ more) i)
+    pub any_moment : AnyMomentAfter plan start (h ++ more) writers
+
+  abbrev pub AllHonest : List (WriterState D) → Type 0
+  AllHonest writers = (i : ℕ) (w : WriterState D) → slice_get writers i ≡ Some w
+      → honest w.segment.device
+
+  -- all writers were opened at rest, of the segments in order, and their history starts with what
+  -- the files hold: where that is what a crash left, the history before goes on
+  pub record AreOpened (devices : List D) (writers : List (WriterState D)) : Type 0 where
+    pub plan : Plan
+    pub all : length writers ≡ segments plan
+    pub one_each : length writers ≡ length devices
+    pub writers_are : (i : ℕ) (w : WriterState D) → slice_get writers i ≡ Some w
+        → IsWriterOf device honest clock might_have_left plan (length writers) i w
+    pub starts_are : (i : ℕ) (w : WriterState D) → slice_get writers i ≡ Some w
+        → (w.segment.number ≡ (starts plan i).0) × (w.segment.value ≡ (starts plan i).1)
+    pub any_moment : AnyMoment plan writers
+    pub again : (start : Start) (h : List Update) (crashed : List (Place D))
+        → IsRecovered (length devices) start h (Begun crashed)
+        (map (λ (d : D). (device d).bytes) devices)
+        → AllHonest writers → GoesOn plan start h crashed writers
+
+  -- These devices are what became of the others since a call began: whatever a crash left of all of
+  -- them at any times since then, that are times of each by itself, is the memory that was kept.
+  abbrev pub StayKept : List D → List D → Type 0
+  StayKept olds news = (n : ℕ) (start : Start) (h : List Update) (crashed : List (Place D))
+      (files : List (List ℕ)) → KeepMemory device n start h (Begun crashed) olds
+      → length olds ≡ length files
+      → ((i : ℕ) (d e : D) (b : List ℕ) → slice_get olds i ≡ Some d → slice_get news i ≡ Some e
+      → slice_get files i ≡ Some b → honest e × might_have_left e (clock d) b)
+      → IsRecovered n start h (Begun crashed) files
+
+  -- the place lies in a life that came to this writer of segment i
+  abbrev pub IsLifeOf : Plan → List (WriterState D) → ℕ → Place D → Type 0
+  IsLifeOf plan writers i p = (a z : WriterState D) × (life : List (WriterState D))
+      × (slice_get writers i ≡ Some z)
+      × IsWriterOf device honest clock might_have_left plan (length writers) i a
+      × Lived device honest clock might_have_left a life z
+      × IsIn device honest clock might_have_left z a life p
+
+  -- one of the scanners had seen these updates by some time
+  abbrev pub HadSeen : List Known → List Update → Type 0
+  HadSeen scanners seen = (k : ℕ) × (b : Known) × (slice_get scanners k ≡ Some b)
+      × IsBeginning seen b.seen
+
+  -- whatever their lives were, each consistent cut through them is recovered
+  abbrev pub AnyCut : List Update → List (WriterState D) → List Known → Type 0
+  AnyCut h writers scanners = (plan : Plan) (places : List (Place D)) (saw : List (List Update))
+      (files : List (List ℕ)) → length places ≡ length writers
+      → ((i : ℕ) (p : Place D) → slice_get places i ≡ Some p → IsLifeOf plan writers i p)
+      → ((k : ℕ) (seen : List Update) → slice_get saw k ≡ Some seen → HadSeen scanners seen)
+      → IsConsistent (starts plan) places saw
+      → Pairs (λ _. CrashLeaves device honest clock might_have_left) places files
+      → Recovers (length places) (starts plan) h places saw files

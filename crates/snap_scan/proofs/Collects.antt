@@ -1,0 +1,290 @@
+-- What one look adds, and why the end of a scan tells one moment.
+use Rattle.std.proofs.Common.{◌≡◌, ℕ, ◌+◌, ◌-◌, ◌*◌, ◌<◌, ◌≤◌, inl, inr, true, false, List, [], ◌∷◌, ◌++◌, length, Some, slice_index}
+use Rattle.std.proofs.Common.{slice_get, slice_set, ap, sym, ◌∙◌, subst, arith}
+use Rattle.std.specs.Prelude.{nat_lt, if◌then◌else◌}
+use Rattle.std.proofs.Math.Nat.{mul-le-mul_left}
+use Rattle.std.proofs.lemmas.List.{length_push, get_or_push, get_or_append_left}
+use Rattle.std.proofs.lemmas.Bool.{cases_lt, cases_eq}
+use Rattle.std.proofs.lemmas.Bool.Decides.{nat_tests}
+use Rattle.snap_history.proofs.Lists.{get-set_same, get-set_other}
+use Rattle.snap_scan.specs.Looks.{IsClean, IsBorrow, IsTurn, IsNoFall}
+use Rattle.snap_scan.proofs.Places.{same_segment}
+use Rattle.snap_scan.specs.Collects.{Numbers, Entries, IsRising, IsKept, Collects, IsMoment, IsThen}
+
+-- a function with one more value
+abbrev more_at : (ℕ → ℕ) → ℕ → ℕ → ℕ → ℕ
+more_at f end v t = if nat_lt t end then f t else v
+
+at_old : (f : ℕ → ℕ) (end v t : ℕ) → t < end → more_at f end v t ≡ f t
+at_old f end v t l = let e : nat_lt t end ≡ true = grind (arith, nat_tests) in
+    ap (λ b. if b then f t else v) e
+
+at_new : (f : ℕ → ℕ) (end v t : ℕ) → t ≡ end → more_at f end v t ≡ v
+at_new f end v t l = let e : nat_lt t end ≡ false = grind (arith, nat_tests) in
+    ap (λ b. if b then f t else v) e
+
+-- a borrow is from the segment of the last look
+pub same_turn : (n : ℕ) (L : List ℕ) (k i j : ℕ) → IsTurn n L j → IsBorrow n (L ++ k ∷ []) i → i ≡ j
+same_turn n L k i j turn borrowed =
+    let within : j < n = turn.0 in
+    let place : length L ≡ turn.1.0 * n + j = turn.1.1 in
+    let long : length (L ++ k ∷ []) ≡ length L + 1 = length_push L k in
+    let last : length (L ++ k ∷ []) ≡ borrowed.last.0 * n + i + 1 = borrowed.last.1 in
+    same_segment n borrowed.last.0 i turn.1.0 j borrowed.segment within (omega arith)
+
+module _ (A : Type 0) (n : ℕ) (number : Numbers) (entry : Entries A) (b e : ℕ) where
+  -- nothing was looked at yet
+  pub Collects-none : (latest : List A) → Collects A n number entry b e [] latest
+  Collects-none latest = record {
+    moment = λ t. b;
+    after = λ t l. absurd (omega arith);
+    until = λ t l. absurd (omega arith);
+    order = λ s t x l. absurd (omega arith);
+    numbers = λ m i x l. absurd (omega arith);
+    entries = λ m i x l y. absurd (omega arith);
+  }
+
+  module _ (L : List ℕ) (latest : List A) (c : Collects A n number entry b e L latest) where
+    -- what was seen stays seen when the history grows
+    pub Collects-same : (number2 : Numbers) (entry2 : Entries A)
+        → ((t i : ℕ) → t ≤ e → number2 t i ≡ number t i)
+        → ((t i : ℕ) → t ≤ e → entry2 t i ≡ entry t i)
+        → Collects A n number2 entry2 b e L latest
+    Collects-same number2 entry2 same kept = record {
+      moment = c.moment;
+      after = c.after;
+      until = c.until;
+      order = c.order;
+      numbers = λ m i x l. c.numbers m i x l
+          ∙ sym (same (c.moment (m * n + i)) i (c.until (m * n + i) l));
+      entries = λ m i x l y. c.entries m i x l y
+          ∙ ap (λ v. Some v) (sym (kept (c.moment (m * n + i)) i (c.until (m * n + i) l)));
+    }
+
+    module _ (t j : ℕ) (end : e ≤ t) (turn : IsTurn n L j) where
+      abbrev m : ℕ
+      m = turn.1.0
+
+      abbrev k : ℕ
+      k = number t j
+
+      within : j < n
+      within = turn.0
+
+      place : length L ≡ m * n + j
+      place = turn.1.1
+
+      old : (i : ℕ) → i < length L → slice_index (L ++ k ∷ []) i ≡ slice_index L i
+      old i l = get_or_append_left L (k ∷ []) 0 i l
+
+      len : length (L ++ k ∷ []) ≡ length L + 1
+      len = length_push L k
+
+      moment2 : ℕ → ℕ
+      moment2 = more_at c.moment (length L) t
+
+      was : (s : ℕ) → s < length L → moment2 s ≡ c.moment s
+      unfolding moment2
+      was s l = at_old c.moment (length L) t s l
+
+      is : (s : ℕ) → s ≡ length L → moment2 s ≡ t
+      unfolding moment2
+      is s x = at_new c.moment (length L) t s x
+
+      -- one look more
+      pub Collects-push : b ≤ t → length latest ≡ n
+          → Collects A n number entry b t (L ++ k ∷ []) (slice_set latest j (entry t j))
+      Collects-push start size = record {
+        moment = moment2;
+        after = λ s l. (
+            let x : length (L ++ k ∷ []) ≡ length L + 1 = len in
+            elim (cases_lt s (length L)) [
+              | inl lt ↦ (let y : moment2 s ≡ c.moment s = was s lt in let z : b ≤ c.moment s =
+                  c.after s lt in omega arith)
+              | inr ge ↦ (let y : moment2 s ≡ t = is s (omega arith) in omega arith)
+            ]);
+        until = λ s l. (
+            let x : length (L ++ k ∷ []) ≡ length L + 1 = len in
+            elim (cases_lt s (length L)) [
+              | inl lt ↦ (let y : moment2 s ≡ c.moment s = was s lt in let z : c.moment s ≤ e =
+                  c.until s lt in omega arith)
+              | inr ge ↦ (let y : moment2 s ≡ t = is s (omega arith) in omega arith)
+            ]);
+        order = λ r s rs l. (
+            let x : length (L ++ k ∷ []) ≡ length L + 1 = len in
+            elim (cases_lt s (length L)) [
+              | inl lt ↦ (
+                  let y : moment2 s ≡ c.moment s = was s lt in
+                  let y2 : moment2 r ≡ c.moment r = was r (omega arith) in
+                  let z : c.moment r ≤ c.moment s = c.order r s rs lt in omega arith)
+              | inr ge ↦ (
+                  let y : moment2 s ≡ t = is s (omega arith) in
+                  elim (cases_lt r (length L)) [
+                    | inl sl ↦ (let y2 : moment2 r ≡ c.moment r = was r sl in
+                        let z : c.moment r ≤ e = c.until r sl in omega arith)
+                    | inr sg ↦ (let y2 : moment2 r ≡ t = is r (omega arith) in omega arith)
+                  ])
+            ]);
+        numbers = λ p i hi l. (
+            let x : length (L ++ k ∷ []) ≡ length L + 1 = len in
+            elim (cases_lt (p * n + i) (length L)) [
+              | inl lt ↦ old (p * n + i) lt ∙ c.numbers p i hi lt
+                  ∙ ap (λ s. number s i) (sym (was (p * n + i) lt))
+              | inr ge ↦ (
+                  let at : p * n + i ≡ length L = omega arith in
+                  let same : j ≡ i = sym (same_segment n p i m j hi within (omega arith)) in
+                  get_or_push L k 0 (p * n + i) (sym at) ∙ ap (number t) same
+                  ∙ ap (λ s. number s i) (sym (is (p * n + i) at)))
+            ]);
+        entries = λ p i hi l late. (
+            let x : length (L ++ k ∷ []) ≡ length L + 1 = len in
+            elim (cases_lt (p * n + i) (length L)) [
+              | inl lt ↦ elim (cases_eq i j) [
+                | inl e2 ↦ elim (cases_lt p m) [
+                  | inl pm ↦ (let a : n * (p + 1) ≤ n * m = mul-le-mul_left n (omega arith) in
+                      absurd (omega arith))
+                  | inr mp ↦ (let a : n * m ≤ n * p = mul-le-mul_left n mp in absurd (omega arith))
+                ]
+                | inr ne ↦ get-set_other latest j i _ ne ∙ c.entries p i hi lt (omega arith)
+                    ∙ ap (λ s. Some (entry s i)) (sym (was (p * n + i) lt))
+              ]
+              | inr ge ↦ (
+                  let at : p * n + i ≡ length L = omega arith in
+                  let same : j ≡ i = sym (same_segment n p i m j hi within (omega arith)) in
+                  let mem : slice_get (slice_set latest j (entry t j)) j ≡ Some (entry t j) =
+                  get-set_same latest j _ (omega arith) in
+                  let mem2 : slice_get (slice_set latest j (entry t j)) i ≡ Some (entry t i) =
+                  subst (λ v. slice_get (slice_set latest j (entry t j)) v
+                  ≡ Some (entry t v)) same mem in
+                  mem2 ∙ ap (λ s. Some (entry s i)) (sym (is (p * n + i) at)))
+            ]);
+      }
+
+    module _ (rising : IsRising number) where
+      pub no_fall : (t j : ℕ) → e ≤ t → j < n → IsNoFall n L j (number t j)
+      no_fall t j end l m place =
+          let early : m * n + j < length L = omega arith in
+          let seen : slice_index L (m * n + j) ≡ number (c.moment (m * n + j)) j =
+          c.numbers m j l early in
+          let until : c.moment (m * n + j) ≤ e = c.until (m * n + j) early in
+          let below : number (c.moment (m * n + j)) j ≤ number t j =
+          rising j (c.moment (m * n + j)) t (omega arith) in
+          omega arith
+
+      module _ (t j : ℕ) (end : e ≤ t) (turn : IsTurn n L j) (borrowed : IsBorrow n (L
+          ++ number t j ∷ []) j) where
+        last_is : slice_index (L ++ number t j ∷ []) (length (L ++ number t j ∷ []) - 1)
+            ≡ number t j
+        last_is =
+            let x : length (L ++ number t j ∷ []) ≡ length L + 1 = length_push L (number t j) in
+            get_or_push L (number t j) 0 (length (L ++ number t j ∷ []) - 1) (omega arith)
+
+        -- a segment that rose by two since the scan's first look did so after the scan began
+        pub rose : number b j + 2 ≤ number t j
+        rose =
+            let within : j < n = turn.0 in
+            let x : length (L ++ number t j ∷ []) ≡ length L + 1 = length_push L (number t j) in
+            let moved : slice_index (L ++ number t j ∷ []) j + 2 ≤ slice_index (L
+            ++ number t j ∷ []) (length (L ++ number t j ∷ []) - 1) = borrowed.moved in
+            let last : slice_index (L ++ number t j ∷ []) (length (L ++ number t j ∷ []) - 1)
+            ≡ number t j = last_is in
+            let early : j < length L = elim (cases_lt j (length L)) [
+              | inl lt ↦ lt
+              | inr ge ↦ (
+                  let place : length L ≡ turn.1.0 * n + j = turn.1.1 in
+                  let z : slice_index (L ++ number t j ∷ []) j ≡ number t j =
+                  get_or_push L (number t j) 0 j (omega arith) in
+                  absurd (omega arith))
+            ] in
+            let first : slice_index (L ++ number t j ∷ []) j ≡ slice_index L j =
+            get_or_append_left L (number t j ∷ []) 0 j early in
+            let at : 0 * n + j ≡ j = omega arith in
+            let seen : slice_index L (0 * n + j) ≡ number (c.moment (0 * n + j)) j =
+            c.numbers 0 j within (omega arith) in
+            let seen2 : slice_index L j ≡ slice_index L (0 * n + j) = ap (slice_index L) (sym at) in
+            let low : number b j ≤ number (c.moment (0 * n + j)) j =
+            rising j b (c.moment (0 * n + j)) (c.after (0 * n + j) (omega arith)) in
+            omega arith
+
+        -- so the moment of its view lies inside the scan
+        pub borrow_moment : (p : ℕ) → p ≤ t → number p j + 1 ≡ number t j
+            → (IsClean n (L ++ number t j ∷ []) → ⊥)
+            → IsMoment n number b t (L ++ number t j ∷ []) p
+        borrow_moment p pl before not_clean =
+            let high : number b j + 2 ≤ number t j = rose in
+            record {
+              after = elim (cases_lt b p) [
+                | inl lt ↦ omega arith
+                | inr ge ↦ (let down : number p j ≤ number b j = rising j p b ge in
+                    absurd (omega arith))
+              ];
+              until = pl;
+              tells = record {
+                clean = λ cl. absurd (not_clean cl);
+                borrow = λ i br. ap (λ v. number p v + 1) (same_turn n L (number t j) i j turn br)
+                    ∙ before ∙ sym last_is;
+              };
+            }
+
+      -- two equal collects tell the moment between them
+      pub clean_moment : IsKept A number entry → 0 < n → IsClean n L
+          → ((j : ℕ) → IsBorrow n L j → ⊥) → (p : ℕ) × IsMoment n number b e L p
+          × IsThen A n entry p latest
+      clean_moment kept pos clean not_borrow =
+          let d = clean.rounds.0 in
+          let long : length L ≡ (d + 2) * n = clean.rounds.1 in
+          let mid = (d + 1) * n + 0 in
+          let p = c.moment mid in
+          let first : (i : ℕ) → i < n
+          → slice_index L (d * n + i) ≡ number (c.moment (d * n + i)) i =
+          λ i l. c.numbers d i l (omega arith) in
+          let second : (i : ℕ) → i < n
+          → slice_index L ((d + 1) * n + i) ≡ number (c.moment ((d + 1) * n + i)) i =
+          λ i l. c.numbers (d + 1) i l (omega arith) in
+          let equal : (i : ℕ) → i < n → number p i ≡ number (c.moment ((d + 1) * n + i)) i =
+          λ i l. (
+          let s : slice_index L (length L - 2 * n + i) ≡ slice_index L (length L - n + i) =
+          clean.same i l in
+          let at : length L - 2 * n + i ≡ d * n + i = omega arith in
+          let at2 : length L - n + i ≡ (d + 1) * n + i = omega arith in
+          let same : slice_index L (d * n + i) ≡ slice_index L ((d + 1) * n + i) =
+          sym (ap (slice_index L) at) ∙ s ∙ ap (slice_index L) at2 in
+          let a : number (c.moment (d * n + i)) i ≤ number p i =
+          rising i (c.moment (d * n + i)) p
+          (c.order (d * n + i) mid (omega arith) (omega arith)) in
+          let z : number p i ≤ number (c.moment ((d + 1) * n + i)) i =
+          rising i p (c.moment ((d + 1) * n + i))
+          (c.order mid ((d + 1) * n + i) (omega arith) (omega arith)) in
+          let f : slice_index L (d * n + i) ≡ number (c.moment (d * n + i)) i = first i l in
+          let g : slice_index L ((d + 1) * n + i) ≡ number (c.moment ((d + 1) * n + i)) i =
+          second i l in
+          omega arith) in (
+            p,
+            record {
+              after = c.after mid (omega arith);
+              until = c.until mid (omega arith);
+              tells = record {
+                clean = λ _ i l. (
+                    let at : length L - n + i ≡ (d + 1) * n + i = omega arith in
+                    equal i l ∙ sym (second i l) ∙ ap (slice_index L) (sym at));
+                borrow = λ j br. absurd (not_borrow j br);
+              };
+            },
+            λ i l. c.entries (d + 1) i l (omega arith) (omega arith)
+                ∙ ap (λ v. Some v) (sym
+                (kept i p (c.moment ((d + 1) * n + i)) (c.order mid ((d + 1) * n + i) (omega arith)
+                (omega arith)) (equal i l))),
+          )
+
+-- a moment stays that of the scan when the history grows
+pub IsMoment-same : (n : ℕ) (number number2 : Numbers) (b e : ℕ) (L : List ℕ) (p : ℕ)
+    → ((t i : ℕ) → t ≤ e → number2 t i ≡ number t i) → IsMoment n number b e L p
+    → IsMoment n number2 b e L p
+IsMoment-same n number number2 b e L p same is = record {
+  after = is.after;
+  until = is.until;
+  tells = record {
+    clean = λ cl i l. same p i is.until ∙ is.tells.clean cl i l;
+    borrow = λ j br. ap (λ v. v + 1) (same p j is.until) ∙ is.tells.borrow j br;
+  };
+}

@@ -1,0 +1,39 @@
+-- The laws of a scan's looks, at entries that are values.
+use Rattle.std.specs.Prelude.{◌≡◌, ℕ, ◌+◌, ◌<◌, ◌≤◌, List, [], ◌∷◌, ◌++◌, length, slice_set}
+use Rattle.snap_scan.specs.Looks.{IsClean, IsBorrow, IsTurn, IsNoFall}
+use Rattle.snap_scan.specs.Collects.{Numbers, Entries, IsRising, IsKept, Collects, IsMoment, IsThen}
+
+-- a look at moment t, behind all looks before, tells no number that falls
+abbrev pub NoFall : Type 0
+NoFall = (n : ℕ) (number : Numbers) (entry : Entries (List ℕ)) (b e t : ℕ) (told : List ℕ)
+    (latest : List (List ℕ)) (j : ℕ)
+    → IsRising number → e ≤ t → Collects (List ℕ) n number entry b e told latest
+    → j < n → IsNoFall n told j (number t j)
+
+-- and is one look more
+abbrev pub LookMore : Type 0
+LookMore = (n : ℕ) (number : Numbers) (entry : Entries (List ℕ)) (b e t : ℕ) (told : List ℕ)
+    (latest : List (List ℕ)) (j : ℕ)
+    → b ≤ t → e ≤ t → length latest ≡ n → Collects (List ℕ) n number entry b e told latest
+    → IsTurn n told j
+    → Collects (List ℕ) n number entry b t (told
+    ++ number t j ∷ []) (slice_set latest j (entry t j))
+
+-- two equal collects tell a moment of the scan, and the latest entries are those of it
+abbrev pub CleanMoment : Type 0
+CleanMoment = (n : ℕ) (number : Numbers) (entry : Entries (List ℕ)) (b e : ℕ) (told : List ℕ)
+    (latest : List (List ℕ))
+    → IsRising number → IsKept (List ℕ) number entry → 0 < n
+    → Collects (List ℕ) n number entry b e told latest
+    → IsClean n told → ((j : ℕ) → IsBorrow n told j → ⊥)
+    → (p : ℕ) × IsMoment n number b e told p × IsThen (List ℕ) n entry p latest
+
+-- a segment that rose by two since the scan's first look tells each moment at which its last update
+-- was the next one, and that moment lies inside the scan
+abbrev pub BorrowMoment : Type 0
+BorrowMoment = (n : ℕ) (number : Numbers) (entry : Entries (List ℕ)) (b e t : ℕ) (told : List ℕ)
+    (latest : List (List ℕ)) (j p : ℕ)
+    → IsRising number → e ≤ t → Collects (List ℕ) n number entry b e told latest → IsTurn n told j
+    → IsBorrow n (told ++ number t j ∷ []) j → (IsClean n (told ++ number t j ∷ []) → ⊥)
+    → p ≤ t → number p j + 1 ≡ number t j
+    → IsMoment n number b t (told ++ number t j ∷ []) p

@@ -1,0 +1,172 @@
+//! Makes the file of a segment: the calls that formatting and migration share.
+ghost use Rattle.std.specs.Prelude.{
+  ◌≡◌,
+  ◌+◌,
+  ◌-◌,
+  ◌^◌,
+  ◌<◌,
+  ◌≤◌,
+  ℕ,
+  List,
+  false,
+  length,
+  OnOk,
+  IfOk,
+  IfErr,
+  IsErrOf,
+  IsTrue,
+  ◌↔◌,
+};
+ghost use Rattle.snap_slot.specs.declared.layout.TheConstants.{FILE_LEN};
+ghost use Rattle.snap_disk.specs.Device.{
+  Device,
+  IsSettled,
+  IsSynced,
+  MayLeave,
+  CountsFailure,
+  CountsCalls,
+  LeavesOnly,
+};
+ghost use Rattle.snap_history.specs.declared.limits.TheConstants.{MAX_COUNT};
+ghost use Rattle.snap_history.specs.Limits.{IsNumber, IsShort};
+ghost use Rattle.snap_slot.specs.Layout.{IsUnformatted, IsFormatted};
+ghost use Rattle.snap_slot.specs.States.{IsAtRest, IsPrepared};
+ghost use Rattle.snap_segment.specs.Refusals.{IsMakeRefusal};
+ghost use Rattle.snap_segment.specs.Segment.{CountsRefusal};
+ghost use Rattle.snap_segment.specs.Creation.{IsMadeOrLeft, new_file};
+
+use snap_disk::{DeviceFault, Disk, Refusal, write_synced};
+use snap_slot::{
+    BLOCK_LEN, HEADER_GATE_AT, HEADER_LEN, OPEN_GATE, SLOTS_LEN, encode_header, encode_slots,
+    gate_at,
+};
+
+/// Makes the file of segment `index` of `count` on a device of a file's length: it holds `number`
+/// and `value`, and its other slots are closed and hold zeros. It makes seven device calls.
+///
+/// Refused as `AlreadyFormatted` where the header's gate is open, after a sync and a read, and
+/// nothing is written; `DeviceFailed` where a device call failed. The header's gate is opened last,
+/// behind a sync, so a crash at any time leaves what was there, an unformatted file or the whole
+/// new one; and of a formatted file only what was there.
+pub(crate) fn make_file<D: Disk>(
+    device: &mut D,
+    index: u8,
+    count: u8,
+    number: u64,
+    value: &[u8],
+) -> Result<(), Refusal>
+    requires below { index < count }
+    requires few { count ≤ MAX_COUNT }
+    requires number { IsNumber number }
+    requires fits { IsShort value.now }
+    requires length { length (D.device device.old).bytes ≡ FILE_LEN }
+    requires headroom { D.failure_count device.old < 2 ^ 64 - 1 }
+    ensures count { CountsRefusal result (D.failure_count device.old) (D.failure_count device.new) }
+    ensures size { length (D.device device.new).bytes ≡ length (D.device device.old).bytes }
+    ensures calls { CountsCalls result 7 (D.clock device.old) (D.clock device.new) }
+    ensures taken_calls { IsErrOf result Refusal.AlreadyFormatted
+        → D.clock device.new ≡ D.clock device.old + 2 }
+    ensures honest { D.is_honest device.new → D.is_honest device.old }
+    ensures refusals { IfErr result IsMakeRefusal }
+    ensures taken { D.is_honest device.new → IsErrOf result Refusal.AlreadyFormatted
+        → IsFormatted (D.device device.old).bytes }
+    ensures taken_same { D.is_honest device.new → IsErrOf result Refusal.AlreadyFormatted
+        → IsSynced (D.device device.old) (D.device device.new) }
+    ensures unformatted { D.is_honest device.new
+        → OnOk result (IsUnformatted (D.device device.old).bytes) }
+
+    // Of a formatted file, whatever is answered, a crash at any time during the call leaves what
+    // one before it could leave, and so does one after it.
+    ensures kept { D.is_honest device.new → IsFormatted (D.device device.old).bytes
+        → LeavesOnly D.clock D.might_have_left device.old device.new
+        (MayLeave (D.device device.old)) }
+    ensures kept_now { D.is_honest device.new → IsFormatted (D.device device.old).bytes
+        → (b : List ℕ) → MayLeave (D.device device.new) b → MayLeave (D.device device.old) b }
+
+    // A crash at any time during the call, and one after it.
+    ensures any_time { D.is_honest device.new
+        → LeavesOnly D.clock D.might_have_left device.old device.new
+        (IsMadeOrLeft index count number value.now (D.device device.old)) }
+    ensures now { D.is_honest device.new → (b : List ℕ) → MayLeave (D.device device.new) b
+        → IsMadeOrLeft index count number value.now (D.device device.old) b }
+
+    // Once it has answered Ok, a crash leaves the new file.
+    ensures last { D.is_honest device.new
+        → OnOk result (IsAtRest index count number value.now false (D.device device.new)) }
+
+    // Then these are all its bytes, whatever it held before.
+    ensures bytes { D.is_honest device.new
+        → OnOk result ((D.device device.new).bytes ≡ new_file index count number value.now) }
+{
+    match is_unformatted(device) {
+        Err(_) => return Err(Refusal::DeviceFailed),
+        Ok(false) => return Err(Refusal::AlreadyFormatted),
+        Ok(true) => {}
+    }
+    match write_front(device, index, count, number, value) {
+        Err(_) => return Err(Refusal::DeviceFailed),
+        Ok(()) => {}
+    }
+    write_synced(device, HEADER_GATE_AT, &[OPEN_GATE]).map_err(|_| Refusal::DeviceFailed)
+}
+
+/// Syncs, and looks at the header's gate.
+fn is_unformatted<D: Disk>(device: &mut D) -> Result<bool, DeviceFault>
+    requires size { length (D.device device.old).bytes ≡ FILE_LEN }
+    requires headroom { D.failure_count device.old < 2 ^ 64 - 1 }
+    ensures count { CountsFailure result (D.failure_count device.old) (D.failure_count device.new) }
+    ensures size { length (D.device device.new).bytes ≡ length (D.device device.old).bytes }
+    ensures calls { CountsCalls result 2 (D.clock device.old) (D.clock device.new) }
+    ensures honest { D.is_honest device.new → D.is_honest device.old }
+    ensures any_time { D.is_honest device.new
+        → LeavesOnly D.clock D.might_have_left device.old device.new
+        (MayLeave (D.device device.old)) }
+    ensures now { D.is_honest device.new → (b : List ℕ) → MayLeave (D.device device.new) b
+        → MayLeave (D.device device.old) b }
+    ensures settled { D.is_honest device.new
+        → OnOk result (IsSynced (D.device device.old) (D.device device.new)) }
+    ensures unformatted { D.is_honest device.new
+        → IfOk result (λ unformatted. IsTrue unformatted
+        ↔ IsUnformatted (D.device device.old).bytes) }
+{
+    device.sync()?;
+    let mut block = [0u8; BLOCK_LEN];
+    device.read_at(0, &mut block)?;
+    Ok(block[HEADER_GATE_AT as usize] != OPEN_GATE)
+}
+
+/// Writes all but the header's gate, and then syncs.
+fn write_front<D: Disk>(
+    device: &mut D,
+    index: u8,
+    count: u8,
+    number: u64,
+    value: &[u8],
+) -> Result<(), DeviceFault>
+    requires below { index < count }
+    requires few { count ≤ MAX_COUNT }
+    requires number { IsNumber number }
+    requires fits { IsShort value.now }
+    requires size { length (D.device device.old).bytes ≡ FILE_LEN }
+    requires headroom { D.failure_count device.old < 2 ^ 64 - 1 }
+    ensures count { CountsFailure result (D.failure_count device.old) (D.failure_count device.new) }
+    ensures size { length (D.device device.new).bytes ≡ length (D.device device.old).bytes }
+    ensures calls { CountsCalls result 3 (D.clock device.old) (D.clock device.new) }
+    ensures honest { D.is_honest device.new → D.is_honest device.old }
+    ensures any_time { D.is_honest device.new → IsSettled (D.device device.old)
+        → IsUnformatted (D.device device.old).bytes
+        → LeavesOnly D.clock D.might_have_left device.old device.new IsUnformatted }
+    ensures now { D.is_honest device.new → IsSettled (D.device device.old)
+        → IsUnformatted (D.device device.old).bytes → (b : List ℕ)
+        → MayLeave (D.device device.new) b → IsUnformatted b }
+    ensures prepared { D.is_honest device.new
+        → OnOk result (IsPrepared index count number value.now (D.device device.new)) }
+{
+    let mut front = [0u8; HEADER_LEN];
+    encode_header(index, count, &mut front);
+    device.write_at(0, &front)?;
+    let mut slots = [0u8; SLOTS_LEN];
+    encode_slots(number, value, &mut slots);
+    device.write_at(gate_at(0), &slots)?;
+    device.sync()
+}

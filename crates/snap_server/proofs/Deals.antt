@@ -1,0 +1,63 @@
+-- How the calls of a listener follow one another.
+use Rattle.std.proofs.Common.{◌≡◌, ◌⊎◌, ℕ, zero, suc, nat_lt, if◌then◌else◌, Bool, true, false, List, [], ◌∷◌, length, Result, Ok, Err}
+use Rattle.std.proofs.Common.{IfOk, inl, inr, refl, sym, subst}
+use Rattle.snap_server.specs.declared.listen.Arrival.{Arrival}
+use Rattle.snap_server.specs.declared.listen.Unaccepted.{Unaccepted}
+use Rattle.snap_server.specs.Deals.{AsksInVain, CallsInVain, Deals, Gives, GivesSoMany, turn_after, turn_of}
+
+either : (b : Bool) (n : ℕ) → (if b then n else n) ≡ n
+either true n = refl
+either false n = refl
+
+-- of however many workers, the first one's turn comes first
+pub turn_first : (many : ℕ) → turn_of 0 many ≡ 0
+turn_first many = either (nat_lt 0 many) 0
+
+-- So many were dealt and counted, and it is known whose turn is next. `held` are the doors that the
+-- dealer has then.
+pub record HasDealt {L H : Type 0} (accepts : L → Result Arrival Unaccepted → L → Type 0)
+    (refuses : L → Type 0) (takes : H → Arrival → Type 0) (doors : List H) (k : ℕ) (old new : L)
+    (held : List H) (next dealt : ℕ) : Type 0 where
+  pub deals : Deals accepts takes doors k old new
+  pub same : refuses new → refuses old
+  pub turn : turn_of next (length doors) ≡ turn_after (length doors) k
+  pub counted : dealt ≡ k
+  pub theirs : held ≡ doors
+
+module _ {L : Type 0} (accepts : L → Result Arrival Unaccepted → L → Type 0) where
+  -- it was asked once more, or not at all
+  pub vain_more : (a b c : L) (why : Unaccepted) → AsksInVain accepts a b
+      → (c ≡ b) ⊎ accepts b (Err why) c → AsksInVain accepts a c
+  vain_more a b c why before (inl same) = subst (AsksInVain accepts a) (sym same) before
+  vain_more a b c why before (inr asked) = (why ∷ before.0, (b, before.1, asked))
+
+  calls_behind : (a b c : L) (whys : List Unaccepted) → AsksInVain accepts a b
+      → CallsInVain accepts whys b c → AsksInVain accepts a c
+  calls_behind a b c [] before same = subst (AsksInVain accepts a) (sym same) before
+  calls_behind a b c (why ∷ earlier) before calls =
+      let more = calls_behind a b calls.0 earlier before calls.1 in
+      (why ∷ more.0, (calls.0, more.1, calls.2))
+
+  pub vain_behind : (a b c : L) → AsksInVain accepts a b → AsksInVain accepts b c
+      → AsksInVain accepts a c
+  vain_behind a b c before behind = calls_behind a b c behind.0 before behind.1
+
+  pub gives_behind : (a b c : L) (arrival : Arrival) → AsksInVain accepts a b
+      → Gives accepts b arrival c → Gives accepts a arrival c
+  gives_behind a b c arrival before gives =
+      (gives.0, vain_behind a b gives.0 before gives.1, gives.2)
+
+  -- what was dealt was accepted
+  pub deals_accepted : {H : Type 0} (takes : H → Arrival → Type 0) (doors : List H) (k : ℕ)
+      (a b : L) → Deals accepts takes doors k a b → GivesSoMany accepts k a b
+  deals_accepted takes doors zero a b same = same
+  deals_accepted takes doors (suc k) a b (mid, arrival, door, before, gives, turn, taken) =
+      (mid, arrival, deals_accepted takes doors k a mid before, gives)
+
+  -- the same, where so many are known at its end
+  pub dealt_accepted : {H E : Type 0} (takes : H → Arrival → Type 0) (doors : List H) (first : L)
+      (end : Result ℕ E) → IfOk end (λ k. (left : L) × Deals accepts takes doors k first left)
+      → IfOk end (λ k. (left : L) × GivesSoMany accepts k first left)
+  dealt_accepted takes doors first (Ok k) (left, deals) =
+      (left, deals_accepted takes doors k first left deals)
+  dealt_accepted takes doors first (Err why) deals = tt

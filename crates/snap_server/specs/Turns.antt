@@ -1,0 +1,38 @@
+-- How long a turn of a connection takes.
+use Rattle.std.specs.Prelude.{◌≡◌, ℕ, Some}
+use Rattle.slab.specs.Slab.{Slab, get}
+use Rattle.snap_frame.specs.declared.request.Request.{Request}
+use Rattle.snap_frame.specs.declared.reply.Reply.{Reply}
+use Rattle.snap_session.specs.Talk.{Moves}
+use Rattle.snap_session.specs.Turns.{Scene, FewRounds, WholeRounds, most_rounds}
+use Rattle.snap_server.specs.declared.connection.Connection.{Connection}
+use Rattle.snap_server.specs.declared.connection.Stage.{Stage}
+use Rattle.snap_server.specs.declared.connection.Stage.TheVariants.{Idle, Listed, Over}
+use Rattle.snap_server.specs.TurnList.{KeepsOthers}
+use Rattle.snap_server.specs.Scene.{scene}
+
+-- The rounds of one turn, of pieces of at most so many bytes, by where the connection stands behind
+-- it. One that is on the list again took all that a turn may take; another one would wait before the
+-- last of them, or has ended.
+abbrev pub HadRounds : {S : Type 0} (gives : S → Request → Reply → S → Type 0) (most : ℕ) → Stage
+    → Scene S → Scene S → Type 0
+HadRounds gives most Idle a b = FewRounds gives most a b
+HadRounds gives most Listed a b = WholeRounds gives most most_rounds a b
+HadRounds gives most Over a b = FewRounds gives most a b
+
+-- The connection of this key had one turn, and no other one was touched.
+pub record HadTurn {S : Type 0} (gives : S → Request → Reply → S → Type 0) (most key : ℕ) (s t : S)
+    (old new : Slab Connection) : Type 0 where
+  pub rounds : (c : Connection) → (d : Connection) → get old key ≡ Some c → get new key ≡ Some d
+      → HadRounds gives most d.stage (scene s c.session) (scene t d.session)
+  pub others : KeepsOthers key old new
+
+-- What became of a connection that stood so, while the service went from s to t: one that was on the
+-- list had one turn, with others' before and behind it, and another one was left alone.
+abbrev pub HadItsTurn : {S : Type 0} (gives : S → Request → Reply → S → Type 0) (most : ℕ) → Stage
+    → S → S → Connection → Connection → Type 0
+HadItsTurn gives most Idle s t c d = d ≡ c
+HadItsTurn {S} gives most Listed s t c d =
+    (a : S) × (b : S) × Moves gives s a
+    × HadRounds gives most d.stage (scene a c.session) (scene b d.session) × Moves gives b t
+HadItsTurn gives most Over s t c d = d ≡ c

@@ -1,0 +1,157 @@
+//! The threads of workers and backgrounds, and what each worker says at its end.
+ghost use Rattle.std.specs.Prelude.{◌≡◌, [], All, Bool, IfSome, map, true};
+ghost use Rattle.std.specs.Thread.{IsSend, IsSync};
+
+use crate::door::{Hand, Mail};
+use crate::note::Note;
+use crate::room::Room;
+use snap_session::{Background, Done};
+use std::rt::Clock;
+use std::snapshot::Snapshot;
+use std::sync::Wait;
+use std::thread::{Promise, PromisedHandle, Scope, Threads};
+
+/// Works in a thread of its own.
+pub trait Work {
+    /// That it has served all that came to it.
+    ghost serves: { Self → Type 0 };
+
+    /// Works to its end; `false` where it failed.
+    fn work_off<X: Wait + Clock, N: Fn(&Note)>(self, rt: &X, room: &Room, note: &N) -> bool
+        requires { N.IsAlwaysCallable note.now }
+        ensures { result ≡ true → serves self };
+}
+
+/// That a thread answers `true` only where its worker has served.
+#[derive(Drop)]
+pub struct Serving<K> {
+    worker: Snapshot<K>,
+}
+
+impl<K: Work> Promise<bool> for Serving<K> {
+    ghost kept_by = { λ promise has_served. has_served ≡ true → K.serves promise.worker.value };
+}
+
+/// A thread for this worker; none where the system refused it.
+fn start<'s, E, K: Work, F: FnOnce() -> bool + Send + Drop + 's>(
+    scope: &Scope<'s, E>,
+    promise: Serving<K>,
+    work: F,
+) -> Option<PromisedHandle<bool, Serving<K>>>
+    requires runs { F.pre work }
+    requires keeps { (r : Bool) → F.post work r → r ≡ true → K.serves promise.worker.value }
+    ensures { IfSome result (λ thread. thread.promise ≡ promise) }
+{
+    match scope.spawn_with(promise, work) {
+        Ok(thread) => Some(thread),
+        Err(_) => None,
+    }
+}
+
+/// Whether there is a thread for this work.
+fn starts<'s, E, F: FnOnce() + Send + Drop + 's>(scope: &Scope<'s, E>, work: F) -> bool
+    requires { F.pre work }
+{
+    scope.spawn(work).is_ok()
+}
+
+/// Starts a thread for each background; `false` where the system refused one.
+pub fn start_backgrounds<'s, E, X, B, H>(
+    scope: &Scope<'s, E>,
+    rt: &'s X,
+    doors: &'s [H],
+    backgrounds: Vec<B>,
+) -> bool
+where
+    X: Wait + Clock + Sync,
+    B: Background<Outcome = H::Outcome> + Send + Drop + 's,
+    H: Hand + Sync,
+    H::Outcome: Send + Drop,
+{
+    let mut is_whole = true;
+    'backgrounds: for background in backgrounds {
+        let told = move ||
+            requires { IsSync X.row × IsSync H.row × IsSend B.row }
+        {
+            tell_all(rt, background, doors);
+        };
+        is_whole &= starts(scope, told);
+    }
+    is_whole
+}
+
+/// Tells the workers what is done, until no more will be.
+fn tell_all<X: Wait + Clock, B: Background + Drop, H: Hand<Outcome = B::Outcome>>(
+    rt: &X,
+    mut background: B,
+    doors: &[H],
+) {
+    for _ in rt.forever() {
+        let Some(done) = background.next_done() else {
+            return;
+        };
+        let Done {
+            worker,
+            key,
+            outcome,
+        } = done;
+        if let Some(door) = doors.get(worker) {
+            door.post(rt, Mail::Done { key, outcome });
+        }
+    }
+}
+
+/// Starts a thread for each worker; `false` where the system refused one.
+pub fn start_workers<'s, E, X, K, N>(
+    scope: &Scope<'s, E>,
+    rt: &'s X,
+    room: &'s Room,
+    note: &'s N,
+    workers: Vec<K>,
+    threads: &mut Vec<PromisedHandle<bool, Serving<K>>>,
+) -> bool
+where
+    X: Wait + Clock + Sync,
+    K: Work + Send + Drop + 's,
+    N: Fn(&Note) + Sync,
+    requires none { threads.old.items ≡ [] }
+    requires note { N.IsAlwaysCallable note.now }
+    ensures { result ≡ true
+        → map (λ thread. thread.promise.worker.value) threads.new.items ≡ workers.items }
+{
+    'workers: for worker in workers {
+        let worker_then = Snapshot::of(&worker);
+        let work = move || -> bool
+            requires { IsSync X.row × IsSync N.row × IsSend K.row × N.IsAlwaysCallable note.now }
+            ensures { result ≡ true → K.serves worker }
+        { worker.work_off(rt, room, note) };
+        let Some(thread) = start(
+            scope,
+            Serving {
+                worker: worker_then,
+            },
+            work,
+        ) else {
+            return false;
+        };
+        if threads.push(thread).is_err() {
+            return false;
+        }
+    }
+    true
+}
+
+/// Whether each of the workers has served, once all have ended.
+pub fn have_served<X: Threads, K: Work>(
+    rt: &X,
+    threads: Vec<PromisedHandle<bool, Serving<K>>>,
+) -> bool
+    ensures { result ≡ true
+        → All K.serves (map (λ thread. thread.promise.worker.value) threads.items) }
+{
+    let mut all = true;
+    'threads: for thread in threads {
+        all &= thread.join(rt);
+    }
+    all
+}

@@ -1,0 +1,182 @@
+-- A file that is being formatted.
+use Rattle.std.proofs.Common.{false, ◌≡◌, ◌≢◌, ◌⊎◌, inl, inr, ⊎_elim, ℕ, ◌+◌, ◌*◌, ◌%◌, ◌<◌, ◌≤◌, List, [], ◌∷◌, ◌++◌, length}
+use Rattle.std.proofs.Common.{slice_index, refl, sym, ◌∙◌, ap, arith, append_assoc, length-append}
+use Rattle.std.proofs.lemmas.List.{append-nil}
+use Rattle.std.proofs.lemmas.Bool.{cases_eq}
+use Rattle.snap_disk.specs.Device.{Device, IsSettled, part, opened, MayLeave, DiffersWithin, IsTouched, IsSynced, IsWritten}
+use Rattle.snap_disk.specs.Laws.{part_kept, index-part, settled_opened}
+use Rattle.snap_history.specs.Limits.{IsNumber, IsShort}
+use Rattle.snap_slot.specs.Layout.{slot_of, next_slot, spare_slot, body_at, header_front, slots_of, fresh_file, Open, IsClosed, Head, IsUnformatted, IsFileOf}
+use Rattle.snap_slot.specs.States.{IsAtRest, IsPrepared}
+use Rattle.snap_slot.proofs.Blocks.{part-between, part-part, length-header_front, slots_gate, slots_body, slots_closed, length-slots_of}
+
+-- the header's gate is the only byte that may still change
+module _ (i n k : ℕ) (v : List ℕ) (below : i < n) (few : n ≤ 16) (small : IsNumber k) (fits : IsShort
+    v) (d : Device) (is : IsPrepared i n k v d) where
+  block : (at : ℕ) (b : List ℕ) → DiffersWithin 4095 1 d.bytes b → at + 4096 ≤ 24576
+      → part (4096 + at) 4096 b ≡ part at 4096 (slots_of k v)
+  block at b same within =
+      part_kept (4096 + at) 4096 4095 1 d.bytes b same (inr (omega arith))
+      ∙ sym (part-part 4096 24576 at 4096 d.bytes within)
+      ∙ ap (λ (l : List ℕ). part at 4096 l) is.slots
+
+  its_slot : (b : List ℕ) → DiffersWithin 4095 1 d.bytes b → Open b (slot_of k) k v
+  its_slot b same =
+      let place : body_at (slot_of k) ≡ 4096 + (8192 * (k % 3) + 4096) = omega arith in
+      record {
+        gate_open = block (8192 * (k % 3)) b same (omega arith) ∙ slots_gate k v fits;
+        holds = ap (λ (at : ℕ). part at 4096 b) place
+            ∙ block (8192 * (k % 3) + 4096) b same (omega arith) ∙ slots_body k v fits;
+        number = small;
+        slot = refl;
+        fits = fits;
+      }
+
+  other_slot : (b : List ℕ) (t : ℕ) → DiffersWithin 4095 1 d.bytes b → t < 3 → t ≢ slot_of k
+      → IsClosed b t
+  other_slot b t same low other = record {
+    gate = 0;
+    closed = λ h. absurd (omega (arith, h));
+    is = block (8192 * t) b same (omega (arith, low)) ∙ slots_closed k v fits t low other;
+  }
+
+  next_closed : (b : List ℕ) → DiffersWithin 4095 1 d.bytes b → IsClosed b (next_slot (slot_of k))
+  next_closed b same = other_slot b (next_slot (slot_of k)) same (omega arith) (λ h.
+      absurd (omega (arith, h)))
+
+  spare_closed : (b : List ℕ) → DiffersWithin 4095 1 d.bytes b
+      → IsClosed b (spare_slot (slot_of k))
+  spare_closed b same = other_slot b (spare_slot (slot_of k)) same (omega arith) (λ h.
+      absurd (omega (arith, h)))
+
+  header : (b : List ℕ) → DiffersWithin 4095 1 d.bytes b → slice_index b 4095 ≡ 0xA5 → Head b i n
+  header b same opens = record {
+    front = part_kept 0 4095 4095 1 d.bytes b same (inl (omega arith))
+        ∙ is.front;
+    gate = opens;
+    below = below;
+    few = few;
+  }
+
+  -- once it is open, the file is whole
+  pub whole : (b : List ℕ) → DiffersWithin 4095 1 d.bytes b → slice_index b 4095 ≡ 0xA5
+      → IsFileOf i n k v b
+  whole b same opens = record {
+    size = same.size ∙ is.size;
+    head = header b same opens;
+    holds = record {
+      here = its_slot b same;
+      next = next_closed b same;
+      spare = inl (spare_closed b same);
+    };
+  }
+
+  pub unformatted_or_whole : (b : List ℕ) → DiffersWithin 4095 1 d.bytes b → IsUnformatted b
+      ⊎ IsFileOf i n k v b
+  unformatted_or_whole b same =
+      ⊎_elim (λ opens. inr (whole b same opens)) (λ closes.
+      inl closes) (cases_eq (slice_index b 4095) 0xA5)
+
+  -- what a crash leaves of the write that opens it
+  pub gate_leaves : (b : List ℕ) → MayLeave (opened 4095 1 d) b → IsUnformatted b
+      ⊎ IsFileOf i n k v b
+  gate_leaves b left = unformatted_or_whole b (settled_opened 4095 1 d b is.settled left)
+
+  at_rest : (e : Device) → IsSettled e → DiffersWithin 4095 1 d.bytes e.bytes
+      → slice_index e.bytes 4095 ≡ 0xA5 → IsAtRest i n k v false e
+  at_rest e settled same opens = record {
+    settled = settled;
+    size = same.size ∙ is.size;
+    head = header e.bytes same opens;
+    here = its_slot e.bytes same;
+    next = next_closed e.bytes same;
+    spare = spare_closed e.bytes same;
+  }
+
+  -- what stands after that write and a sync
+  pub formatted : (d2 : Device) → IsWritten 4095 (0xA5 ∷ []) d d2 → IsAtRest i n k v false d2
+  formatted d2 done = at_rest d2 done.settled done.elsewhere
+      (sym (index-part 4095 1 0 d2.bytes (omega arith))
+      ∙ ap (λ (l : List ℕ). slice_index l 0) done.stands)
+
+-- after the write of a header's front, that of the slots, and a sync
+pub prepared : (i n k : ℕ) (v front slots : List ℕ) (a b c : Device) → IsShort v
+    → length b.bytes ≡ 28672
+    → front ≡ header_front i n → length front ≡ 4095 → slots ≡ slots_of k v
+    → part 0 (length front) a.bytes ≡ front → IsTouched 4096 (length slots) a b
+    → part 4096 (length slots) b.bytes ≡ slots → IsSynced b c → IsPrepared i n k v c
+prepared i n k v front slots a b c fits size is_header long is_slots header touched there synced =
+    let all : length slots ≡ 24576 = ap (λ (l : List ℕ). length l) is_slots
+    ∙ length-slots_of k v fits in
+    record {
+      settled = synced.settled;
+      size = ap (λ (l : List ℕ). length l) synced.same ∙ size;
+      front =
+          ap (λ (l : List ℕ). part 0 4095 l) synced.same
+          ∙ part_kept 0 4095 4096 (length slots) a.bytes b.bytes touched.bytes_elsewhere
+          (inl (omega arith))
+          ∙ ap (λ (m : ℕ). part 0 m a.bytes) (sym long) ∙ header ∙ is_header;
+      slots = ap (λ (l : List ℕ). part 4096 24576 l) synced.same
+          ∙ ap (λ (m : ℕ). part 4096 m b.bytes) (sym all) ∙ there ∙ is_slots;
+    }
+
+-- the header's gate, as it was read
+pub gate_read : (block bytes : List ℕ) → block ≡ part 0 4096 bytes
+    → slice_index block 4095 ≡ slice_index bytes 4095
+gate_read block bytes is = ap (λ (l : List ℕ). slice_index l 4095) is
+    ∙ index-part 0 4096 4095 bytes (omega arith)
+
+-- The whole file of a new segment:
+
+fresh_length : length (slots_of 0 []) ≡ 24576
+fresh_length = length-slots_of 0 [] (omega arith)
+
+module _ (i n : ℕ) where
+  pub fresh_front : part 0 4095 (fresh_file i n) ≡ header_front i n
+  unfolding fresh_file
+  fresh_front = part-between 0 4095 [] (header_front i n) (0xA5 ∷ slots_of 0 []) refl
+      (length-header_front i n)
+
+  fresh_header_gate : slice_index (fresh_file i n) 4095 ≡ 0xA5
+  unfolding fresh_file
+  fresh_header_gate =
+      sym (index-part 4095 1 0 (header_front i n ++ (0xA5 ∷ slots_of 0 [])) (omega arith))
+      ∙ ap (λ (l : List ℕ). slice_index l 0) (part-between 4095 1 (header_front i n) (0xA5
+      ∷ []) (slots_of 0 []) (length-header_front i n) refl)
+
+  fresh_behind : part 4096 24576 (fresh_file i n) ≡ slots_of 0 []
+  unfolding fresh_file
+  fresh_behind =
+      ap (λ (l : List ℕ). part 4096 24576 l)
+      (sym (append_assoc (header_front i n) (0xA5 ∷ []) (slots_of 0 []))
+      ∙ ap (λ (l : List ℕ). (header_front i n ++ (0xA5 ∷ []))
+      ++ l) (sym (append-nil (slots_of 0 []))))
+      ∙ part-between 4096 24576 (header_front i n
+      ++ (0xA5 ∷ [])) (slots_of 0 []) [] (omega (
+        arith,
+        length-append (header_front i n) (0xA5 ∷ []),
+        length-header_front i n,
+      )) fresh_length
+
+  pub length-fresh_file : length (fresh_file i n) ≡ 28672
+  unfolding fresh_file
+  length-fresh_file = omega (
+    arith,
+    length-append (header_front i n) (0xA5 ∷ slots_of 0 []),
+    length-header_front i n,
+    fresh_length,
+  )
+
+-- a device that holds it, with no open place, is at rest
+pub fresh_rests : (i n : ℕ) → i < n → n ≤ 16 → (d : Device) → IsSettled d → d.bytes ≡ fresh_file i n
+    → IsAtRest i n 0 [] false d
+fresh_rests i n below few d settled same =
+    let is : IsPrepared i n 0 [] d = record {
+      settled = settled;
+      size = ap (λ (l : List ℕ). length l) same ∙ length-fresh_file i n;
+      front = ap (λ (l : List ℕ). part 0 4095 l) same ∙ fresh_front i n;
+      slots = ap (λ (l : List ℕ). part 4096 24576 l) same ∙ fresh_behind i n;
+    } in
+    at_rest i n 0 [] below few (omega arith) (omega arith) d is d settled
+    (record { size = refl; elsewhere = λ p out. refl })
+    (ap (λ (l : List ℕ). slice_index l 4095) same ∙ fresh_header_gate i n)

@@ -1,0 +1,18 @@
+-- From the fields that were read of a block to the block.
+use Rattle.std.proofs.Common.{◌≡◌, ℕ, suc, ◌<◌, ◌^◌, List, [], ◌∷◌, length, slice_index, sym, ◌∙◌, ap, arith}
+use Rattle.std.proofs.lemmas.List.{append-nil}
+use Rattle.snap_disk.specs.Device.{part}
+use Rattle.snap_disk.specs.Laws.{part_whole, part-cons}
+use Rattle.snap_slot.specs.Layout.{zeros, big, number_in, gate_block, length_field}
+use Rattle.snap_slot.proofs.Blocks.{number_in-big}
+
+-- the length field of a block in which these bytes stand
+pub length_read : (b : List ℕ) (n : ℕ) → part 8 4 b ≡ big 4 n → n < 2 ^ 32 → length_field b ≡ n
+length_read b n is low = ap (λ (l : List ℕ). number_in 4 l) (is ∙ sym (append-nil (big 4 n)))
+    ∙ number_in-big 4 n [] (omega (arith, low))
+
+pub gate_from_zeros : (b : List ℕ) → length b ≡ 4096 → part 1 4095 b ≡ zeros 4095
+    → b ≡ gate_block (slice_index b 0)
+unfolding gate_block
+gate_from_zeros b size is = sym (part_whole (suc 4095) b size)
+    ∙ part-cons 0 4095 b (omega (arith, size)) ∙ ap (λ (l : List ℕ). slice_index b 0 ∷ l) is

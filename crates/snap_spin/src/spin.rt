@@ -1,0 +1,51 @@
+//! Whether one thread spins.
+ghost use Rattle.std.specs.Prelude.{◌≡◌, ◌+◌, ◌<◌, true, false};
+ghost use Rattle.snap_spin.specs.declared.spin.TheConstants.{WAITS_IN_A_REST};
+
+use std::marker::Model;
+
+/// How many waits go by without spinning after one that was in vain.
+pub const WAITS_IN_A_REST: u32 = 15;
+
+/// Whether a thread spins before it sleeps, asked once a wait. Its value is how many waits are still to
+/// go by without.
+#[derive(Drop)]
+pub struct Spin {
+    resting: u32,
+}
+
+impl Model for Spin {
+    ghost use Rattle.std.specs.Prelude.{ℕ};
+
+    ghost Value = { ℕ };
+
+    ghost view = { λ s. s.resting };
+}
+
+impl Spin {
+    /// It spins at the first wait.
+    pub fn new() -> Spin
+        ensures { result ≡ 0 }
+    {
+        Spin { resting: 0 }
+    }
+
+    /// Whether to spin before the sleep of this wait.
+    pub fn is_due(&mut self) -> bool
+        ensures ready { self.old ≡ 0 → (result ≡ true) × (self.new ≡ 0) }
+        ensures resting { 0 < self.old → (result ≡ false) × (self.new + 1 ≡ self.old) }
+    {
+        if self.resting == 0 {
+            return true;
+        }
+        self.resting -= 1;
+        false
+    }
+
+    /// This wait spun in vain: the next ones go by without.
+    pub fn rest(&mut self)
+        ensures { self.new ≡ WAITS_IN_A_REST }
+    {
+        self.resting = WAITS_IN_A_REST;
+    }
+}

@@ -1,0 +1,230 @@
+-- A client's calls over an honest connection.
+use Rattle.std.proofs.Common.{◌≡◌, ◌⊎◌, ℕ, ◌≤◌, inl, inr, List, [], ◌∷◌, ◌++◌, length, map, All, Option, Some, None, Ok, refl, ap, sym, subst, ◌∙◌, arith, append_assoc, append-nil, length-append}
+use Rattle.std.proofs.lemmas.List.{append_cancel_right}
+use Rattle.std.proofs.lemmas.List.Elements.{All-tail}
+use Rattle.std.specs.Int.{w32, to_be_bytes}
+use Rattle.std.specs.Io.KnownBytes.{Appends, Consumes}
+use Rattle.snap_disk.specs.declared.refusal.Refusal.{Refusal}
+use Rattle.snap_disk.specs.declared.refusal.Refusal.TheVariants as refusals
+use Rattle.snap_history.specs.History.{Update, Start}
+use Rattle.snap_register.specs.Seat.{Known}
+use Rattle.snap_frame.specs.declared.request.Request.{Request}
+use Rattle.snap_frame.specs.declared.request.Request.TheVariants as request
+use Rattle.snap_frame.specs.declared.reply.Reply.{Reply}
+use Rattle.snap_frame.specs.declared.reply.Reply.TheVariants.{Stored, Snapshot, Status, Refused}
+use Rattle.snap_frame.specs.declared.frame_buffer.Failure.{Failure}
+use Rattle.snap_frame.specs.declared.frame_buffer.Failure.TheVariants.{TooLarge, NoMemory}
+use Rattle.snap_frame.specs.Messages.{max_payload, payload, frame, says, Says}
+use Rattle.snap_frame.proofs.Exact.{same_frame}
+use Rattle.snap_frame.proofs.Lengths.{says_fits}
+use Rattle.snap_session.specs.Talk.{Answer, Run, Moves, Phase, frames, refused_too_large}
+use Rattle.snap_session.proofs.Known.{appends_none, appends_more, consumes_none, consumes_more}
+use Rattle.snap_service.specs.Answers.{Answers}
+use Rattle.snap_client.specs.declared.fault.ClientFault.{ClientFault}
+use Rattle.snap_client.specs.Calls.{ClientState, CallsAfter, Reaches}
+use Rattle.snap_told.specs.Told.{Stands, IsSendable, AreTold}
+use Rattle.snap_told.specs.Laws.{Converses, AllStand}
+use Rattle.snap_told.proofs.Payloads.{head_is}
+
+-- ---- what is known of the connection
+
+pub wrote_all : (o n : Option (List ℕ)) (wrote bytes : List ℕ) → o ≡ Some [] → n ≡ Some wrote
+    → Appends o n bytes → wrote ≡ bytes
+wrote_all o n wrote bytes eo en is =
+    subst (λ (z : Option (List ℕ)). Appends (Some []) z bytes) en
+    (subst (λ (z : Option (List ℕ)). Appends z n bytes) eo is)
+
+pub read_all : (o n : Option (List ℕ)) (read left came : List ℕ) → o ≡ Some (read ++ left)
+    → n ≡ Some left → Consumes o n came → read ≡ came
+read_all o n read left came eo en is =
+    let same : read ++ left ≡ came ++ left =
+    subst (λ (z : Option (List ℕ)). Consumes (Some (read ++ left)) z came) en
+    (subst (λ (z : Option (List ℕ)). Consumes z n came) eo is) in
+    append_cancel_right read came left same
+
+-- ---- what a client wrote and read over some calls
+
+-- the payloads that came say these replies to as many requests
+abbrev pub Spoken : List Request → List Reply → List (List ℕ) → Type 0
+Spoken [] [] [] = Unit {0}
+Spoken (q ∷ qs) (r ∷ rs) (x ∷ xs) = Says x r × Spoken qs rs xs
+Spoken [] (r ∷ rs) xs = ⊥
+Spoken (q ∷ qs) [] xs = ⊥
+Spoken [] [] (x ∷ xs) = ⊥
+Spoken (q ∷ qs) (r ∷ rs) [] = ⊥
+
+module _ {R W : Type 0} (remaining : R → Option (List ℕ)) (contents : W → Option (List ℕ)) where
+  pub record Spoke (qs : List Request) (rs : List Reply) (old new : ClientState R W)
+      : Type 0 where
+    pub sent : Appends (contents old.writer) (contents new.writer) (frames (map payload qs))
+    pub came : List ℕ
+    pub heard : Consumes (remaining old.reader) (remaining new.reader) came
+    pub payloads : List (List ℕ)
+    pub cut : old.held ++ came ≡ frames payloads ++ new.held
+    pub said : Spoken qs rs payloads
+
+  silent_still : (old : ClientState R W) → Spoke [] [] old old
+  silent_still old = record {
+    sent = appends_none (contents old.writer);
+    came = [];
+    heard = consumes_none (remaining old.reader);
+    payloads = [];
+    cut = append-nil old.held;
+    said = tt;
+  }
+
+  spoke_on : (q : Request) (r : Reply) (qs : List Request) (rs : List Reply)
+      (old mid new : ClientState R W) → Reaches remaining contents q old (Ok r) mid
+      → Spoke qs rs mid new → Spoke (q ∷ qs) (r ∷ rs) old new
+  spoke_on q r qs rs old mid new reached on =
+      let came = reached.0 in
+      let x = reached.1 in
+      let asked = reached.2 in record {
+        sent = appends_more (contents old.writer) (contents mid.writer) (contents new.writer)
+            (frame (payload q)) (frames (map payload qs)) _ asked.wrote on.sent refl;
+        came = came ++ on.came;
+        heard = consumes_more (remaining old.reader) (remaining mid.reader) (remaining new.reader)
+            came on.came _ asked.read on.heard refl;
+        payloads = x ∷ on.payloads;
+        cut = ap (λ (z : List ℕ). z ++ (came ++ on.came)) asked.silent
+            ∙ ap (λ (z : List ℕ). z ++ on.came) reached.3.split
+            ∙ append_assoc (frame x) mid.held on.came
+            ∙ ap (λ (z : List ℕ). frame x ++ z) on.cut
+            ∙ sym (append_assoc (frame x) (frames on.payloads) new.held);
+        said = (reached.4, on.said);
+      }
+
+  pub spoke : (qs : List Request) (rs : List Reply) (old new : ClientState R W)
+      → old.fault ≡ None → Converses remaining contents qs rs old new → Spoke qs rs old new
+  spoke [] [] old new going same =
+      subst (λ (z : ClientState R W). Spoke [] [] old z) (sym same) (silent_still old)
+  spoke [] (r ∷ rs) old new going talk = absurd talk
+  spoke (q ∷ qs) [] old new going talk = absurd talk
+  spoke (q ∷ qs) (r ∷ rs) old new going talk =
+      let mid = talk.0 in
+      let call = subst (λ (f : Option ClientFault). CallsAfter f remaining contents q old (Ok r) mid)
+      going talk.1 in
+      spoke_on q r qs rs old mid new call.0 (spoke qs rs mid new call.1 talk.2)
+
+-- ---- the session's frames
+
+abbrev pub AllFit : List (List ℕ) → Type 0
+AllFit [] = Unit {0}
+AllFit (x ∷ xs) = (length x ≤ max_payload) × AllFit xs
+
+answer_fits : (a b : Known) (x y : List ℕ) → Answer Answers a x y b → length y ≤ max_payload
+answer_fits a b x y (fits, inl is) = rw (is.4.1) (says_fits is.1 is.4.0)
+answer_fits a b x y (fits, inr malformed) =
+    rw (malformed.2) (says_fits (Refused refusals.Malformed 0) tt)
+
+pub run_fits : (a b : Known) (xs ys : List (List ℕ)) → Run (Moves Answers) Answers a xs ys b
+    → AllFit xs × AllFit ys
+run_fits a b [] [] run = (tt, tt)
+run_fits a b [] (y ∷ ys) run = absurd run
+run_fits a b (x ∷ xs) [] run = absurd run
+run_fits a b (x ∷ xs) (y ∷ ys) run =
+    let rest = run_fits run.1 b xs ys run.4 in
+    ((run.3.0, rest.0), (answer_fits run.0 run.1 x y run.3, rest.1))
+
+-- what is behind all replies
+pub tail_is : (o : Option Failure) (taken : List ℕ) (ps rs us : List (List ℕ))
+    (rest held tail : List ℕ) → Phase None o taken ps rs us rest held tail
+    → (tail ≡ []) ⊎ (tail ≡ frame refused_too_large)
+tail_is None taken ps rs us rest held tail p = inl p.1
+tail_is (Some TooLarge) taken ps rs us rest held tail p = inr p.1
+tail_is (Some NoMemory) taken ps rs us rest held tail p = inl p.1
+
+-- no frame is empty
+some_frame : (x rest : List ℕ) → frame x ++ rest ≡ [] → ⊥
+some_frame x rest e = absurd (omega (
+  arith,
+  ap length e,
+  length-append (frame x) rest,
+  length-append (to_be_bytes w32 (length x)) x,
+))
+
+-- one frame stands first
+first_same : (x y r s : List ℕ) → length x ≤ max_payload → length y ≤ max_payload
+    → frame x ++ r ≡ frame y ++ s → (x ≡ y) × (r ≡ s)
+first_same x y r s x_fits y_fits e = same_frame (frame x ++ r) x y r s
+    (record { fits = x_fits; split = refl }) (record { fits = y_fits; split = e })
+
+-- ---- what the client answered is what the session replied
+
+-- a refusal tells nothing of the history
+refusal_stands : (n : ℕ) (start : Start) (h : List Update) (q : Request) (r : Reply) (why : Refusal)
+    (detail : ℕ) → says r ≡ says (Refused why detail) → Stands n start h q r
+refusal_stands n start h q (Stored m) why detail e = absurd (omega (arith, head_is _ _ _ _ e))
+refusal_stands n start h q (Snapshot values) why detail e = absurd (omega (arith, head_is _ _ _ _ e))
+refusal_stands n start h (request.Update i k v) (Status statuses) why detail e = tt
+refusal_stands n start h request.Scan (Status statuses) why detail e = tt
+refusal_stands n start h request.Status (Status statuses) why detail e = tt
+refusal_stands n start h (request.Update i k v) (Refused other more) why detail e = tt
+refusal_stands n start h request.Scan (Refused other more) why detail e = tt
+refusal_stands n start h request.Status (Refused other more) why detail e = tt
+
+said_fits : (x : List ℕ) (r : Reply) → Says x r → length x ≤ max_payload
+said_fits x r said = rw (said.1) (says_fits r said.0)
+
+module _ (n : ℕ) (start : Start) (h : List Update) where
+  -- no byte is left for a further reply
+  none_left : (qs : List Request) (rs : List Reply) (xs : List (List ℕ)) (more : List ℕ)
+      → Spoken qs rs xs → frames xs ++ more ≡ [] → AllStand n start h qs rs
+  none_left [] [] [] more spoken e = tt
+  none_left [] (r ∷ rs) xs more spoken e = absurd spoken
+  none_left (q ∷ qs) [] xs more spoken e = absurd spoken
+  none_left [] [] (x ∷ xs) more spoken e = absurd spoken
+  none_left (q ∷ qs) (r ∷ rs) [] more spoken e = absurd spoken
+  none_left (q ∷ qs) (r ∷ rs) (x ∷ xs) more spoken e =
+      absurd (some_frame x (frames xs ++ more) (sym (append_assoc (frame x) (frames xs) more) ∙ e))
+
+  -- the session replied no more than that a length is above the limit
+  refused_then : (q : Request) (r : Reply) (qs : List Request) (rs : List Reply) (x : List ℕ)
+      (xs : List (List ℕ)) (more tail : List ℕ) → Says x r → Spoken qs rs xs
+      → frame x ++ (frames xs ++ more) ≡ tail → (tail ≡ []) ⊎ (tail ≡ frame refused_too_large)
+      → AllStand n start h (q ∷ qs) (r ∷ rs)
+  refused_then q r qs rs x xs more tail said spoken e (inl none) =
+      absurd (some_frame x (frames xs ++ more) (e ∙ none))
+  refused_then q r qs rs x xs more tail said spoken e (inr refused) =
+      let same = first_same x refused_too_large (frames xs ++ more) [] (said_fits x r said)
+      (says_fits (Refused refusals.TooLarge max_payload) tt)
+      (e ∙ refused ∙ sym (append-nil (frame refused_too_large))) in (
+        refusal_stands n start h q r refusals.TooLarge max_payload (sym said.1 ∙ same.0),
+        none_left qs rs xs more spoken same.1,
+      )
+
+  pub answers_stand : (qs : List Request) (rs : List Reply) (xs ps ys us : List (List ℕ))
+      (rest tail more late : List ℕ) → All IsSendable qs → Spoken qs rs xs → AllFit ps
+      → AllFit (ys ++ us) → AreTold n start h ps (ys ++ us)
+      → frames (map payload qs) ≡ frames ps ++ (rest ++ late)
+      → frames xs ++ more ≡ frames ys ++ tail → (tail ≡ []) ⊎ (tail ≡ frame refused_too_large)
+      → AllStand n start h qs rs
+  answers_stand [] [] [] ps ys us rest tail more late can spoken few fits told asked heard tails = tt
+  answers_stand [] (r ∷ rs) xs ps ys us rest tail more late can spoken few fits told asked heard
+      tails = absurd spoken
+  answers_stand (q ∷ qs) [] xs ps ys us rest tail more late can spoken few fits told asked heard
+      tails = absurd spoken
+  answers_stand [] [] (x ∷ xs) ps ys us rest tail more late can spoken few fits told asked heard
+      tails = absurd spoken
+  answers_stand (q ∷ qs) (r ∷ rs) [] ps ys us rest tail more late can spoken few fits told asked
+      heard tails = absurd spoken
+  answers_stand (q ∷ qs) (r ∷ rs) (x ∷ xs) ps [] us rest tail more late can spoken few fits told
+      asked heard tails =
+      refused_then q r qs rs x xs more tail spoken.0 spoken.1
+      (sym (append_assoc (frame x) (frames xs) more) ∙ heard) tails
+  answers_stand (q ∷ qs) (r ∷ rs) (x ∷ xs) [] (y ∷ ys) us rest tail more late can spoken few fits
+      told asked heard tails = absurd told
+  answers_stand (q ∷ qs) (r ∷ rs) (x ∷ xs) (p ∷ ps) (y ∷ ys) us rest tail more late can spoken few
+      fits told asked heard tails =
+      let sendable = can 0 q (omega arith) in
+      let first = first_same (payload q) p (frames (map payload qs)) (frames ps ++ (rest ++ late))
+      sendable.1 few.0
+      (asked ∙ append_assoc (frame p) (frames ps) (rest ++ late)) in
+      let reply = first_same x y (frames xs ++ more) (frames ys ++ tail) (said_fits x r spoken.0)
+      fits.0
+      (sym (append_assoc (frame x) (frames xs) more) ∙ heard
+      ∙ append_assoc (frame y) (frames ys) tail) in (
+        told.0 q r sendable.0 (sym first.0) (spoken.0.0, sym reply.0 ∙ spoken.0.1),
+        answers_stand qs rs xs ps ys us rest tail more late (All-tail IsSendable q qs can) spoken.1
+            few.1 fits.1 told.1 first.1 reply.1 tails,
+      )

@@ -1,0 +1,162 @@
+-- Payloads, read as a request and its reply, are those that the service had and gave.
+use Rattle.std.proofs.Common.{◌≡◌, ℕ, ◌<◌, ◌^◌, inl, inr, List, [], ◌∷◌, ◌++◌, length, drop, get_or, flat_map, All, map, refl, ap, ap₂, sym, subst, ◌∙◌, arith}
+use Rattle.std.proofs.lemmas.List.Elements.{All-tail}
+use Rattle.snap_history.specs.History.{Update, IsBeginning}
+use Rattle.snap_register.specs.History.{starts}
+use Rattle.snap_register.specs.Rule.{segments}
+use Rattle.snap_register.specs.Seat.{Known}
+use Rattle.snap_frame.specs.declared.entries.SegmentValue.{SegmentValue}
+use Rattle.snap_frame.specs.declared.request.Request.{Request}
+use Rattle.snap_frame.specs.declared.request.Request.TheVariants as request
+use Rattle.snap_frame.specs.declared.reply.Reply.{Reply}
+use Rattle.snap_frame.specs.declared.reply.Reply.TheVariants.{Stored, Snapshot, Status, Refused}
+use Rattle.snap_frame.specs.Messages.{payload, says, value_bytes, IsValue, IsInLimits}
+use Rattle.snap_frame.proofs.BigEndian.{same_number}
+use Rattle.snap_frame.proofs.Behind.{values_apart}
+use Rattle.snap_session.specs.Talk.{Answer}
+use Rattle.snap_service.specs.Answers.{Answers, pair_of}
+use Rattle.snap_cut.specs.Crash.{Has}
+use Rattle.snap_told.specs.Told.{IsMemoryAfter, Stands, IsTold}
+use Rattle.snap_told.proofs.Replies.{stored, replied}
+
+-- the first of both
+pub head_is : (m n : ℕ) (xs ys : List ℕ) → m ∷ xs ≡ n ∷ ys → m ≡ n
+head_is m n xs ys e = ap (λ (l : List ℕ). get_or l 0 0) e
+
+-- and the second
+second_is : (l m n o : ℕ) (xs ys : List ℕ) → l ∷ m ∷ xs ≡ n ∷ o ∷ ys → m ≡ o
+second_is l m n o xs ys e = ap (λ (z : List ℕ). get_or z 1 0) e
+
+same_update : (i j k l : ℕ) (v w : List ℕ) → k < 2 ^ 64 → l < 2 ^ 64
+    → payload (request.Update i k v) ≡ payload (request.Update j l w)
+    → (i ≡ j) × (k ≡ l) × (v ≡ w)
+same_update i j k l v w k_fits l_fits e =
+    let same = same_number k l v w k_fits l_fits (ap (drop 2) e) in
+    (second_is _ i _ j _ _ e, same.0, same.1)
+
+same_stored : (m n : ℕ) → m < 2 ^ 64 → n < 2 ^ 64 → says (Stored m) ≡ says (Stored n) → m ≡ n
+same_stored m n m_fits n_fits e =
+    (same_number m n [] [] m_fits n_fits (ap (λ (z : List ℕ). drop 1 z ++ []) e)).0
+
+same_values : (es fs : List SegmentValue) → All IsValue es → All IsValue fs
+    → length es ≡ length fs → flat_map value_bytes es ≡ flat_map value_bytes fs → es ≡ fs
+same_values [] [] one two size e = refl
+same_values [] (f ∷ fs) one two size e = absurd (omega (arith, size))
+same_values (d ∷ es) [] one two size e = absurd (omega (arith, size))
+same_values (d ∷ es) (f ∷ fs) one two size e =
+    let both = values_apart d f (flat_map value_bytes es) (flat_map value_bytes fs)
+    (one 0 d (omega arith)) (two 0 f (omega arith)) e in
+    let rest = same_values es fs (All-tail IsValue d es one) (All-tail IsValue f fs two)
+    (omega (arith, size)) both.1 in
+    ap₂ (λ (x : SegmentValue) (xs : List SegmentValue). x ∷ xs) both.0 rest
+
+-- ---- an update that is stored
+
+stored_as : (a b : Known) (h : List Update) (i k n : ℕ) (v : List ℕ) (j l m : ℕ) (w : List ℕ)
+    → k < 2 ^ 64 → payload (request.Update i k v) ≡ payload (request.Update j l w)
+    → Answers a (request.Update j l w) (Stored m) b → IsInLimits (Stored n) → IsInLimits (Stored m)
+    → says (Stored n) ≡ says (Stored m) → IsBeginning b.seen h
+    → (i < segments b.plan) × (n ≡ k) × Has (starts b.plan) h i k v
+stored_as a b h i k n v j l m w fits asked is low lower said seen =
+    let told = stored a b j l m w h is seen in
+    let number : m ≡ l = told.1 in
+    let same = same_update i j k l v w fits (omega (arith, number, lower)) asked in
+    let numbers : n ≡ m = same_stored n m (omega (arith, low)) (omega (arith, lower)) said in (
+      subst (λ (o : ℕ). o < segments b.plan) (sym same.0) told.0,
+      numbers ∙ number ∙ sym same.1,
+      subst (λ (y : ℕ × ℕ × List ℕ). Has (starts b.plan) h y.0 y.1 y.2)
+          (λ t. (sym same.0 t, sym same.1 t, sym same.2 t)) told.2,
+    )
+
+by_reply : (a b : Known) (h : List Update) (i k n : ℕ) (v : List ℕ) (j l : ℕ) (w : List ℕ)
+    (r : Reply) → k < 2 ^ 64 → payload (request.Update i k v) ≡ payload (request.Update j l w)
+    → Answers a (request.Update j l w) r b → IsInLimits (Stored n) → IsInLimits r
+    → says (Stored n) ≡ says r → IsBeginning b.seen h → (i < segments b.plan) × (n ≡ k) × Has (starts b.plan) h i k v
+by_reply a b h i k n v j l w (Stored m) fits asked is low lower said seen =
+    stored_as a b h i k n v j l m w fits asked is low lower said seen
+by_reply a b h i k n v j l w (Snapshot values) fits asked is low lower said seen =
+    absurd (omega (arith, head_is _ _ _ _ said))
+by_reply a b h i k n v j l w (Status statuses) fits asked is low lower said seen =
+    absurd (omega (arith, head_is _ _ _ _ said))
+by_reply a b h i k n v j l w (Refused why detail) fits asked is low lower said seen =
+    absurd (omega (arith, head_is _ _ _ _ said))
+
+by_request : (a b : Known) (h : List Update) (i k n : ℕ) (v : List ℕ) (q : Request) (r : Reply)
+    → k < 2 ^ 64 → payload (request.Update i k v) ≡ payload q → Answers a q r b
+    → IsInLimits (Stored n) → IsInLimits r → says (Stored n) ≡ says r → IsBeginning b.seen h
+    → (i < segments b.plan) × (n ≡ k) × Has (starts b.plan) h i k v
+by_request a b h i k n v (request.Update j l w) r fits asked is low lower said seen =
+    by_reply a b h i k n v j l w r fits asked is low lower said seen
+by_request a b h i k n v request.Scan r fits asked is low lower said seen =
+    absurd (omega (arith, head_is _ _ _ _ asked))
+by_request a b h i k n v request.Status r fits asked is low lower said seen =
+    absurd (omega (arith, head_is _ _ _ _ asked))
+
+-- ---- a scan
+
+scanned_as : (a b : Known) (h : List Update) (values others : _) → Answers a request.Scan
+    (Snapshot others) b → IsInLimits (Snapshot values) → IsInLimits (Snapshot others)
+    → says (Snapshot values) ≡ says (Snapshot others) → IsBeginning b.seen h
+    → Stands (segments b.plan) (starts b.plan) h request.Scan (Snapshot values)
+scanned_as a b h values others is low lower said seen =
+    let told = replied a b request.Scan (Snapshot others) h is seen in
+    let same = same_values values.items others.items low.each lower.each
+    (second_is _ _ _ _ _ _ said) (ap (drop 2) said) in (
+      told.0,
+      told.1,
+      subst (λ (es : List SegmentValue). IsMemoryAfter (segments b.plan) (starts b.plan) told.0 (map pair_of es)) (sym same)
+          told.2,
+    )
+
+scan_by_reply : (a b : Known) (h : List Update) (values : _) (r : Reply)
+    → Answers a request.Scan r b → IsInLimits (Snapshot values) → IsInLimits r
+    → says (Snapshot values) ≡ says r → IsBeginning b.seen h
+    → Stands (segments b.plan) (starts b.plan) h request.Scan (Snapshot values)
+scan_by_reply a b h values (Snapshot others) is low lower said seen =
+    scanned_as a b h values others is low lower said seen
+scan_by_reply a b h values (Stored n) is low lower said seen =
+    absurd (omega (arith, head_is _ _ _ _ said))
+scan_by_reply a b h values (Status statuses) is low lower said seen =
+    absurd (omega (arith, head_is _ _ _ _ said))
+scan_by_reply a b h values (Refused why detail) is low lower said seen =
+    absurd (omega (arith, head_is _ _ _ _ said))
+
+scan_by_request : (a b : Known) (h : List Update) (values : _) (q : Request) (r : Reply)
+    → payload request.Scan ≡ payload q → Answers a q r b → IsInLimits (Snapshot values)
+    → IsInLimits r → says (Snapshot values) ≡ says r → IsBeginning b.seen h
+    → Stands (segments b.plan) (starts b.plan) h request.Scan (Snapshot values)
+scan_by_request a b h values request.Scan r asked is low lower said seen =
+    scan_by_reply a b h values r is low lower said seen
+scan_by_request a b h values (request.Update j l w) r asked is low lower said seen =
+    absurd (omega (arith, head_is _ _ _ _ asked))
+scan_by_request a b h values request.Status r asked is low lower said seen =
+    absurd (omega (arith, head_is _ _ _ _ asked))
+
+-- ---- any answer
+
+reads : (a b : Known) (h : List Update) (x y : List ℕ) (p : Request) (s : Reply)
+    → x ≡ payload p → Answers a p s b → IsInLimits s → y ≡ says s → IsBeginning b.seen h
+    → IsTold (segments b.plan) (starts b.plan) h x y
+reads a b h x y p s asks is lower told seen (request.Update i k v) (Stored n) fits asked said =
+    by_request a b h i k n v p s fits (sym asked ∙ asks) is said.0 lower (sym said.1 ∙ told) seen
+reads a b h x y p s asks is lower told seen (request.Update i k v) (Snapshot values) fits asked said =
+    tt
+reads a b h x y p s asks is lower told seen (request.Update i k v) (Status statuses) fits asked said =
+    tt
+reads a b h x y p s asks is lower told seen (request.Update i k v) (Refused why detail) fits asked
+    said = tt
+reads a b h x y p s asks is lower told seen request.Scan (Snapshot values) fits asked said =
+    scan_by_request a b h values p s (sym asked ∙ asks) is said.0 lower (sym said.1 ∙ told) seen
+reads a b h x y p s asks is lower told seen request.Scan (Stored n) fits asked said = tt
+reads a b h x y p s asks is lower told seen request.Scan (Status statuses) fits asked said = tt
+reads a b h x y p s asks is lower told seen request.Scan (Refused why detail) fits asked said = tt
+reads a b h x y p s asks is lower told seen request.Status (Stored n) fits asked said = tt
+reads a b h x y p s asks is lower told seen request.Status (Snapshot values) fits asked said = tt
+reads a b h x y p s asks is lower told seen request.Status (Status statuses) fits asked said = tt
+reads a b h x y p s asks is lower told seen request.Status (Refused why detail) fits asked said = tt
+
+pub told : (a b : Known) (h : List Update) (x y : List ℕ) → Answer Answers a x y b
+    → IsBeginning b.seen h → IsTold (segments b.plan) (starts b.plan) h x y
+told a b h x y (fits, inl is) seen =
+    reads a b h x y is.0 is.1 is.2 is.3 is.4.0 is.4.1 seen
+told a b h x y (fits, inr malformed) seen = λ q r number asked said. absurd (malformed.0 q asked)

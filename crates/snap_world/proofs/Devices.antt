@@ -1,0 +1,219 @@
+-- The devices while writers and scanners act.
+use Rattle.std.proofs.Common.{ap, ⊎_elim, ◌≡◌, ◌≢◌, ◌⊎◌, ℕ, zero, suc, ◌+◌, inl, inr, Bool, false, true, List, [], ◌∷◌, ◌++◌, length}
+use Rattle.std.proofs.Common.{Some, slice_get, slice_set, refl, sym, ◌∙◌, subst}
+use Rattle.std.proofs.lemmas.Bool.{cases_eq}
+use Rattle.snap_disk.specs.Device.{Device}
+use Rattle.snap_persist.specs.Device.{IsAtStage}
+use Rattle.snap_persist.specs.Stage.{PersistState, calls_left, first_stage}
+use Rattle.snap_persist.specs.declared.persist.Stage.{Stage}
+use Rattle.snap_persist.proofs.Stages.{begins}
+use Rattle.snap_history.specs.History.{Update, from_nothing, number_after, value_after}
+use Rattle.snap_history.proofs.Lists.{get-set_other}
+use Rattle.snap_history.proofs.Moments.{number-push, number-push_other, value-push, value-push_other}
+use Rattle.snap_world.specs.Answers.{scan_from}
+use Rattle.snap_world.specs.inside.Drives.{IsReady, IsStoreUnderWay, IsDriveAt, DriveStands, DrivesStand, device_of}
+use Rattle.snap_world.specs.Machine.{State, WriterState, Free, Begun, Shown, Step}
+use Rattle.snap_world.specs.NodePhases.{WorldPhases, TellsWhether, PhasesMove, LooksOn, up}
+use Rattle.snap_world.specs.Phases.{Phases, writer_to, scanner_to}
+use Rattle.snap_world.specs.inside.Steps.{IsActors}
+use Rattle.snap_world.specs.declared.drive.Drive.{Drive}
+use Rattle.snap_world.specs.declared.event.Actor.TheVariants as actor
+use Rattle.snap_world.specs.declared.event.Event.{Event}
+use Rattle.snap_world.specs.declared.event.Event.TheVariants.{Begin, Look, Call, Fail, Show, Acknowledge, Scan, Answer, Crash, Restart}
+use Rattle.snap_world.specs.declared.event.Event.TheVariants.{RestartCall, RestartFail, Serve}
+use Rattle.snap_world.specs.declared.event.Reply.{Reply}
+use Rattle.snap_world.specs.declared.event.Reply.TheVariants.{Begun as Begun_reply, Number, Shown as Shown_reply, Stored, ScanBegun}
+use Rattle.snap_world.specs.declared.event.Reply.TheVariants.{Memory, NotNow}
+use Rattle.snap_world.specs.declared.writer.WriterPhase.{WriterPhase}
+use Rattle.snap_world.specs.declared.writer.WriterPhase.TheVariants as writer
+use Rattle.snap_world.specs.declared.scanner.ScannerPhase.TheVariants as scanner
+
+-- an element that was written
+pub set_is : {A : Type 0} (xs : List A) (i : ℕ) (x y : A) → slice_get (slice_set xs i x) i ≡ Some y
+    → x ≡ y
+set_is [] i x y e = cc
+set_is (z ∷ xs) zero x y e = cc
+set_is (z ∷ xs) (suc i) x y e = set_is xs i x y e
+
+-- one segment's part changes, and the number and value of no other one
+pub drives_change : (n : ℕ) (h g : List Update) (ss ts : List WriterState)
+    (ps qs : List WriterPhase) (ds es : List Drive) (i : ℕ)
+    → ((j : ℕ) → j ≢ i → slice_get ts j ≡ slice_get ss j)
+    → ((j : ℕ) → j ≢ i → slice_get qs j ≡ slice_get ps j)
+    → ((j : ℕ) → j ≢ i → slice_get es j ≡ slice_get ds j)
+    → ((j : ℕ) → j ≢ i → (number_after from_nothing h j ≡ number_after from_nothing g j)
+    × (value_after from_nothing h j ≡ value_after from_nothing g j))
+    → ((d : Drive) (s : WriterState) (phase : WriterPhase) → slice_get es i ≡ Some d
+    → slice_get ts i ≡ Some s → slice_get qs i ≡ Some phase → DriveStands n g i phase s.pending d)
+    → DrivesStand n h ss ps ds → DrivesStand n g ts qs es
+drives_change n h g ss ts ps qs ds es i states phases drives same here stand j d s phase ed es_ ep =
+    elim (cases_eq j i) [
+      | inl e ↦ subst (λ k. DriveStands n g k phase s.pending d) (sym e)
+          (here d s phase (subst (λ k. slice_get es k ≡ Some d) e ed)
+          (subst (λ k. slice_get ts k ≡ Some s) e es_)
+          (subst (λ k. slice_get qs k ≡ Some phase) e ep))
+      | inr ne ↦ (
+          let was : DriveStands n h j phase s.pending d =
+          stand j d s phase (sym (drives j ne) ∙ ed) (sym (states j ne) ∙ es_) (sym (phases j ne)
+          ∙ ep) in
+          let At : ℕ → List ℕ → Type 0 =
+          λ k u. IsDriveAt j n k u phase s.pending (device_of d) d.persist in
+          subst (At (number_after from_nothing g j)) (same j ne).1
+          (subst (λ k. At k (value_after from_nothing h j)) (same j ne).0 was))
+    ]
+
+pub nothing_grows : (h : List Update) (i j : ℕ) → j ≢ i
+    → (number_after from_nothing h j ≡ number_after from_nothing h j)
+    × (value_after from_nothing h j ≡ value_after from_nothing h j)
+nothing_grows h i j ne = (refl, refl)
+
+first_calls : (spare_open : Bool) (at : Stage) → at ≡ first_stage spare_open → calls_left at ≢ []
+first_calls true at e none = let f : calls_left (first_stage true) ≡ [] =
+    subst (λ z. calls_left z ≡ []) e none in cc
+first_calls false at e none = let f : calls_left (first_stage false) ≡ [] =
+    subst (λ z. calls_left z ≡ []) e none in cc
+
+-- the device is ready for a store of any value
+pub store_begins : (i n k : ℕ) (u v : List ℕ) (d : Device) (persist : PersistState)
+    → IsReady i n k u d persist → IsStoreUnderWay i n k u v d persist
+store_begins i n k u v d persist is = record {
+  slot = is.slot;
+  going = first_calls is.spare_open persist.stage is.stage;
+  at_stage = let At : Stage → Type 0 = λ at. IsAtStage i n k u v at d in
+      subst At (sym is.stage) (begins i n k u v is.spare_open d is.rest);
+}
+
+-- the phase and the update of one writer change
+module _ (n : ℕ) (h : List Update) (ss : List WriterState) (ps : List WriterPhase) (ds : List Drive)
+    (stand : DrivesStand n h ss ps ds) where
+  pub writer_changes : (w : ℕ) (s : WriterState) (phase : WriterPhase)
+      → ((d : Drive) → slice_get ds w ≡ Some d → DriveStands n h w phase s.pending d)
+      → DrivesStand n h (slice_set ss w s) (slice_set ps w phase) ds
+  writer_changes w s phase here =
+      drives_change n h h ss (slice_set ss w s) ps (slice_set ps w phase) ds ds w
+      (λ j ne. get-set_other ss w j s ne) (λ j ne. get-set_other ps w j phase ne) (λ j ne.
+      refl) (nothing_grows h w)
+      (λ d t ph ed et ep. subst (λ z. DriveStands n h w z t.pending d) (set_is ps w phase ph ep)
+      (subst (λ (z : WriterState). DriveStands n h w phase z.pending d) (set_is ss w s t et)
+      (here d ed))) stand
+
+  -- a writer's embedded scan was told a number more
+  pub writer_told : (w : ℕ) (s t : WriterState) → slice_get ss w ≡ Some s → s.pending ≡ t.pending
+      → DrivesStand n h (slice_set ss w t) ps ds
+  writer_told w s t es same = drives_change n h h ss (slice_set ss w t) ps ps ds ds w
+      (λ j ne. get-set_other ss w j t ne) (λ j ne. refl) (λ j ne. refl) (nothing_grows h w)
+      (λ d r ph ed er ep. subst (λ (z : WriterState). DriveStands n h w ph z.pending d)
+      (set_is ss w t r er)
+      (subst (λ z. DriveStands n h w ph z d) same (stand w d s ph ed es ep))) stand
+
+  -- a writer shows its update
+  pub writer_shows : (w : ℕ) (s t : WriterState) (v : List ℕ) → slice_get ss w ≡ Some s
+      → s.pending ≡ Begun v → slice_get ps w ≡ Some writer.Stored
+      → DrivesStand n (h ++ record { segment = w; value = v } ∷ []) (slice_set ss w t)
+      (slice_set ps w writer.Shown) ds
+  writer_shows w s t v es begun ep =
+      let u : Update = record { segment = w; value = v } in
+      drives_change n h (h ++ u ∷ []) ss (slice_set ss w t) ps (slice_set ps w writer.Shown) ds ds w
+      (λ j ne. get-set_other ss w j t ne) (λ j ne. get-set_other ps w j writer.Shown ne) (λ j ne.
+      refl)
+      (λ j ne. (
+        sym (number-push_other from_nothing h u j (λ e. ne (sym e))),
+        sym (value-push_other from_nothing h u j (λ e. ne (sym e))),
+      ))
+      (λ d r ph ed er eq. (
+      let was : IsReady w n (number_after from_nothing h w + 1) v (device_of d) d.persist =
+      stand w d s writer.Stored ed es ep v begun in
+      let At : ℕ → List ℕ → Type 0 = λ k z. IsReady w n k z (device_of d) d.persist in
+      let now : IsReady w n (number_after from_nothing (h ++ u ∷ []) w) (value_after from_nothing (h
+      ++ u ∷ []) w) (device_of d) d.persist =
+      subst (At (number_after from_nothing (h ++ u ∷ []) w)) (sym (value-push from_nothing h u))
+      (subst (λ k. At k v) (sym (number-push from_nothing h u)) was) in
+      subst (λ z. DriveStands n (h ++ u ∷ []) w z r.pending d)
+      (set_is ps w writer.Shown ph eq) now)) stand
+
+-- after a look the phases are as they were, or those of the store that begins
+look_follows : (n : ℕ) (h : List Update) (ss : List WriterState) (p q : Phases) (ds : List Drive)
+    (stand : DrivesStand n h ss p.writers ds) (w : ℕ) (s t : WriterState)
+    → slice_get ss w ≡ Some s → slice_get p.writers w ≡ Some writer.Scanning → s.pending ≡ t.pending
+    → (q ≡ writer_to p w writer.Storing) ⊎ (q ≡ p) → DrivesStand n h (slice_set ss w t) q.writers ds
+look_follows n h ss p q ds stand w s t es ep same (inl e) =
+    subst (λ (z : Phases). DrivesStand n h (slice_set ss w t) z.writers ds) (sym e)
+    (writer_changes n h ss p.writers ds stand w t writer.Storing (λ d ed v begun.
+    store_begins w n (number_after from_nothing h w) (value_after from_nothing h w) v
+    (device_of d) d.persist (stand w d s writer.Scanning ed es ep)))
+look_follows n h ss p q ds stand w s t es ep same (inr e) =
+    subst (λ (z : Phases). DrivesStand n h (slice_set ss w t) z.writers ds) (sym e)
+    (writer_told n h ss p.writers ds stand w s t es same)
+
+-- a scanner's look changes no writer's phase
+scanner_follows : (n : ℕ) (h : List Update) (ss : List WriterState) (p q : Phases) (ds : List Drive)
+    (i : ℕ) → DrivesStand n h ss p.writers ds → (q ≡ scanner_to p i scanner.Ready) ⊎ (q ≡ p)
+    → DrivesStand n h ss q.writers ds
+scanner_follows n h ss p q ds i stand (inl e) =
+    subst (λ (z : Phases). DrivesStand n h ss z.writers ds) (sym e) stand
+scanner_follows n h ss p q ds i stand (inr e) =
+    subst (λ (z : Phases). DrivesStand n h ss z.writers ds) (sym e) stand
+
+abbrev Follows : ℕ → List Drive → State → Phases → Type 0
+Follows n ds y q = DrivesStand n y.history y.writers q.writers ds
+
+to : (n : ℕ) (ds : List Drive) (x y : State) (p q : Phases) → y ≡ x → q ≡ p → Follows n ds x p
+    → Follows n ds y q
+to n ds x y p q ey eq f = subst (λ (z : State). Follows n ds z q) (sym ey)
+    (subst (λ (z : Phases). Follows n ds x z) (sym eq) f)
+
+either_actors : {n : ℕ} {told : List ℕ} {p r q : WorldPhases} → LooksOn n told p r q
+    → (q.actors ≡ r.actors) ⊎ (q.actors ≡ p.actors)
+either_actors looks = ⊎_elim (λ e. inl (ap (λ (z : WorldPhases). z.actors) e)) (λ e.
+    inr (ap (λ (z : WorldPhases). z.actors) e)) looks.either
+
+pub drives_follow : (n : ℕ) (x : State) (p : Phases) (event : Event) (reply : Reply) (y : State)
+    (q : Phases) (ds : List Drive) → IsActors event
+    → Step n x event reply y → TellsWhether x (up p) event reply
+    → PhasesMove n x (up p) event reply (up q) → DrivesStand n x.history x.writers p.writers ds
+    → DrivesStand n y.history y.writers q.writers ds
+drives_follow n x p event NotNow y q ds a s t m stand =
+    to n ds x y p q s (ap (λ (r : WorldPhases). r.actors) m) stand
+drives_follow n x p (Begin w v) Begun_reply y q ds a s t m stand =
+    to n ds _ y _ q s.4 (ap (λ (r : WorldPhases). r.actors) m)
+    (writer_changes n x.history x.writers p.writers ds stand w (record s.0 {
+      pending =
+          Begun v.items;
+      scan = scan_from (length x.history);
+    }) writer.Scanning
+    (λ d ed. stand w d s.0 writer.Idle ed s.1 (t.came (λ e. cc)).1))
+drives_follow n x p (Look (actor.Writer w)) (Number k) y q ds a s t m stand =
+    subst (λ (z : State). Follows n ds z q) (sym s.4)
+    (look_follows n x.history x.writers p q ds stand w s.0 (record s.0 {
+      scan =
+          s.2;
+    }) s.1 (t.came (λ e. cc)).1 refl (either_actors (m s.0 s.1)))
+drives_follow n x p (Look (actor.Scanner i)) (Number k) y q ds a s t m stand =
+    subst (λ (z : State). Follows n ds z q) (sym s.4)
+    (scanner_follows n x.history x.writers p q ds i stand (either_actors (m s.0 s.1)))
+drives_follow n x p (Show w) Shown_reply y q ds a s t m stand =
+    to n ds _ y _ q s.4 (ap (λ (r : WorldPhases). r.actors) m)
+    (writer_shows n x.history x.writers p.writers ds stand w s.0 (record s.0 {
+      pending =
+          Shown s.1;
+      view = s.0.scan.moment;
+    }) s.1 s.2 s.3 (t.came (λ e. cc)).1)
+drives_follow n x p (Acknowledge w) (Stored k) y q ds a s t m stand =
+    to n ds _ y _ q s.5 (ap (λ (r : WorldPhases). r.actors) m)
+    (writer_changes n x.history x.writers p.writers ds stand w (record s.0 {
+      pending = Free;
+      scan = scan_from 0;
+    }) writer.Idle
+    (λ d ed. stand w d s.0 writer.Shown ed s.2 (t.came (λ e. cc)).1))
+drives_follow n x p (Scan i) ScanBegun y q ds a s t m stand =
+    to n ds _ y _ q s.1 (ap (λ (r : WorldPhases). r.actors) m) stand
+drives_follow n x p (Answer i) (Memory l) y q ds a s t m stand =
+    to n ds _ y _ q s.3 (ap (λ (r : WorldPhases). r.actors) m) stand
+drives_follow n x p (Call w) reply y q ds a s t m stand = absurd a
+drives_follow n x p (Fail w fill) reply y q ds a s t m stand = absurd a
+drives_follow n x p (Crash fills) reply y q ds a s t m stand = absurd a
+drives_follow n x p Restart reply y q ds a s t m stand = absurd a
+drives_follow n x p RestartCall reply y q ds a s t m stand = absurd a
+drives_follow n x p (RestartFail fill) reply y q ds a s t m stand = absurd a
+drives_follow n x p Serve reply y q ds a s t m stand = absurd a
+drives_follow n x p event reply y q ds a s t m stand = absurd m

@@ -1,0 +1,60 @@
+-- A life goes on behind a life, and loses nothing that was stored.
+use Rattle.std.proofs.Common.{◌≡◌, ℕ, List, [], ◌∷◌, ◌++◌, length, Option, Some, slice_get, ap, sym, subst, ◌∙◌}
+use Rattle.std.specs.Option.{option_to_list}
+use Rattle.snap_disk.specs.Device.{Device}
+use Rattle.snap_slot.specs.Layout.{IsFileOf}
+use Rattle.snap_history.proofs.Lists.{get-append_last}
+use Rattle.snap_writer.specs.Writer.{WriterState}
+use Rattle.snap_writer.specs.Life.{Lived, HasLived}
+use Rattle.snap_cut.specs.Durability.{Keeps, StaysLaw}
+use Rattle.snap_cut.proofs.Durability.{lived_is}
+use Rattle.snap_restart.specs.Crash.{AreOpened}
+use Rattle.tests_crash.specs.Durability.{IsAWriter, LosesNothing}
+
+module _ {D : Type 0} (device : D → Device) (honest : D → Type 0) (clock : D → ℕ)
+    (might_have_left : D → ℕ → List ℕ → Type 0) where
+  lived_on : (a m z : WriterState D) (first second : List (WriterState D))
+      → Lived device honest clock might_have_left a first m
+      → Lived device honest clock might_have_left m second z
+      → Lived device honest clock might_have_left a (first ++ second) z
+  lived_on a m z [] second one other =
+      subst (λ (w : WriterState D). Lived device honest clock might_have_left w second z) one other
+  lived_on a m z (b ∷ first) second one other =
+      (one.0, lived_on b m z first second one.1 other)
+
+  pub loses_nothing : (a m z : WriterState D) → StaysLaw device honest clock might_have_left
+      → IsAWriter device honest clock might_have_left a
+      → HasLived device honest clock might_have_left a m
+      → HasLived device honest clock might_have_left m z
+      → LosesNothing device honest clock might_have_left a z
+  loses_nothing a m z law is first second hon b left =
+      let all = lived_on a m z first.0 second.0 first.1 second.1 in
+      let stays = law is.0 is.1 is.2 a z (first.0 ++ second.0) is.3 all hon in
+      let k : Keeps is.1 is.2 a (first.0 ++ second.0) b = stays.any_time.each b left in (
+        k.number,
+        k.value,
+        subst (λ (y : ℕ × ℕ). IsFileOf y.0 y.1 k.number k.value b)
+            (λ t. (sym is.3.index_is t, sym is.3.count_is t)) k.file,
+        k.no_less,
+        k.same_value,
+      )
+
+  -- the last writer of an opening is one, and stays one
+  pub is_a_writer : (devices : List D) (writers mid : List (WriterState D))
+      (popped : Option (WriterState D)) (w z : WriterState D)
+      → AreOpened device honest clock might_have_left devices writers
+      → writers ≡ mid ++ option_to_list popped → popped ≡ Some w
+      → HasLived device honest clock might_have_left w z
+      → IsAWriter device honest clock might_have_left z
+  is_a_writer devices writers mid popped w z opened all some lived =
+      let are : writers ≡ mid ++ w ∷ [] =
+      all ∙ ap (λ (o : Option (WriterState D)). mid ++ option_to_list o) some in
+      let at : slice_get writers (length mid) ≡ Some w =
+      ap (λ (l : List (WriterState D)). slice_get l (length mid)) are
+      ∙ get-append_last mid w in (
+        opened.plan,
+        length writers,
+        length mid,
+        lived_is device honest clock might_have_left opened.plan (length writers) (length mid) w z
+            lived.0 (opened.writers_are (length mid) w at) lived.1,
+      )

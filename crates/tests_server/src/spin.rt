@@ -1,0 +1,14 @@
+//! How many waits of a thread that spun in vain go by without.
+use snap_spin::{Spin, WAITS_IN_A_REST};
+
+#[test]
+fn spins_again_after_a_rest(rt: HostRuntime) {
+    let mut spin = Spin::new();
+    assert!(rt; spin.is_due());
+    assert!(rt; spin.is_due());
+    spin.rest();
+    for _ in 0..WAITS_IN_A_REST {
+        assert!(rt; !spin.is_due());
+    }
+    assert!(rt; spin.is_due());
+}
