@@ -30,7 +30,7 @@ impl Low for Thing {
     /// One more.
     #[inline]
     fn more(&self, x: u8) -> u8
-        requires { x < 9 }
+        requires { x < word }
     {
         x + 1
     }
@@ -40,23 +40,26 @@ pub(crate) fn less(x: u8) -> u8 {
     x - 1
 }
 """
+# Behind the functions, so that the lines of these are those of the body.
+NAMED = "ghost use Rattle.LOWER.specs.Words.{word, least};\nmod rest;\nuse LOWER::{Low, Rest};\n"
 FILES = {
-    "src/lib.rt": BODY,
-    "specs/Words.antt": "definition\n",
+    "src/lib.rt": BODY + NAMED,
+    "specs/Words.antt": "use Rattle.LOWER.specs.Words.{word}\n\nabbrev pub word : Of word\n",
     "proofs/more/Answers.antt": "proof\n",
 }
+LOWER = {"low": "byteorder", "middle": "low", "high": "middle"}
 FIRST = "file: src/lib.rt\nold:         x + 1\nnew:         x + 2\n"
 SECOND = "file: src/lib.rt\nold:     x - 1\nnew:     x\n"
 
 
 def tree(folder):
-    """A checkout of three crates, one above the other, each with two edits."""
+    """A checkout of three crates, each of which names the one below it, and each with two edits."""
     top = folder / "tree"
-    for name in ("low", "middle", "high"):
+    for name, lower in LOWER.items():
         for path, text in {**FILES, "must-fail/first.edit": FIRST, "must-fail/second.edit": SECOND}.items():
             file = top / "crates" / name / path
             file.parent.mkdir(parents=True, exist_ok=True)
-            file.write_text(text)
+            file.write_text(text.replace("LOWER", lower))
     (top / "crates.txt").write_text("# The crates: three.\nlow: byteorder\nmiddle: low\nhigh: middle\n")
     (top / "HANDLES").write_text("Handles allowed: none.\n")
     return top
@@ -82,47 +85,121 @@ OF_LOW, OF_MIDDLE = ([f"{name}/{it}" for it in BOTH] for name in ("low", "middle
 def test_a_digest_changes_with_each_text_of_the_crate_and_with_what_is_seen_of_those_below(snapd, _):
     for path in FILES:
         top = tree(snapd.folder / path.replace("/", "-"))
-        before, is_seen = digests(top), path != "proofs/more/Answers.antt"
-        (top / "crates" / "middle" / path).write_text(FILES[path] + "more\n")
-        assert changed(top, before) == (OF_UPPER if is_seen else OF_MIDDLE), path
-        before = digests(top)
-        (top / "crates" / "low" / path).write_text(FILES[path] + "more\n")
-        assert changed(top, before) == (OF_ALL if is_seen else OF_LOW), path
+        for name, seen, unseen in (("middle", OF_UPPER, OF_MIDDLE), ("low", OF_ALL, OF_LOW)):
+            before, file = digests(top), top / "crates" / name / path
+            file.write_text(file.read_text() + "more\n")
+            assert changed(top, before) == (unseen if path == "proofs/more/Answers.antt" else seen), path
 
 
-def test_above_a_crate_the_bodies_of_its_functions_are_not_seen_and_all_else_is(snapd, _):
+def test_above_a_crate_neither_bodies_nor_private_functions_are_seen_and_all_else_is(snapd, _):
     top = tree(snapd.folder)
     source, before = top / "crates" / "low" / "src" / "lib.rt", digests(top)
+    body = source.read_text()
     for old, new, wanted in (
-        ("        x + 1", "        x.add(1)", OF_LOW), ("    x - 1", "    x.sub(1)", OF_LOW), ("{ x < 9 }", "{ x < 8 }", OF_ALL),
-        ("less(x: u8)", "less(y: u8)", OF_ALL), ("impl Low", "impl Lower", OF_ALL), ("#[inline]", "#[cold]", OF_ALL),
+        ("        x + 1", "        x.add(1)", OF_LOW), ("    x - 1", "    x.sub(1)", OF_LOW), ("{ x < word }", "{ x < 8 }", OF_ALL),
+        ("less(x: u8)", "less(y: u8)", OF_LOW), ("impl Low", "impl Lower", OF_ALL), ("#[inline]", "#[cold]", OF_ALL),
+        ("pub(crate) fn", "fn", OF_LOW), ("pub(crate) fn", "pub fn", OF_ALL), ("mod rest;\n", "", OF_LOW), ("{Low, Rest}", "{Low}", OF_LOW),
+        ("{word, least}", "{word}", OF_LOW), ("{word, least}", "{least}", OF_ALL),
     ):
-        source.write_text(BODY.replace(old, new))
-        assert changed(top, before) == wanted, old
+        source.write_text(body.replace(old, new))
+        assert source.read_text() != body and changed(top, before) == wanted, (old, new)
     for more in ("const fn most() -> u8 {\n    9\n}\n", "macro_rules! least {\n}\nfn zero() -> u8 {\n    9\n}\n"):
-        source.write_text(BODY + more)
+        source.write_text(body + more)
         before = digests(top)
-        source.write_text(BODY + more.replace("9", "8"))
+        source.write_text(body + more.replace("9", "8"))
         assert changed(top, before) == OF_ALL, more
+
+
+def test_of_a_library_a_crate_sees_what_is_named_from_there_and_what_that_names(snapd, _):
+    top = tree(snapd.folder)
+    before, rest = digests(top), top / "crates" / "low" / "specs" / "Rest.antt"
+    rest.write_text("abbrev pub rest : It\n")
+    assert changed(top, before) == OF_LOW
+    before, lemma = digests(top), top / "crates" / "middle" / "proofs" / "Rest.antt"
+    lemma.write_text("use Rattle.low.specs.Rest.{rest}\n\npub lemma : rest\n")
+    assert changed(top, before) == OF_MIDDLE
+    before = digests(top)
+    rest.write_text("abbrev pub rest : Another\n")
+    assert changed(top, before) == sorted(OF_LOW + OF_MIDDLE)
+    (top / "crates" / "high" / "proofs" / "more" / "Answers.antt").write_text("use Rattle.middle.proofs.Rest.{lemma}\nproof\n")
+    before = digests(top)
+    rest.write_text("abbrev pub rest : It\n")
+    assert changed(top, before) == OF_ALL
+
+
+def test_of_a_file_of_definitions_a_crate_sees_those_that_it_names_and_what_these_name(snapd, _):
+    top = tree(snapd.folder)
+    words = top / "crates" / "low" / "specs" / "Words.antt"
+    definitions = "\n\n".join(("abbrev pub word : Of most", "abbrev pub most : It\nmost = 9", "module _ (w : It) where\n  pub some : It\n\n  pub other : It", "pub data Kind : It where\n  One : Kind"))
+    words.write_text(definitions + "\n")
+    for old, new, wanted in (("most = 9", "most = 8", OF_ALL), ("some : It", "some : That", OF_LOW), ("One :", "Two :", OF_LOW), ("Of most", "Of some", OF_ALL)):
+        words.write_text(definitions + "\n")
+        before = digests(top)
+        words.write_text(definitions.replace(old, new) + "\n")
+        assert changed(top, before) == wanted, old
+    words.write_text(definitions.replace("Of most", "Of other") + "\n")
+    before = digests(top)
+    words.write_text(words.read_text().replace("some : It", "some : That"))
+    assert changed(top, before) == OF_ALL
+    words.write_text(definitions.replace("Of most", "Of One") + "\n")
+    before = digests(top)
+    words.write_text(words.read_text().replace("data Kind : It", "data Kind : That"))
+    assert changed(top, before) == OF_ALL
+
+
+def test_of_a_librarys_code_a_crate_sees_the_sources_that_it_names(snapd, _):
+    top = tree(snapd.folder)
+    sources = top / "crates" / "low" / "src"
+    (sources / "lib.rt").write_text("mod rest;\nmod more;\npub use rest::{Low, Rest};\npub use more::More;\n" + BODY + NAMED.replace("LOWER", "byteorder"))
+    (sources / "rest.rt").write_text("use crate::parts::Part;\npub trait Low {}\npub struct Rest(Part);\n")
+    (sources / "parts.rt").write_text("pub struct Part;\n")
+    (sources / "more.rt").write_text("pub struct More;\n")
+    (sources / "impls.rt").write_text("impl Display for Part {\n}\npub fn shown() {}\n")
+    before = digests(top)
+    for source, wanted in (("more", OF_LOW), ("rest", OF_ALL), ("parts", OF_ALL), ("impls", OF_ALL), ("lib", OF_ALL)):
+        text = (sources / f"{source}.rt").read_text()
+        (sources / f"{source}.rt").write_text(text + "pub fn another() {}\n")
+        assert changed(top, before) == wanted, source
+        (sources / f"{source}.rt").write_text(text)
+    assert changed(top, before) == []
+    (top / "crates" / "middle" / "src" / "lib.rt").write_text("use low::More;\npub fn of(it: More) {}\n")
+    before = digests(top)
+    (sources / "more.rt").write_text("pub struct More(u8);\n")
+    assert changed(top, before) == OF_ALL
+
+
+def test_a_name_counts_by_where_it_is_defined_and_not_by_who_hands_it_on(snapd, _):
+    top = tree(snapd.folder)
+    (top / "crates" / "low" / "specs" / "Rest.antt").write_text("abbrev pub rest : It\n")
+    answers, middle = top / "crates" / "high" / "proofs" / "more" / "Answers.antt", top / "crates" / "middle" / "specs"
+    answers.write_text("use Rattle.low.specs.Rest.{rest}\nuse Rattle.low.specs.declared.lib.Thing.{Thing}\nproof\n")
+    before = digests(top)
+    (middle / "Lib.antt").write_text("pub mod Words\npub use Rattle.low.specs.Rest\npub use Rattle.low.specs.declared.lib\n")
+    assert changed(top, before) == []
+    answers.write_text("use Rattle.middle.specs.Rest.{rest}\nuse Rattle.middle.specs.lib.Thing.{Thing}\nproof\n")
+    assert changed(top, before) == []
+    (middle / "Rest.antt").write_text("abbrev pub rest : It\n")
+    assert changed(top, before) == OF_UPPER
 
 
 def test_a_digest_stays_where_comments_and_the_layout_of_imports_change(snapd, _):
     top = tree(snapd.folder)
     low = top / "crates" / "low"
-    words = low / "specs" / "Words.antt"
-    words.write_text("-- Some words.\nuse One.{a, b, c}\nuse One.{d}\nuse Two.{a}\ndefinition\n")
+    words, source = low / "specs" / "Words.antt", low / "src" / "lib.rt"
+    words.write_text("-- Some words.\nuse One.{a, b, c}\nuse One.{d}\nuse Two.{a}\n\nabbrev pub word : a b c d\n")
     before = digests(top)
-    words.write_text("-- Words.\nuse Two.{a}\nuse One.{\n  d,\n  b,\n  a,\n  c,\n}\n  -- a definition\ndefinition\n")
-    (low / "src" / "lib.rt").write_text(BODY.replace("A crate", "The crate").replace("    /// One more.\n", "    // More.\n"))
+    words.write_text("-- Words.\nuse Two.{a}\nuse One.{\n  d,\n  b,\n  a,\n  c,\n}\n\n  -- a word\nabbrev pub word : a b c d\n")
+    source.write_text(source.read_text().replace("A crate", "The crate").replace("    /// One more.\n", "    // More.\n"))
     assert changed(top, before) == []
-    words.write_text("use Two.{a, d}\nuse One.{a, b, c}\ndefinition\n")
+    words.write_text("use Two.{a, d}\nuse One.{a, b, c}\n\nabbrev pub word : a b c d\n")
     assert changed(top, before) == OF_ALL
 
 
 def test_a_digest_changes_where_the_text_of_its_edit_is_gone(snapd, _):
     top = tree(snapd.folder)
     before = digests(top)
-    (top / "crates" / "low" / "src" / "lib.rt").write_text("//     x - 1\n" + BODY)
+    source = top / "crates" / "low" / "src" / "lib.rt"
+    source.write_text("//     x - 1\n" + source.read_text())
     assert changed(top, before) == ["low/second"]
 
 
@@ -254,9 +331,9 @@ def test_an_edit_is_placed_in_its_function(snapd, _):
     edits = edits_of(folder.parent.parent, "low")
     assert [function_of(folder, it) for it in edits] == [more, less]
     spec = folder / "must-fail" / "spec.edit"
-    spec.write_text("file: specs/Words.antt\nold: definition\nnew: another\n")
+    spec.write_text("file: specs/Words.antt\nold: abbrev\nnew: another\n")
     assert function_of(folder, spec) is None
-    assert together(folder, edits)["src/lib.rt"] == BODY.replace("x + 1", "x + 2").replace("    x - 1", "    x")
+    assert together(folder, edits)["src/lib.rt"] == (BODY + NAMED.replace("LOWER", "byteorder")).replace("x + 1", "x + 2").replace("    x - 1", "    x")
     assert together(folder, [edits[0], edits[0]]) is None
     names = ["low::ThingLow::more", "low::OtherLow::more", "low::less", "low::inner::less"]
     assert named(more, "low", names) == "low::ThingLow::more"

@@ -1,24 +1,27 @@
 """What an edit's refusal rests on, as a digest, and the file that keeps the digests.
 
-Whether an edit has to be refused depends on the edit, on its crate, on what the libraries below say, and on the kit's logic,
-which says what a proof is. Of the crate that is all its text but comments and the layout of imports. Of a library it is what
-a crate above can see: signatures with their clauses, types, definitions and lemmas, and neither the bodies of functions nor
-the proofs of these. `must-fail.lock` has a line for each edit that was refused: its name, the digest of all that, and the
-release of the kit that refused it. Another release of the same logic may find other proofs, so the line says whose word it is.
+Whether an edit has to be refused depends on the edit, on its crate, on what of the libraries below can be seen from there, and
+on the kit's logic, which says what a proof is. Of the crate that is all its text but comments and the layout of imports. Of
+the libraries it is what is named from there, and what that names in turn: a library's public signatures with their clauses
+and its types, and each file of definitions or lemmas that is imported; no bodies of functions, no private functions, and no
+proofs of functions. A name counts by where it is defined, whoever hands it on.
+
+`must-fail.lock` has a line for each edit that was refused: its name, the digest of all that, and the release of the kit that
+refused it. Another release of the same logic may find other proofs, so the line says whose word it is.
 """
 
 import hashlib
-import re
 from dataclasses import dataclass
 
-from source import applies, without_bodies
-from tree import crates_of, files_of
+from scopes import Scopes
+from source import applies
+from tree import crates_of
 
 LOCK = "must-fail.lock"
 HEAD = """\
-# Each edit that the prover has refused, with the digest of what that rests on (the edit, its crate, the libraries below
-# it and the kit's logic) and the kit's release that refused it. `make edits` and `make test-all` write it; `make test`
-# tries what doesn't stand here, and a sample of what does.
+# Each edit that the prover has refused, with the digest of what that rests on (the edit, its crate, what it sees of the
+# libraries below and the kit's logic) and the kit's release that refused it. `make edits` and `make test-all` write it;
+# `make test` tries what doesn't stand here, and a sample of what does.
 """
 
 
@@ -39,63 +42,25 @@ def summed(*parts):
     return total.hexdigest()
 
 
-# A line that is a comment and nothing else, by the file's kind.
-COMMENT = {".rt": re.compile(r"^\s*//.*\n", re.M), ".antt": re.compile(r"^\s*--.*\n", re.M)}
-IMPORTS = re.compile(r"^((?:pub )?use [\w.]+\.)\{([^{}]*)\}[ ]*\n", re.M)
-
-
-def without_comments(path, text):
-    comment = COMMENT.get(path.suffix)
-    return comment.sub("", text) if comment else text
-
-
-def with_imports_sorted(text):
-    """A file of definitions or proofs with a line for each name that it imports, in order, wherever they stood."""
-    names = sorted(f"{head}{it.strip()}" for head, them in IMPORTS.findall(text) for it in them.split(",") if it.strip())
-    return "\n".join([*names, IMPORTS.sub("", text)])
-
-
-def said(path):
-    """What a file of a crate says: its text without comments, and without the layout of its imports."""
-    text = without_comments(path, path.read_text())
-    return with_imports_sorted(text) if path.suffix == ".antt" else text
-
-
-def seen(folder, path):
-    """What a crate above sees of a file, or None where it sees nothing of it, as of the proof of a function."""
-    parts = path.relative_to(folder).parts
-    if parts[0] == "proofs" and len(parts) > 2:
-        return None
-    return without_bodies(said(path)) if path.suffix == ".rt" else said(path)
-
-
 class Digests:
     """The digests of a checkout's crates and edits under one logic."""
 
     def __init__(self, top, logic):
-        self.top, self.logic, self.crates = top, logic, crates_of(top)
-        self.libraries, self.wholes = {}, {}
+        self.top, self.logic, self.crates, self.scopes = top, logic, crates_of(top), Scopes(top)
+        self.wholes = {}
 
-    def below(self, name):
-        """The logic, a crate's line of crates.txt, and what it sees of the libraries that it uses."""
-        used = [self.library(it) for it in self.crates[name].uses if it in self.crates]
-        return [self.logic, self.crates[name].line, str(len(used)), *used]
-
-    def library(self, name):
-        """The digest of what a crate above sees of this one."""
-        if name not in self.libraries:
-            folder = self.top / "crates" / name
-            found = [(it, seen(folder, it)) for it in files_of(folder)]
-            texts = [part for it, text in found if text is not None for part in (str(it.relative_to(folder)), text)]
-            self.libraries[name] = summed(*self.below(name), *texts)
-        return self.libraries[name]
+    def line(self, name):
+        """A crate's line of crates.txt, without the libraries of the checkout: of these counts what is seen of them."""
+        head, _, uses = self.crates[name].line.partition(":")
+        return " ".join([head, *(it for it in uses.split() if it not in self.crates)])
 
     def crate(self, name):
         """The digest of a crate: all that its own proofs rest on."""
         if name not in self.wholes:
-            folder = self.top / "crates" / name
-            texts = [part for it in files_of(folder) for part in (str(it.relative_to(folder)), said(it))]
-            self.wholes[name] = summed(*self.below(name), *texts)
+            own, seen = self.scopes.own(name), self.scopes.seen_from(name)
+            lines = [self.line(it) for it in sorted({name, *(path.split("/")[0] for path in seen)})]
+            texts = [part for found in (own, seen) for path in sorted(found) for part in (path, found[path])]
+            self.wholes[name] = summed(self.logic, str(len(lines)), *lines, str(len(own)), *texts)
         return self.wholes[name]
 
     def edit(self, name, path):

@@ -5,6 +5,10 @@ from dataclasses import dataclass
 
 HEAD = re.compile(r"^(\s*)(?:pub(?:\([a-z]+\))? )?(?:const )?(?:unsafe )?fn (\w+)")
 IMPL = re.compile(r"^(?:pub )?(?:impl|trait)\b(.*)")
+# A part of a source that its crate alone sees: a module's line, names that are imported, and an impl of which nothing is left.
+MODULE = re.compile(r"^mod \w+;\n", re.M)
+USE = re.compile(r"^(use [\w:]+::)(?:(\w+)|\{([\w\s,]*)\});\n", re.M)
+EMPTY_IMPL = re.compile(r"^impl\b[^\n]*\{\s*\}\n", re.M)
 
 
 @dataclass(frozen=True)
@@ -16,16 +20,18 @@ class Function:
     first: int
     last: int
     of: str
+    is_private: bool = False
 
 
 def functions_in(text, path):
     """A file's functions. In the layout of `rt fmt` each ends at the first brace that stands where its head begins."""
-    lines, found, of = text.split("\n"), [], ""
+    lines, found, of, is_trait = text.split("\n"), [], "", False
     for first, line in enumerate(lines):
         if IMPL.match(line):
             of = IMPL.match(line)[1]
+            is_trait = re.match(r"(pub )?trait\b", line) is not None or re.search(r"\bfor\b", of) is not None
         elif line == "}":
-            of = ""
+            of, is_trait = "", False
         head = HEAD.match(line)
         if head:
             is_short = line.endswith("}") and line.count("{") == line.count("}")
@@ -34,7 +40,8 @@ def functions_in(text, path):
             # The prover places an error of the whole function at its first attribute.
             while re.match(r"\s*(#\[|///)", lines[first - 1]):
                 first -= 1
-            found.append(Function(path, head[2], first + 1, last + 1, of))
+            is_private = not is_trait and not line.lstrip().startswith("pub fn") and " const " not in f" {line}"
+            found.append(Function(path, head[2], first + 1, last + 1, of, is_private))
     return found
 
 
@@ -116,12 +123,28 @@ def body_of(lines, function):
 
 
 def without_bodies(text):
-    """A source without the bodies of its functions, which callers don't see. Where a file writes macros it stays whole, and so
-    do functions whose value a constant may be."""
+    """A source without the bodies of its functions, which callers don't see, and without the functions that its crate alone sees.
+    Where a file writes macros it stays whole, and so do functions whose value a constant may be."""
     if "macro_rules!" in text:
         return text
     lines, inside = text.split("\n"), set()
     for function in functions_in(text, ""):
-        if body := body_of(lines, function):
+        if function.is_private:
+            inside.update(range(function.first - 1, function.last))
+        elif body := body_of(lines, function):
             inside.update(range(*body))
     return "\n".join(line for at, line in enumerate(lines) if at not in inside)
+
+
+def seen_of(text):
+    """What a crate above sees of a source: no bodies, no private functions, no private module's line, and of the names that the
+    source imports those that are left in it, a line each. Nothing, where nothing but imports is left."""
+    left = EMPTY_IMPL.sub("", MODULE.sub("", without_bodies(text)))
+    rest = USE.sub("", left)
+
+    def used(found):
+        names = [found[2]] if found[2] else [it.strip() for it in found[3].split(",") if it.strip()]
+        return "".join(f"{found[1]}{it};\n" for it in sorted(names) if re.search(rf"\b{it}\b", rest))
+
+    is_left = re.sub(r"^(ghost use .*|#!\[.*)\n", "", rest, flags=re.M).strip()
+    return USE.sub(used, left) if is_left else ""
