@@ -21,17 +21,17 @@ use Rattle.snap_world.specs.inside.Drives.{IsDriveAt, DrivesDown, HoldsEither, I
 use Rattle.snap_world.specs.inside.Halt.{IsHalted, IsScannerHalted}
 use Rattle.snap_world.specs.Machine.{State, WriterState, ScannerState, Pending, Begun, Closed, crashed, crashed_pending, crashed_writer}
 use Rattle.snap_world.specs.NodePhases.{all_idle}
-use Rattle.snap_world.specs.inside.NodeStands.{NodeStand, PartsRest, WriterRests, ScannerRests, IsUp, IsDown, IsNodeAt}
+use Rattle.snap_world.specs.inside.NodeStands.{NodeStand, ActorsRest, WriterRests, ScannerRests, IsUp, IsDown, IsNodeAt}
 use Rattle.snap_world.specs.inside.NodeSteps.{store_left}
 use Rattle.snap_world.specs.Phases.{Phases}
-use Rattle.snap_world.specs.inside.Stands.{PartsStand, WriterStands, ScannerStands, IsAtPhase}
-use Rattle.snap_world.specs.inside.Steps.{phases_of_parts}
+use Rattle.snap_world.specs.inside.Stands.{ActorsStand, WriterStands, ScannerStands, IsAtPhase}
+use Rattle.snap_world.specs.inside.Steps.{phases_of_actors}
 use Rattle.snap_world.specs.declared.drive.Drive.{Drive}
 use Rattle.snap_world.specs.declared.node.Node.{Node}
 use Rattle.snap_world.specs.declared.node.NodePhase.{NodePhase}
 use Rattle.snap_world.specs.declared.node.NodePhase.TheVariants.{Up, Down, Restarting, Ready}
 use Rattle.snap_world.specs.declared.node.OpeningCall.TheVariants as opening
-use Rattle.snap_world.specs.declared.parts.Parts.{Parts}
+use Rattle.snap_world.specs.declared.actors.Actors.{Actors}
 use Rattle.snap_world.specs.declared.register.Register.{Register}
 use Rattle.snap_world.specs.declared.writer.Writer.{Writer}
 use Rattle.snap_world.specs.declared.writer.WriterPhase.{WriterPhase}
@@ -86,19 +86,19 @@ Leaves n h ss ds =
     → HoldsEither i n (number_after from_nothing h i) (value_after from_nothing h i)
     (crashed_pending s.pending) b
 
-up_leaves : (parts : Parts) (ds : List Drive) (x : State) → IsUp parts ds x
-    → Leaves parts.segments x.history x.writers ds
-up_leaves parts ds x up i d s ed es =
-    let stand = up.parts_stand in
-    let size : length parts.writers.items ≡ length x.writers = stand.writers.size in
+up_leaves : (actors : Actors) (ds : List Drive) (x : State) → IsUp actors ds x
+    → Leaves actors.segments x.history x.writers ds
+up_leaves actors ds x up i d s ed es =
+    let stand = up.actors_stand in
+    let size : length actors.writers.items ≡ length x.writers = stand.writers.size in
     let low : i < length x.writers = slice_get_within x.writers i s es in
-    let a = element parts.writers.items i (omega arith) in
-    let here : WriterStands parts.segments x.history stand.since i a.0 s =
+    let a = element actors.writers.items i (omega arith) in
+    let here : WriterStands actors.segments x.history stand.since i a.0 s =
     stand.writers.each i a.0 s a.1 es in
-    let phase : slice_get (phases_of_parts parts).writers i ≡ Some a.0.phase =
-    slice_get-map (λ (v : Writer). v.phase) parts.writers.items i
+    let phase : slice_get (phases_of_actors actors).writers i ≡ Some a.0.phase =
+    slice_get-map (λ (v : Writer). v.phase) actors.writers.items i
     ∙ ap (option_map (λ (v : Writer). v.phase)) a.1 in
-    phase_leaves parts.segments x.history stand.since i a.0 s
+    phase_leaves actors.segments x.history stand.since i a.0 s
     (device_of d) d.persist a.0.phase here.phase (up.drives_stand i d s a.0.phase ed es phase)
 
 either_stays : (i n k : ℕ) (u : List ℕ) (p : Pending) (b : List ℕ) → HoldsEither i n k u p b
@@ -112,15 +112,15 @@ down_leaves n h ss ds down i d s ed es b left =
     either_stays i n (number_after from_nothing h i) (value_after from_nothing h i) s.pending b
     (down i d s ed es b left)
 
-leaves : (parts : Parts) (ds : List Drive) (x : State) (phase : NodePhase)
-    → IsNodeAt parts ds x phase → Leaves parts.segments x.history x.writers ds
-leaves parts ds x Up at = up_leaves parts ds x at
-leaves parts ds x Down at = down_leaves parts.segments x.history x.writers ds at.drives_down
-leaves parts ds x (Restarting i opening.Sync) at =
-    down_leaves parts.segments x.history x.writers ds at.1.down.drives_down
-leaves parts ds x (Restarting i opening.Read) at =
-    down_leaves parts.segments x.history x.writers ds at.1.down.drives_down
-leaves parts ds x Ready at = down_leaves parts.segments x.history x.writers ds at.down.drives_down
+leaves : (actors : Actors) (ds : List Drive) (x : State) (phase : NodePhase)
+    → IsNodeAt actors ds x phase → Leaves actors.segments x.history x.writers ds
+leaves actors ds x Up at = up_leaves actors ds x at
+leaves actors ds x Down at = down_leaves actors.segments x.history x.writers ds at.drives_down
+leaves actors ds x (Restarting i opening.Sync) at =
+    down_leaves actors.segments x.history x.writers ds at.1.down.drives_down
+leaves actors ds x (Restarting i opening.Read) at =
+    down_leaves actors.segments x.history x.writers ds at.1.down.drives_down
+leaves actors ds x Ready at = down_leaves actors.segments x.history x.writers ds at.down.drives_down
 
 crashed_drives : (n : ℕ) (h : List Update) (ss : List WriterState) (ds es : List Drive)
     (fills : List Fill) → length fills ≡ length ds → Leaves n h ss ds → AreCrashed fills ds es
@@ -137,8 +137,8 @@ crashed_drives n h ss ds es fills size left crash i e t ee et b may =
     s.2
     (left i d.0 s.0 d.1 s.1 b (unsynced_leaves here.left b may))
 
--- the sizes of parts, and how many they are
-pub record IsSized (w : Parts) (x : State) : Type 0 where
+-- the sizes of actors, and how many they are
+pub record IsSized (w : Actors) (x : State) : Type 0 where
   pub least : 0 < w.segments
   pub most : w.segments ≤ 16
   pub registers_n : length w.registers.items ≡ w.segments
@@ -152,7 +152,7 @@ pub record IsSized (w : Parts) (x : State) : Type 0 where
   pub scanners_memory : (i : ℕ) (a : Scanner) → slice_get w.scanners.items i ≡ Some a
       → length a.collector.memory.items ≡ w.segments
 
-sized_up : (w : Parts) (x : State) → PartsStand w x → IsSized w x
+sized_up : (w : Actors) (x : State) → ActorsStand w x → IsSized w x
 sized_up w x stands = record {
   least = stands.least;
   most = stands.most;
@@ -169,7 +169,7 @@ sized_up w x stands = record {
       stands.scanners e).2.size;
 }
 
-sized_rest : (w : Parts) (x : State) → PartsRest w x → IsSized w x
+sized_rest : (w : Actors) (x : State) → ActorsRest w x → IsSized w x
 sized_rest w x rest = record {
   least = rest.least;
   most = rest.most;
@@ -185,15 +185,15 @@ sized_rest w x rest = record {
       e).2.size;
 }
 
-pub sized : (parts : Parts) (ds : List Drive) (x : State) (phase : NodePhase)
-    → IsNodeAt parts ds x phase → IsSized parts x
-sized parts ds x Up at = sized_up parts x at.parts_stand
-sized parts ds x Down at = sized_rest parts x at.parts_rest
-sized parts ds x (Restarting i opening.Sync) at = sized_rest parts x at.1.down.parts_rest
-sized parts ds x (Restarting i opening.Read) at = sized_rest parts x at.1.down.parts_rest
-sized parts ds x Ready at = sized_rest parts x at.down.parts_rest
+pub sized : (actors : Actors) (ds : List Drive) (x : State) (phase : NodePhase)
+    → IsNodeAt actors ds x phase → IsSized actors x
+sized actors ds x Up at = sized_up actors x at.actors_stand
+sized actors ds x Down at = sized_rest actors x at.actors_rest
+sized actors ds x (Restarting i opening.Sync) at = sized_rest actors x at.1.down.actors_rest
+sized actors ds x (Restarting i opening.Read) at = sized_rest actors x at.1.down.actors_rest
+sized actors ds x Ready at = sized_rest actors x at.down.actors_rest
 
-module _ (w new : Parts) (segments : new.segments ≡ w.segments) (registers : new.registers
+module _ (w new : Actors) (segments : new.segments ≡ w.segments) (registers : new.registers
     ≡ w.registers)
     (writers : Pairs (λ i. IsHalted) w.writers.items new.writers.items)
     (scanners : Pairs (λ i. IsScannerHalted) w.scanners.items new.scanners.items) where
@@ -213,7 +213,7 @@ module _ (w new : Parts) (segments : new.segments ≡ w.segments) (registers : n
       let a = element w.scanners.items i (omega arith) in
       (a.0, a.1, scanners.each i a.0 b a.1 e)
 
-  rests : (x : State) → IsSized w x → PartsRest new (crashed x)
+  rests : (x : State) → IsSized w x → ActorsRest new (crashed x)
   rests x is = record {
     least = subst (λ n. 0 < n) (sym segments) is.least;
     most = subst (λ n. n ≤ 16) (sym segments) is.most;
@@ -240,7 +240,7 @@ module _ (w new : Parts) (segments : new.segments ≡ w.segments) (registers : n
     };
   }
 
-  pub halted_phases : phases_of_parts new ≡ all_idle (phases_of_parts w)
+  pub halted_phases : phases_of_actors new ≡ all_idle (phases_of_actors w)
   halted_phases =
       let phase : Writer → WriterPhase = λ v. v.phase in
       let scanner_phase : Scanner → ScannerPhase = λ v. v.phase in
@@ -263,7 +263,7 @@ module _ (w new : Parts) (segments : new.segments ≡ w.segments) (registers : n
       → length fills ≡ length ds → IsNodeAt w ds x phase → AreCrashed fills ds es
       → IsDown new es (crashed x)
   goes_down ds es fills x phase size at crash = record {
-    parts_rest = rests x (sized w ds x phase at);
+    actors_rest = rests x (sized w ds x phase at);
     drives_down = subst (λ n. DrivesDown n x.history (map crashed_writer x.writers) es)
         (sym segments) (crashed_drives w.segments x.history x.writers ds es fills size
         (leaves w ds x phase at) crash);
@@ -290,8 +290,8 @@ crashed_calls ds es fills size crash = map_same store_left es ds (sym crash.size
 
 -- how many devices there are
 pub few_drives : (w : Node) → NodeStand w → (length w.drives.items ≤ 16)
-    × (length w.drives.items ≡ w.parts.segments)
+    × (length w.drives.items ≡ w.actors.segments)
 few_drives w t = ∥∥₁_elim t (hlevel props) (λ q. (
-    let size : length w.drives.items ≡ w.parts.segments = q.1.drives_n in
-    let most : w.parts.segments ≤ 16 = (sized w.parts w.drives.items q.0 w.phase q.1.at).most in
+    let size : length w.drives.items ≡ w.actors.segments = q.1.drives_n in
+    let most : w.actors.segments ≤ 16 = (sized w.actors w.drives.items q.0 w.phase q.1.at).most in
     (omega arith, size)))

@@ -15,18 +15,15 @@ use Rattle.snap_world.specs.inside.Drives.{IsReady, IsStoreUnderWay, IsDriveAt, 
 use Rattle.snap_world.specs.Machine.{State, WriterState, Free, Begun, Shown, Step}
 use Rattle.snap_world.specs.NodePhases.{WorldPhases, TellsWhether, PhasesMove, LooksOn, up}
 use Rattle.snap_world.specs.Phases.{Phases, writer_to, scanner_to}
-use Rattle.snap_world.specs.inside.Steps.{IsActors}
 use Rattle.snap_world.specs.declared.drive.Drive.{Drive}
 use Rattle.snap_world.specs.declared.event.Actor.TheVariants as actor
-use Rattle.snap_world.specs.declared.event.Event.{Event}
-use Rattle.snap_world.specs.declared.event.Event.TheVariants.{Begin, Look, Call, Fail, Show, Acknowledge, Scan, Answer, Crash, Restart}
-use Rattle.snap_world.specs.declared.event.Event.TheVariants.{RestartCall, RestartFail, Serve}
 use Rattle.snap_world.specs.declared.event.Reply.{Reply}
 use Rattle.snap_world.specs.declared.event.Reply.TheVariants.{Begun as Begun_reply, Number, Shown as Shown_reply, Stored, ScanBegun}
 use Rattle.snap_world.specs.declared.event.Reply.TheVariants.{Memory, NotNow}
 use Rattle.snap_world.specs.declared.writer.WriterPhase.{WriterPhase}
 use Rattle.snap_world.specs.declared.writer.WriterPhase.TheVariants as writer
 use Rattle.snap_world.specs.declared.scanner.ScannerPhase.TheVariants as scanner
+use Rattle.snap_world.proofs.Acts.{Act, Begins, Looks, Shows, Acknowledges, Scans, Answers, event_of}
 
 -- an element that was written
 pub set_is : {A : Type 0} (xs : List A) (i : ℕ) (x y : A) → slice_get (slice_set xs i x) i ≡ Some y
@@ -167,14 +164,14 @@ either_actors : {n : ℕ} {told : List ℕ} {p r q : WorldPhases} → LooksOn n 
 either_actors looks = ⊎_elim (λ e. inl (ap (λ (z : WorldPhases). z.actors) e)) (λ e.
     inr (ap (λ (z : WorldPhases). z.actors) e)) looks.either
 
-pub drives_follow : (n : ℕ) (x : State) (p : Phases) (event : Event) (reply : Reply) (y : State)
-    (q : Phases) (ds : List Drive) → IsActors event
-    → Step n x event reply y → TellsWhether x (up p) event reply
-    → PhasesMove n x (up p) event reply (up q) → DrivesStand n x.history x.writers p.writers ds
+pub drives_follow : (n : ℕ) (x : State) (p : Phases) (a : Act) (reply : Reply) (y : State)
+    (q : Phases) (ds : List Drive) → Step n x (event_of a) reply y
+    → TellsWhether x (up p) (event_of a) reply → PhasesMove n x (up p) (event_of a) reply (up q)
+    → DrivesStand n x.history x.writers p.writers ds
     → DrivesStand n y.history y.writers q.writers ds
-drives_follow n x p event NotNow y q ds a s t m stand =
+drives_follow n x p a NotNow y q ds s t m stand =
     to n ds x y p q s (ap (λ (r : WorldPhases). r.actors) m) stand
-drives_follow n x p (Begin w v) Begun_reply y q ds a s t m stand =
+drives_follow n x p (Begins w v) Begun_reply y q ds s t m stand =
     to n ds _ y _ q s.4 (ap (λ (r : WorldPhases). r.actors) m)
     (writer_changes n x.history x.writers p.writers ds stand w (record s.0 {
       pending =
@@ -182,38 +179,32 @@ drives_follow n x p (Begin w v) Begun_reply y q ds a s t m stand =
       scan = scan_from (length x.history);
     }) writer.Scanning
     (λ d ed. stand w d s.0 writer.Idle ed s.1 (t.came (λ e. cc)).1))
-drives_follow n x p (Look (actor.Writer w)) (Number k) y q ds a s t m stand =
+drives_follow n x p (Looks (actor.Writer w)) (Number k) y q ds s t m stand =
     subst (λ (z : State). Follows n ds z q) (sym s.4)
     (look_follows n x.history x.writers p q ds stand w s.0 (record s.0 {
       scan =
           s.2;
     }) s.1 (t.came (λ e. cc)).1 refl (either_actors (m s.0 s.1)))
-drives_follow n x p (Look (actor.Scanner i)) (Number k) y q ds a s t m stand =
+drives_follow n x p (Looks (actor.Scanner i)) (Number k) y q ds s t m stand =
     subst (λ (z : State). Follows n ds z q) (sym s.4)
     (scanner_follows n x.history x.writers p q ds i stand (either_actors (m s.0 s.1)))
-drives_follow n x p (Show w) Shown_reply y q ds a s t m stand =
+drives_follow n x p (Shows w) Shown_reply y q ds s t m stand =
     to n ds _ y _ q s.4 (ap (λ (r : WorldPhases). r.actors) m)
     (writer_shows n x.history x.writers p.writers ds stand w s.0 (record s.0 {
       pending =
           Shown s.1;
       view = s.0.scan.moment;
     }) s.1 s.2 s.3 (t.came (λ e. cc)).1)
-drives_follow n x p (Acknowledge w) (Stored k) y q ds a s t m stand =
+drives_follow n x p (Acknowledges w) (Stored k) y q ds s t m stand =
     to n ds _ y _ q s.5 (ap (λ (r : WorldPhases). r.actors) m)
     (writer_changes n x.history x.writers p.writers ds stand w (record s.0 {
       pending = Free;
       scan = scan_from 0;
     }) writer.Idle
     (λ d ed. stand w d s.0 writer.Shown ed s.2 (t.came (λ e. cc)).1))
-drives_follow n x p (Scan i) ScanBegun y q ds a s t m stand =
+drives_follow n x p (Scans i) ScanBegun y q ds s t m stand =
     to n ds _ y _ q s.1 (ap (λ (r : WorldPhases). r.actors) m) stand
-drives_follow n x p (Answer i) (Memory l) y q ds a s t m stand =
+drives_follow n x p (Answers i) (Memory l) y q ds s t m stand =
     to n ds _ y _ q s.3 (ap (λ (r : WorldPhases). r.actors) m) stand
-drives_follow n x p (Call w) reply y q ds a s t m stand = absurd a
-drives_follow n x p (Fail w fill) reply y q ds a s t m stand = absurd a
-drives_follow n x p (Crash fills) reply y q ds a s t m stand = absurd a
-drives_follow n x p Restart reply y q ds a s t m stand = absurd a
-drives_follow n x p RestartCall reply y q ds a s t m stand = absurd a
-drives_follow n x p (RestartFail fill) reply y q ds a s t m stand = absurd a
-drives_follow n x p Serve reply y q ds a s t m stand = absurd a
-drives_follow n x p event reply y q ds a s t m stand = absurd m
+drives_follow n x p (Begins w v) reply y q ds s t m stand = absurd m
+drives_follow n x p a reply y q ds s t m stand = absurd m

@@ -1,94 +1,60 @@
 -- An event of a writer or a scanner, as a step of the node.
-use Rattle.std.proofs.Common.{◌≡◌, inl, inr, ⊎_elim, ℕ, List, length, refl, ap, sym, ◌∙◌, subst}
+use Rattle.std.proofs.Common.{◌≡◌, inl, inr, ⊎_elim, ℕ, List, length, refl, ap, sym, ◌∙◌, subst, Result, Ok, Err, IfOk}
+use Rattle.std.proofs.Math.Logic.{∥∥₁_map}
+use Rattle.std.specs.declared.alloc.AllocError.{AllocError}
 use Rattle.snap_disk.specs.Device.{Device}
 use Rattle.snap_world.specs.Devices.{DevicesMove, GatesTold}
 use Rattle.snap_world.specs.inside.Drives.{DrivesStand}
 use Rattle.snap_world.specs.Machine.{State}
 use Rattle.snap_world.specs.NodePhases.{WorldPhases, MayCome, PhasesMove, LooksOn, up, actors_to}
-use Rattle.snap_world.specs.inside.NodeStands.{NodeStands, IsUp, IsNodeAt}
+use Rattle.snap_world.specs.inside.NodeStands.{NodeStands, NodeStand, IsUp, IsNodeAt}
 use Rattle.snap_world.specs.inside.NodeSteps.{IsNodeStep, phases_of_node, devices_of_node}
 use Rattle.snap_world.specs.Phases.{Phases}
-use Rattle.snap_world.specs.inside.Steps.{IsActors, IsPartsStep, phases_of_parts}
+use Rattle.snap_world.specs.inside.Stands.{Stand}
+use Rattle.snap_world.specs.inside.Steps.{IsActorsStep, phases_of_actors}
 use Rattle.snap_world.specs.declared.event.Actor.TheVariants as actor
 use Rattle.snap_world.specs.declared.event.Event.{Event}
-use Rattle.snap_world.specs.declared.event.Event.TheVariants.{Begin, Look, Show, Acknowledge, Scan, Answer, Call, Fail, Crash, Restart}
-use Rattle.snap_world.specs.declared.event.Event.TheVariants.{RestartCall, RestartFail, Serve}
+use Rattle.snap_world.specs.declared.event.Event.TheVariants.{Serve}
 use Rattle.snap_world.specs.declared.event.Reply.{Reply}
 use Rattle.snap_world.specs.declared.event.Reply.TheVariants.{Begun, Number, Shown, Stored, ScanBegun, Memory, NotNow}
 use Rattle.snap_world.specs.declared.node.Node.{Node}
 use Rattle.snap_persist.specs.declared.persist.NextCall.{NextCall}
 use Rattle.snap_world.specs.declared.node.NodePhase.{NodePhase}
 use Rattle.snap_world.specs.declared.node.NodePhase.TheVariants.{Up}
-use Rattle.snap_world.specs.declared.parts.Parts.{Parts}
+use Rattle.snap_world.specs.declared.actors.Actors.{Actors}
+use Rattle.snap_world.proofs.Acts.{Act, Begins, Looks, Shows, Acknowledges, Scans, Answers, event_of}
 use Rattle.snap_world.proofs.Devices.{drives_follow}
 
-may_act : (x : State) (p : WorldPhases) (event : Event) → IsActors event → p.node ≡ Up
-    → MayCome x (up p.actors) event → MayCome x p event
-may_act x p (Begin w v) a is m = (is, m.1, m.2, m.3)
-may_act x p (Call w) a is m = absurd a
-may_act x p (Fail w fill) a is m = absurd a
-may_act x p (Crash fills) a is m = absurd a
-may_act x p Restart a is m = absurd a
-may_act x p RestartCall a is m = absurd a
-may_act x p (RestartFail fill) a is m = absurd a
-may_act x p Serve a is m = absurd a
-may_act x p (Look (actor.Writer w)) a is m = (is, m.1)
-may_act x p (Look (actor.Scanner i)) a is m = (is, m.1)
-may_act x p (Show w) a is m = (is, m.1)
-may_act x p (Acknowledge w) a is m = (is, m.1)
-may_act x p (Scan i) a is m = (is, m.1)
-may_act x p (Answer i) a is m = (is, m.1)
+may_act : (x : State) (p : WorldPhases) (a : Act) → p.node ≡ Up
+    → MayCome x (up p.actors) (event_of a) → MayCome x p (event_of a)
+may_act x p (Begins w v) is m = (is, m.1, m.2, m.3)
+may_act x p (Looks (actor.Writer w)) is m = (is, m.1)
+may_act x p (Looks (actor.Scanner i)) is m = (is, m.1)
+may_act x p (Shows w) is m = (is, m.1)
+may_act x p (Acknowledges w) is m = (is, m.1)
+may_act x p (Scans i) is m = (is, m.1)
+may_act x p (Answers i) is m = (is, m.1)
 
-may_from : (x : State) (p : WorldPhases) (event : Event) → IsActors event → MayCome x p event
-    → MayCome x (up p.actors) event
-may_from x p (Begin w v) a m = (refl, m.1, m.2, m.3)
-may_from x p (Call w) a m = absurd a
-may_from x p (Fail w fill) a m = absurd a
-may_from x p (Crash fills) a m = absurd a
-may_from x p Restart a m = absurd a
-may_from x p RestartCall a m = absurd a
-may_from x p (RestartFail fill) a m = absurd a
-may_from x p Serve a m = absurd a
-may_from x p (Look (actor.Writer w)) a m = (refl, m.1)
-may_from x p (Look (actor.Scanner i)) a m = (refl, m.1)
-may_from x p (Show w) a m = (refl, m.1)
-may_from x p (Acknowledge w) a m = (refl, m.1)
-may_from x p (Scan i) a m = (refl, m.1)
-may_from x p (Answer i) a m = (refl, m.1)
+may_from : (x : State) (p : WorldPhases) (a : Act) → MayCome x p (event_of a)
+    → MayCome x (up p.actors) (event_of a)
+may_from x p (Begins w v) m = (refl, m.1, m.2, m.3)
+may_from x p (Looks (actor.Writer w)) m = (refl, m.1)
+may_from x p (Looks (actor.Scanner i)) m = (refl, m.1)
+may_from x p (Shows w) m = (refl, m.1)
+may_from x p (Acknowledges w) m = (refl, m.1)
+may_from x p (Scans i) m = (refl, m.1)
+may_from x p (Answers i) m = (refl, m.1)
 
-pub needs_up : (x : State) (p : WorldPhases) (event : Event) → IsActors event → MayCome x p event
-    → p.node ≡ Up
-needs_up x p (Begin w v) a m = m.0
-needs_up x p (Call w) a m = absurd a
-needs_up x p (Fail w fill) a m = absurd a
-needs_up x p (Crash fills) a m = absurd a
-needs_up x p Restart a m = absurd a
-needs_up x p RestartCall a m = absurd a
-needs_up x p (RestartFail fill) a m = absurd a
-needs_up x p Serve a m = absurd a
-needs_up x p (Look (actor.Writer w)) a m = m.0
-needs_up x p (Look (actor.Scanner i)) a m = m.0
-needs_up x p (Show w) a m = m.0
-needs_up x p (Acknowledge w) a m = m.0
-needs_up x p (Scan i) a m = m.0
-needs_up x p (Answer i) a m = m.0
+devices_stay : (n : ℕ) (x : State) (p : WorldPhases) (ds : List Device) (a : Act) (reply : Reply)
+    (y : State) → DevicesMove n x p ds (event_of a) reply y ds
+devices_stay n x p ds a NotNow y = refl
+devices_stay n x p ds (Begins w v) reply y = refl
+devices_stay n x p ds a reply y = refl
 
-devices_stay : (n : ℕ) (x : State) (p : WorldPhases) (ds : List Device) (event : Event)
-    (reply : Reply) (y : State) → IsActors event → DevicesMove n x p ds event reply y ds
-devices_stay n x p ds event NotNow y a = refl
-devices_stay n x p ds (Call w) reply y a = absurd a
-devices_stay n x p ds (Fail w fill) reply y a = absurd a
-devices_stay n x p ds (Crash fills) reply y a = absurd a
-devices_stay n x p ds Restart reply y a = absurd a
-devices_stay n x p ds RestartCall reply y a = absurd a
-devices_stay n x p ds (RestartFail fill) reply y a = absurd a
-devices_stay n x p ds Serve reply y a = absurd a
-devices_stay n x p ds event reply y a = refl
-
-gates_stay : (event : Event) (reply : Reply) (q : WorldPhases) (ds : List Device) → IsActors event
-    → GatesTold event reply q ds
-gates_stay Serve reply q ds a = absurd a
-gates_stay event reply q ds a = tt
+gates_stay : (a : Act) (reply : Reply) (q : WorldPhases) (ds : List Device)
+    → GatesTold (event_of a) reply q ds
+gates_stay (Begins w v) reply q ds = tt
+gates_stay a reply q ds = tt
 
 pub same_phases : (p q : WorldPhases) → q.node ≡ p.node → q.actors ≡ p.actors → q.calls ≡ p.calls
     → q ≡ p
@@ -116,70 +82,78 @@ module _ (n : ℕ) (x : State) (p q : WorldPhases) (node : q.node ≡ p.node) (c
     either = ⊎_elim (λ e. inl (lifted actors e)) (λ e. inr (lifted p.actors e)) looks.either;
   }
 
-  phases_lift : (event : Event) (reply : Reply) → IsActors event
-      → PhasesMove n x (up p.actors) event reply (up q.actors) → PhasesMove n x p event reply q
-  phases_lift event NotNow a m = lifted p.actors m
-  phases_lift (Begin w v) Begun a m = lifted _ m
-  phases_lift (Look (actor.Writer w)) (Number k) a m = λ s e. looks_lift _ _ (m s e)
-  phases_lift (Look (actor.Scanner i)) (Number k) a m = λ s e. looks_lift _ _ (m s e)
-  phases_lift (Show w) Shown a m = lifted _ m
-  phases_lift (Acknowledge w) (Stored k) a m = lifted _ m
-  phases_lift (Scan i) ScanBegun a m = lifted _ m
-  phases_lift (Answer i) (Memory v) a m = lifted _ m
-  phases_lift (Call w) reply a m = absurd a
-  phases_lift (Fail w fill) reply a m = absurd a
-  phases_lift (Crash fills) reply a m = absurd a
-  phases_lift Restart reply a m = absurd a
-  phases_lift RestartCall reply a m = absurd a
-  phases_lift (RestartFail fill) reply a m = absurd a
-  phases_lift Serve reply a m = absurd a
-  phases_lift event reply a m = absurd m
+  phases_lift : (a : Act) (reply : Reply)
+      → PhasesMove n x (up p.actors) (event_of a) reply (up q.actors)
+      → PhasesMove n x p (event_of a) reply q
+  phases_lift a NotNow m = lifted p.actors m
+  phases_lift (Begins w v) Begun m = lifted _ m
+  phases_lift (Looks (actor.Writer w)) (Number k) m = λ s e. looks_lift _ _ (m s e)
+  phases_lift (Looks (actor.Scanner i)) (Number k) m = λ s e. looks_lift _ _ (m s e)
+  phases_lift (Shows w) Shown m = lifted _ m
+  phases_lift (Acknowledges w) (Stored k) m = lifted _ m
+  phases_lift (Scans i) ScanBegun m = lifted _ m
+  phases_lift (Answers i) (Memory v) m = lifted _ m
+  phases_lift (Begins w v) reply m = absurd m
+  phases_lift a reply m = absurd m
 
-abbrev pub with_parts : Node → Parts → Node
-with_parts w parts = record { phase = w.phase; parts = parts; drives = w.drives }
+abbrev pub with_actors : Node → Actors → Node
+with_actors w actors = record { phase = w.phase; actors = actors; drives = w.drives }
 
-pub is_up : (w : Node) (x : State) → w.phase ≡ Up → NodeStands w x → IsUp w.parts w.drives.items x
-is_up w x up stands = subst (IsNodeAt w.parts w.drives.items x) up stands.at
+pub is_up : (w : Node) (x : State) → w.phase ≡ Up → NodeStands w x → IsUp w.actors w.drives.items x
+is_up w x up stands = subst (IsNodeAt w.actors w.drives.items x) up stands.at
 
-pub acts : (w : Node) (parts : Parts) (event : Event) (reply : Reply) → IsActors event
-    → w.phase ≡ Up → IsPartsStep w.parts event reply parts
-    → IsNodeStep w event reply (with_parts w parts)
-acts w parts event reply a up s = record {
-  segments = s.segments;
-  step = λ x stands. (
-      let was = is_up w x up stands in
-      let f = s.step x was.parts_stand in
-      let p = phases_of_parts w.parts in
-      let q = phases_of_parts parts in
-      let drives = drives_follow w.parts.segments x p event reply f.0 q w.drives.items a f.1
-      (s.comes x was.parts_stand) (s.phases x was.parts_stand) was.drives_stand in
-      let now : IsUp parts w.drives.items f.0 = record {
-        parts_stand = f.2;
-        drives_stand = subst (λ n. DrivesStand n f.0.history f.0.writers q.writers w.drives.items)
-            (sym s.segments) drives;
-      } in (
-        f.0,
-        f.1,
-        devices_stay w.parts.segments x (phases_of_node w) (devices_of_node w) event reply f.0 a,
-        record {
-          drives_n = stands.drives_n ∙ sym s.segments;
-          at =
-              subst (IsNodeAt parts w.drives.items f.0) (sym up) now;
-        },
-      ));
-  comes = λ x stands. (
-      let t = s.comes x (is_up w x up stands).parts_stand in
-      record {
-        refused = λ e m. t.refused e (may_from x (phases_of_node w) event a m);
-        came = λ ne. may_act x (phases_of_node w) event a up (t.came ne);
-      });
-  phases = λ x stands. phases_lift w.parts.segments x (phases_of_node w)
-      (phases_of_node (with_parts w parts)) refl refl event reply a
-      (s.phases x (is_up w x up stands).parts_stand);
-  gates = λ x stands. gates_stay event reply (phases_of_node (with_parts w parts))
-      (devices_of_node w) a;
-  unchanged = λ e. ap (with_parts w) (s.unchanged e);
-}
+pub actors_of : (w : Node) → w.phase ≡ Up → NodeStand w → Stand w.actors
+actors_of w up t = ∥∥₁_map t (λ q. (q.0, (is_up w q.0 up q.1).actors_stand))
+
+pub acts : (w : Node) (actors : Actors) (event : Event) (reply : Reply) (a : Act)
+    → event ≡ event_of a → w.phase ≡ Up → IsActorsStep w.actors (event_of a) reply actors
+    → IsNodeStep w event reply (with_actors w actors)
+acts w actors event reply a is up s =
+    subst (λ e. IsNodeStep w e reply (with_actors w actors)) (sym is) (record {
+      segments = s.segments;
+      step = λ x stands. (
+          let was = is_up w x up stands in
+          let f = s.step x was.actors_stand in
+          let p = phases_of_actors w.actors in
+          let q = phases_of_actors actors in
+          let drives = drives_follow w.actors.segments x p a reply f.0 q w.drives.items f.1
+          (s.comes x was.actors_stand) (s.phases x was.actors_stand) was.drives_stand in
+          let now : IsUp actors w.drives.items f.0 = record {
+            actors_stand = f.2;
+            drives_stand =
+                subst (λ n. DrivesStand n f.0.history f.0.writers q.writers w.drives.items)
+                (sym s.segments) drives;
+          } in (
+            f.0,
+            f.1,
+            devices_stay w.actors.segments x (phases_of_node w) (devices_of_node w) a reply f.0,
+            record {
+              drives_n = stands.drives_n ∙ sym s.segments;
+              at =
+                  subst (IsNodeAt actors w.drives.items f.0) (sym up) now;
+            },
+          ));
+      comes = λ x stands. (
+          let t = s.comes x (is_up w x up stands).actors_stand in
+          record {
+            refused = λ e m. t.refused e (may_from x (phases_of_node w) a m);
+            came = λ ne. may_act x (phases_of_node w) a up (t.came ne);
+          });
+      phases = λ x stands. phases_lift w.actors.segments x (phases_of_node w)
+          (phases_of_node (with_actors w actors)) refl refl a reply
+          (s.phases x (is_up w x up stands).actors_stand);
+      gates = λ x stands. gates_stay a reply (phases_of_node (with_actors w actors))
+          (devices_of_node w);
+      unchanged = λ e. ap (with_actors w) (s.unchanged e);
+    })
+
+-- so it is where memory may have run out
+pub acts_or_fails : (w : Node) (actors : Actors) (event : Event) (result : Result Reply AllocError)
+    (a : Act) → event ≡ event_of a → w.phase ≡ Up
+    → IfOk result (λ reply. IsActorsStep w.actors (event_of a) reply actors)
+    → IfOk result (λ reply. IsNodeStep w event reply (with_actors w actors))
+acts_or_fails w actors event (Ok reply) a is up s = acts w actors event reply a is up s
+acts_or_fails w actors event (Err error) a is up s = tt
 
 -- an event that may not come
 pub refuses : (w : Node) (event : Event)

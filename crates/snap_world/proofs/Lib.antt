@@ -7,6 +7,7 @@ pub mod ScanEnds
 pub mod LookingOn
 pub mod Sizes
 pub mod Fills
+pub mod Acts
 pub mod Devices
 pub mod Events
 pub mod Calls

@@ -1,4 +1,4 @@
--- One look of a writer's embedded scan, or of a scanner, as a step of the parts.
+-- One look of a writer's embedded scan, or of a scanner, as a step of the actors.
 use Rattle.std.proofs.Common.{⊎_elim, ◌≡◌, ℕ, ◌<◌, ◌≤◌, inl, inr, List, [], ◌∷◌, ◌++◌, length, get_or, Some, slice_get, refl, ap, sym}
 use Rattle.std.proofs.Common.{◌∙◌, subst}
 use Rattle.std.specs.Vec.{with_item}
@@ -9,13 +9,13 @@ use Rattle.snap_world.specs.inside.Gathers.{Gathers, IsLookOf, IsUnderWay, Regis
 use Rattle.snap_world.specs.Machine.{State, WriterState, ScannerState, Begun, Opened, Step, IsLook, with_writer, with_scanner}
 use Rattle.snap_world.specs.NodePhases.{LooksOn, up, actors_to}
 use Rattle.snap_world.specs.Phases.{Phases, writer_to, scanner_to}
-use Rattle.snap_world.specs.inside.Stands.{PartsStand, WriterStands, ScannerStands, HasBegun, IsAtPhase, IsScannerAt, is_fenced}
-use Rattle.snap_world.specs.inside.Steps.{phases_of_parts}
+use Rattle.snap_world.specs.inside.Stands.{ActorsStand, WriterStands, ScannerStands, HasBegun, IsAtPhase, IsScannerAt, is_fenced}
+use Rattle.snap_world.specs.inside.Steps.{phases_of_actors}
 use Rattle.snap_world.specs.declared.event.Actor.TheVariants as actor
 use Rattle.snap_world.specs.declared.event.Event.TheVariants.{Look}
 use Rattle.snap_world.specs.declared.event.Reply.TheVariants.{Number}
 use Rattle.snap_world.specs.declared.collector.Collector.{Collector}
-use Rattle.snap_world.specs.declared.parts.Parts.{Parts}
+use Rattle.snap_world.specs.declared.actors.Actors.{Actors}
 use Rattle.snap_world.specs.declared.writer.Writer.{Writer}
 use Rattle.snap_world.specs.declared.writer.WriterPhase.TheVariants as writer
 use Rattle.snap_world.specs.declared.scanner.Scanner.{Scanner}
@@ -24,9 +24,9 @@ use Rattle.snap_world.proofs.ScanEnds.{undecided}
 use Rattle.snap_world.proofs.Moves.{the_writer, the_scanner, writer_moves, scanner_moves, has_answer}
 use Rattle.snap_world.proofs.PhaseMoves.{writer_moved, writer_kept, scanner_moved, scanner_kept}
 
--- the parts with one writer, or one scanner, changed
-abbrev pub with_parts_writer : Parts → ℕ → Writer → Parts
-with_parts_writer w i a = record {
+-- the actors with one writer, or one scanner, changed
+abbrev pub with_actors_writer : Actors → ℕ → Writer → Actors
+with_actors_writer w i a = record {
   segments = w.segments;
   registers = w.registers;
   writers =
@@ -34,8 +34,8 @@ with_parts_writer w i a = record {
   scanners = w.scanners;
 }
 
-abbrev pub with_parts_scanner : Parts → ℕ → Scanner → Parts
-with_parts_scanner w i a = record {
+abbrev pub with_actors_scanner : Actors → ℕ → Scanner → Actors
+with_actors_scanner w i a = record {
   segments = w.segments;
   registers = w.registers;
   writers =
@@ -74,7 +74,7 @@ looks_up looks = record {
   either = ⊎_elim (λ e. inl (ap up e)) (λ e. inr (ap up e)) looks.either;
 }
 
-module _ (w : Parts) (x : State) (stands : PartsStand w x) (i : ℕ) (l : i < w.segments)
+module _ (w : Actors) (x : State) (stands : ActorsStand w x) (i : ℕ) (l : i < w.segments)
     (old : Writer) (read : old ≡ get_or w.writers.items i old) (scanning : old.phase
     ≡ writer.Scanning) where
   state : (s : WriterState) × (slice_get x.writers i ≡ Some s)
@@ -129,7 +129,7 @@ module _ (w : Parts) (x : State) (stands : PartsStand w x) (i : ℕ) (l : i < w.
     -- the scan has a further look to make
     pub writer_looks : IsUnderWay col → (y : State)
         × Step w.segments x (Look (actor.Writer i)) (Number k) y
-        × PartsStand (with_parts_writer w i (record {
+        × ActorsStand (with_actors_writer w i (record {
           phase = old.phase;
           value = old.value;
           collector = col;
@@ -155,8 +155,8 @@ module _ (w : Parts) (x : State) (stands : PartsStand w x) (i : ℕ) (l : i < w.
 
     pub writer_stays : IsUnderWay col → (s : WriterState) → slice_get x.writers i ≡ Some s
         → LooksOn w.segments (s.scan.told
-        ++ k ∷ []) (phases_of_parts w) (writer_to (phases_of_parts w) i writer.Storing)
-        (phases_of_parts (with_parts_writer w i (record {
+        ++ k ∷ []) (phases_of_actors w) (writer_to (phases_of_actors w) i writer.Storing)
+        (phases_of_actors (with_actors_writer w i (record {
           phase = old.phase;
           value = old.value;
           collector = col;
@@ -181,7 +181,7 @@ module _ (w : Parts) (x : State) (stands : PartsStand w x) (i : ℕ) (l : i < w.
     -- the scan has its answer
     pub writer_ends : (IsUnderWay col → ⊥) → Tells col → (y : State)
         × Step w.segments x (Look (actor.Writer i)) (Number k) y
-        × PartsStand (with_parts_writer w i (record {
+        × ActorsStand (with_actors_writer w i (record {
           phase = writer.Storing;
           value = old.value;
           collector = col;
@@ -203,8 +203,8 @@ module _ (w : Parts) (x : State) (stands : PartsStand w x) (i : ℕ) (l : i < w.
 
     pub writer_goes : Tells col → (s : WriterState) → slice_get x.writers i ≡ Some s
         → LooksOn w.segments (s.scan.told
-        ++ k ∷ []) (phases_of_parts w) (writer_to (phases_of_parts w) i writer.Storing)
-        (phases_of_parts (with_parts_writer w i (record {
+        ++ k ∷ []) (phases_of_actors w) (writer_to (phases_of_actors w) i writer.Storing)
+        (phases_of_actors (with_actors_writer w i (record {
           phase = writer.Storing;
           value = old.value;
           collector = col;
@@ -225,9 +225,9 @@ module _ (w : Parts) (x : State) (stands : PartsStand w x) (i : ℕ) (l : i < w.
           (over w.segments x result.0 col result.2 tells)));
     }
 
-module _ (w : Parts) (x : State) (stands : PartsStand w x) (i : ℕ) (l : i < length w.scanners.items)
-    (old : Scanner) (read : old ≡ get_or w.scanners.items i old) (scanning : old.phase
-    ≡ scanner.Scanning) where
+module _ (w : Actors) (x : State) (stands : ActorsStand w x) (i : ℕ)
+    (l : i < length w.scanners.items) (old : Scanner) (read : old ≡ get_or w.scanners.items i old)
+    (scanning : old.phase ≡ scanner.Scanning) where
   scanner_state : (s : ScannerState) × (slice_get x.scanners i ≡ Some s)
       × ScannerStands w.segments x.history stands.since i old s
   scanner_state = the_scanner w x stands i old l read
@@ -264,7 +264,7 @@ module _ (w : Parts) (x : State) (stands : PartsStand w x) (i : ℕ) (l : i < le
 
     pub scanner_looks : IsUnderWay col → (y : State)
         × Step w.segments x (Look (actor.Scanner i)) (Number k) y
-        × PartsStand (with_parts_scanner w i (record { phase = old.phase; collector = col })) y
+        × ActorsStand (with_actors_scanner w i (record { phase = old.phase; collector = col })) y
     scanner_looks under_way = (
       with_scanner x i (Opened scanner_result.0),
       (
@@ -286,8 +286,8 @@ module _ (w : Parts) (x : State) (stands : PartsStand w x) (i : ℕ) (l : i < le
 
     pub scanner_stays : IsUnderWay col → (s : ScanState) → slice_get x.scanners i ≡ Some (Opened s)
         → LooksOn w.segments (s.told
-        ++ k ∷ []) (phases_of_parts w) (scanner_to (phases_of_parts w) i scanner.Ready)
-        (phases_of_parts (with_parts_scanner w i (record { phase = old.phase; collector = col })))
+        ++ k ∷ []) (phases_of_actors w) (scanner_to (phases_of_actors w) i scanner.Ready)
+        (phases_of_actors (with_actors_scanner w i (record { phase = old.phase; collector = col })))
     scanner_stays under_way s f = record {
       ends = λ has. absurd (open_still w.segments x scanner_result.0 col scanner_result.2 under_way
           (subst (IsDecided w.segments) (sym (scanner_told s f)) has));
@@ -301,7 +301,8 @@ module _ (w : Parts) (x : State) (stands : PartsStand w x) (i : ℕ) (l : i < le
 
     pub scanner_ends : (IsUnderWay col → ⊥) → Tells col → (y : State)
         × Step w.segments x (Look (actor.Scanner i)) (Number k) y
-        × PartsStand (with_parts_scanner w i (record { phase = scanner.Ready; collector = col })) y
+        × ActorsStand
+        (with_actors_scanner w i (record { phase = scanner.Ready; collector = col })) y
     scanner_ends done tells = (
       with_scanner x i (Opened scanner_result.0),
       (
@@ -325,8 +326,8 @@ module _ (w : Parts) (x : State) (stands : PartsStand w x) (i : ℕ) (l : i < le
 
     pub scanner_goes : Tells col → (s : ScanState) → slice_get x.scanners i ≡ Some (Opened s)
         → LooksOn w.segments (s.told
-        ++ k ∷ []) (phases_of_parts w) (scanner_to (phases_of_parts w) i scanner.Ready)
-        (phases_of_parts (with_parts_scanner w i (record {
+        ++ k ∷ []) (phases_of_actors w) (scanner_to (phases_of_actors w) i scanner.Ready)
+        (phases_of_actors (with_actors_scanner w i (record {
           phase = scanner.Ready;
           collector =
               col;

@@ -15,10 +15,10 @@ use Rattle.snap_scan.proofs.Collects.{Collects-none, Collects-same, IsMoment-sam
 use Rattle.snap_world.specs.Answers.{ScanState, scan_from, IsAnswer, number_at, value_at}
 use Rattle.snap_world.specs.inside.Gathers.{Gathers, Gathered, IsUnderWay, RegisterStands, IsView, ViewStands, RegistersStand}
 use Rattle.snap_world.specs.Machine.{State, WriterState, ScannerState, with_writer, with_scanner, with_update}
-use Rattle.snap_world.specs.inside.Stands.{HasBegun, HasAnswer, WriterStands, ScannerStands, PartsStand, IsAtPhase, IsScannerAt}
+use Rattle.snap_world.specs.inside.Stands.{HasBegun, HasAnswer, WriterStands, ScannerStands, ActorsStand, IsAtPhase, IsScannerAt}
 use Rattle.snap_world.specs.declared.register.Register.{Register}
 use Rattle.snap_world.specs.declared.collector.Collector.{Collector}
-use Rattle.snap_world.specs.declared.parts.Parts.{Parts}
+use Rattle.snap_world.specs.declared.actors.Actors.{Actors}
 use Rattle.snap_world.specs.declared.writer.Writer.{Writer}
 use Rattle.snap_world.specs.declared.scanner.Scanner.{Scanner}
 use Rattle.snap_world.specs.declared.writer.WriterPhase.{WriterPhase}
@@ -47,7 +47,7 @@ Gathers-none n h c segments told first next size = record {
   );
 }
 
-module _ (w : Parts) (x : State) (stands : PartsStand w x) where
+module _ (w : Actors) (x : State) (stands : ActorsStand w x) where
   -- the writer of segment i, with what it stands for
   pub the_writer : (i : ℕ) (a : Writer) → i < w.segments → a ≡ get_or w.writers.items i a
       → (s : WriterState) × (slice_get x.writers i ≡ Some s)
@@ -96,7 +96,7 @@ module _ (w : Parts) (x : State) (stands : PartsStand w x) where
   pub writer_moves : (i : ℕ) (a : Writer) (old s : WriterState) → i < w.segments
       → slice_get x.writers i ≡ Some old → s.view ≡ old.view
       → WriterStands w.segments x.history stands.since i a s
-      → PartsStand (record {
+      → ActorsStand (record {
         segments = w.segments;
         registers = w.registers;
         writers =
@@ -121,7 +121,7 @@ module _ (w : Parts) (x : State) (stands : PartsStand w x) where
   -- one that stands for the same state
   pub writer_stays : (i : ℕ) (a : Writer) → i < w.segments → (s : WriterState)
       → slice_get x.writers i ≡ Some s → WriterStands w.segments x.history stands.since i a s
-      → PartsStand (record {
+      → ActorsStand (record {
         segments = w.segments;
         registers = w.registers;
         writers =
@@ -144,7 +144,7 @@ module _ (w : Parts) (x : State) (stands : PartsStand w x) where
 
   pub scanner_moves : (i : ℕ) (a : Scanner) (s : ScannerState) → i < length w.scanners.items
       → ScannerStands w.segments x.history stands.since i a s
-      → PartsStand (record {
+      → ActorsStand (record {
         segments = w.segments;
         registers = w.registers;
         writers = w.writers;
@@ -350,7 +350,7 @@ each_show n h rs i v r l stand here j c ec =
           ne (sym f)) (stand j c (sym (get-set_other rs i j r ne) ∙ ec))
     ]
 
-pub world_shows : (w : Parts) (x : State) (stands : PartsStand w x) (i : ℕ) (v : List ℕ)
+pub world_shows : (w : Actors) (x : State) (stands : ActorsStand w x) (i : ℕ) (v : List ℕ)
     (r : Register) (a : Writer) (s : WriterState) → i < w.segments
     → RegisterStands w.segments (x.history ++ record { segment = i; value = v } ∷ []) i r
     → ViewStands w.segments (x.history ++ record {
@@ -363,7 +363,7 @@ pub world_shows : (w : Parts) (x : State) (stands : PartsStand w x) (i : ℕ) (v
       value =
           v;
     } ∷ []) stands.since i a s
-    → PartsStand (record {
+    → ActorsStand (record {
       segments = w.segments;
       registers = with_item w.registers i r;
       writers =

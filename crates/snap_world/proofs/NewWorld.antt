@@ -3,11 +3,11 @@ use Rattle.std.proofs.Common.{◌≡◌, ℕ, suc, ◌<◌, ◌≤◌, List, [],
 use Rattle.std.proofs.Common.{arith}
 use Rattle.std.proofs.lemmas.List.{length-replicate}
 use Rattle.snap_world.specs.Machine.{WriterState, ScannerState, Closed, resting}
-use Rattle.snap_world.specs.inside.Stands.{PartsStand, WriterStands, ScannerStands, IsAtPhase, IsScannerAt, is_fenced}
+use Rattle.snap_world.specs.inside.Stands.{ActorsStand, WriterStands, ScannerStands, IsAtPhase, IsScannerAt, is_fenced}
 use Rattle.snap_world.specs.inside.Fresh.{Each, IsFreshRegister, IsFreshWriter, IsFreshScanner}
 use Rattle.snap_world.specs.Start.{start_state, start_phases}
-use Rattle.snap_world.specs.inside.Steps.{phases_of_parts}
-use Rattle.snap_world.specs.declared.parts.Parts.{Parts}
+use Rattle.snap_world.specs.inside.Steps.{phases_of_actors}
+use Rattle.snap_world.specs.declared.actors.Actors.{Actors}
 use Rattle.snap_world.specs.declared.writer.Writer.{Writer}
 use Rattle.snap_world.specs.declared.scanner.Scanner.{Scanner}
 use Rattle.snap_world.specs.declared.writer.WriterPhase.TheVariants as writer
@@ -29,13 +29,13 @@ fresh_scanner n i a s f e = record {
   phase = subst (IsScannerAt n [] 0 a s) (sym f.phase) (sym e);
 }
 
-pub starts : (w : Parts) (scanners : ℕ) → 0 < w.segments → w.segments ≤ 16
+pub starts : (w : Actors) (scanners : ℕ) → 0 < w.segments → w.segments ≤ 16
     → length w.registers.items ≡ w.segments → length w.writers.items ≡ w.segments
     → length w.scanners.items ≡ scanners
     → Each (IsFreshRegister w.segments) w.registers.items
     → Each (IsFreshWriter w.segments) w.writers.items
     → Each (IsFreshScanner w.segments) w.scanners.items
-    → PartsStand w (start_state w.segments scanners)
+    → ActorsStand w (start_state w.segments scanners)
 starts w count least most nr nw ns regs writers scanners = record {
   least = least;
   most = most;
@@ -78,11 +78,11 @@ all_same f v (x ∷ xs) each =
     (let head : f x ≡ v = each 0 x refl in let rest : map f xs ≡ replicate (length xs) v =
     all_same f v xs (λ i y e. each (suc i) y e) in cc)
 
-pub starts_idle : (w : Parts) (count : ℕ) → length w.writers.items ≡ w.segments
+pub starts_idle : (w : Actors) (count : ℕ) → length w.writers.items ≡ w.segments
     → length w.scanners.items ≡ count
     → Each (IsFreshWriter w.segments) w.writers.items
     → Each (IsFreshScanner w.segments) w.scanners.items
-    → phases_of_parts w ≡ start_phases w.segments count
+    → phases_of_actors w ≡ start_phases w.segments count
 starts_idle w count nw ns fresh_writers fresh_scanners =
     let a : map (λ v. v.phase) w.writers.items ≡ replicate w.segments writer.Idle =
     all_same (λ v. v.phase) writer.Idle w.writers.items (λ i x e. (fresh_writers i x e).phase)

@@ -34,16 +34,16 @@ use Rattle.snap_world.specs.declared.node.NodePhase.{NodePhase}
 use Rattle.snap_world.specs.declared.node.NodePhase.TheVariants.{Down, Restarting, Ready}
 use Rattle.snap_world.specs.declared.node.OpeningCall.{OpeningCall}
 use Rattle.snap_world.specs.declared.node.OpeningCall.TheVariants as opening
-use Rattle.snap_world.specs.declared.parts.Parts.{Parts}
+use Rattle.snap_world.specs.declared.actors.Actors.{Actors}
 use Rattle.snap_world.proofs.Events.{same_phases}
 use Rattle.snap_world.proofs.Devices.{set_is}
 
 -- one device changes, after which a crash leaves no more than before
-down_set : (parts : Parts) (ds : List Drive) (x : State) (i : ℕ) (d e : Drive)
+down_set : (actors : Actors) (ds : List Drive) (x : State) (i : ℕ) (d e : Drive)
     → slice_get ds i ≡ Some d → ((b : List ℕ) → MayLeave (device_of e) b → MayLeave (device_of d) b)
-    → IsDown parts ds x → IsDown parts (slice_set ds i e) x
-down_set parts ds x i d e there less down = record {
-  parts_rest = down.parts_rest;
+    → IsDown actors ds x → IsDown actors (slice_set ds i e) x
+down_set actors ds x i d e there less down = record {
+  actors_rest = down.actors_rest;
   drives_down = λ j f s ef es b may. elim (cases_eq j i) [
     | inl same ↦ (
         let ef2 : slice_get (slice_set ds i e) i ≡ Some f =
@@ -57,12 +57,12 @@ down_set parts ds x i d e there less down = record {
   ];
 }
 
-module _ (parts : Parts) (ds : List Drive) (x : State) (i : ℕ) (d e : Drive) (there : slice_get ds i
-    ≡ Some d) where
-  sync_goes : IsRecovering parts ds x i i → IsSynced (device_of d) (device_of e)
-      → IsRecovering parts (slice_set ds i e) x (i + 1) i
+module _ (actors : Actors) (ds : List Drive) (x : State) (i : ℕ) (d e : Drive)
+    (there : slice_get ds i ≡ Some d) where
+  sync_goes : IsRecovering actors ds x i i → IsSynced (device_of d) (device_of e)
+      → IsRecovering actors (slice_set ds i e) x (i + 1) i
   sync_goes at synced = record {
-    down = down_set parts ds x i d e there (λ b may. synced_leaves synced b may) at.down;
+    down = down_set actors ds x i d e there (λ b may. synced_leaves synced b may) at.down;
     settled = λ j f ef below. elim (cases_eq j i) [
       | inl same ↦ (
           let is : e ≡ f = set_is ds i e f (subst (λ k. slice_get (slice_set ds i e) k
@@ -75,11 +75,11 @@ module _ (parts : Parts) (ds : List Drive) (x : State) (i : ℕ) (d e : Drive) (
         at.found j f (sym (get-set_other ds i j e ne) ∙ ef) below);
   }
 
-  read_goes : IsRecovering parts ds x (i + 1) i → device_of e ≡ device_of d
-      → IsFound i parts.segments (device_of d).bytes e.found
-      → IsRecovering parts (slice_set ds i e) x (i + 1) (i + 1)
+  read_goes : IsRecovering actors ds x (i + 1) i → device_of e ≡ device_of d
+      → IsFound i actors.segments (device_of d).bytes e.found
+      → IsRecovering actors (slice_set ds i e) x (i + 1) (i + 1)
   read_goes at same_device found = record {
-    down = down_set parts ds x i d e there (λ b may.
+    down = down_set actors ds x i d e there (λ b may.
         subst (λ z. MayLeave z b) same_device may) at.down;
     settled = λ j f ef below. elim (cases_eq j i) [
       | inl same ↦ (
@@ -93,34 +93,34 @@ module _ (parts : Parts) (ds : List Drive) (x : State) (i : ℕ) (d e : Drive) (
       | inl same ↦ (
           let is : e ≡ f = set_is ds i e f (subst (λ k. slice_get (slice_set ds i e) k
           ≡ Some f) same ef) in
-          let here : IsFound i parts.segments (device_of e).bytes e.found =
-          subst (λ (z : Device). IsFound i parts.segments z.bytes e.found)
+          let here : IsFound i actors.segments (device_of e).bytes e.found =
+          subst (λ (z : Device). IsFound i actors.segments z.bytes e.found)
           (sym same_device) found in
-          subst (λ k. IsFound k parts.segments (device_of f).bytes f.found) (sym same)
-          (subst (λ (z : Drive). IsFound i parts.segments (device_of z).bytes z.found) is here))
+          subst (λ k. IsFound k actors.segments (device_of f).bytes f.found) (sym same)
+          (subst (λ (z : Drive). IsFound i actors.segments (device_of z).bytes z.found) is here))
       | inr ne ↦ at.found j f (sym (get-set_other ds i j e ne) ∙ ef) (omega arith)
     ];
   }
 
 -- the next segment is opened, or all are
-after_read : (parts : Parts) (ds : List Drive) (x : State) (n i : ℕ) → n ≡ parts.segments → i < n
-    → IsRecovering parts ds x (i + 1) (i + 1)
-    → IsNodeAt parts ds x (after_opening_call n i opening.Read)
-after_read parts ds x n i size low at = elim (nat_lt (i + 1) n) as (λ b. nat_lt (i + 1) n ≡ b
-    → IsNodeAt parts ds x (if b then Restarting (i + 1) opening.Sync else Ready)) [
+after_read : (actors : Actors) (ds : List Drive) (x : State) (n i : ℕ) → n ≡ actors.segments → i < n
+    → IsRecovering actors ds x (i + 1) (i + 1)
+    → IsNodeAt actors ds x (after_opening_call n i opening.Read)
+after_read actors ds x n i size low at = elim (nat_lt (i + 1) n) as (λ b. nat_lt (i + 1) n ≡ b
+    → IsNodeAt actors ds x (if b then Restarting (i + 1) opening.Sync else Ready)) [
       | true ↦ λ test. (let more : i + 1 < n = grind (arith, nat_tests) in (omega arith, at))
-      | false ↦ λ test. (let last : i + 1 ≡ parts.segments = grind (arith, nat_tests) in
-          subst (λ k. IsRecovering parts ds x k k) last at)
+      | false ↦ λ test. (let last : i + 1 ≡ actors.segments = grind (arith, nat_tests) in
+          subst (λ k. IsRecovering actors ds x k k) last at)
     ] refl
 
 -- the segment whose call comes next is there
 pub opening_within : (w : Node) (i : ℕ) (call : OpeningCall) → w.phase ≡ Restarting i call
     → NodeStand w → i < length w.drives.items
 opening_within w i call restarting stand = ∥∥₁_elim stand (hlevel props) (λ q. (
-    let size : length w.drives.items ≡ w.parts.segments = q.1.drives_n in
-    let at : (i < w.parts.segments) × IsRestarting w.parts w.drives.items q.0 i call =
-    subst (IsNodeAt w.parts w.drives.items q.0) restarting q.1.at in
-    let low : i < w.parts.segments = at.0 in
+    let size : length w.drives.items ≡ w.actors.segments = q.1.drives_n in
+    let at : (i < w.actors.segments) × IsRestarting w.actors w.drives.items q.0 i call =
+    subst (IsNodeAt w.actors w.drives.items q.0) restarting q.1.at in
+    let low : i < w.actors.segments = at.0 in
     omega arith))
 
 module _ (w : Node) (i : ℕ) (d : Drive) (within : i < length w.drives.items) (read : d
@@ -129,8 +129,8 @@ module _ (w : Node) (i : ℕ) (d : Drive) (within : i < length w.drives.items) (
   there = slice_get_read w.drives.items (length w.drives.items) i d refl within read
 
   at_call : (call : OpeningCall) → w.phase ≡ Restarting i call → (x : State) → NodeStands w x
-      → (i < w.parts.segments) × IsRestarting w.parts w.drives.items x i call
-  at_call call restarting x stands = subst (IsNodeAt w.parts w.drives.items x) restarting stands.at
+      → (i < w.actors.segments) × IsRestarting w.actors w.drives.items x i call
+  at_call call restarting x stands = subst (IsNodeAt w.actors w.drives.items x) restarting stands.at
 
   module _ (e : Drive) (persist : e.persist ≡ d.persist) where
     same_calls : map store_left (slice_set w.drives.items i e) ≡ map store_left w.drives.items
@@ -150,7 +150,7 @@ module _ (w : Node) (i : ℕ) (d : Drive) (within : i < length w.drives.items) (
     pub sync_step : w.phase ≡ Restarting i opening.Sync → IsSynced (device_of d) (device_of e)
         → IsNodeStep w RestartCall (Called kind.Sync) (record {
           phase = Restarting i opening.Read;
-          parts = w.parts;
+          actors = w.actors;
           drives = with_item w.drives i e;
         })
     sync_step restarting synced = record {
@@ -163,7 +163,7 @@ module _ (w : Node) (i : ℕ) (d : Drive) (within : i < length w.drives.items) (
             record {
               drives_n = length-set w.drives.items i e ∙ stands.drives_n;
               at =
-                  (at.0, sync_goes w.parts w.drives.items x i d e there at.1 synced);
+                  (at.0, sync_goes w.actors w.drives.items x i d e there at.1 synced);
             },
           ));
       comes = λ x stands. record { refused = λ f. cc; came = λ _. (i, opening.Sync, restarting) };
@@ -183,7 +183,7 @@ module _ (w : Node) (i : ℕ) (d : Drive) (within : i < length w.drives.items) (
         → IsRefilled fill (device_of d) (device_of e)
         → IsNodeStep w (RestartFail fill) DeviceFailed (record {
           phase = Down;
-          parts = w.parts;
+          actors = w.actors;
           drives = with_item w.drives i e;
         })
     sync_fail_step fill restarting refilled = record {
@@ -195,7 +195,7 @@ module _ (w : Node) (i : ℕ) (d : Drive) (within : i < length w.drives.items) (
         record {
           drives_n = length-set w.drives.items i e ∙ stands.drives_n;
           at =
-              down_set w.parts w.drives.items x i d e there (λ b may.
+              down_set w.actors w.drives.items x i d e there (λ b may.
               unsynced_leaves refilled.left b may)
               (at_call opening.Sync restarting x stands).1.down;
         },
@@ -212,16 +212,16 @@ module _ (w : Node) (i : ℕ) (d : Drive) (within : i < length w.drives.items) (
         → ((n : ℕ) → n ≡ length w.drives.items → IsFound i n (device_of d).bytes e.found)
         → IsNodeStep w RestartCall (Called kind.Read) (record {
           phase = phase;
-          parts = w.parts;
+          actors = w.actors;
           drives = with_item w.drives i e;
         })
     read_step phase next restarting same_device found = record {
       segments = refl;
       step = λ x stands. (
           let at = at_call opening.Read restarting x stands in
-          let goes : IsRecovering w.parts (slice_set w.drives.items i e) x (i + 1) (i + 1) =
-          read_goes w.parts w.drives.items x i d e there at.1 same_device
-          (found w.parts.segments (sym stands.drives_n)) in (
+          let goes : IsRecovering w.actors (slice_set w.drives.items i e) x (i + 1) (i + 1) =
+          read_goes w.actors w.drives.items x i d e there at.1 same_device
+          (found w.actors.segments (sym stands.drives_n)) in (
             x,
             refl,
             (
@@ -233,8 +233,8 @@ module _ (w : Node) (i : ℕ) (d : Drive) (within : i < length w.drives.items) (
             ),
             record {
               drives_n = length-set w.drives.items i e ∙ stands.drives_n;
-              at = subst (IsNodeAt w.parts (slice_set w.drives.items i e) x) (sym next)
-                  (after_read w.parts (slice_set w.drives.items i e) x
+              at = subst (IsNodeAt w.actors (slice_set w.drives.items i e) x) (sym next)
+                  (after_read w.actors (slice_set w.drives.items i e) x
                   (length w.drives.items) i stands.drives_n within goes);
             },
           ));
@@ -245,7 +245,7 @@ module _ (w : Node) (i : ℕ) (d : Drive) (within : i < length w.drives.items) (
         restarting,
         refl,
         same_phases (node_to (phases_of_node w)
-            (after_opening_call w.parts.segments i opening.Read)) _ (next
+            (after_opening_call w.actors.segments i opening.Read)) _ (next
             ∙ ap (λ n. after_opening_call n i opening.Read) stands.drives_n) refl same_calls,
       );
       gates = λ x stands. tt;
@@ -257,9 +257,9 @@ module _ (w : Node) (i : ℕ) (d : Drive) (within : i < length w.drives.items) (
       × (v : List ℕ) × IsFileOf i (length w.drives.items) k v (device_of d).bytes
   a_file restarting x stands =
       let down = (at_call opening.Read restarting x stands).1.down in
-      let size : length w.drives.items ≡ w.parts.segments = stands.drives_n in
-      let long : length w.parts.writers.items ≡ length x.writers = down.parts_rest.writers.size in
-      let all : length w.parts.writers.items ≡ w.parts.segments = down.parts_rest.writers_n in
+      let size : length w.drives.items ≡ w.actors.segments = stands.drives_n in
+      let long : length w.actors.writers.items ≡ length x.writers = down.actors_rest.writers.size in
+      let all : length w.actors.writers.items ≡ w.actors.segments = down.actors_rest.writers_n in
       let s = element x.writers i (omega arith) in
       let either = down.drives_down i d s.0 there s.1 (device_of d).bytes (record {
         size = refl;

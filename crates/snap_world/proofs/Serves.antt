@@ -25,13 +25,13 @@ use Rattle.snap_world.specs.inside.NodeStands.{NodeStands, WriterRests, ScannerR
 use Rattle.snap_world.specs.inside.NodeSteps.{store_left}
 use Rattle.snap_world.specs.Phases.{Phases}
 use Rattle.snap_world.specs.inside.Recovery.{found_value, IsReadable, IsResumed, IsRecovered, AreRecovered}
-use Rattle.snap_world.specs.inside.Stands.{PartsStand, WriterStands, ScannerStands, IsAtPhase, IsScannerAt, is_fenced}
-use Rattle.snap_world.specs.inside.Steps.{phases_of_parts}
+use Rattle.snap_world.specs.inside.Stands.{ActorsStand, WriterStands, ScannerStands, IsAtPhase, IsScannerAt, is_fenced}
+use Rattle.snap_world.specs.inside.Steps.{phases_of_actors}
 use Rattle.snap_world.specs.declared.drive.Drive.{Drive}
 use Rattle.snap_persist.specs.declared.persist.NextCall.{NextCall}
 use Rattle.snap_world.specs.declared.node.Node.{Node}
 use Rattle.snap_world.specs.declared.node.NodePhase.TheVariants.{Ready}
-use Rattle.snap_world.specs.declared.parts.Parts.{Parts}
+use Rattle.snap_world.specs.declared.actors.Actors.{Actors}
 use Rattle.snap_world.specs.declared.register.Register.{Register}
 use Rattle.snap_world.specs.declared.writer.Writer.{Writer}
 use Rattle.snap_world.specs.declared.writer.WriterPhase.{WriterPhase}
@@ -46,13 +46,13 @@ use Rattle.snap_world.proofs.Sweep.{map_element, map_same}
 
 module _ (w : Node) (x : State) (stands : NodeStands w x) (is_ready : w.phase ≡ Ready) where
   abbrev pub n : ℕ
-  n = w.parts.segments
+  n = w.actors.segments
 
   abbrev pub ds : List Drive
   ds = w.drives.items
 
-  pub at : IsRecovering w.parts ds x n n
-  at = subst (IsNodeAt w.parts ds x) is_ready stands.at
+  pub at : IsRecovering w.actors ds x n n
+  at = subst (IsNodeAt w.actors ds x) is_ready stands.at
 
   size : length ds ≡ n
   size = stands.drives_n
@@ -74,8 +74,9 @@ module _ (w : Node) (x : State) (stands : NodeStands w x) (is_ready : w.phase �
     state =
         let l : i < length ds = low in
         let s : length ds ≡ n = size in
-        let a : length w.parts.writers.items ≡ length x.writers = at.down.parts_rest.writers.size in
-        let b : length w.parts.writers.items ≡ n = at.down.parts_rest.writers_n in
+        let a : length w.actors.writers.items ≡ length x.writers =
+        at.down.actors_rest.writers.size in
+        let b : length w.actors.writers.items ≡ n = at.down.actors_rest.writers_n in
         element x.writers i (omega arith)
 
     pub either : (s : WriterState) → slice_get x.writers i ≡ Some s
@@ -113,8 +114,8 @@ module _ (w : Node) (x : State) (stands : NodeStands w x) (is_ready : w.phase �
       ⊎ ((v : List ℕ) × (s.pending ≡ Begun v) × Taken i v)
   given i s es =
       let l : i < length x.writers = slice_get_within x.writers i s es in
-      let a : length w.parts.writers.items ≡ length x.writers = at.down.parts_rest.writers.size in
-      let b : length w.parts.writers.items ≡ n = at.down.parts_rest.writers_n in
+      let a : length w.actors.writers.items ≡ length x.writers = at.down.actors_rest.writers.size in
+      let b : length w.actors.writers.items ≡ n = at.down.actors_rest.writers_n in
       let c : length ds ≡ n = size in
       let d = element ds i (omega arith) in
       elim (either i d.0 d.1 s es) [
@@ -175,9 +176,9 @@ module _ (w : Node) (x : State) (stands : NodeStands w x) (is_ready : w.phase �
         ∙ ap (λ v. Some v) (is_after i d.0 d.1).1);
   }
 
-  module _ (parts : Parts) (es : List Drive) (segments : parts.segments ≡ w.parts.segments)
-      (writers : parts.writers ≡ w.parts.writers) (scanners : parts.scanners ≡ w.parts.scanners)
-      (recovered : AreRecovered ds w.parts.registers.items parts.registers.items)
+  module _ (actors : Actors) (es : List Drive) (segments : actors.segments ≡ w.actors.segments)
+      (writers : actors.writers ≡ w.actors.writers) (scanners : actors.scanners ≡ w.actors.scanners)
+      (recovered : AreRecovered ds w.actors.registers.items actors.registers.items)
       (resumed : Pairs (λ i. IsResumed) ds es) where
     abbrev pub y : State
     y = served x marks
@@ -190,22 +191,23 @@ module _ (w : Node) (x : State) (stands : NodeStands w x) (is_ready : w.phase �
         let d = element ds i (omega arith) in
         (d.0, d.1, resumed.each i d.0 e d.1 ee)
 
-    register_stands : (i : ℕ) (r : Register) → slice_get parts.registers.items i ≡ Some r
+    register_stands : (i : ℕ) (r : Register) → slice_get actors.registers.items i ≡ Some r
         → RegisterStands n h i r
     register_stands i r er =
-        let l : i < length parts.registers.items = slice_get_within parts.registers.items i r er in
-        let s : length parts.registers.items ≡ length w.parts.registers.items =
+        let l : i < length actors.registers.items =
+        slice_get_within actors.registers.items i r er in
+        let s : length actors.registers.items ≡ length w.actors.registers.items =
         sym recovered.size in
-        let t : length w.parts.registers.items ≡ n = at.down.parts_rest.registers_n in
+        let t : length w.actors.registers.items ≡ n = at.down.actors_rest.registers_n in
         let c : length ds ≡ n = size in
         let d = element ds i (omega arith) in
-        let o = element w.parts.registers.items i (omega arith) in
+        let o = element w.actors.registers.items i (omega arith) in
         let is : IsRecovered d.0 o.0 r = recovered.each i o.0 r o.1 er d.0 d.1 in
         let after = is_after i d.0 d.1 in
         record {
           number = is.number ∙ after.0;
           value = is.value ∙ after.1;
-          size = ap (λ v. length v.items) is.view ∙ at.down.parts_rest.views_n i o.0 o.1;
+          size = ap (λ v. length v.items) is.view ∙ at.down.actors_rest.views_n i o.0 o.1;
         }
 
     abbrev free : WriterState
@@ -213,7 +215,7 @@ module _ (w : Node) (x : State) (stands : NodeStands w x) (is_ready : w.phase �
 
     -- nothing was shown yet since the restart
     view_stands : (i : ℕ) (r : Register) (s : WriterState)
-        → slice_get parts.registers.items i ≡ Some r
+        → slice_get actors.registers.items i ≡ Some r
         → slice_get (map (λ (z : WriterState). free) x.writers) i ≡ Some s
         → ViewStands n h (length h) i r s.view
     view_stands i r s er es =
@@ -224,13 +226,13 @@ module _ (w : Node) (x : State) (stands : NodeStands w x) (is_ready : w.phase �
         record { kept = λ above. absurd (omega arith); is_view = λ p e. cc }
 
     writer_stands : (i : ℕ) (a : Writer) (s : WriterState)
-        → slice_get parts.writers.items i ≡ Some a
+        → slice_get actors.writers.items i ≡ Some a
         → slice_get (map (λ (z : WriterState). free) x.writers) i ≡ Some s
         → WriterStands n h (length h) i a s
     writer_stands i a s ea es =
         let old = map_element (λ (z : WriterState). free) x.writers i s es in
         let rest : WriterRests n a old.0 =
-        at.down.parts_rest.writers.each i a old.0 (ap (λ v. slice_get v.items i) (sym writers)
+        at.down.actors_rest.writers.each i a old.0 (ap (λ v. slice_get v.items i) (sym writers)
         ∙ ea) old.1 in
         record {
           size = rest.size;
@@ -240,36 +242,36 @@ module _ (w : Node) (x : State) (stands : NodeStands w x) (is_ready : w.phase �
         }
 
     scanner_stands : (i : ℕ) (a : Scanner) (s : ScannerState)
-        → slice_get parts.scanners.items i ≡ Some a
+        → slice_get actors.scanners.items i ≡ Some a
         → slice_get (map (λ (z : ScannerState). Closed) x.scanners) i ≡ Some s
         → ScannerStands n h (length h) i a s
     scanner_stands i a s ea es =
         let old = map_element (λ (z : ScannerState). Closed) x.scanners i s es in
         let rest : ScannerRests n a old.0 =
-        at.down.parts_rest.scanners.each i a old.0 (ap (λ v. slice_get v.items i) (sym scanners)
+        at.down.actors_rest.scanners.each i a old.0 (ap (λ v. slice_get v.items i) (sym scanners)
         ∙ ea) old.1 in
         record {
           size = rest.size;
           phase = subst (IsScannerAt n h (length h) a s) (sym rest.idle) (sym old.2);
         }
 
-    pub parts_stand : PartsStand parts y
-    parts_stand = record {
-      least = subst (λ m. 0 < m) (sym segments) at.down.parts_rest.least;
-      most = subst (λ m. m ≤ 16) (sym segments) at.down.parts_rest.most;
+    pub actors_stand : ActorsStand actors y
+    actors_stand = record {
+      least = subst (λ m. 0 < m) (sym segments) at.down.actors_rest.least;
+      most = subst (λ m. m ≤ 16) (sym segments) at.down.actors_rest.most;
       since = length h;
       within = omega arith;
       registers = record {
-        size = sym recovered.size ∙ at.down.parts_rest.registers_n ∙ sym segments;
+        size = sym recovered.size ∙ at.down.actors_rest.registers_n ∙ sym segments;
         each = λ i r er. subst (λ m. RegisterStands m h i r) (sym segments)
             (register_stands i r er);
         views = record {
           size = (
-              let a : length w.parts.registers.items ≡ n = at.down.parts_rest.registers_n in
-              let b : length w.parts.writers.items ≡ n = at.down.parts_rest.writers_n in
-              let c : length w.parts.writers.items ≡ length x.writers =
-              at.down.parts_rest.writers.size in
-              let d : length w.parts.registers.items ≡ length parts.registers.items =
+              let a : length w.actors.registers.items ≡ n = at.down.actors_rest.registers_n in
+              let b : length w.actors.writers.items ≡ n = at.down.actors_rest.writers_n in
+              let c : length w.actors.writers.items ≡ length x.writers =
+              at.down.actors_rest.writers.size in
+              let d : length w.actors.registers.items ≡ length actors.registers.items =
               recovered.size in
               let e : length (map (λ (z : WriterState). free) x.writers) ≡ length x.writers =
               length-map x.writers (λ (z : WriterState). free) in
@@ -278,15 +280,15 @@ module _ (w : Node) (x : State) (stands : NodeStands w x) (is_ready : w.phase �
               (view_stands i r s er es);
         };
       };
-      writers_n = ap (λ v. length v.items) writers ∙ at.down.parts_rest.writers_n ∙ sym segments;
+      writers_n = ap (λ v. length v.items) writers ∙ at.down.actors_rest.writers_n ∙ sym segments;
       writers = record {
-        size = ap (λ v. length v.items) writers ∙ at.down.parts_rest.writers.size
+        size = ap (λ v. length v.items) writers ∙ at.down.actors_rest.writers.size
             ∙ sym (length-map x.writers (λ (z : WriterState). free));
         each = λ i a s ea es. subst (λ m. WriterStands m h (length h) i a s) (sym segments)
             (writer_stands i a s ea es);
       };
       scanners = record {
-        size = ap (λ v. length v.items) scanners ∙ at.down.parts_rest.scanners.size
+        size = ap (λ v. length v.items) scanners ∙ at.down.actors_rest.scanners.size
             ∙ sym (length-map x.scanners (λ (z : ScannerState). Closed));
         each = λ i a s ea es. subst (λ m. ScannerStands m h (length h) i a s) (sym segments)
             (scanner_stands i a s ea es);
@@ -314,13 +316,13 @@ module _ (w : Node) (x : State) (stands : NodeStands w x) (is_ready : w.phase �
           stage = d.2.stage;
         }
 
-    pub drives_stand : DrivesStand parts.segments y.history y.writers
-        (phases_of_parts parts).writers es
+    pub drives_stand : DrivesStand actors.segments y.history y.writers
+        (phases_of_actors actors).writers es
     drives_stand i e s phase ee es_ ep =
-        let a = map_element (λ (z : Writer). z.phase) parts.writers.items i phase ep in
+        let a = map_element (λ (z : Writer). z.phase) actors.writers.items i phase ep in
         let old = map_element (λ (z : WriterState). free) x.writers i s es_ in
         let rest : WriterRests n a.0 old.0 =
-        at.down.parts_rest.writers.each i a.0 old.0 (ap (λ v. slice_get v.items i) (sym writers)
+        at.down.actors_rest.writers.each i a.0 old.0 (ap (λ v. slice_get v.items i) (sym writers)
         ∙ a.1) old.1 in
         subst (λ m. DriveStands m h i phase s.pending e) (sym segments)
         (subst (λ z. DriveStands n h i z s.pending e) (sym rest.idle ∙ a.2) (ready i e ee))
@@ -364,26 +366,26 @@ module _ (w : Node) (x : State) (stands : NodeStands w x) (is_ready : w.phase �
         (found_holds i n (device_of d.0).bytes d.0.found is) holds).0 is.held.spare in
         (d.0.found.spare_open, sym f.2 ∙ ap store_left one ∙ d.2.calls, subst Spare same spare)
 
-    pub idle_phases : phases_of_parts parts ≡ all_idle (phases_of_parts w.parts)
+    pub idle_phases : phases_of_actors actors ≡ all_idle (phases_of_actors w.actors)
     idle_phases =
         let phase : Writer → WriterPhase = λ v. v.phase in
         let scanner_phase : Scanner → ScannerPhase = λ v. v.phase in
-        let a : map phase parts.writers.items
-        ≡ replicate (length (map phase w.parts.writers.items)) writer.Idle =
+        let a : map phase actors.writers.items
+        ≡ replicate (length (map phase w.actors.writers.items)) writer.Idle =
         ap (λ v. map phase v.items) writers
-        ∙ all_same phase writer.Idle w.parts.writers.items (λ i z e.
-        (partner (λ j. WriterRests n) w.parts.writers.items x.writers i z at.down.parts_rest.writers
-        e).2.idle)
-        ∙ ap (λ m. replicate m writer.Idle) (sym (length-map w.parts.writers.items phase)) in
-        let b : map scanner_phase parts.scanners.items
-        ≡ replicate (length (map scanner_phase w.parts.scanners.items)) scanner.Idle =
+        ∙ all_same phase writer.Idle w.actors.writers.items (λ i z e.
+        (partner (λ j. WriterRests n) w.actors.writers.items x.writers i z
+        at.down.actors_rest.writers e).2.idle)
+        ∙ ap (λ m. replicate m writer.Idle) (sym (length-map w.actors.writers.items phase)) in
+        let b : map scanner_phase actors.scanners.items
+        ≡ replicate (length (map scanner_phase w.actors.scanners.items)) scanner.Idle =
         ap (λ v. map scanner_phase v.items) scanners
-        ∙ all_same scanner_phase scanner.Idle w.parts.scanners.items (λ i z e.
-        (partner (λ j. ScannerRests n) w.parts.scanners.items x.scanners i z
-        at.down.parts_rest.scanners e).2.idle)
+        ∙ all_same scanner_phase scanner.Idle w.actors.scanners.items (λ i z e.
+        (partner (λ j. ScannerRests n) w.actors.scanners.items x.scanners i z
+        at.down.actors_rest.scanners e).2.idle)
         ∙ ap (λ m. replicate m scanner.Idle)
-        (sym (length-map w.parts.scanners.items scanner_phase)) in
+        (sym (length-map w.actors.scanners.items scanner_phase)) in
         let Made : List WriterPhase → List ScannerPhase → Phases =
         λ p q. record { writers = p; scanners = q } in
-        ap (λ p. Made p (map scanner_phase parts.scanners.items)) a
-        ∙ ap (λ q. Made (replicate (length (map phase w.parts.writers.items)) writer.Idle) q) b
+        ap (λ p. Made p (map scanner_phase actors.scanners.items)) a
+        ∙ ap (λ q. Made (replicate (length (map phase w.actors.writers.items)) writer.Idle) q) b

@@ -9,3 +9,4 @@ pub mod Crashes
 pub mod Devices
 pub mod NodePhases
 pub mod inside
+pub use Rattle.snap_persist.specs.declared.persist

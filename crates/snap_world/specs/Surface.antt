@@ -13,7 +13,7 @@ use Rattle.snap_world.specs.declared.world.World.{World}
 
 -- how many segments the world has
 abbrev pub segments_of : World → ℕ
-segments_of w = w.node.parts.segments
+segments_of w = w.node.actors.segments
 
 -- the phases of its node, its writers and scanners, and its stores
 abbrev pub phases_of : World → WorldPhases

@@ -18,16 +18,14 @@
 //! a world stands for (specs/inside/NodeStands.antt).
 #![tactic(auto)]
 
+mod actors;
 mod collector;
 mod drive;
 mod event;
 mod node;
-mod parts;
 mod register;
-mod restart;
 mod scanner;
 mod start;
-mod store;
 mod value;
 mod world;
 mod writer;

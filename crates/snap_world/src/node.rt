@@ -1,15 +1,17 @@
-//! A node: its parts in memory, the devices of its segments, and what one event does to them.
-ghost use Rattle.std.specs.Prelude.{◌≡◌, ℕ, ◌<◌, ◌≤◌, IfOk, OnErr};
+//! A node: its actors, the devices of its segments, and what one event does to them.
+ghost use Rattle.std.specs.Prelude.{◌≡◌, ◌<◌, ◌≤◌, IfOk, OnErr};
 ghost use Rattle.snap_history.specs.declared.limits.TheConstants.{MAX_COUNT};
 ghost use Rattle.snap_world.specs.Start.{start_state, start_world_phases, AreFormatted};
 ghost use Rattle.snap_world.specs.NodePhases.{NeedsMemory};
 ghost use Rattle.snap_world.specs.inside.NodeStands.{NodeStands, NodeStand};
 ghost use Rattle.snap_world.specs.inside.NodeSteps.{IsNodeStep, phases_of_node, devices_of_node};
-ghost use Rattle.snap_world.specs.inside.Steps.{IsActors};
 
+mod restarts;
+mod stores;
+
+use crate::actors::Actors;
 use crate::drive::{Drive, new_drives};
 use crate::event::{Event, Reply};
-use crate::parts::Parts;
 use std::alloc::{AllocError, Global};
 
 /// A device call by which a restart opens a segment: first the sync, then the read of its file.
@@ -36,7 +38,7 @@ pub enum NodePhase {
 #[derive(Drop)]
 pub struct Node {
     pub phase: NodePhase,
-    pub parts: Parts,
+    pub actors: Actors,
     pub drives: Vec<Drive>,
 }
 
@@ -45,50 +47,43 @@ impl Node {
     pub fn new(alloc: Global, segments: usize, scanners: usize) -> Result<Node, AllocError>
         requires least { 0 < segments }
         requires most { segments ≤ MAX_COUNT }
-        ensures segments { IfOk result (λ w. w.parts.segments ≡ segments) }
+        ensures segments { IfOk result (λ w. w.actors.segments ≡ segments) }
         ensures phases { IfOk result (λ w.
             phases_of_node w ≡ start_world_phases segments scanners) }
         ensures devices { IfOk result (λ w. AreFormatted segments (devices_of_node w)) }
         ensures stands { IfOk result (λ w. NodeStands w (start_state segments scanners)) }
     {
-        let parts = Parts::new(alloc, segments, scanners)?;
+        let actors = Actors::new(alloc, segments, scanners)?;
         let drives = new_drives(alloc, segments)?;
         Ok(Node {
             phase: NodePhase::Up,
-            parts,
+            actors,
             drives,
         })
     }
 
-    /// One event.
+    /// One event. Writers and scanners act only while the node is up.
+    #[tactic(auto, using(crate::proofs::Events::actors_of))]
     pub fn step(&mut self, alloc: Global, event: &Event) -> Result<Reply, AllocError>
         requires stands { NodeStand self.old }
         ensures step { IfOk result (λ reply. IsNodeStep self.old event.now reply self.new) }
         ensures memory { OnErr result (NeedsMemory (phases_of_node self.old) event.now) }
         ensures err { OnErr result (self.new ≡ self.old) }
     {
-        match event {
-            Event::Call(segment) => Ok(self.call(*segment)),
-            Event::Fail(segment, fill) => Ok(self.fail(*segment, fill)),
-            Event::Crash(fills) => Ok(self.crash(fills)),
-            Event::Restart => Ok(self.restart()),
-            Event::RestartCall => Ok(self.restart_call()),
-            Event::RestartFail(fill) => Ok(self.restart_fail(fill)),
-            Event::Serve => self.serve(alloc),
-            _ => self.act(alloc, event),
-        }
-    }
-
-    /// An event of a writer or a scanner.
-    fn act(&mut self, alloc: Global, event: &Event) -> Result<Reply, AllocError>
-        requires stands { NodeStand self.old }
-        requires actors { IsActors event.now }
-        ensures step { IfOk result (λ reply. IsNodeStep self.old event.now reply self.new) }
-        ensures memory { OnErr result (NeedsMemory (phases_of_node self.old) event.now) }
-        ensures err { OnErr result (self.new ≡ self.old) }
-    {
-        match self.phase {
-            NodePhase::Up => self.parts.step(alloc, event),
+        match (event, self.phase) {
+            (Event::Call(segment), _) => Ok(self.call(*segment)),
+            (Event::Fail(segment, fill), _) => Ok(self.fail(*segment, fill)),
+            (Event::Crash(fills), _) => Ok(self.crash(fills)),
+            (Event::Restart, _) => Ok(self.restart()),
+            (Event::RestartCall, _) => Ok(self.restart_call()),
+            (Event::RestartFail(fill), _) => Ok(self.restart_fail(fill)),
+            (Event::Serve, _) => self.serve(alloc),
+            (Event::Begin(segment, value), NodePhase::Up) => Ok(self.actors.begin(*segment, value)),
+            (Event::Look(actor), NodePhase::Up) => Ok(self.actors.look(*actor)),
+            (Event::Show(segment), NodePhase::Up) => Ok(self.actors.show(*segment)),
+            (Event::Acknowledge(segment), NodePhase::Up) => Ok(self.actors.acknowledge(*segment)),
+            (Event::Scan(scanner), NodePhase::Up) => Ok(self.actors.scan(*scanner)),
+            (Event::Answer(scanner), NodePhase::Up) => self.actors.answer(alloc, *scanner),
             _ => Ok(Reply::NotNow),
         }
     }

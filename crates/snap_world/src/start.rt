@@ -1,4 +1,4 @@
-//! The parts of a new world: nothing was shown, nobody is at work.
+//! The actors of a new world, with their registers: nothing was shown, nobody is at work.
 ghost use Rattle.std.specs.Prelude.{◌≡◌, ℕ, ◌<◌, ◌≤◌, length, IfOk};
 ghost use Rattle.snap_history.specs.declared.limits.TheConstants.{MAX_COUNT};
 ghost use Rattle.snap_world.specs.inside.Fresh.{

@@ -1,4 +1,4 @@
--- The parts of a new world.
+-- The actors and registers of a new world.
 use Rattle.std.specs.Prelude.{◌≡◌, ℕ, List, [], length, slice_get, Some}
 use Rattle.snap_world.specs.declared.register.Register.{Register}
 use Rattle.snap_world.specs.declared.writer.Writer.{Writer}

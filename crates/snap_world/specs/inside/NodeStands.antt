@@ -6,15 +6,15 @@ use Rattle.snap_history.specs.declared.limits.TheConstants.{MAX_COUNT}
 use Rattle.snap_history.specs.Pairs.{Pairs}
 use Rattle.snap_world.specs.inside.Drives.{DrivesStand, DrivesDown, device_of}
 use Rattle.snap_world.specs.Machine.{State, WriterState, ScannerState, Closed}
-use Rattle.snap_world.specs.inside.Stands.{PartsStand}
-use Rattle.snap_world.specs.inside.Steps.{phases_of_parts}
+use Rattle.snap_world.specs.inside.Stands.{ActorsStand}
+use Rattle.snap_world.specs.inside.Steps.{phases_of_actors}
 use Rattle.snap_world.specs.declared.drive.Drive.{Drive}
 use Rattle.snap_world.specs.declared.node.Node.{Node}
 use Rattle.snap_world.specs.declared.node.NodePhase.{NodePhase}
 use Rattle.snap_world.specs.declared.node.NodePhase.TheVariants.{Up, Down, Restarting, Ready}
 use Rattle.snap_world.specs.declared.node.OpeningCall.{OpeningCall}
 use Rattle.snap_world.specs.declared.node.OpeningCall.TheVariants as opening
-use Rattle.snap_world.specs.declared.parts.Parts.{Parts}
+use Rattle.snap_world.specs.declared.actors.Actors.{Actors}
 use Rattle.snap_world.specs.declared.register.Register.{Register}
 use Rattle.snap_world.specs.declared.writer.Writer.{Writer}
 use Rattle.snap_world.specs.declared.writer.WriterPhase.TheVariants as writer
@@ -31,14 +31,14 @@ pub record ScannerRests (n : ℕ) (a : Scanner) (s : ScannerState) : Type 0 wher
   pub idle : a.phase ≡ scanner.Idle
   pub closed : s ≡ Closed
 
--- while it is up, its parts and each device stand for the state
-pub record IsUp (parts : Parts) (drives : List Drive) (x : State) : Type 0 where
-  pub parts_stand : PartsStand parts x
-  pub drives_stand : DrivesStand parts.segments x.history x.writers
-      (phases_of_parts parts).writers drives
+-- while it is up, its actors and each device stand for the state
+pub record IsUp (actors : Actors) (drives : List Drive) (x : State) : Type 0 where
+  pub actors_stand : ActorsStand actors x
+  pub drives_stand : DrivesStand actors.segments x.history x.writers
+      (phases_of_actors actors).writers drives
 
 -- nobody is at work, and the places for values and scans have their sizes
-pub record PartsRest (w : Parts) (x : State) : Type 0 where
+pub record ActorsRest (w : Actors) (x : State) : Type 0 where
   pub least : 0 < w.segments
   pub most : w.segments ≤ MAX_COUNT
   pub registers_n : length w.registers.items ≡ w.segments
@@ -49,34 +49,34 @@ pub record PartsRest (w : Parts) (x : State) : Type 0 where
   pub scanners : Pairs (λ i. ScannerRests w.segments) w.scanners.items x.scanners
 
 -- while it is down
-pub record IsDown (parts : Parts) (drives : List Drive) (x : State) : Type 0 where
-  pub parts_rest : PartsRest parts x
-  pub drives_down : DrivesDown parts.segments x.history x.writers drives
+pub record IsDown (actors : Actors) (drives : List Drive) (x : State) : Type 0 where
+  pub actors_rest : ActorsRest actors x
+  pub drives_down : DrivesDown actors.segments x.history x.writers drives
 
 -- while it restarts: the first `synced` devices have no open place, and what was found in the first
 -- `read` of them is what they hold
-pub record IsRecovering (parts : Parts) (drives : List Drive) (x : State)
+pub record IsRecovering (actors : Actors) (drives : List Drive) (x : State)
     (synced read : ℕ) : Type 0 where
-  pub down : IsDown parts drives x
+  pub down : IsDown actors drives x
   pub settled : (i : ℕ) (d : Drive) → slice_get drives i ≡ Some d → i < synced
       → IsSettled (device_of d)
   pub found : (i : ℕ) (d : Drive) → slice_get drives i ≡ Some d → i < read
-      → IsFound i parts.segments (device_of d).bytes d.found
+      → IsFound i actors.segments (device_of d).bytes d.found
 
-abbrev pub IsRestarting : Parts → List Drive → State → ℕ → OpeningCall → Type 0
-IsRestarting parts drives x i opening.Sync = IsRecovering parts drives x i i
-IsRestarting parts drives x i opening.Read = IsRecovering parts drives x (i + 1) i
+abbrev pub IsRestarting : Actors → List Drive → State → ℕ → OpeningCall → Type 0
+IsRestarting actors drives x i opening.Sync = IsRecovering actors drives x i i
+IsRestarting actors drives x i opening.Read = IsRecovering actors drives x (i + 1) i
 
-abbrev pub IsNodeAt : Parts → List Drive → State → NodePhase → Type 0
-IsNodeAt parts drives x Up = IsUp parts drives x
-IsNodeAt parts drives x Down = IsDown parts drives x
-IsNodeAt parts drives x (Restarting i call) = (i < parts.segments)
-    × IsRestarting parts drives x i call
-IsNodeAt parts drives x Ready = IsRecovering parts drives x parts.segments parts.segments
+abbrev pub IsNodeAt : Actors → List Drive → State → NodePhase → Type 0
+IsNodeAt actors drives x Up = IsUp actors drives x
+IsNodeAt actors drives x Down = IsDown actors drives x
+IsNodeAt actors drives x (Restarting i call) = (i < actors.segments)
+    × IsRestarting actors drives x i call
+IsNodeAt actors drives x Ready = IsRecovering actors drives x actors.segments actors.segments
 
 pub record NodeStands (w : Node) (x : State) : Type 0 where
-  pub drives_n : length w.drives.items ≡ w.parts.segments
-  pub at : IsNodeAt w.parts w.drives.items x w.phase
+  pub drives_n : length w.drives.items ≡ w.actors.segments
+  pub at : IsNodeAt w.actors w.drives.items x w.phase
 
 -- the node stands for some state
 abbrev pub NodeStand : Node → Type 0

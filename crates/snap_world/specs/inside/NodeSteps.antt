@@ -8,7 +8,7 @@ use Rattle.snap_world.specs.Machine.{State, Step}
 use Rattle.snap_world.specs.NodePhases.{WorldPhases, TellsWhether, PhasesMove}
 use Rattle.snap_world.specs.inside.NodeStands.{NodeStands}
 use Rattle.snap_world.specs.Phases.{WriterIs}
-use Rattle.snap_world.specs.inside.Steps.{phases_of_parts}
+use Rattle.snap_world.specs.inside.Steps.{phases_of_actors}
 use Rattle.snap_world.specs.declared.event.Event.{Event}
 use Rattle.snap_persist.specs.declared.persist.NextCall.{NextCall}
 use Rattle.snap_world.specs.declared.event.Reply.{Reply}
@@ -29,27 +29,27 @@ store_left d = calls_left d.persist.stage
 abbrev pub phases_of_node : Node → WorldPhases
 phases_of_node w = record {
   node = w.phase;
-  actors = phases_of_parts w.parts;
+  actors = phases_of_actors w.actors;
   calls = map store_left w.drives.items;
 }
 
 -- the store of this segment has a call to make
 abbrev pub MayStore : Node → ℕ → Type 0
-MayStore node w = (node.phase ≡ Up) × WriterIs (phases_of_parts node.parts) w writer.Storing
+MayStore node w = (node.phase ≡ Up) × WriterIs (phases_of_actors node.actors) w writer.Storing
 
 -- from each state that the node stood for, the event with its reply is a step to one that it stands
 -- for now, and leaves these devices; the reply tells whether the event may come, the phases move by
 -- their table, and after `NotNow` nothing has changed
 pub record IsNodeStep (old : Node) (event : Event) (reply : Reply) (new : Node) : Type 0 where
-  pub segments : new.parts.segments ≡ old.parts.segments
+  pub segments : new.actors.segments ≡ old.actors.segments
   pub step : (x : State) → NodeStands old x
-      → (y : State) × Step old.parts.segments x event reply y
-      × DevicesMove old.parts.segments x (phases_of_node old) (devices_of_node old) event reply y
+      → (y : State) × Step old.actors.segments x event reply y
+      × DevicesMove old.actors.segments x (phases_of_node old) (devices_of_node old) event reply y
       (devices_of_node new)
       × NodeStands new y
   pub comes : (x : State) → NodeStands old x → TellsWhether x (phases_of_node old) event reply
   pub phases : (x : State) → NodeStands old x
-      → PhasesMove old.parts.segments x (phases_of_node old) event reply (phases_of_node new)
+      → PhasesMove old.actors.segments x (phases_of_node old) event reply (phases_of_node new)
   pub gates : (x : State) → NodeStands old x
       → GatesTold event reply (phases_of_node new) (devices_of_node new)
   pub unchanged : reply ≡ NotNow → new ≡ old

@@ -1,4 +1,4 @@
--- Which abstract states the parts of a world stand for. They store no history.
+-- Which abstract states the actors of a world stand for. They store no history.
 use Rattle.std.specs.Prelude.{◌≡◌, ℕ, ◌+◌, ◌<◌, ◌≤◌, Bool, true, false, List, length}
 use Rattle.snap_history.specs.History.{Update, from_nothing, number_after}
 use Rattle.snap_history.specs.Pairs.{Pairs}
@@ -9,7 +9,7 @@ use Rattle.snap_world.specs.Answers.{ScanState, IsAnswer, number_at}
 use Rattle.snap_world.specs.inside.Gathers.{Gathers, IsUnderWay, RegistersStand}
 use Rattle.snap_world.specs.Machine.{State, WriterState, ScannerState, Free, Begun, Shown, Closed, Opened}
 use Rattle.snap_world.specs.declared.collector.Collector.{Collector}
-use Rattle.snap_world.specs.declared.parts.Parts.{Parts}
+use Rattle.snap_world.specs.declared.actors.Actors.{Actors}
 use Rattle.snap_world.specs.declared.writer.Writer.{Writer}
 use Rattle.snap_world.specs.declared.writer.WriterPhase.{WriterPhase}
 use Rattle.snap_world.specs.declared.writer.WriterPhase.TheVariants as writer
@@ -18,7 +18,7 @@ use Rattle.snap_world.specs.declared.scanner.ScannerPhase.{ScannerPhase}
 use Rattle.snap_world.specs.declared.scanner.ScannerPhase.TheVariants as scanner
 
 -- the writer has begun an update of segment i with its value, and its embedded scan began after the
--- segment's update before. History h is that of the parts, and g the length that it had when the
+-- segment's update before. History h is that of the actors, and g the length that it had when the
 -- node last began to serve
 pub record HasBegun (n : ℕ) (h : List Update) (g i : ℕ) (w : Writer)
     (s : WriterState) : Type 0 where
@@ -66,8 +66,8 @@ pub record ScannerStands (n : ℕ) (h : List Update) (g i : ℕ) (c : Scanner)
   pub size : length c.collector.memory.items ≡ n
   pub phase : IsScannerAt n h g c s c.phase
 
--- the parts stand for this state
-pub record PartsStand (w : Parts) (x : State) : Type 0 where
+-- the actors stand for this state
+pub record ActorsStand (w : Actors) (x : State) : Type 0 where
   pub least : 0 < w.segments
   pub most : w.segments ≤ MAX_COUNT
   -- the length of the history when the node last began to serve
@@ -78,6 +78,6 @@ pub record PartsStand (w : Parts) (x : State) : Type 0 where
   pub writers : Pairs (WriterStands w.segments x.history since) w.writers.items x.writers
   pub scanners : Pairs (ScannerStands w.segments x.history since) w.scanners.items x.scanners
 
--- the parts stand for some state
-abbrev pub Stand : Parts → Type 0
-Stand w = ∥ ((x : State) × PartsStand w x) ∥₁
+-- the actors stand for some state
+abbrev pub Stand : Actors → Type 0
+Stand w = ∥ ((x : State) × ActorsStand w x) ∥₁

@@ -9,11 +9,11 @@ use Rattle.snap_world.specs.Calls.{store_call}
 use Rattle.snap_world.specs.Devices.{IsMade}
 use Rattle.snap_world.specs.inside.Drives.{device_of}
 use Rattle.snap_world.specs.declared.drive.Drive.{Drive}
-use Rattle.snap_world.proofs.Events.{is_up, refuses}
+use Rattle.snap_world.proofs.Events.{is_up, actors_of, refuses}
 use Rattle.snap_world.proofs.Calls.{going_done, not_done}
 use Rattle.snap_world.proofs.Sizes.{register_fits, writer_fits}
 use Rattle.snap_world.proofs.Stored.{found, call_goes, call_ends, call_moves, call_stores, there, storing, size, slot_low, number_is}
-use Rattle.snap_world.proofs.Stored.{same_value, fits, room, parts_of, store_within, drive_fits}
+use Rattle.snap_world.proofs.Stored.{same_value, fits, room, store_within, drive_fits}
 use Rattle.snap_world.proofs.node.Node.call.Goals as goal
 
 pub returns-then-not-may_store : goal.returns-then-not-may_store
@@ -27,14 +27,14 @@ pub index-requires : goal.index-requires
 index-requires c =
     let w = c.args.self.now in
     let may = c.if-not-may_store.ensures.0 refl in
-    register_fits w.parts c.args.segment (parts_of w may.0 c.requires.stands)
+    register_fits w.actors c.args.segment (actors_of w may.0 c.requires.stands)
     (store_within w c.args.segment may c.requires.stands)
 
 pub index-requires-2 : goal.index-requires-2
 index-requires-2 c =
     let w = c.args.self.now in
     let may = c.if-not-may_store.ensures.0 refl in
-    writer_fits w.parts c.args.segment (parts_of w may.0 c.requires.stands)
+    writer_fits w.actors c.args.segment (actors_of w may.0 c.requires.stands)
     (store_within w c.args.segment may c.requires.stands)
 
 pub index_mut-drive-requires : goal.index_mut-drive-requires
@@ -105,7 +105,7 @@ call-kind-requires-clause-going c none =
 
 pub end_store-requires-clause-stands : goal.end_store-requires-clause-stands
 end_store-requires-clause-stands c =
-    parts_of c.args.self.now (c.if-not-may_store.ensures.0 refl).0 c.requires.stands
+    actors_of c.args.self.now (c.if-not-may_store.ensures.0 refl).0 c.requires.stands
 
 pub end_store-requires-clause-within : goal.end_store-requires-clause-within
 end_store-requires-clause-within c =
@@ -127,7 +127,7 @@ returns-in-Done c =
           mid.found;
     } in
     let kind = c.call-kind.result in
-    let parts = c.end_store.new.self in
+    let actors = c.end_store.new.self in
     let at = c.call-kind.ensures.stage in
     let last : first_call (calls_left (after_call d.persist.stage)) ≡ Done =
     ap (λ s. first_call (calls_left s)) (sym at) ∙ sym c.next.ensures ∙ c.in-Done.is in
@@ -145,17 +145,17 @@ returns-in-Done c =
             (device_of d) (device_of e)) number
             (subst (λ v. IsMade d.persist.slot (body_block (c.index.result.now.number + 1) v)
             (store_call kind) (device_of d) (device_of e)) value c.call-kind.ensures.made) in
-            call_ends w x stands i may d read e kind made mid.persist parts c.call-kind.ensures.kind
-            at done c.begin-drive.ensures.stage
+            call_ends w x stands i may d read e kind made mid.persist actors
+            c.call-kind.ensures.kind at done c.begin-drive.ensures.stage
             (c.begin-drive.ensures.slot ∙ c.slot_of.ensures
             ∙ ap (λ k. (k + 1 + 1) % 3) number) c.end_store.ensures.segments
-            (c.end_store.ensures.stands x (is_up w x may.0 stands).parts_stand may.1)
+            (c.end_store.ensures.stands x (is_up w x may.0 stands).actors_stand may.1)
             c.end_store.ensures.phases);
         comes = λ x stands. record { refused = λ f. cc; came = λ _. may };
         phases = λ x stands. (
             let done = at ∙ going_done d.persist.stage
             (storing w x stands i may d read).going last in
-            call_stores w i d (there w x stands i may d read) kind w.parts.segments x e parts
+            call_stores w i d (there w x stands i may d read) kind w.actors.segments x e actors
             (c.call-kind.ensures.kind
             ∙ ap (λ s. store_call kind ∷ calls_left s) done) c.begin-drive.ensures.calls
             c.end_store.ensures.phases);
@@ -190,7 +190,7 @@ returns-in_default c =
             c.call-kind.ensures.slot c.call-kind.ensures.stage going);
         comes = λ x stands. record { refused = λ f. cc; came = λ _. may };
         phases = λ x stands. call_moves w i d
-            (there w x stands i may d read) kind w.parts.segments x e c.call-kind.ensures.kind
+            (there w x stands i may d read) kind w.actors.segments x e c.call-kind.ensures.kind
             going;
         gates = λ x stands. tt;
         unchanged = λ f. cc;

@@ -3,7 +3,7 @@ use Rattle.std.proofs.lemmas.List.{length-map}
 use Rattle.snap_world.specs.Machine.{crashed}
 use Rattle.snap_world.specs.inside.NodeSteps.{store_left, phases_of_node}
 use Rattle.snap_world.specs.NodePhases.{WorldPhases, all_idle}
-use Rattle.snap_world.specs.inside.Steps.{phases_of_parts}
+use Rattle.snap_world.specs.inside.Steps.{phases_of_actors}
 use Rattle.snap_world.specs.declared.node.Node.{Node}
 use Rattle.snap_world.specs.declared.node.NodePhase.TheVariants.{Down}
 use Rattle.snap_world.proofs.Events.{same_phases}
@@ -16,13 +16,13 @@ returns c =
     let ds = w.drives.items in
     let es = c.crash_all.new.drives.items in
     let fills = c.args.fills.now.items in
-    let parts = c.halt.new.self in
+    let actors = c.halt.new.self in
     let h = c.halt.ensures in
-    let new : Node = record { phase = Down; parts = parts; drives = c.crash_all.new.drives } in
+    let new : Node = record { phase = Down; actors = actors; drives = c.crash_all.new.drives } in
     let long : length fills ≡ length ds = omega (arith, c.args.fills.now.ok.0, w.drives.ok.0) in
     let p : WorldPhases = record {
       node = Down;
-      actors = all_idle (phases_of_parts w.parts);
+      actors = all_idle (phases_of_actors w.actors);
       calls =
           map store_left ds;
     } in
@@ -35,7 +35,7 @@ returns c =
           crashed_devices ds es fills c.crash_all.ensures,
           record {
             drives_n = sym c.crash_all.ensures.size ∙ stands.drives_n ∙ sym h.segments;
-            at = goes_down w.parts parts h.segments h.registers h.writers h.scanners ds es fills x
+            at = goes_down w.actors actors h.segments h.registers h.writers h.scanners ds es fills x
                 w.phase long stands.at c.crash_all.ensures;
           },
         );
@@ -45,7 +45,7 @@ returns c =
               λ _. long ∙ sym (length-map ds store_left);
         };
         phases = λ x stands. same_phases p (phases_of_node new) refl
-            (halted_phases w.parts parts h.segments h.registers h.writers h.scanners)
+            (halted_phases w.actors actors h.segments h.registers h.writers h.scanners)
             (crashed_calls ds es fills long c.crash_all.ensures);
         gates = λ x stands. tt;
         unchanged = λ e. cc;

@@ -2,8 +2,8 @@ use Rattle.std.proofs.Common.{refl, ap}
 use Rattle.std.proofs.Math.Logic.{∥∥₁_elim}
 use Rattle.std.proofs.Props.{props}
 use Rattle.snap_persist.specs.Stage.{calls_left}
-use Rattle.snap_world.proofs.Events.{is_up, refuses}
-use Rattle.snap_world.proofs.Stored.{call_fails, fail_moves, there, storing, size, slot_low, parts_of, store_within, drive_fits}
+use Rattle.snap_world.proofs.Events.{is_up, actors_of, refuses}
+use Rattle.snap_world.proofs.Stored.{call_fails, fail_moves, there, storing, size, slot_low, store_within, drive_fits}
 use Rattle.snap_world.proofs.node.Node.fail.Goals as goal
 
 pub returns-then-not-may_store : goal.returns-then-not-may_store
@@ -42,7 +42,7 @@ fail-requires-clause-going c none =
 
 pub fence-requires-clause-stands : goal.fence-requires-clause-stands
 fence-requires-clause-stands c =
-    parts_of c.args.self.now (c.if-not-may_store.ensures.0 refl).0 c.requires.stands
+    actors_of c.args.self.now (c.if-not-may_store.ensures.0 refl).0 c.requires.stands
 
 pub fence-requires-clause-within : goal.fence-requires-clause-within
 fence-requires-clause-within c =
@@ -58,17 +58,17 @@ returns c =
     let read = c.index_mut.ensures.value in
     let e = c.fail.new.self in
     let missed = c.fail.ensures.missed in
-    let parts = c.fence.new.self in
+    let actors = c.fence.new.self in
     record {
       step = record {
         segments = c.fence.ensures.segments;
         step = λ x stands. call_fails w x stands i may d read e c.args.fill.now missed.0 missed.1
-            parts missed.2 missed.3 c.fence.ensures.segments
+            actors missed.2 missed.3 c.fence.ensures.segments
             (λ s z es begun. c.fence.ensures.stands x
-            (is_up w x may.0 stands).parts_stand s z es begun) c.fence.ensures.phases;
+            (is_up w x may.0 stands).actors_stand s z es begun) c.fence.ensures.phases;
         comes = λ x stands. record { refused = λ f. cc; came = λ _. may };
         phases = λ x stands. fail_moves w i d
-            (there w x stands i may d read) w.parts.segments x e parts c.args.fill.now
+            (there w x stands i may d read) w.actors.segments x e actors c.args.fill.now
             (ap (λ s. calls_left s) c.fail.ensures.stage) c.fence.ensures.phases;
         gates = λ x stands. tt;
         unchanged = λ f. cc;

@@ -1,9 +1,8 @@
 use Rattle.std.proofs.Common.{◌≡◌, ℕ, false, [], length, map, replicate, Some, slice_get, refl, ap, sym, ◌∙◌, subst}
 use Rattle.std.proofs.lemmas.List.{length-map}
 use Rattle.snap_slot.specs.States.{IsAtRest}
-use Rattle.snap_persist.specs.Stage.{calls_left}
+use Rattle.snap_persist.specs.Stage.{calls_left, store_calls}
 use Rattle.snap_history.proofs.Lists.{get-replicate}
-use Rattle.snap_persist.specs.Stage.{store_calls}
 use Rattle.snap_world.specs.inside.Drives.{DriveStands, IsFormatted, IsReady, device_of}
 use Rattle.snap_world.specs.declared.drive.Drive.{Drive}
 use Rattle.snap_world.specs.inside.NodeSteps.{store_left, phases_of_node}
@@ -26,7 +25,7 @@ returns-clause-phases c =
     let drives = c.in_ok-drives.drives.items in
     let w : Node = record {
       phase = Up;
-      parts = c.in_ok-parts.parts;
+      actors = c.in_ok-actors.actors;
       drives =
           c.in_ok-drives.drives;
     } in
@@ -34,22 +33,22 @@ returns-clause-phases c =
     all_same store_left (store_calls false) drives (λ i d e.
     ap calls_left (c.in_ok-drives.ensures.1 i d e).stage) in
     same_phases (start_world_phases n c.args.scanners)
-    (phases_of_node w) refl c.in_ok-parts.ensures.phases
+    (phases_of_node w) refl c.in_ok-actors.ensures.phases
     (calls ∙ ap (λ m. replicate m (store_calls false)) c.in_ok-drives.ensures.0)
 
 pub returns-clause-stands : goal.returns-clause-stands
 returns-clause-stands c =
     let n = c.args.segments in
-    let same = c.in_ok-parts.ensures.segments in
+    let same = c.in_ok-actors.ensures.segments in
     record {
       drives_n = c.in_ok-drives.ensures.0 ∙ sym same;
       at = record {
-        parts_stand = c.in_ok-parts.ensures.stands;
+        actors_stand = c.in_ok-actors.ensures.stands;
         drives_stand = λ i d s phase ed es ep. (
             let idle : writer.Idle ≡ phase =
             get-replicate n i writer.Idle phase (subst (λ (p : Phases). slice_get p.writers i
-            ≡ Some phase) c.in_ok-parts.ensures.phases ep) in
-            subst (λ z. DriveStands c.in_ok-parts.parts.segments [] i z s.pending d) idle
+            ≡ Some phase) c.in_ok-actors.ensures.phases ep) in
+            subst (λ z. DriveStands c.in_ok-actors.actors.segments [] i z s.pending d) idle
             (subst (λ m. DriveStands m [] i writer.Idle s.pending d) (sym same)
             (ready_of i n d (c.in_ok-drives.ensures.1 i d ed))));
       };

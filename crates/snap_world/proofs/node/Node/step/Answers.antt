@@ -1,23 +1,28 @@
-use Rattle.std.proofs.Common.{rules}
+use Rattle.snap_world.proofs.Acts.{Begins, Looks, Shows, Acknowledges, Scans, Answers}
+use Rattle.snap_world.proofs.Events.{acts, acts_or_fails}
 use Rattle.snap_world.proofs.node.Node.step.Goals as goal
 
-pub returns-in-Call-clause-step : goal.returns-in-Call-clause-step
-returns-in-Call-clause-step c = search rules
+pub returns-in-Begin-Up-clause-step : goal.returns-in-Begin-Up-clause-step
+returns-in-Begin-Up-clause-step c =
+    acts _ _ _ _ (Begins _ _) c.in-Begin-Up.is-0 c.in-Begin-Up.is-1 c.begin.ensures.step
 
-pub returns-in-Crash-clause-step : goal.returns-in-Crash-clause-step
-returns-in-Crash-clause-step c = search rules
+pub returns-in-Look-Up-clause-step : goal.returns-in-Look-Up-clause-step
+returns-in-Look-Up-clause-step c =
+    acts _ _ _ _ (Looks _) c.in-Look-Up.is-0 c.in-Look-Up.is-1 c.look.ensures.step
 
-pub returns-in-Fail-clause-step : goal.returns-in-Fail-clause-step
-returns-in-Fail-clause-step c = search rules
+pub returns-in-Show-Up-clause-step : goal.returns-in-Show-Up-clause-step
+returns-in-Show-Up-clause-step c =
+    acts _ _ _ _ (Shows _) c.in-Show-Up.is-0 c.in-Show-Up.is-1 c.show.ensures.step
 
-pub returns-in-Restart-clause-step : goal.returns-in-Restart-clause-step
-returns-in-Restart-clause-step c = search rules
+pub returns-in-Acknowledge-Up-clause-step : goal.returns-in-Acknowledge-Up-clause-step
+returns-in-Acknowledge-Up-clause-step c =
+    acts _ _ _ _ (Acknowledges _) c.in-Acknowledge-Up.is-0 c.in-Acknowledge-Up.is-1
+    c.acknowledge.ensures.step
 
-pub returns-in-RestartCall-clause-step : goal.returns-in-RestartCall-clause-step
-returns-in-RestartCall-clause-step c = search rules
+pub returns-in-Scan-Up-clause-step : goal.returns-in-Scan-Up-clause-step
+returns-in-Scan-Up-clause-step c =
+    acts _ _ _ _ (Scans _) c.in-Scan-Up.is-0 c.in-Scan-Up.is-1 c.scan.ensures.step
 
-pub returns-in-RestartFail-clause-step : goal.returns-in-RestartFail-clause-step
-returns-in-RestartFail-clause-step c = search rules
-
-pub returns-in-Serve-clause-step : goal.returns-in-Serve-clause-step
-returns-in-Serve-clause-step c = search rules
+pub returns-in-Answer-Up-clause-step : goal.returns-in-Answer-Up-clause-step
+returns-in-Answer-Up-clause-step c =
+    acts_or_fails _ _ _ _ (Answers _) c.in-Answer-Up.is-0 c.in-Answer-Up.is-1 c.answer.ensures.step

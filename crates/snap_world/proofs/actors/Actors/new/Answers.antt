@@ -1,0 +1,21 @@
+use Rattle.std.proofs.Common.{refl}
+use Rattle.snap_world.specs.declared.actors.Actors.{Actors}
+use Rattle.snap_world.proofs.NewWorld.{starts, starts_idle}
+use Rattle.snap_world.proofs.actors.Actors.new.Goals as goal
+
+pub returns : goal.returns
+returns c =
+    let w : Actors = record {
+      segments = c.args.segments;
+      registers = c.in_ok-registers.registers;
+      writers = c.in_ok-writers.writers;
+      scanners = c.in_ok-scanners.scanners;
+    } in
+    let a = c.in_ok-registers.ensures in
+    let b = c.in_ok-writers.ensures in
+    let d = c.in_ok-scanners.ensures in
+    record {
+      segments = refl;
+      phases = starts_idle w c.args.scanners b.0 d.0 b.1 d.1;
+      stands = starts w c.args.scanners c.requires.least c.requires.most a.0 b.0 d.0 a.1 b.1 d.1;
+    }

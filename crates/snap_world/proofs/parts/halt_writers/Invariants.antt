@@ -1,6 +1,0 @@
-use Rattle.snap_world.specs.inside.Halt.{IsHalted}
-use Rattle.snap_world.proofs.Sweep.{Swept}
-use Rattle.snap_world.proofs.parts.halt_writers.Given as goal
-
-abbrev pub invariant-loop-i : goal.invariant-loop-i
-invariant-loop-i l = Swept (λ i. IsHalted) l.i l.initial.writers.items l.writers.items

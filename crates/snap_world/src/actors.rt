@@ -1,0 +1,90 @@
+//! Writers and scanners, and the registers between them: what a node has in memory.
+ghost use Rattle.std.specs.Prelude.{◌≡◌, ◌<◌, ◌≤◌, IfOk};
+ghost use Rattle.snap_history.specs.declared.limits.TheConstants.{MAX_COUNT};
+ghost use Rattle.snap_world.specs.Start.{start_state, start_phases};
+ghost use Rattle.snap_world.specs.inside.Stands.{ActorsStand, Stand};
+ghost use Rattle.snap_world.specs.inside.Halt.{IsHalted, IsScannerHalted};
+ghost use Rattle.snap_history.specs.Pairs.{Pairs};
+ghost use Rattle.snap_world.specs.inside.Steps.{IsActorsStep, phases_of_actors};
+ghost use Rattle.snap_world.specs.declared.event.Event.{Event};
+
+mod scans;
+mod updates;
+
+use crate::event::{Actor, Reply};
+use crate::register::Register;
+use crate::scanner::{Scanner, ScannerPhase};
+use crate::start::{new_registers, new_scanners, new_writers};
+use crate::writer::{Writer, WriterPhase};
+use std::alloc::{AllocError, Global};
+
+/// The writer of each segment and the scanners, with the registers of all segments.
+#[derive(Drop)]
+pub struct Actors {
+    pub segments: usize,
+    pub registers: Vec<Register>,
+    pub writers: Vec<Writer>,
+    pub scanners: Vec<Scanner>,
+}
+
+impl Actors {
+    /// Nothing was shown, and nobody is at work.
+    pub fn new(alloc: Global, segments: usize, scanners: usize) -> Result<Actors, AllocError>
+        requires least { 0 < segments }
+        requires most { segments ≤ MAX_COUNT }
+        ensures segments { IfOk result (λ p. p.segments ≡ segments) }
+        ensures phases { IfOk result (λ p. phases_of_actors p ≡ start_phases segments scanners) }
+        ensures stands { IfOk result (λ p. ActorsStand p (start_state segments scanners)) }
+    {
+        let registers = new_registers(alloc, segments)?;
+        let writers = new_writers(alloc, segments)?;
+        let scanners = new_scanners(alloc, segments, scanners)?;
+        Ok(Actors {
+            segments,
+            registers,
+            writers,
+            scanners,
+        })
+    }
+
+    /// One look.
+    pub fn look(&mut self, actor: Actor) -> Reply
+        requires stands { Stand self.old }
+        ensures step { IsActorsStep self.old (Event.Look actor) result self.new }
+    {
+        match actor {
+            Actor::Writer(segment) => self.look_writer(segment),
+            Actor::Scanner(scanner) => self.look_scanner(scanner),
+        }
+    }
+
+    /// A crash ends what everybody was at.
+    pub fn halt(&mut self)
+        ensures segments { self.new.segments ≡ self.old.segments }
+        ensures registers { self.new.registers ≡ self.old.registers }
+        ensures writers { Pairs (λ i. IsHalted) self.old.writers.items self.new.writers.items }
+        ensures scanners { Pairs (λ i.
+            IsScannerHalted) self.old.scanners.items self.new.scanners.items }
+    {
+        halt_writers(&mut self.writers);
+        halt_scanners(&mut self.scanners);
+    }
+}
+
+/// No writer is at work any more.
+fn halt_writers(writers: &mut Vec<Writer>)
+    ensures { Pairs (λ i. IsHalted) writers.old.items writers.new.items }
+{
+    for i in 0..writers.len() {
+        writers[i].phase = WriterPhase::Idle;
+    }
+}
+
+/// No scanner is at work any more.
+fn halt_scanners(scanners: &mut Vec<Scanner>)
+    ensures { Pairs (λ i. IsScannerHalted) scanners.old.items scanners.new.items }
+{
+    for i in 0..scanners.len() {
+        scanners[i].phase = ScannerPhase::Idle;
+    }
+}

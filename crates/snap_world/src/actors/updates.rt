@@ -1,0 +1,132 @@
+//! What each event of a writer does.
+ghost use Rattle.std.specs.Prelude.{◌≡◌, ◌<◌, ℕ, true, List, slice_get};
+ghost use Rattle.snap_world.specs.Machine.{State, WriterState, Begun, with_writer};
+ghost use Rattle.snap_world.specs.Phases.{WriterIs, writer_to};
+ghost use Rattle.snap_world.specs.inside.Stands.{Stand, ActorsStand};
+ghost use Rattle.snap_world.specs.inside.Steps.{IsActorsStep, phases_of_actors};
+ghost use Rattle.snap_world.specs.declared.event.Actor.{Actor};
+ghost use Rattle.snap_world.specs.declared.event.Event.{Event};
+
+use crate::actors::Actors;
+use crate::collector::copy_all;
+use crate::event::Reply;
+use crate::writer::WriterPhase;
+use snap_history::{LAST_NUMBER, MAX_VALUE_LEN};
+use snap_scan::Scan;
+
+impl Actors {
+    /// A writer begins an update.
+    pub fn begin(&mut self, segment: usize, value: &Vec<u8>) -> Reply
+        requires stands { Stand self.old }
+        ensures step { IsActorsStep self.old (Event.Begin segment value.now) result self.new }
+    {
+        if segment >= self.segments || value.len() > MAX_VALUE_LEN {
+            return Reply::NotNow;
+        }
+        if self.registers[segment].number >= LAST_NUMBER {
+            return Reply::NotNow;
+        }
+        match self.writers[segment].phase {
+            WriterPhase::Idle => {
+                let writer = &mut self.writers[segment];
+                writer.value.set(value);
+                writer.collector.scan = Scan::new(self.segments);
+                writer.phase = WriterPhase::Scanning;
+                Reply::Begun
+            }
+            _ => Reply::NotNow,
+        }
+    }
+
+    /// A writer's embedded scan looks once. Once it has its answer, the store is to begin.
+    pub fn look_writer(&mut self, segment: usize) -> Reply
+        requires stands { Stand self.old }
+        ensures step { IsActorsStep self.old (Event.Look (Actor.Writer segment)) result self.new }
+    {
+        if segment >= self.segments {
+            return Reply::NotNow;
+        }
+        match self.writers[segment].phase {
+            WriterPhase::Scanning => {
+                let writer = &mut self.writers[segment];
+                let number = writer.collector.look(&self.registers);
+                if writer.collector.is_done() {
+                    writer.phase = WriterPhase::Storing;
+                }
+                Reply::Number(number)
+            }
+            _ => Reply::NotNow,
+        }
+    }
+
+    /// A writer publishes its update: the next number, its value, and the answer of the embedded
+    /// scan.
+    pub fn show(&mut self, segment: usize) -> Reply
+        requires stands { Stand self.old }
+        ensures step { IsActorsStep self.old (Event.Show segment) result self.new }
+    {
+        if segment >= self.segments {
+            return Reply::NotNow;
+        }
+        match self.writers[segment].phase {
+            WriterPhase::Stored => {
+                let register = &mut self.registers[segment];
+                let writer = &mut self.writers[segment];
+                register.number += 1;
+                register.value.copy_from(&writer.value);
+                copy_all(&mut register.view, &writer.collector.memory);
+                writer.phase = WriterPhase::Shown;
+                Reply::Shown
+            }
+            _ => Reply::NotNow,
+        }
+    }
+
+    /// A writer's update is acknowledged.
+    pub fn acknowledge(&mut self, segment: usize) -> Reply
+        requires stands { Stand self.old }
+        ensures step { IsActorsStep self.old (Event.Acknowledge segment) result self.new }
+    {
+        if segment >= self.segments {
+            return Reply::NotNow;
+        }
+        match self.writers[segment].phase {
+            WriterPhase::Shown => {
+                self.writers[segment].phase = WriterPhase::Idle;
+                Reply::Stored(self.registers[segment].number)
+            }
+            _ => Reply::NotNow,
+        }
+    }
+
+    /// The last device call of a writer's store has succeeded.
+    pub fn end_store(&mut self, segment: usize)
+        requires stands { Stand self.old }
+        requires within { segment < self.old.segments }
+        ensures segments { self.new.segments ≡ self.old.segments }
+        ensures registers { self.new.registers ≡ self.old.registers }
+        ensures stands { (x : State) → ActorsStand self.old x
+            → WriterIs (phases_of_actors self.old) segment WriterPhase.Storing
+            → ActorsStand self.new x }
+        ensures phases { phases_of_actors self.new
+            ≡ writer_to (phases_of_actors self.old) segment WriterPhase.Stored }
+    {
+        self.writers[segment].phase = WriterPhase::Stored;
+    }
+
+    /// A device call of a writer's store has failed.
+    pub fn fence(&mut self, segment: usize)
+        requires stands { Stand self.old }
+        requires within { segment < self.old.segments }
+        ensures segments { self.new.segments ≡ self.old.segments }
+        ensures stands { (x : State) → ActorsStand self.old x
+            → (s : WriterState) (v : List ℕ) → slice_get x.writers segment ≡ Some s
+            → s.pending ≡ Begun v
+            → ActorsStand self.new
+            (with_writer x segment (record s { fenced = true })) }
+        ensures phases { phases_of_actors self.new
+            ≡ writer_to (phases_of_actors self.old) segment WriterPhase.Fenced }
+    {
+        self.writers[segment].phase = WriterPhase::Fenced;
+    }
+}
