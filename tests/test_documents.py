@@ -26,6 +26,13 @@ def test_links_point_at_what_is_there(snapd, random):
             assert not anchor or anchor in anchors(file.read_text()), f"{document.name}: {target}"
 
 
+def facts_of(head, crate):
+    """The names of a function's clauses, and of the facts of the records that these name."""
+    records = re.findall(r"^pub record (\w+)(.*?)(?=^\S|\Z)", "".join(it.read_text() for it in crate.glob("specs/**/*.antt")), re.S | re.M)
+    facts = [fact for name, body in records if re.search(rf"\b{name}\b", head) for fact in re.findall(r"^ +pub (\w+) :", body, re.M)]
+    return {*re.findall(r"\bensures (\w+) ", head), *facts}
+
+
 def test_clauses_stand_at_the_functions_that_are_named(snapd, random):
     cited = 0
     for document in DOCUMENTS:
@@ -40,7 +47,8 @@ def test_clauses_stand_at_the_functions_that_are_named(snapd, random):
             assert at, f"{document.name}: there is no function {name} in {target}"
             for clause in re.findall(r"`([a-z_]+)`", clauses):
                 cited += 1
-                assert re.search(rf"ensures {clause} ", at[0]), f"{document.name}: {name} has no clause {clause}"
+                crate = document.parent / target.partition("/src/")[0]
+                assert clause in facts_of(at[0], crate), f"{document.name}: {name} has no clause {clause}"
     assert cited, "no clause is named"
 
 
@@ -220,6 +228,27 @@ def test_a_public_type_has_a_name_of_its_own(snapd, random):
             homes.setdefault(name, set()).add(crate.name)
     assert len(homes) > 100
     assert {name: crates for name, crates in homes.items() if len(crates) > 1} == TWICE
+
+
+# Crates of laws, which have no code: their contracts name what the laws are of, and `snap_restart` speaks in the words of `snap_cut`.
+OF_LAWS = {"snap_cut", "snap_told"}
+OF_CONTRACTS = re.compile(r"\buse Rattle\.(\w+)\.")
+
+
+def test_a_contract_names_no_crate_that_the_code_beside_it_does_not_use(snapd, random):
+    for crate in sorted(it for it in TOP.glob("crates/snap*") if it.name not in OF_LAWS):
+        sources = "".join(it.read_text() for it in crate.glob("src/**/*.rt"))
+        contracts = sources + "".join(it.read_text() for it in crate.glob("specs/**/*.antt"))
+        code = re.sub(r"^ *(ghost use .*|//.*)$", "", sources, flags=re.M)
+        used = set(re.findall(r"\b(\w+)::", code)) | set(re.findall(r"^ *(?:pub )?use (\w+);", code, re.M))
+        strange = set(OF_CONTRACTS.findall(contracts)) - used - OF_LAWS - {crate.name, "std"}
+        assert not strange, (crate.name, strange)
+
+
+def test_above_the_registers_nobody_names_their_table(snapd, random):
+    above = [it for it in TOP.glob("crates/*/*/**/*") if it.suffix in (".rt", ".antt") and "snap_register" not in it.parts]
+    assert len(above) > 1000
+    assert not [it for it in above if "out" not in it.parts and "atomic_table" in it.read_text()]
 
 
 def test_files_are_called_by_nouns(snapd, random):

@@ -3,8 +3,7 @@ use Rattle.std.specs.Prelude.{◌≡◌, ◌≢◌, ◌⊎◌, ◌<◌, List, le
 use Rattle.clap.specs.Words.{IsAmong, Row, Text, fault_of, kind_of, subcommand_of}
 use Rattle.clap.specs.declared.error.Error.{Error}
 use Rattle.clap.specs.declared.error.kind.ErrorKind.{ErrorKind}
-use Rattle.clap.specs.declared.error.kind.ErrorKind.TheVariants.{DisplayHelp, DisplayVersion}
-use Rattle.clap.specs.declared.error.kind.ErrorKind.TheVariants.{OutOfMemory}
+use Rattle.clap.specs.declared.error.kind.ErrorKind.TheVariants.{DisplayHelp, DisplayVersion, OutOfMemory}
 use Rattle.snap_order.specs.Limits.{MAX_COUNT}
 use Rattle.snap_order.specs.declared.order.Order.{Order}
 use Rattle.snap_order.specs.declared.order.Order.TheVariants as order
@@ -12,9 +11,8 @@ use Rattle.snap_order.specs.declared.order.FileOrder.{FileOrder}
 use Rattle.snap_order.specs.declared.order.FileOrder.TheVariants.{Format, Put, Get, Check}
 use Rattle.snap_order.specs.declared.order.Serving.{Serving}
 use Rattle.snap_args.specs.Grammar.{grammar_of}
-use Rattle.snap_args.specs.Numbers.{IsClientsFault, IsConnectionsFault, IsIdleFault}
-use Rattle.snap_args.specs.Numbers.{IsLargeNumberOf, IsLevelFault, IsNoNumber, IsNumberOf}
-use Rattle.snap_args.specs.Numbers.{IsPlaceFault, IsScannersFault, IsTriesFault}
+use Rattle.snap_args.specs.Numbers.{IsClientsFault, IsConnectionsFault, IsIdleFault, IsLargeNumberOf, IsLevelFault, IsNoNumber}
+use Rattle.snap_args.specs.Numbers.{IsNumberOf, IsPlaceFault, IsScannersFault, IsTriesFault}
 use Rattle.snap_args.specs.Requests.{IsNoRequest, IsRequestFault}
 use Rattle.snap_args.specs.Words.{word_of, words_of}
 use Rattle.snap_args.specs.declared.fault.WordFault.{WordFault}

@@ -1,7 +1,6 @@
 -- The commands and their words, as the parser of words reads them.
 use Rattle.std.specs.Prelude.{◌≡◌, [], ◌∷◌, Some, false, true, codes, pos}
-use Rattle.clap.specs.Words.{App, Rule, Shape, Text, app_of, new_app, new_rule, with_rule}
-use Rattle.clap.specs.Words.{with_subcommand}
+use Rattle.clap.specs.Words.{App, Rule, Shape, Text, app_of, new_app, new_rule, with_rule, with_subcommand}
 use Rattle.clap.specs.declared.builder.Command.{Command}
 use Rattle.clap.specs.declared.builder.Command.TheViews.{out-Command}
 use Rattle.clap.specs.declared.builder.ArgAction.TheVariants.{Append, Set}

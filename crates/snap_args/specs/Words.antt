@@ -1,7 +1,6 @@
 -- The words that were found for the parts of a command.
 use Rattle.std.specs.Prelude.{◌≡◌, List, [], Option, Some, option_and_then, option_map, unwrap_or}
-use Rattle.clap.specs.Words.{Row, Text, all_of, first_of, matched_of, raw_values, rows_of}
-use Rattle.clap.specs.Words.{subcommand_of}
+use Rattle.clap.specs.Words.{Row, Text, all_of, first_of, matched_of, raw_values, rows_of, subcommand_of}
 use Rattle.clap.specs.declared.parser.matches.Found.{Found}
 use Rattle.snap_args.specs.Grammar.{grammar_of}
 

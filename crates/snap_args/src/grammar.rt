@@ -296,10 +296,5 @@ fn number_option<'a>(
     ensures rule { rule_of result ≡ number_rule name.entry.now default.entry.now }
     ensures local { result.global ≡ false }
 {
-    Arg::new(alloc, name)
-        .long(name)
-        .value_parser(value_parser!(u8))
-        .default_value(default)
-        .value_name(shown)
-        .help(help)
+    choice_option(alloc, name, default, shown, help).value_parser(value_parser!(u8))
 }

@@ -1,11 +1,11 @@
 -- A crash of all devices: at a consistent cut, and at a moment of the registers.
-use Rattle.std.proofs.Common.{◌≡◌, ◌⊎◌, ⊎_elim, ℕ, zero, suc, ◌+◌, ◌<◌, ◌≤◌, inl, inr, List, [], ◌∷◌, length, map, Some, slice_get, refl, ap, sym, subst, ◌∙◌, arith}
+use Rattle.std.proofs.Common.{◌≡◌, ◌⊎◌, ⊎_elim, ℕ, zero, suc, ◌+◌, ◌<◌, ◌≤◌, inl, inr, List, [], ◌∷◌, length, map, Some, slice_get}
+use Rattle.std.proofs.Common.{refl, ap, sym, subst, ◌∙◌, arith}
 use Rattle.std.proofs.lemmas.List.{length-append, length-map}
 use Rattle.std.proofs.lemmas.Option.{same_Some, slice_get_within}
 use mathlib.Core.Option.{some}
 use lib.ListN.{get_elem?}
-use Rattle.atomic_table.specs.Table.{State}
-use Rattle.snap_disk.specs.Device.{Device}
+use Rattle.snap_register.specs.Registers.{Moment}
 use Rattle.snap_slot.specs.Layout.{IsFileOf}
 use Rattle.snap_history.specs.History.{Update, IsBeginning, updates_of, number_after, value_after}
 use Rattle.snap_history.specs.Pairs.{Pairs}
@@ -25,6 +25,7 @@ use Rattle.snap_cut.proofs.Order.{longest, has_early}
 use Rattle.snap_cut.proofs.Merge.{Found, merge}
 use Rattle.snap_cut.proofs.Placed.{crash_leaves}
 use Rattle.snap_cut.proofs.Lives.{life_fits}
+use Rattle.snap_disk.specs.declared.disk.Disk as Disk
 
 -- ---- what all seats have seen
 
@@ -46,7 +47,7 @@ module _ {D : Type 0} where
 
 -- ---- what the rule of the registers says of a moment
 
-seat_saw : (plan : Plan) (s : State (Unit {0}) SeatView) (kept : Kept plan s) (j : ℕ) (v : SeatView)
+seat_saw : (plan : Plan) (s : Moment) (kept : Kept plan s) (j : ℕ) (v : SeatView)
     → get_elem? s.views j ≡ some v → IsBeginning (updates v.seen) (updates kept.history)
 seat_saw plan s kept j v at = beginning_is v.seen kept.history (kept.each_seat j v at).seen
 
@@ -56,7 +57,7 @@ pub record Agrees {D : Type 0} (plan : Plan) (h : List Update) (i : ℕ) (p : Pl
   pub saw : IsBeginning (seen_at p) h
   pub whole : number_after (starts plan) h i ≤ number_after (starts plan) (seen_at p) i
 
-seat_agrees : {D : Type 0} (plan : Plan) (s : State (Unit {0}) SeatView) (kept : Kept plan s)
+seat_agrees : {D : Type 0} (plan : Plan) (s : Moment) (kept : Kept plan s)
     (i : ℕ) (p : Place D) → IsSeatOf s.views i p → Agrees plan (updates kept.history) i p
 seat_agrees plan s kept i p seat =
     let h = updates kept.history in
@@ -76,7 +77,7 @@ seat_agrees plan s kept i p seat =
       whole = omega (arith, same);
     }
 
-pub moment_consistent : {D : Type 0} (plan : Plan) (s : State (Unit {0}) SeatView)
+pub moment_consistent : {D : Type 0} (plan : Plan) (s : Moment)
     → Kept plan s → (writers : List (Place D)) (scanners : List (List Update))
     → ((i : ℕ) (p : Place D) → slice_get writers i ≡ Some p → IsSeatOf s.views i p)
     → ((k : ℕ) (seen : List Update) → slice_get scanners k ≡ Some seen → IsSeenIn s.views seen)
@@ -94,13 +95,12 @@ moment_consistent plan s kept writers scanners seats seen j x e i p at =
     let whole = (seat_agrees plan s kept i p (seats i p at)).whole in
     omega (arith, below, whole)
 
-module _ {D : Type 0} (device : D → Device) (honest : D → Type 0) (clock : D → ℕ)
-    (might_have_left : D → ℕ → List ℕ → Type 0) where
+module _ {D : Type 0} (disk : Disk.Ghosts D) where
   -- ---- what the devices hold
 
   agreed : (plan : Plan) (h : List Update) (n i : ℕ) (p : Place D) (b : List ℕ)
-      → IsPlaceOf device honest clock might_have_left plan n i p → Agrees plan h i p
-      → CrashLeaves device honest clock might_have_left p b
+      → IsPlaceOf disk plan n i p → Agrees plan h i p
+      → CrashLeaves disk p b
       → (IsFileOf i n (number_after (starts plan) h i) (value_after (starts plan) h i) b)
       ⊎ ((v : List ℕ) × HasBegun p v × IsFileOf i n (number_after (starts plan) h i + 1) v b)
   agreed plan h n i p b is a left =
@@ -121,13 +121,13 @@ module _ {D : Type 0} (device : D → Device) (honest : D → Type 0) (clock : D
       (λ old. inl (subst (λ (y : ℕ × List ℕ). IsFileOf i n y.0 y.1 b)
       (λ t. (now t, value_now t)) old))
       (λ new. inr (new.0, new.1, subst (λ (k : ℕ). IsFileOf i n (k + 1) new.0 b) now new.2))
-      (crash_leaves device honest clock might_have_left plan n i p is b left)
+      (crash_leaves disk plan n i p is b left)
 
   recovered : (plan : Plan) (n : ℕ) (h : List Update) (writers : List (Place D))
       (files : List (List ℕ)) → length writers ≡ n
       → ((i : ℕ) (p : Place D) → slice_get writers i ≡ Some p
-      → IsPlaceOf device honest clock might_have_left plan n i p × Agrees plan h i p)
-      → Pairs (λ _. CrashLeaves device honest clock might_have_left) writers files
+      → IsPlaceOf disk plan n i p × Agrees plan h i p)
+      → Pairs (λ _. CrashLeaves disk) writers files
       → IsRecovered n (starts plan) h (Begun writers) files
   recovered plan n h writers files count each left =
       let size = left.size in
@@ -159,19 +159,19 @@ module _ {D : Type 0} (device : D → Device) (honest : D → Type 0) (clock : D
   pub cut_recovers : (plan : Plan) (h : List Update) (writers : List (Place D))
       (scanners : List (List Update)) (files : List (List ℕ)) → 0 < length writers
       → ((i : ℕ) (p : Place D) → slice_get writers i ≡ Some p
-      → IsLivedIn device honest clock might_have_left plan (length writers) h i p)
+      → IsLivedIn disk plan (length writers) h i p)
       → ((k : ℕ) (seen : List Update) → slice_get scanners k ≡ Some seen → IsBeginning seen h)
       → IsConsistent (starts plan) writers scanners
-      → Pairs (λ _. CrashLeaves device honest clock might_have_left) writers files
+      → Pairs (λ _. CrashLeaves disk) writers files
       → Recovers (length writers) (starts plan) h writers scanners files
   cut_recovers plan h writers scanners files least lived saw consistent left =
       let start = starts plan in
       let n = length writers in
       let fits : (i : ℕ) (p : Place D) → slice_get writers i ≡ Some p
-      → IsPlaceOf device honest clock might_have_left plan n i p × IsBeginning (seen_at p) h =
+      → IsPlaceOf disk plan n i p × IsBeginning (seen_at p) h =
       λ i p e. (
       let x = lived i p e in
-      let f = life_fits device honest clock might_have_left plan n i x.0 x.1 x.2 p x.3 x.4 x.5 in
+      let f = life_fits disk plan n i x.0 x.1 x.2 p x.3 x.4 x.5 in
       (f.0, beginning-trans (seen_at p) x.1.seat.seen h f.2 x.6)) in
       let begins : (j : ℕ) (x : List Update) → slice_get (all_seen writers scanners) j ≡ Some x
       → IsBeginning x h = λ j x e. ⊎_elim
@@ -208,11 +208,11 @@ module _ {D : Type 0} (device : D → Device) (honest : D → Type 0) (clock : D
 
   -- ---- a moment of the registers
 
-  pub moment_recovers : (plan : Plan) (n : ℕ) (s : State (Unit {0}) SeatView) (kept : Kept plan s)
+  pub moment_recovers : (plan : Plan) (n : ℕ) (s : Moment) (kept : Kept plan s)
       (writers : List (Place D)) (files : List (List ℕ)) → length writers ≡ n
       → ((i : ℕ) (p : Place D) → slice_get writers i ≡ Some p
-      → IsPlaceOf device honest clock might_have_left plan n i p × IsSeatOf s.views i p)
-      → Pairs (λ _. CrashLeaves device honest clock might_have_left) writers files
+      → IsPlaceOf disk plan n i p × IsSeatOf s.views i p)
+      → Pairs (λ _. CrashLeaves disk) writers files
       → ((j : ℕ) (v : SeatView) → get_elem? s.views j ≡ some v
       → IsBeginning (updates v.seen) (updates kept.history))
       × IsRecovered n (starts plan) (updates kept.history) (Begun writers) files

@@ -1,6 +1,7 @@
 -- What a writer has stored stays, whatever its life brings.
 use Rattle.std.proofs.Common.{◌≡◌, ⊎_elim, ℕ, suc, ◌+◌, ◌≤◌, inl, inr, List, [], ◌∷◌, Some, slice_get, refl, ap, sym, subst, ◌∙◌, arith}
-use Rattle.snap_disk.specs.Device.{Device, MayLeave, LeavesOnly}
+use Rattle.snap_disk.specs.Device.{MayLeave}
+use Rattle.snap_disk.specs.Time.{LeavesOnly}
 use Rattle.snap_disk.specs.Laws.{started, then}
 use Rattle.snap_slot.specs.Layout.{IsFileOf}
 use Rattle.snap_slot.specs.States.{IsEither}
@@ -10,42 +11,41 @@ use Rattle.snap_writer.specs.Writer.{WriterState}
 use Rattle.snap_writer.specs.Life.{Stores, Does, Lived, IsWriterOf}
 use Rattle.snap_cut.specs.Durability.{Gave, Keeps, Stays}
 use Rattle.snap_cut.proofs.Lives.{does_is}
+use Rattle.snap_disk.specs.declared.disk.Disk as Disk
 
 -- a writer of a segment is one wherever its life brings it
-pub lived_is : {D : Type 0} (device : D → Device) (honest : D → Type 0) (clock : D → ℕ)
-    (might_have_left : D → ℕ → List ℕ → Type 0) (plan : Plan) (n i : ℕ) (a z : WriterState D)
-    (life : List (WriterState D)) → IsWriterOf device honest clock might_have_left plan n i a
-    → Lived device honest clock might_have_left a life z
-    → IsWriterOf device honest clock might_have_left plan n i z
-lived_is device honest clock might_have_left plan n i a z [] is lived =
-    subst (IsWriterOf device honest clock might_have_left plan n i) (sym lived) is
-lived_is device honest clock might_have_left plan n i a z (b ∷ life) is lived =
-    lived_is device honest clock might_have_left plan n i b z life
-    (does_is device honest clock might_have_left plan n i a b is lived.0) lived.1
+pub lived_is : {D : Type 0} (disk : Disk.Ghosts D) (plan : Plan) (n i : ℕ) (a z : WriterState D)
+    (life : List (WriterState D)) → IsWriterOf disk plan n i a
+    → Lived disk a life z
+    → IsWriterOf disk plan n i z
+lived_is disk plan n i a z [] is lived =
+    subst (IsWriterOf disk plan n i) (sym lived) is
+lived_is disk plan n i a z (b ∷ life) is lived =
+    lived_is disk plan n i b z life
+    (does_is disk plan n i a b is lived.0) lived.1
 
-module _ {D : Type 0} (device : D → Device) (honest : D → Type 0) (clock : D → ℕ)
-    (might_have_left : D → ℕ → List ℕ → Type 0) where
+module _ {D : Type 0} (disk : Disk.Ghosts D) where
   -- a device that is honest now was so before
-  honest_before : (a b : WriterState D) → Does device honest clock might_have_left a b
-      → honest b.segment.device → honest a.segment.device
+  honest_before : (a b : WriterState D) → Does disk a b
+      → disk.is_honest b.segment.device → disk.is_honest a.segment.device
   honest_before a b (inl sees) hon =
-      subst (λ (s : SegmentState D). honest s.device) sees.segment_is hon
+      subst (λ (s : SegmentState D). disk.is_honest s.device) sees.segment_is hon
   honest_before a b (inr (inl stores)) hon = stores.1.honest_then hon
   honest_before a b (inr (inr shows)) hon =
-      subst (λ (s : SegmentState D). honest s.device) shows.segment_is hon
+      subst (λ (s : SegmentState D). disk.is_honest s.device) shows.segment_is hon
 
   honest_all : (a z : WriterState D) (life : List (WriterState D))
-      → Lived device honest clock might_have_left a life z → honest z.segment.device
-      → honest a.segment.device
-  honest_all a z [] lived hon = subst (λ (w : WriterState D). honest w.segment.device) lived hon
+      → Lived disk a life z → disk.is_honest z.segment.device
+      → disk.is_honest a.segment.device
+  honest_all a z [] lived hon = subst (λ (w : WriterState D). disk.is_honest w.segment.device)
+      lived hon
   honest_all a z (b ∷ life) lived hon =
       honest_before a b lived.0 (honest_all b z life lived.1 hon)
 
-module _ {D : Type 0} (device : D → Device) (honest : D → Type 0) (clock : D → ℕ)
-    (might_have_left : D → ℕ → List ℕ → Type 0) (plan : Plan) (n i : ℕ) (a : WriterState D)
+module _ {D : Type 0} (disk : Disk.Ghosts D) (plan : Plan) (n i : ℕ) (a : WriterState D)
     (life : List (WriterState D)) where
   abbrev Is : WriterState D → Type 0
-  Is w = IsWriterOf device honest clock might_have_left plan n i w
+  Is w = IsWriterOf disk plan n i w
 
   abbrev InLife : WriterState D → Type 0
   InLife w = (j : ℕ) × (slice_get (a ∷ life) j ≡ Some w)
@@ -89,8 +89,8 @@ module _ {D : Type 0} (device : D → Device) (honest : D → Type 0) (clock : D
   }
 
   -- a crash between two stores
-  between : (m : WriterState D) → CameTo m → honest m.segment.device → (x : List ℕ)
-      → MayLeave (device m.segment.device) x → Keeps n i a life x
+  between : (m : WriterState D) → CameTo m → disk.is_honest m.segment.device → (x : List ℕ)
+      → MayLeave (disk.device m.segment.device) x → Keeps n i a life x
   between m came hon x left =
       ⊎_elim (stored m came x)
       (λ failed. begun m m failed.0 came came.at (inr (refl, failed.1)) x failed.2)
@@ -98,7 +98,7 @@ module _ {D : Type 0} (device : D → Device) (honest : D → Type 0) (clock : D
 
   -- one store more
   gave_next : (m b : WriterState D) (v : List ℕ)
-      → Stores device honest clock might_have_left v m b → Gave (m.segment.number + 1) v b
+      → Stores disk v m b → Gave (m.segment.number + 1) v b
   gave_next m b v s =
       ⊎_elim
       (λ done. inl (
@@ -123,7 +123,7 @@ module _ {D : Type 0} (device : D → Device) (honest : D → Type 0) (clock : D
       }
 
   stored_came : (m b : WriterState D) (v : List ℕ) → CameTo m → Is b → InLife b
-      → Stores device honest clock might_have_left v m b → CameTo b
+      → Stores disk v m b → CameTo b
   stored_came m b v came is there s =
       ⊎_elim
       (λ done. (
@@ -150,38 +150,38 @@ module _ {D : Type 0} (device : D → Device) (honest : D → Type 0) (clock : D
       s.ends
 
   abbrev Left : WriterState D → Type 0
-  Left m = LeavesOnly clock might_have_left a.segment.device m.segment.device (Keeps n i a life)
+  Left m = LeavesOnly disk a.segment.device m.segment.device (Keeps n i a life)
 
   same_left : (m b : WriterState D) → b.segment ≡ m.segment → Left m → Left b
   same_left m b same left = subst (λ (s : SegmentState D).
-      LeavesOnly clock might_have_left a.segment.device s.device (Keeps n i a life)) (sym same) left
+      LeavesOnly disk a.segment.device s.device (Keeps n i a life)) (sym same) left
 
   stored_left : (m b : WriterState D) (v : List ℕ) → CameTo m → InLife b
-      → Stores device honest clock might_have_left v m b → honest b.segment.device → Left m → Left b
+      → Stores disk v m b → disk.is_honest b.segment.device → Left m → Left b
   stored_left m b v came there s hon left =
-      then clock might_have_left a.segment.device m.segment.device b.segment.device
+      then disk a.segment.device m.segment.device b.segment.device
       (Keeps n i a life)
       (IsEither m.segment.index m.segment.count m.segment.number m.segment.value v)
       (Keeps n i a life) left (s.any_time hon) (λ x kept. kept)
       (λ x either. ⊎_elim (stored m came x) (begun m b v came there (gave_next m b v s) x) either)
 
   -- one thing more that it did
-  step_left : (m b : WriterState D) → CameTo m → InLife b → honest b.segment.device
-      → Does device honest clock might_have_left m b → Left m → CameTo b × Left b
+  step_left : (m b : WriterState D) → CameTo m → InLife b → disk.is_honest b.segment.device
+      → Does disk m b → Left m → CameTo b × Left b
   step_left m b came there hon (inl sees) left = (
-    same_came m b came (does_is device honest clock might_have_left plan n i m b came.is (inl sees))
+    same_came m b came (does_is disk plan n i m b came.is (inl sees))
         there sees.segment_is,
     same_left m b sees.segment_is left,
   )
   step_left m b came there hon (inr (inl stores)) left = (
     stored_came m b stores.0 came
-        (does_is device honest clock might_have_left plan n i m b came.is (inr (inl stores)))
+        (does_is disk plan n i m b came.is (inr (inl stores)))
         there stores.1,
     stored_left m b stores.0 came there stores.1 hon left,
   )
   step_left m b came there hon (inr (inr shows)) left = (
     same_came m b came
-        (does_is device honest clock might_have_left plan n i m b came.is (inr (inr shows)))
+        (does_is disk plan n i m b came.is (inr (inr shows)))
         there shows.segment_is,
     same_left m b shows.segment_is left,
   )
@@ -189,25 +189,26 @@ module _ {D : Type 0} (device : D → Device) (honest : D → Type 0) (clock : D
   -- the rest of its life
   walk : (m z : WriterState D) (rest : List (WriterState D))
       → ((j : ℕ) (w : WriterState D) → slice_get (m ∷ rest) j ≡ Some w → InLife w)
-      → Lived device honest clock might_have_left m rest z → honest z.segment.device
-      → CameTo m → Left m → Stays device honest clock might_have_left n i a life z
+      → Lived disk m rest z → disk.is_honest z.segment.device
+      → CameTo m → Left m → Stays disk n i a life z
   walk m z [] each lived hon came left =
-      subst (Stays device honest clock might_have_left n i a life) (sym lived) (
+      subst (Stays disk n i a life) (sym lived) (
       record {
         any_time = left;
-        now = between m came (honest_all device honest clock might_have_left m z [] lived hon);
+        now = between m came (honest_all disk m z [] lived hon);
       })
   walk m z (b ∷ rest) each lived hon came left =
-      let b_honest = honest_all device honest clock might_have_left b z rest lived.1 hon in
+      let b_honest = honest_all disk b z rest lived.1 hon in
       let next = step_left m b came (each 1 b refl) b_honest lived.0 left in
       walk b z rest (λ j w e. each (suc j) w e) lived.1 hon next.0 next.1
 
   pub stays : (z : WriterState D)
-      → ((d : D) (b : List ℕ) → honest d → might_have_left d (clock d) b → MayLeave (device d) b)
-      → Is a → Lived device honest clock might_have_left a life z → honest z.segment.device
-      → Stays device honest clock might_have_left n i a life z
+      → ((d : D) (b : List ℕ) → disk.is_honest d → disk.might_have_left d (disk.clock d) b
+      → MayLeave (disk.device d) b)
+      → Is a → Lived disk a life z → disk.is_honest z.segment.device
+      → Stays disk n i a life z
   stays z only_now is lived hon =
-      let first = honest_all device honest clock might_have_left a z life lived hon in
+      let first = honest_all disk a z life lived hon in
       let came : CameTo a = record {
         is = is;
         at = (0, refl);
@@ -215,5 +216,5 @@ module _ {D : Type 0} (device : D → Device) (honest : D → Type 0) (clock : D
         same_value = λ e. refl;
       } in
       walk a z life (λ j w e. (j, e)) lived hon came
-      (started clock might_have_left a.segment.device (Keeps n i a life)
+      (started disk a.segment.device (Keeps n i a life)
       (λ x left. between a came first x (only_now a.segment.device x first left)))

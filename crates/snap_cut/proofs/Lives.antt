@@ -1,7 +1,7 @@
 -- Each place in the life of a writer is one at which its device and its seat are together.
 use Rattle.std.proofs.Common.{◌≡◌, ⊎_elim, ℕ, ◌+◌, inl, inr, List, [], ◌∷◌, ◌++◌, ap, sym, subst, ◌∙◌, arith}
 use Rattle.std.proofs.lemmas.List.{append_assoc}
-use Rattle.snap_disk.specs.Device.{Device, MayLeave}
+use Rattle.snap_disk.specs.Device.{MayLeave}
 use Rattle.snap_slot.specs.States.{IsEither}
 use Rattle.snap_segment.specs.Segment.{SegmentState}
 use Rattle.snap_history.specs.History.{IsBeginning}
@@ -11,7 +11,9 @@ use Rattle.snap_register.specs.Seat.{Known, own_of, number_in}
 use Rattle.snap_writer.specs.Writer.{WriterState, number_of, value_of}
 use Rattle.snap_writer.specs.Update.{EndsWith}
 use Rattle.snap_writer.proofs.Shown.{number_grown, value_grown, number_shown, value_shown}
-use Rattle.snap_writer.specs.Life.{Place, seen_at, IsShown, IsAhead, HoldsOf, Rests, Sees, Stores, Shows, Does, Lived, IsAt, IsInStore, IsIn, IsWriterOf, IsPlaceOf}
+use Rattle.snap_writer.specs.Life.{Place, seen_at, IsShown, IsAhead, HoldsOf, Rests, Sees, Stores, Shows, Does, Lived, IsAt, IsInStore}
+use Rattle.snap_writer.specs.Life.{IsIn, IsWriterOf, IsPlaceOf}
+use Rattle.snap_disk.specs.declared.disk.Disk as Disk
 
 -- an update that a seat shows stands behind what it had seen
 shown_later : (a b : Known) (v : List ℕ) → EndsWith a b v → IsBeginning a.seen b.seen
@@ -20,15 +22,14 @@ shown_later a b v e = (
   e.seen ∙ append_assoc a.seen e.between (record { segment = own_of a; value = v } ∷ []),
 )
 
-module _ {D : Type 0} (device : D → Device) (honest : D → Type 0) (clock : D → ℕ)
-    (might_have_left : D → ℕ → List ℕ → Type 0) where
+module _ {D : Type 0} (disk : Disk.Ghosts D) where
   -- what rests with one segment rests with the same one
   rests_same : (a b : WriterState D) → b.segment ≡ a.segment
-      → Rests device honest clock might_have_left a → Rests device honest clock might_have_left b
-  rests_same a b same r = subst (λ (s : SegmentState D). honest s.device → (x : List ℕ)
-      → MayLeave (device s.device) x → HoldsOf s x) (sym same) r
+      → Rests disk a → Rests disk b
+  rests_same a b same r = subst (λ (s : SegmentState D). disk.is_honest s.device → (x : List ℕ)
+      → MayLeave (disk.device s.device) x → HoldsOf s x) (sym same) r
 
-  step_later : (a b : WriterState D) → Does device honest clock might_have_left a b
+  step_later : (a b : WriterState D) → Does disk a b
       → IsBeginning a.seat.seen b.seat.seen
   step_later a b (inl sees) = sees.grows.later
   step_later a b (inr (inl stores)) =
@@ -38,9 +39,9 @@ module _ {D : Type 0} (device : D → Device) (honest : D → Type 0) (clock : D
 
   module _ (plan : Plan) (n i : ℕ) where
     abbrev Is : WriterState D → Type 0
-    Is w = IsWriterOf device honest clock might_have_left plan n i w
+    Is w = IsWriterOf disk plan n i w
 
-    sees_is : (a b : WriterState D) → Is a → Sees device honest clock might_have_left a b → Is b
+    sees_is : (a b : WriterState D) → Is a → Sees disk a b → Is b
     sees_is a b is s =
         let low : a.seat.low ≡ i = is.low_is in
         let high : a.seat.high ≡ i + 1 = is.high_is in
@@ -70,7 +71,7 @@ module _ {D : Type 0} (device : D → Device) (honest : D → Type 0) (clock : D
         }
 
     stores_is : (v : List ℕ) (a b : WriterState D) → Is a
-        → Stores device honest clock might_have_left v a b → Is b
+        → Stores disk v a b → Is b
     stores_is v a b is s =
         let seat = s.seat_is in
         let number : number_of b ≡ number_of a =
@@ -105,7 +106,7 @@ module _ {D : Type 0} (device : D → Device) (honest : D → Type 0) (clock : D
         })
         s.ends
 
-    shows_is : (a b : WriterState D) → Is a → Shows device honest clock might_have_left a b → Is b
+    shows_is : (a b : WriterState D) → Is a → Shows disk a b → Is b
     shows_is a b is s =
         let seg = s.segment_is in
         let number : number_of b ≡ number_of a + 1 =
@@ -125,17 +126,17 @@ module _ {D : Type 0} (device : D → Device) (honest : D → Type 0) (clock : D
           rests = rests_same a b seg is.rests;
         }
 
-    pub does_is : (a b : WriterState D) → Is a → Does device honest clock might_have_left a b → Is b
+    pub does_is : (a b : WriterState D) → Is a → Does disk a b → Is b
     does_is a b is (inl sees) = sees_is a b is sees
     does_is a b is (inr (inl stores)) = stores_is stores.0 a b is stores.1
     does_is a b is (inr (inr shows)) = shows_is a b is shows
 
     abbrev Fits : WriterState D → WriterState D → Place D → Type 0
-    Fits a z p = IsPlaceOf device honest clock might_have_left plan n i p
+    Fits a z p = IsPlaceOf disk plan n i p
         × IsBeginning a.seat.seen (seen_at p) × IsBeginning (seen_at p) z.seat.seen
 
     at_rest : (a z : WriterState D) (p : Place D) → Is a
-        → IsAt device honest clock might_have_left z a p → Fits a z p
+        → IsAt disk z a p → Fits a z p
     at_rest a z p is at = subst (λ (q : Place D). Fits a z q) (sym at.3) (
       record { writer_is = sees_is a at.0 is at.1; storing_is = record {} },
       at.1.grows.later,
@@ -143,7 +144,7 @@ module _ {D : Type 0} (device : D → Device) (honest : D → Type 0) (clock : D
     )
 
     mid_store : (a b z : WriterState D) (p : Place D) → Is a
-        → IsInStore device honest clock might_have_left z a b p → Fits a z p
+        → IsInStore disk z a b p → Fits a z p
     mid_store a b z p is at =
         let m = at.0 in
         let v = at.1 in
@@ -161,8 +162,8 @@ module _ {D : Type 0} (device : D → Device) (honest : D → Type 0) (clock : D
               ∙ (s.shown.1 ∙ sym (value_grown a.seat m.seat sees.grows alone)),
         ) in
         let d = b.segment.device in
-        let any_time : honest d → (x : List ℕ)
-        → might_have_left d (clock a.segment.device) x
+        let any_time : disk.is_honest d → (x : List ℕ)
+        → disk.might_have_left d (disk.clock a.segment.device) x
         → IsEither a.segment.index a.segment.count a.segment.number a.segment.value v x =
         λ hon x left. (s.any_time hon).each x left in
         subst (λ (q : Place D). Fits a z q) (sym at.5) (
@@ -170,8 +171,8 @@ module _ {D : Type 0} (device : D → Device) (honest : D → Type 0) (clock : D
             writer_is = now;
             storing_is = (
               shown,
-              subst (λ (t : SegmentState D). honest d → (x : List ℕ)
-                  → might_have_left d (clock t.device) x
+              subst (λ (t : SegmentState D). disk.is_honest d → (x : List ℕ)
+                  → disk.might_have_left d (disk.clock t.device) x
                   → IsEither t.index t.count t.number t.value v x) (sym seg) any_time,
             );
           },
@@ -180,8 +181,8 @@ module _ {D : Type 0} (device : D → Device) (honest : D → Type 0) (clock : D
         )
 
     pub life_fits : (a z : WriterState D) (life : List (WriterState D)) (p : Place D) → Is a
-        → Lived device honest clock might_have_left a life z
-        → IsIn device honest clock might_have_left z a life p → Fits a z p
+        → Lived disk a life z
+        → IsIn disk z a life p → Fits a z p
     life_fits a z [] p is lived there = at_rest a z p is there
     life_fits a z (b ∷ life) p is lived (inl here) = at_rest a z p is here
     life_fits a z (b ∷ life) p is lived (inr (inl inside)) = mid_store a b z p is inside

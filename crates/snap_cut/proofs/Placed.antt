@@ -1,12 +1,13 @@
 -- What a crash leaves of one writer's device: the number and the value shown last, or the next number
 -- with a value that was begun.
 use Rattle.std.proofs.Common.{◌≡◌, ◌⊎◌, ⊎_elim, ℕ, ◌+◌, inl, inr, List, Option, Some, None, refl, ap, sym, subst, ◌∙◌}
-use Rattle.snap_disk.specs.Device.{Device, MayLeave}
+use Rattle.snap_disk.specs.Device.{MayLeave}
 use Rattle.snap_slot.specs.Layout.{IsFileOf}
 use Rattle.snap_segment.specs.Segment.{SegmentState}
 use Rattle.snap_register.specs.declared.plan.Plan.{Plan}
 use Rattle.snap_writer.specs.Writer.{WriterState, number_of, value_of}
 use Rattle.snap_writer.specs.Life.{Place, HasBegun, IsShown, IsAhead, HoldsOf, Leaves, CrashLeaves, IsWriterOf, IsMidStore, IsPlaceOf}
+use Rattle.snap_disk.specs.declared.disk.Disk as Disk
 
 -- the same file, by other names
 same_file : (i j n m k l : ℕ) (v w b : List ℕ) → i ≡ j → n ≡ m → k ≡ l → v ≡ w → IsFileOf i n k v b
@@ -23,15 +24,14 @@ unfenced s b none (inr failed) =
     let both : None ≡ Some failed.0 = sym none ∙ failed.1 in
     absurd (cc both)
 
-module _ {D : Type 0} (device : D → Device) (honest : D → Type 0) (clock : D → ℕ)
-    (might_have_left : D → ℕ → List ℕ → Type 0) (plan : Plan) (n i : ℕ) where
+module _ {D : Type 0} (disk : Disk.Ghosts D) (plan : Plan) (n i : ℕ) where
   abbrev pub LeftOf : Place D → List ℕ → Type 0
   LeftOf p b = IsFileOf i n (number_of p.writer) (value_of p.writer) b
       ⊎ ((v : List ℕ) × HasBegun p v × IsFileOf i n (number_of p.writer + 1) v b)
 
   resting_leaves : (w : WriterState D) (storing : Option (List ℕ × D))
-      → IsWriterOf device honest clock might_have_left plan n i w → honest w.segment.device
-      → (b : List ℕ) → MayLeave (device w.segment.device) b
+      → IsWriterOf disk plan n i w → disk.is_honest w.segment.device
+      → (b : List ℕ) → MayLeave (disk.device w.segment.device) b
       → LeftOf (record { writer = w; storing = storing }) b
   resting_leaves w storing is hon b left =
       ⊎_elim
@@ -55,9 +55,9 @@ module _ {D : Type 0} (device : D → Device) (honest : D → Type 0) (clock : D
       is.stored
 
   left_at : (w : WriterState D) (storing : Option (List ℕ × D))
-      → IsWriterOf device honest clock might_have_left plan n i w
-      → IsMidStore device honest clock might_have_left w storing → (b : List ℕ)
-      → Leaves device honest clock might_have_left w storing b
+      → IsWriterOf disk plan n i w
+      → IsMidStore disk w storing → (b : List ℕ)
+      → Leaves disk w storing b
       → LeftOf (record { writer = w; storing = storing }) b
   left_at w None is mid b left = resting_leaves w None is left.0 b left.1
   left_at w (Some s) is mid b left =
@@ -71,6 +71,6 @@ module _ {D : Type 0} (device : D → Device) (honest : D → Type 0) (clock : D
       ))
       (mid.1 left.0 b left.1)
 
-  pub crash_leaves : (p : Place D) → IsPlaceOf device honest clock might_have_left plan n i p
-      → (b : List ℕ) → CrashLeaves device honest clock might_have_left p b → LeftOf p b
+  pub crash_leaves : (p : Place D) → IsPlaceOf disk plan n i p
+      → (b : List ℕ) → CrashLeaves disk p b → LeftOf p b
   crash_leaves p is b left = left_at p.writer p.storing is.writer_is is.storing_is b left

@@ -1,10 +1,11 @@
 -- A crash that finds each writer and each scanner at some place, and what it leaves.
 use Rattle.std.specs.Prelude.{◌≡◌, ℕ, ◌<◌, ◌≤◌, List, ◌++◌, length, map, Some, slice_get}
-use Rattle.snap_disk.specs.Device.{Device, MayLeave}
+use Rattle.snap_disk.specs.Device.{MayLeave}
 use Rattle.snap_slot.specs.Layout.{IsFileOf}
 use Rattle.snap_history.specs.History.{Update, Start, IsBeginning, updates_of, number_after, value_after}
 use Rattle.snap_history.specs.Pairs.{Pairs}
 use Rattle.snap_writer.specs.Life.{Place, HasBegun, seen_at}
+use Rattle.snap_disk.specs.declared.disk.Disk as Disk
 
 -- what each seat has seen by then: first the writers, then the scanners
 abbrev pub all_seen : {D : Type 0} → List (Place D) → List (List Update) → List (List Update)
@@ -42,10 +43,10 @@ pub record IsRecovered (n : ℕ) (start : Start) (h : List Update) (begun : ℕ 
 
 -- whatever a crash leaves of all these devices, they hold the memory after the history and then some
 -- of the begun updates
-abbrev pub KeepMemory : {D : Type 0} → (D → Device) → ℕ → Start → List Update
+abbrev pub KeepMemory : {D : Type 0} → Disk.Ghosts D → ℕ → Start → List Update
     → (ℕ → List ℕ → Type 0) → List D → Type 0
-KeepMemory device n start h begun devices = (files : List (List ℕ))
-    → Pairs (λ _ d b. MayLeave (device d) b) devices files → IsRecovered n start h begun files
+KeepMemory disk n start h begun devices = (files : List (List ℕ))
+    → Pairs (λ _ d b. MayLeave (disk.device d) b) devices files → IsRecovered n start h begun files
 
 -- the crash is recovered as the memory after a beginning of the history, which is what somebody had
 -- seen and begins with all that anybody had seen, followed by some begun updates; and each update

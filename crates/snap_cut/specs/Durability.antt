@@ -1,10 +1,12 @@
 -- What a crash leaves of one writer's device over a whole run, not only over a call.
 use Rattle.std.specs.Prelude.{◌≡◌, ◌⊎◌, ℕ, ◌+◌, ◌≤◌, List, ◌∷◌, Some, slice_get}
-use Rattle.snap_disk.specs.Device.{Device, MayLeave, LeavesOnly}
+use Rattle.snap_disk.specs.Device.{MayLeave}
+use Rattle.snap_disk.specs.Time.{LeavesOnly}
 use Rattle.snap_slot.specs.Layout.{IsFileOf}
 use Rattle.snap_register.specs.declared.plan.Plan.{Plan}
 use Rattle.snap_writer.specs.Writer.{WriterState}
 use Rattle.snap_writer.specs.Life.{Lived, IsWriterOf}
+use Rattle.snap_disk.specs.declared.disk.Disk as Disk
 
 -- this writer has number k stored with value v, or its store of them has failed
 abbrev pub Gave : {D : Type 0} → ℕ → List ℕ → WriterState D → Type 0
@@ -27,18 +29,17 @@ pub record Keeps {D : Type 0} (n i : ℕ) (a : WriterState D) (life : List (Writ
   pub same_value : number ≡ a.segment.number → value ≡ a.segment.value
   pub given : Once (a ∷ life) (Gave number value)
 
-module _ {D : Type 0} (device : D → Device) (honest : D → Type 0) (clock : D → ℕ)
-    (might_have_left : D → ℕ → List ℕ → Type 0) where
+module _ {D : Type 0} (disk : Disk.Ghosts D) where
   -- a crash at any time since the writer was at a leaves that, and so does one now that it is at z
   pub record Stays (n i : ℕ) (a : WriterState D) (life : List (WriterState D))
       (z : WriterState D) : Type 0 where
-    pub any_time : LeavesOnly clock might_have_left a.segment.device z.segment.device
+    pub any_time : LeavesOnly disk a.segment.device z.segment.device
         (Keeps n i a life)
-    pub now : (b : List ℕ) → MayLeave (device z.segment.device) b → Keeps n i a life b
+    pub now : (b : List ℕ) → MayLeave (disk.device z.segment.device) b → Keeps n i a life b
 
   -- so it is wherever a writer has come to by its life
   abbrev pub StaysLaw : Type 0
   StaysLaw = (plan : Plan) (n i : ℕ) (a z : WriterState D) (life : List (WriterState D))
-      → IsWriterOf device honest clock might_have_left plan n i a
-      → Lived device honest clock might_have_left a life z
-      → honest z.segment.device → Stays n i a life z
+      → IsWriterOf disk plan n i a
+      → Lived disk a life z
+      → disk.is_honest z.segment.device → Stays n i a life z

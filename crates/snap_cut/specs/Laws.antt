@@ -1,11 +1,9 @@
--- The laws of a crash of all devices. They are over any kind D of device: its bytes and open places,
--- whether it is honest, its clock, and what a crash at a time of the clock or
--- later could have left.
+-- The laws of a crash of all devices. They are over any type D of device, and
+-- `Disk.Ghosts D` is what `Disk` lets one say of it.
 use Rattle.std.specs.Prelude.{◌≡◌, ℕ, ◌<◌, List, length, Some, slice_get}
 use mathlib.Core.Option.{some}
 use lib.ListN.{get_elem?}
-use Rattle.atomic_table.specs.Table.{State}
-use Rattle.snap_disk.specs.Device.{Device}
+use Rattle.snap_register.specs.Registers.{Moment}
 use Rattle.snap_history.specs.History.{Update, IsBeginning}
 use Rattle.snap_history.specs.Pairs.{Pairs}
 use Rattle.snap_register.specs.declared.plan.Plan.{Plan}
@@ -17,24 +15,24 @@ use Rattle.snap_memory.specs.Scans.{IsSnapshot}
 use Rattle.snap_writer.specs.Writer.{WriterState}
 use Rattle.snap_writer.specs.Life.{Place, seen_at, Lived, IsIn, CrashLeaves, IsWriterOf, IsPlaceOf}
 use Rattle.snap_cut.specs.Crash.{IsConsistent, Begun, IsRecovered, Recovers}
+use Rattle.snap_disk.specs.declared.disk.Disk as Disk
 
-module _ {D : Type 0} (device : D → Device) (honest : D → Type 0) (clock : D → ℕ)
-    (might_have_left : D → ℕ → List ℕ → Type 0) where
+module _ {D : Type 0} (disk : Disk.Ghosts D) where
   -- a writer's life keeps its device and its seat together, at each place
   abbrev pub Lives : Type 0
   Lives = (plan : Plan) (n i : ℕ) (a z : WriterState D) (life : List (WriterState D)) (p : Place D)
-      → IsWriterOf device honest clock might_have_left plan n i a
-      → Lived device honest clock might_have_left a life z
-      → IsIn device honest clock might_have_left z a life p
-      → IsPlaceOf device honest clock might_have_left plan n i p
+      → IsWriterOf disk plan n i a
+      → Lived disk a life z
+      → IsIn disk z a life p
+      → IsPlaceOf disk plan n i p
       × IsBeginning a.seat.seen (seen_at p) × IsBeginning (seen_at p) z.seat.seen
 
   -- the place lies in a life of the writer of segment i of n, who has seen no more than this history
   abbrev pub IsLivedIn : Plan → ℕ → List Update → ℕ → Place D → Type 0
   IsLivedIn plan n h i p = (a z : WriterState D) × (life : List (WriterState D))
-      × IsWriterOf device honest clock might_have_left plan n i a
-      × Lived device honest clock might_have_left a life z
-      × IsIn device honest clock might_have_left z a life p × IsBeginning z.seat.seen h
+      × IsWriterOf disk plan n i a
+      × Lived disk a life z
+      × IsIn disk z a life p × IsBeginning z.seat.seen h
 
   -- a consistent cut through the lives of all writers and scanners is recovered
   abbrev pub CutLaw : Type 0
@@ -45,7 +43,7 @@ module _ {D : Type 0} (device : D → Device) (honest : D → Type 0) (clock : D
       → IsLivedIn plan (length writers) h i p)
       → ((k : ℕ) (seen : List Update) → slice_get scanners k ≡ Some seen → IsBeginning seen h)
       → IsConsistent (starts plan) writers scanners
-      → Pairs (λ _. CrashLeaves device honest clock might_have_left) writers files
+      → Pairs (λ _. CrashLeaves disk) writers files
       → Recovers (length writers) (starts plan) h writers scanners files
 
 -- this seat's view stands in the table, writes segment i, and has seen what the place says
@@ -61,7 +59,7 @@ IsSeenIn views seen = (j : ℕ) × (v : SeatView) × (get_elem? views j ≡ some
 -- a moment of the registers is a consistent cut: nobody has seen an update that its writer hasn't
 -- shown
 abbrev pub ConsistentLaw : Type 0 → Type 0
-ConsistentLaw D = (plan : Plan) (s : State (Unit {0}) SeatView) → Kept plan s
+ConsistentLaw D = (plan : Plan) (s : Moment) → Kept plan s
     → (writers : List (Place D)) (scanners : List (List Update))
     → ((i : ℕ) (p : Place D) → slice_get writers i ≡ Some p → IsSeatOf s.views i p)
     → ((k : ℕ) (seen : List Update) → slice_get scanners k ≡ Some seen → IsSeenIn s.views seen)
@@ -74,18 +72,17 @@ ScanLaw = (before after : Known) (memory : List (ℕ × List ℕ)) (visible : Li
     → IsSnapshot before after memory → IsBeginning after.seen visible
     → (part : List Update) × IsBeginning part visible × IsMemory after part memory
 
-module _ {D : Type 0} (device : D → Device) (honest : D → Type 0) (clock : D → ℕ)
-    (might_have_left : D → ℕ → List ℕ → Type 0) where
+module _ {D : Type 0} (disk : Disk.Ghosts D) where
   -- at any moment of the registers a crash is recovered as the memory after the whole history of
   -- that moment, of which each seat has seen a beginning
   abbrev pub MomentLaw : Type 0
-  MomentLaw = (plan : Plan) (s : State (Unit {0}) SeatView) (kept : Kept plan s)
+  MomentLaw = (plan : Plan) (s : Moment) (kept : Kept plan s)
       (writers : List (Place D)) (files : List (List ℕ))
       → length writers ≡ segments plan
       → ((i : ℕ) (p : Place D) → slice_get writers i ≡ Some p
-      → IsPlaceOf device honest clock might_have_left plan (segments plan) i p
+      → IsPlaceOf disk plan (segments plan) i p
       × IsSeatOf s.views i p)
-      → Pairs (λ _. CrashLeaves device honest clock might_have_left) writers files
+      → Pairs (λ _. CrashLeaves disk) writers files
       → ((j : ℕ) (v : SeatView) → get_elem? s.views j ≡ some v
       → IsBeginning (updates v.seen) (updates kept.history))
       × IsRecovered (segments plan) (starts plan) (updates kept.history) (Begun writers) files

@@ -14,8 +14,8 @@ use snap_disk::Disk;
 /// that the writer gave to it. So once an update was answered with number k, which then is the
 /// segment's number, no crash since leaves less than k, and of k no other value.
 pub fn life_laws<D: Disk>()
-    ensures lives { Lives D.device D.is_honest D.clock D.might_have_left }
-    ensures stays { StaysLaw D.device D.is_honest D.clock D.might_have_left }
+    ensures lives { Lives D.Disk }
+    ensures stays { StaysLaw D.Disk }
 {}
 
 /// Where a crash of all devices finds each writer and each scanner of one opening at some place in
@@ -26,8 +26,8 @@ pub fn life_laws<D: Disk>()
 /// At any moment at which the registers obey their rule, that is so, and the list is the whole
 /// history of that moment. What scans had answered were memories on the way to it.
 pub fn crash_laws<D: Disk>()
-    ensures cut { CutLaw D.device D.is_honest D.clock D.might_have_left }
+    ensures cut { CutLaw D.Disk }
     ensures consistent { ConsistentLaw D }
-    ensures moment { MomentLaw D.device D.is_honest D.clock D.might_have_left }
+    ensures moment { MomentLaw D.Disk }
     ensures scans { ScanLaw }
 {}

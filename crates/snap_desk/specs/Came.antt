@@ -1,7 +1,7 @@
 -- The outcome of an update that was handed over.
 use Rattle.std.specs.Prelude.{ℕ, Result}
 use Rattle.snap_disk.specs.declared.refusal.Refusal.{Refusal}
-use Rattle.snap_writer.specs.Writer.{WriterState}
+use Rattle.snap_service.specs.Writer.{WriterState}
 use Rattle.snap_desk.specs.declared.job.Job.{Job}
 
 -- the job, its writer as it stands, and what was told

@@ -1,12 +1,12 @@
 -- The store of a segment, as its thread has it.
-use Rattle.std.specs.Prelude.{◌≡◌, ◌⊎◌, ℕ, List, Bool, true, false, Option, Some, None, is_some}
-use Rattle.snap_disk.specs.Device.{Device}
-use Rattle.snap_register.specs.Seat.{own_of}
-use Rattle.snap_writer.specs.Writer.{WriterState, number_of}
+use Rattle.std.specs.Prelude.{◌≡◌, ◌⊎◌, ℕ, Bool, true, false, Option, Some, None, is_some}
+use Rattle.snap_memory.specs.Seat.{own_of}
+use Rattle.snap_service.specs.Writer.{WriterState, number_of}
 use Rattle.snap_service.specs.Updated.{IsUpdated}
 use Rattle.snap_service.specs.Counted.{next_count}
 use Rattle.snap_desk.specs.declared.standing.Standing.{Standing}
 use Rattle.snap_desk.specs.Came.{Came}
+use Rattle.snap_disk.specs.declared.disk.Disk as Disk
 
 -- the writer is of this segment, at this number, and fenced or not
 pub record StandsAt {D : Type 0} (w : WriterState D) (stands : Standing) : Type 0 where
@@ -55,12 +55,11 @@ pub record IsTaken {D : Type 0} (s : Store D) (w : WriterState D) : Type 0 where
 
 -- One job was taken, and none is left behind. The store's writer was updated once, to that job's number and value, and was told
 -- this; it is lent as it then stands.
-pub record StoresOne {D : Type 0} (device : D → Device) (failures : D → ℕ) (honest : D → Type 0)
-    (clock : D → ℕ) (might_have_left : D → ℕ → List ℕ → Type 0) (old : Store D) (came : Came D)
+pub record StoresOne {D : Type 0} (disk : Disk.Ghosts D) (old : Store D) (came : Came D)
     (new : Store D) : Type 0 where
   pub writer : WriterState D
   pub taken : IsTaken old writer
-  pub updated : IsUpdated device failures honest clock might_have_left writer came.writer
+  pub updated : IsUpdated disk writer came.writer
       came.job.number came.job.value came.told
   pub lent : new.writer ≡ None
   pub stands : StandsAt came.writer new.stands

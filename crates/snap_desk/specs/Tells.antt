@@ -1,11 +1,11 @@
 -- What a reply says of an outcome.
 use Rattle.std.specs.Prelude.{◌≡◌, ℕ, ◌<◌, List}
-use Rattle.snap_register.specs.Rule.{segments}
-use Rattle.snap_register.specs.Seat.{own_of}
+use Rattle.snap_memory.specs.Rule.{segments}
+use Rattle.snap_memory.specs.Seat.{own_of}
 use Rattle.snap_frame.specs.declared.request.Request.{Request}
 use Rattle.snap_frame.specs.declared.request.Request.TheVariants as request
 use Rattle.snap_frame.specs.declared.reply.Reply.{Reply}
-use Rattle.snap_writer.specs.Writer.{number_of}
+use Rattle.snap_service.specs.Writer.{number_of}
 use Rattle.snap_service.specs.Settled.{reply_of}
 use Rattle.snap_desk.specs.Came.{Came}
 

@@ -1,6 +1,6 @@
 //! One worker's half of the service, which waits for no store.
 ghost use Rattle.std.specs.Prelude.{◌≡◌, ℕ, IfSome, IfNone, length};
-ghost use Rattle.snap_register.specs.Rule.{segments};
+ghost use Rattle.snap_memory.specs.Rule.{segments};
 ghost use Rattle.snap_frame.specs.Messages.{IsInLimits};
 ghost use Rattle.snap_service.specs.Memory.{IsOf};
 ghost use Rattle.snap_desk.specs.Handover.{HasHanded, job_of};
@@ -40,8 +40,8 @@ pub struct Desk<R: Wait + Copy, M: Memory, D: Disk + Drop> {
 
 impl<R: Wait + Copy, M: Memory, D: Disk + Drop> Model for Desk<R, M, D> {
     ghost use Rattle.std.specs.Prelude.{◌≡◌, length};
-    ghost use Rattle.snap_register.specs.Rule.{segments};
-    ghost use Rattle.snap_register.specs.Seat.{Known};
+    ghost use Rattle.snap_memory.specs.Rule.{segments};
+    ghost use Rattle.snap_memory.specs.Seat.{Known};
     ghost use Rattle.snap_service.specs.Memory.{IsOf};
 
     ghost Value = { Known };
@@ -169,7 +169,7 @@ impl<R: Wait + Copy + Clock, M: Memory, D: Disk + Drop> Desk<R, M, D> {
         ensures answer { AnswersStatus self.old result self.new }
         ensures limits { IsInLimits result }
     {
-        // how many segments there are
+        // for what it says of the scanner (docs/DECISIONS.md, 180)
         let _segments = self.scanner.segments();
         match self.outbox.list_statuses() {
             Ok(statuses) => Reply::Status(statuses),

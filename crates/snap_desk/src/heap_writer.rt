@@ -1,12 +1,13 @@
 //! A writer on the heap.
 ghost use Rattle.std.specs.Prelude.{◌≡◌, ℕ, List, IfOk};
-ghost use Rattle.snap_history.specs.Limits.{IsShort};
-ghost use Rattle.snap_register.specs.Seat.{own_of, Meets};
+ghost use Rattle.snap_frame.specs.Limits.{IsShort};
+ghost use Rattle.snap_memory.specs.Seat.{own_of, Meets};
 ghost use Rattle.snap_frame.specs.Messages.{IsInLimits};
-ghost use Rattle.snap_writer.specs.Writer.{number_of};
+ghost use Rattle.snap_service.specs.Writer.{number_of};
 ghost use Rattle.snap_service.specs.Memory.{IsOf};
 ghost use Rattle.snap_service.specs.Settled.{IsSettledAt, IsTellable, reply_of};
-ghost use Rattle.snap_service.specs.Updated.{IsUpdated, HasMet};
+ghost use Rattle.snap_service.specs.Updated.{IsUpdated};
+ghost use Rattle.snap_service.specs.Updated.{HasMet};
 
 use snap_disk::{Disk, Refusal};
 use snap_frame::Reply;
@@ -16,14 +17,14 @@ use std::alloc::{AllocError, Global};
 use std::marker::Model;
 
 /// A writer in a place of its own on the heap: to lend it and to send it home moves a pointer, where the
-/// writer itself has some 460 bytes.
+/// writer itself has hundreds of bytes.
 #[derive(Drop)]
 pub struct HeapWriter<M: Memory, D: Disk + Drop> {
     writer: Box<WriterOf<M, D>>,
 }
 
 impl<M: Memory, D: Disk + Drop> Model for HeapWriter<M, D> {
-    ghost use Rattle.snap_writer.specs.Writer.{WriterState};
+    ghost use Rattle.snap_service.specs.Writer.{WriterState};
 
     ghost Value = { WriterState D };
 
@@ -58,8 +59,7 @@ impl<M: Memory, D: Disk + Drop> HeapWriter<M, D> {
     /// An update of the writer, as [`WriterOf::update`] does it.
     pub fn update(&mut self, number: u64, value: &[u8]) -> Result<u64, Refusal>
         requires size { IsShort value.now }
-        ensures updated { IsUpdated D.device D.failure_count D.is_honest D.clock D.might_have_left
-            self.old self.new number value.now result }
+        ensures updated { IsUpdated D.Disk self.old self.new number value.now result }
         ensures tellable { IsTellable self.new number value.now result }
     {
         self.writer.as_mut().update(number, value)

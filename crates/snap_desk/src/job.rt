@@ -1,6 +1,6 @@
 //! Updates that are handed over.
 ghost use Rattle.std.specs.Prelude.{◌≡◌, IfOk};
-ghost use Rattle.snap_history.specs.Limits.{IsShort};
+ghost use Rattle.snap_frame.specs.Limits.{IsShort};
 ghost use Rattle.snap_desk.specs.declared.job.Job.{Job};
 ghost use Rattle.snap_desk.specs.Handover.{no_job};
 
@@ -17,7 +17,7 @@ pub struct Payload {
 
 impl Model for Payload {
     ghost use Rattle.std.specs.Prelude.{List, ℕ};
-    ghost use Rattle.snap_history.specs.Limits.{IsShort};
+    ghost use Rattle.snap_frame.specs.Limits.{IsShort};
 
     ghost Value = { List ℕ };
 

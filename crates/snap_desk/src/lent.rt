@@ -1,9 +1,9 @@
 //! A writer that is lent to a desk.
 ghost use Rattle.std.specs.Prelude.{◌≡◌, ◌+◌, ◌*◌, ℕ, List, true, false, None, IsSome};
-ghost use Rattle.snap_history.specs.Limits.{IsShort};
-ghost use Rattle.snap_register.specs.Seat.{Meets, own_of};
+ghost use Rattle.snap_frame.specs.Limits.{IsShort};
+ghost use Rattle.snap_memory.specs.Seat.{Meets, own_of};
 ghost use Rattle.snap_frame.specs.Messages.{IsInLimits};
-ghost use Rattle.snap_writer.specs.Writer.{number_of};
+ghost use Rattle.snap_service.specs.Writer.{number_of};
 ghost use Rattle.snap_service.specs.Memory.{IsOf};
 ghost use Rattle.snap_service.specs.Settled.{IsSettledAt, IsTellable, reply_of};
 ghost use Rattle.snap_desk.specs.Came.{Came};

@@ -1,6 +1,6 @@
 //! What a desk sees of the stores, and how it hands updates over to them.
 ghost use Rattle.std.specs.Prelude.{◌≡◌, ◌<◌, length, All, IfOk, OnErr, IfSome, IfNone};
-ghost use Rattle.snap_history.specs.Limits.{IsShort};
+ghost use Rattle.snap_frame.specs.Limits.{IsShort};
 ghost use Rattle.snap_frame.specs.Messages.{IsStatus};
 ghost use Rattle.snap_desk.specs.Handover.{HasHanded, job_of};
 

@@ -2,7 +2,7 @@
 //! twice the number, and one more where it is fenced.
 ghost use Rattle.std.specs.Prelude.{◌≡◌, ◌+◌, ◌*◌, true, false, None, IsSome};
 ghost use Rattle.snap_frame.specs.Messages.{IsStatus};
-ghost use Rattle.snap_writer.specs.Writer.{number_of};
+ghost use Rattle.snap_service.specs.Writer.{number_of};
 ghost use Rattle.snap_desk.specs.Store.{StandsAt};
 
 use snap_disk::Disk;

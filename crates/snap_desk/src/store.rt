@@ -1,6 +1,6 @@
 //! The store of a segment, as the thread that owns it drives it.
 ghost use Rattle.std.specs.Prelude.{◌≡◌, IfOk, IfSome, IfNone, Some, None};
-ghost use Rattle.snap_register.specs.Seat.{own_of};
+ghost use Rattle.snap_memory.specs.Seat.{own_of};
 ghost use Rattle.snap_service.specs.Updated.{IsUpdated};
 ghost use Rattle.snap_desk.specs.Store.{IsNew, IsTaken, IsIdle, StandsAt, StoresOne};
 
@@ -28,8 +28,7 @@ pub fn store_one<R: Wait + Copy, M: Memory, D: Disk + Drop>(
     job: Job,
 ) -> Outcome<R, M, D>
     ensures job { result.job ≡ job }
-    ensures updated { IsUpdated D.device D.failure_count D.is_honest D.clock D.might_have_left
-        writer result.writer job.number job.value result.told }
+    ensures updated { IsUpdated D.Disk writer result.writer job.number job.value result.told }
 {
     let told = writer.update(job.number, job.value.as_slice());
     Outcome::new(job, told, Lent { rt, home, writer })
@@ -69,7 +68,7 @@ pub struct StoreThread<R: Wait + Copy, M: Memory, D: Disk + Drop> {
 
 impl<R: Wait + Copy, M: Memory, D: Disk + Drop> Model for StoreThread<R, M, D> {
     ghost use Rattle.std.specs.Prelude.{◌≡◌, Some};
-    ghost use Rattle.snap_writer.specs.Writer.{WriterState};
+    ghost use Rattle.snap_service.specs.Writer.{WriterState};
     ghost use Rattle.snap_desk.specs.Store.{Store, StandsAt};
 
     ghost Value = { Store D };
@@ -133,7 +132,7 @@ impl<R: Wait + Copy, M: Memory, D: Disk + Drop> StoreThread<R, M, D> {
         ensures worker { result.worker ≡ job.worker }
         ensures key { result.key ≡ job.key }
         ensures job { result.outcome.job ≡ job }
-        ensures updated { IsUpdated D.device D.failure_count D.is_honest D.clock D.might_have_left
+        ensures updated { IsUpdated D.Disk
             writer result.outcome.writer job.number job.value result.outcome.told }
         ensures lent { self.new.writer ≡ None }
         ensures stands { StandsAt result.outcome.writer self.new.stands }
@@ -158,8 +157,7 @@ impl<R: Wait + Copy, M: Memory, D: Disk + Drop> StoreThread<R, M, D> {
         ensures worker { IfSome result (λ t. t.worker ≡ t.outcome.job.worker) }
         ensures key { IfSome result (λ t. t.key ≡ t.outcome.job.key) }
         ensures stored { IfSome result (λ t.
-            StoresOne D.device D.failure_count D.is_honest D.clock D.might_have_left
-            self.old t.outcome self.new) }
+            StoresOne D.Disk self.old t.outcome self.new) }
         ensures none { IfNone result (IsIdle self.old self.new) }
     {
         if !self.queue.wait(&self.rt, &mut self.spin) {

@@ -87,9 +87,8 @@ pub enum CallFault {
 ///
 /// Each method makes the call of the system that it is named for, and then notes it. A sync also
 /// asks whether the path still names the file, if the one before it didn't, and fails where it
-/// doesn't: so each store asks, which syncs twice. It is honest
-/// where every noted call did what the model of [`Disk`] says, after a sync that failed too, and
-/// nobody else writes the file. Which places are open at first no contract says: those that were
+/// doesn't: so each store asks, which syncs twice. It is honest where every noted call did what the
+/// model of [`Disk`] says, after a sync that failed too, and nobody else writes the file. Which places are open at first no contract says: those that were
 /// written before and not synced, by a process that ended or before a crash, which leaves them
 /// open. A sync that succeeds closes them. So what is proved holds where each is open, and where a
 /// premise says that no more are than a crash left.

@@ -1,13 +1,12 @@
 -- What a migration leaves, in the words of the command.
 use Rattle.std.proofs.Common.{rules, ◌≡◌, ◌⊎◌, ℕ, List, inl, inr, le_refl, sym, ap, subst, refl, false, Result, Err}
-use Rattle.snap_disk.specs.Device.{Device, LeavesOnly, MayLeave}
+use Rattle.snap_disk.specs.Device.{Device, MayLeave}
+use Rattle.snap_disk.specs.Time.{LeavesOnly}
+use Rattle.snap_disk.specs.declared.disk.Disk as Disk
 use Rattle.snap_disk.specs.declared.refusal.Refusal.{Refusal}
-use Rattle.snap_disk.specs.declared.refusal.Refusal.TheVariants.{Malformed, NoSegment, TooLong}
-use Rattle.snap_disk.specs.declared.refusal.Refusal.TheVariants.{Conflict, OutOfStep, Fenced, Full}
-use Rattle.snap_disk.specs.declared.refusal.Refusal.TheVariants.{NoMemory, Exhausted, Damaged}
-use Rattle.snap_disk.specs.declared.refusal.Refusal.TheVariants.{Unformatted, AlreadyFormatted}
-use Rattle.snap_disk.specs.declared.refusal.Refusal.TheVariants.{DeviceFailed, WrongFile, TooLarge}
-use Rattle.snap_disk.specs.declared.refusal.Refusal.TheVariants.{NotNow, Worn}
+use Rattle.snap_disk.specs.declared.refusal.Refusal.TheVariants.{Malformed, NoSegment, TooLong, Conflict, OutOfStep, Fenced, Full}
+use Rattle.snap_disk.specs.declared.refusal.Refusal.TheVariants.{NoMemory, Exhausted, Damaged, Unformatted, AlreadyFormatted}
+use Rattle.snap_disk.specs.declared.refusal.Refusal.TheVariants.{DeviceFailed, WrongFile, TooLarge, NotNow, Worn}
 use Rattle.snap_slot.specs.Layout.{IsUnformatted}
 use Rattle.snap_slot.specs.States.{IsAtRest}
 use Rattle.snap_old_slot.specs.Old.{OldHead, OldHolds}
@@ -16,8 +15,7 @@ use Rattle.snap_segment.specs.Migration.{IsPast}
 use Rattle.snap_segment.specs.Refusals.{IsMigrationRefusal}
 use Rattle.snap_segment.specs.declared.migration.Which.{Which}
 use Rattle.snap_segment.specs.declared.migration.Which.TheVariants.{Old, New}
-use Rattle.snap_file_commands.specs.Migration.{IsMigrated, IsOldFile, MigrationKeeps}
-use Rattle.snap_file_commands.specs.Migration.{MigrationLeaves, MigrationReads}
+use Rattle.snap_file_commands.specs.Migration.{IsMigrated, IsOldFile, MigrationKeeps, MigrationLeaves, MigrationReads}
 use Rattle.snap_file_commands.specs.declared.migration.MigrationFailure.TheVariants.{OfFile}
 
 widened : (i n k : ℕ) (v : List ℕ) (old new : Device) → OldHead old.bytes i n
@@ -31,12 +29,12 @@ earlier_or f (inl a) = inl a
 earlier_or f (inr b) = inr (f b)
 
 -- where the old file was read
-pub made_leaves : {N : Type 0} (clock : N → ℕ) (left : N → ℕ → List ℕ → Type 0) (a b : N) (i n : ℕ)
+pub made_leaves : {N : Type 0} (disk : Disk.Ghosts N) (a b : N) (i n : ℕ)
     (old new : Device) → IsOldFile i n old.bytes
     → ((k : ℕ) (v : List ℕ) → OldHolds old.bytes k v
-    → LeavesOnly clock left a b (IsMadeOrLeft i n k v new))
-    → LeavesOnly clock left a b (MigrationLeaves i n old new)
-made_leaves clock left a b i n old new file makes =
+    → LeavesOnly disk a b (IsMadeOrLeft i n k v new))
+    → LeavesOnly disk a b (MigrationLeaves i n old new)
+made_leaves disk a b i n old new file makes =
     let k = file.1.0 in
     let v = file.1.1 in
     let holds = file.1.2 in
@@ -49,14 +47,14 @@ made_leaves clock left a b i n old new file makes =
     }
 
 -- where no call was made
-pub untouched_leaves : {N : Type 0} (clock : N → ℕ) (left : N → ℕ → List ℕ → Type 0) (a b : N)
+pub untouched_leaves : {N : Type 0} (disk : Disk.Ghosts N) (a b : N)
     (i n : ℕ) (old new : Device) → b ≡ a
-    → ((x : List ℕ) → left a (clock a) x → MayLeave new x)
-    → LeavesOnly clock left a b (MigrationLeaves i n old new)
-untouched_leaves {N} clock left a b i n old new same now =
-    subst (λ (d : N). LeavesOnly clock left a d (MigrationLeaves i n old new)) (sym same)
+    → ((x : List ℕ) → disk.might_have_left a (disk.clock a) x → MayLeave new x)
+    → LeavesOnly disk a b (MigrationLeaves i n old new)
+untouched_leaves {N} disk a b i n old new same now =
+    subst (λ (d : N). LeavesOnly disk a d (MigrationLeaves i n old new)) (sym same)
     record {
-      later = le_refl (clock a);
+      later = le_refl (disk.clock a);
       each = λ x l. inl (now x l);
       before = λ t x le l. inl l;
     }

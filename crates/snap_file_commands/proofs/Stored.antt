@@ -1,8 +1,9 @@
 -- What a store that succeeded leaves, in the words of the command.
-use Rattle.std.proofs.Common.{◌≡◌, ◌⊎◌, ℕ, ◌+◌, ◌<◌, List, length, subst, sym, Option, Some, None}
-use Rattle.std.proofs.Common.{IfSome, Ok, Err, inl, inr, arith, ap, length-append}
+use Rattle.std.proofs.Common.{◌≡◌, ◌⊎◌, ℕ, ◌+◌, ◌<◌, List, length, subst, sym, Option, Some, None, IfSome, Ok, Err, inl, inr, arith, ap}
+use Rattle.std.proofs.Common.{length-append}
 use Rattle.std.specs.Io.KnownBytes.{Consumes}
-use Rattle.snap_disk.specs.Device.{Device, IsSettled, LeavesOnly, MayLeave}
+use Rattle.snap_disk.specs.Device.{Device, IsSettled, MayLeave}
+use Rattle.snap_disk.specs.Time.{LeavesOnly}
 use Rattle.snap_disk.specs.Laws.{then, weaker}
 use Rattle.snap_slot.specs.declared.layout.TheConstants.{FILE_LEN}
 use Rattle.snap_slot.specs.States.{IsEither}
@@ -11,14 +12,11 @@ use Rattle.snap_segment.specs.Segment.{SegmentState}
 use Rattle.snap_stream.specs.Streams.{Had}
 use Rattle.snap_file_commands.specs.Calls.{CountsCallsOf, CountsPut, CountsStore}
 use Rattle.snap_file_commands.specs.Commands.{IsStored, PutLeaves, End, EndsStore, EndsPut}
-use Rattle.snap_disk.specs.declared.refusal.Refusal.TheVariants.{Malformed, NoSegment, TooLong}
-use Rattle.snap_disk.specs.declared.refusal.Refusal.TheVariants.{Conflict, OutOfStep, Fenced, Full}
-use Rattle.snap_disk.specs.declared.refusal.Refusal.TheVariants.{NoMemory, Exhausted, Damaged}
-use Rattle.snap_disk.specs.declared.refusal.Refusal.TheVariants.{Unformatted, AlreadyFormatted}
-use Rattle.snap_disk.specs.declared.refusal.Refusal.TheVariants.{DeviceFailed, WrongFile, TooLarge}
-use Rattle.snap_disk.specs.declared.refusal.Refusal.TheVariants.{NotNow, Worn}
-use Rattle.snap_file_commands.specs.declared.failure.CommandFailure.TheVariants.{Refused, Input}
-use Rattle.snap_file_commands.specs.declared.failure.CommandFailure.TheVariants.{Output, Unsaid}
+use Rattle.snap_disk.specs.declared.refusal.Refusal.TheVariants.{Malformed, NoSegment, TooLong, Conflict, OutOfStep, Fenced, Full}
+use Rattle.snap_disk.specs.declared.refusal.Refusal.TheVariants.{NoMemory, Exhausted, Damaged, Unformatted, AlreadyFormatted}
+use Rattle.snap_disk.specs.declared.refusal.Refusal.TheVariants.{DeviceFailed, WrongFile, TooLarge, NotNow, Worn}
+use Rattle.snap_file_commands.specs.declared.failure.CommandFailure.TheVariants.{Refused, Input, Output, Unsaid}
+use Rattle.snap_disk.specs.declared.disk.Disk as Disk
 
 -- the file holds what the segment that was opened on it does
 pub held : (i n i' n' k : ℕ) (u b : List ℕ) → i' ≡ i → n' ≡ n → length b ≡ FILE_LEN
@@ -42,24 +40,24 @@ stored i n k u v old new file last = record {
 }
 
 -- an opening and a store behind it, in the words of the command
-pub put_leaves : {D : Type 0} (clock : D → ℕ) (might_have_left : D → ℕ → List ℕ → Type 0)
+pub put_leaves : {D : Type 0} (disk : Disk.Ghosts D)
     (honest : Type 0) (old : D) (mid new : SegmentState D) (device : Device)
     (known : Option (List ℕ)) (i n : ℕ) (v : List ℕ) → honest → mid.index ≡ i → mid.count ≡ n
     → Had known v → Head device.bytes i n × Holds device.bytes mid.number mid.value
-    → LeavesOnly clock might_have_left old mid.device (MayLeave device)
-    → (new ≡ mid) ⊎ (honest → LeavesOnly clock might_have_left mid.device new.device
+    → LeavesOnly disk old mid.device (MayLeave device)
+    → (new ≡ mid) ⊎ (honest → LeavesOnly disk mid.device new.device
     (IsEither mid.index mid.count mid.number mid.value v))
-    → LeavesOnly clock might_have_left old new.device (PutLeaves i n known device)
-put_leaves {D} clock might_have_left honest old mid new device known i n v is same_i same_n had
+    → LeavesOnly disk old new.device (PutLeaves i n known device)
+put_leaves {D} disk honest old mid new device known i n v is same_i same_n had
     holds first (inl same) =
     let leaves : D → Type 0 = λ d.
-    LeavesOnly clock might_have_left old d (PutLeaves i n known device) in
+    LeavesOnly disk old d (PutLeaves i n known device) in
     subst (λ (s : SegmentState D). leaves s.device) (sym same)
-    (weaker clock might_have_left old mid.device (MayLeave device) (PutLeaves i n known device)
+    (weaker disk old mid.device (MayLeave device) (PutLeaves i n known device)
     first (λ b left. inl left))
-put_leaves {D} clock might_have_left honest old mid new device known i n v is same_i same_n had
+put_leaves {D} disk honest old mid new device known i n v is same_i same_n had
     holds first (inr second) =
-    then clock might_have_left old mid.device new.device (MayLeave device)
+    then disk old mid.device new.device (MayLeave device)
     (IsEither mid.index mid.count mid.number mid.value v) (PutLeaves i n known device) first
     (second is) (λ b left. inl left)
     (λ b either. inr (

@@ -1,24 +1,23 @@
 -- What a crash during a command leaves of its device, and which ends leave the device as it was.
 use Rattle.std.specs.Prelude.{ℕ, List, Err}
-use Rattle.snap_disk.specs.Device.{Device, LeavesOnly, MayLeave}
+use Rattle.snap_disk.specs.Device.{MayLeave}
+use Rattle.snap_disk.specs.Time.{LeavesOnly}
 use Rattle.snap_disk.specs.declared.refusal.Refusal.TheVariants as refusal
 use Rattle.snap_order.specs.declared.order.FileOrder.{FileOrder}
 use Rattle.snap_order.specs.declared.order.FileOrder.TheVariants.{Format, Put, Get, Check}
 use Rattle.snap_file_commands.specs.Commands.{End}
 use Rattle.snap_file_commands.specs.declared.failure.CommandFailure.TheVariants.{Refused, Input}
+use Rattle.snap_disk.specs.declared.disk.Disk as Disk
 
 -- If the device is honest, whatever a crash at any time during the call leaves, and one after it,
 -- has P.
-abbrev pub AnyCrashLeaves : {D : Type 0} (honest : D → Type 0) (clock : D → ℕ)
-    (might_have_left : D → ℕ → List ℕ → Type 0) (old new : D) (P : List ℕ → Type 0) → Type 0
-AnyCrashLeaves honest clock might_have_left old new P =
-    honest new → LeavesOnly clock might_have_left old new P
+abbrev pub AnyCrashLeaves : {D : Type 0} (disk : Disk.Ghosts D) (old new : D)
+    (P : List ℕ → Type 0) → Type 0
+AnyCrashLeaves disk old new P = disk.is_honest new → LeavesOnly disk old new P
 
 -- And whatever it leaves, a crash before the call could leave.
-abbrev pub LeavesNoMore : {D : Type 0} (device : D → Device) (honest : D → Type 0) (clock : D → ℕ)
-    (might_have_left : D → ℕ → List ℕ → Type 0) (old new : D) → Type 0
-LeavesNoMore device honest clock might_have_left old new =
-    AnyCrashLeaves honest clock might_have_left old new (MayLeave (device old))
+abbrev pub LeavesNoMore : {D : Type 0} (disk : Disk.Ghosts D) (old new : D) → Type 0
+LeavesNoMore disk old new = AnyCrashLeaves disk old new (MayLeave (disk.device old))
 
 -- `same`: the device is the same, with no call made. `kept`: a crash leaves no more of it than one
 -- before could.

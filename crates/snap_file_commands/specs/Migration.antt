@@ -1,6 +1,5 @@
 -- What a migration does to its devices and its streams, by how it ends.
-use Rattle.std.specs.Prelude.{◌≡◌, ◌≢◌, ◌⊎◌, ℕ, Bool, true, false, List, ◌++◌, length, Option}
-use Rattle.std.specs.Prelude.{Result, Ok, Err, codes}
+use Rattle.std.specs.Prelude.{◌≡◌, ◌≢◌, ◌⊎◌, ℕ, Bool, true, false, List, ◌++◌, length, Option, Result, Ok, Err, codes}
 use Rattle.std.specs.Fmt.{decimal}
 use Rattle.std.specs.Io.KnownBytes.{Appends, Keeps}
 use Rattle.snap_disk.specs.Device.{Device, MayLeave}
@@ -9,8 +8,8 @@ use Rattle.snap_disk.specs.declared.refusal.Refusal.TheVariants as refusal
 use Rattle.snap_slot.specs.declared.layout.TheConstants.{FILE_LEN}
 use Rattle.snap_slot.specs.Layout.{IsFileOf, IsFormatted, IsUnformatted}
 use Rattle.snap_slot.specs.States.{IsAtRest}
-use Rattle.snap_old_slot.specs.Old.{OldHead, OldHolds}
-use Rattle.snap_old_slot.specs.Found.{IsNoOldOpening}
+use Rattle.snap_segment.specs.Old.{OldHead, OldHolds}
+use Rattle.snap_segment.specs.Found.{IsNoOldOpening}
 use Rattle.snap_segment.specs.Creation.{new_file}
 use Rattle.snap_segment.specs.Migration.{CountsFault}
 use Rattle.snap_segment.specs.declared.migration.Which.TheVariants.{Old, New}

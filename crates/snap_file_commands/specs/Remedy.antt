@@ -8,7 +8,7 @@ use Rattle.std.specs.Fmt.{decimal}
 use Rattle.snap_disk.specs.declared.refusal.Refusal.{Refusal}
 use Rattle.snap_disk.specs.declared.refusal.Refusal.TheVariants as refusal
 use Rattle.snap_slot.specs.declared.layout.TheConstants.{FILE_LEN}
-use Rattle.snap_old_slot.specs.declared.layout.TheConstants.{OLD_FILE_LEN}
+use Rattle.snap_segment.specs.layout.TheConstants.{OLD_FILE_LEN}
 use Rattle.snap_order.specs.Order.{file_of}
 use Rattle.snap_order.specs.declared.order.FileOrder.{FileOrder}
 use Rattle.snap_order.specs.declared.order.FileOrder.TheVariants.{Format, Put, Get, Check}

@@ -52,7 +52,7 @@ pub fn act<D: Disk, C: Cause, R: Read, W: Write, E: Write>(
 
     // There is an end whose status it is, which says what happened to the file and what standard
     // error got, and which leaves the device as it was where it is a refusal.
-    ensures ends { HasActed D.device D.failure_count D.is_honest D.clock D.might_have_left order.now
+    ensures ends { HasActed D.Disk order.now
         disk result.0 (R.remaining reader.old) (W.contents writer.old) (W.contents writer.new)
         (C.may_give cause.now) (E.contents errors.old) (E.contents errors.new) result.1 }
 
@@ -60,7 +60,7 @@ pub fn act<D: Disk, C: Cause, R: Read, W: Write, E: Write>(
     ensures wrong_length { length (D.device disk).bytes ≢ FILE_LEN → result.0 ≡ disk }
 
     // A crash at any time leaves what the order may leave.
-    ensures any_time { AnyCrashLeaves D.is_honest D.clock D.might_have_left disk result.0
+    ensures any_time { AnyCrashLeaves D.Disk disk result.0
         (OrderLeaves order.now (R.remaining reader.old) (D.device disk)) }
 {
     let len = disk.len();
@@ -85,11 +85,11 @@ fn carry_out<D: Disk, R: Read, W: Write>(
     requires limits { IsFileWithinLimits order.now }
     requires headroom { D.failure_count disk < 2 ^ 64 - 1 }
     ensures honest { D.is_honest result.0 → D.is_honest disk }
-    ensures ends { IsCarriedOut D.device D.failure_count D.is_honest D.clock D.might_have_left
+    ensures ends { IsCarriedOut D.Disk
         order.now disk result.0 (R.remaining reader.old) (W.contents writer.old)
         (W.contents writer.new) result.1 }
     ensures wrong_length { length (D.device disk).bytes ≢ FILE_LEN → result.0 ≡ disk }
-    ensures any_time { AnyCrashLeaves D.is_honest D.clock D.might_have_left disk result.0
+    ensures any_time { AnyCrashLeaves D.Disk disk result.0
         (OrderLeaves order.now (R.remaining reader.old) (D.device disk)) }
 {
     match *order {
@@ -123,9 +123,9 @@ fn format_file<D: Disk, W: Write>(
     ensures ends { EndsFormat (D.is_honest disk.new) index count (D.device disk.old)
         (D.device disk.new) (W.contents writer.old) (W.contents writer.new) result }
     ensures keeps { FormatKeeps (disk.new ≡ disk.old)
-        (LeavesNoMore D.device D.is_honest D.clock D.might_have_left disk.old disk.new) result }
+        (LeavesNoMore D.Disk disk.old disk.new) result }
     ensures wrong_length { length (D.device disk.old).bytes ≢ FILE_LEN → disk.new ≡ disk.old }
-    ensures any_time { AnyCrashLeaves D.is_honest D.clock D.might_have_left disk.old disk.new
+    ensures any_time { AnyCrashLeaves D.Disk disk.old disk.new
         (IsFresh index count (D.device disk.old)) }
 {
     // The line is made first, so that want of memory leaves the file as it is.
@@ -156,9 +156,9 @@ fn put<D: Disk, R: Read, W: Write>(
         (D.device disk) (D.device result.0) (W.contents writer.old) (W.contents writer.new)
         result.1 }
     ensures keeps { PutKeeps (result.0 ≡ disk)
-        (LeavesNoMore D.device D.is_honest D.clock D.might_have_left disk result.0) result.1 }
+        (LeavesNoMore D.Disk disk result.0) result.1 }
     ensures wrong_length { length (D.device disk).bytes ≢ FILE_LEN → result.0 ≡ disk }
-    ensures any_time { AnyCrashLeaves D.is_honest D.clock D.might_have_left disk result.0
+    ensures any_time { AnyCrashLeaves D.Disk disk result.0
         (PutLeaves index count (R.remaining reader.old) (D.device disk)) }
 {
     // One byte more than a value may have shows that the input is too long.
@@ -201,7 +201,7 @@ fn store<D: Disk, W: Write>(
 
     // It changes nothing, or a crash leaves the value from before it or the new one.
     ensures any_time { (segment.new ≡ segment.old)
-        ⊎ AnyCrashLeaves D.is_honest D.clock D.might_have_left segment.old.device segment.new.device
+        ⊎ AnyCrashLeaves D.Disk segment.old.device segment.new.device
         (IsEither segment.old.index segment.old.count segment.old.number segment.old.value
         value.now) }
 {
@@ -232,7 +232,7 @@ fn get<D: Disk, W: Write>(
     ensures ends { EndsGet (D.is_honest result.0) index count (D.device disk)
         (W.contents writer.old) (W.contents writer.new) result.1 }
     ensures wrong_length { length (D.device disk).bytes ≢ FILE_LEN → result.0 ≡ disk }
-    ensures any_time { LeavesNoMore D.device D.is_honest D.clock D.might_have_left disk result.0 }
+    ensures any_time { LeavesNoMore D.Disk disk result.0 }
 {
     let segment = match Segment::open(alloc, disk, index, count) {
         Ok(segment) => segment,
@@ -257,8 +257,7 @@ fn check_file<D: Disk, W: Write>(
     ensures ends { EndsCheck (D.is_honest disk.new) (D.device disk.old) (W.contents writer.old)
         (W.contents writer.new) result }
     ensures wrong_length { length (D.device disk.old).bytes ≢ FILE_LEN → disk.new ≡ disk.old }
-    ensures any_time { LeavesNoMore D.device D.is_honest D.clock D.might_have_left
-        disk.old disk.new }
+    ensures any_time { LeavesNoMore D.Disk disk.old disk.new }
 {
     let findings = check(disk)?;
     let text = findings.to_string(alloc)?;

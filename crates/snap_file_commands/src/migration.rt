@@ -9,7 +9,7 @@ ghost use Rattle.std.specs.Prelude.{string_bytes, string_capacity, string_len};
 ghost use Rattle.snap_disk.specs.Device.{Device};
 ghost use Rattle.snap_slot.specs.declared.layout.TheConstants.{FILE_LEN};
 ghost use Rattle.snap_history.specs.declared.limits.TheConstants.{MAX_COUNT};
-ghost use Rattle.snap_old_slot.specs.declared.layout.TheConstants.{OLD_FILE_LEN};
+ghost use Rattle.snap_segment.specs.layout.TheConstants.{OLD_FILE_LEN};
 ghost use Rattle.snap_order.specs.Order.{IsPlace};
 ghost use Rattle.snap_file_commands.specs.Acts.{HasActedOnPair, IsCarriedOver};
 ghost use Rattle.snap_file_commands.specs.Effects.{AnyCrashLeaves, LeavesNoMore};
@@ -110,8 +110,7 @@ pub fn act_pair<O: Disk, N: Disk, C: Cause, W: Write, E: Write>(
 
     // There is an end whose status it is, which says what happened to both files and what standard
     // error got, and which of the devices are as they were.
-    ensures ends { HasActedOnPair O.device O.failure_count O.is_honest O.clock N.device
-        N.failure_count N.is_honest N.clock N.might_have_left order.now old result.0 new result.1
+    ensures ends { HasActedOnPair O.Disk N.Disk order.now old result.0 new result.1
         (W.contents writer.old) (W.contents writer.new) C.may_give causes.now
         (E.contents errors.old) (E.contents errors.new) result.2 }
 
@@ -123,10 +122,9 @@ pub fn act_pair<O: Disk, N: Disk, C: Cause, W: Write, E: Write>(
 
     // A crash at any time leaves of the old file what one before could leave, and of the new one
     // what a migration may leave.
-    ensures old_any_time { LeavesNoMore O.device O.is_honest O.clock O.might_have_left
-        old result.0 }
+    ensures old_any_time { LeavesNoMore O.Disk old result.0 }
     ensures new_any_time { O.is_honest result.0
-        → AnyCrashLeaves N.is_honest N.clock N.might_have_left new result.1
+        → AnyCrashLeaves N.Disk new result.1
         (MigrationLeaves order.now.index order.now.count (O.device old) (N.device new)) }
 {
     let (old, new, end) = migrate_files(alloc, order, old, new, writer);
@@ -152,17 +150,15 @@ fn migrate_files<O: Disk, N: Disk, W: Write>(
     requires new_headroom { N.failure_count new < 2 ^ 64 - 1 }
     ensures old_honest { O.is_honest result.0 → O.is_honest old }
     ensures new_honest { N.is_honest result.1 → N.is_honest new }
-    ensures ends { IsCarriedOver O.device O.failure_count O.is_honest O.clock N.device
-        N.failure_count N.is_honest N.clock N.might_have_left order.now old result.0 new result.1
+    ensures ends { IsCarriedOver O.Disk N.Disk order.now old result.0 new result.1
         (W.contents writer.old) (W.contents writer.new) result.2 }
     ensures wrong_old_length { length (O.device old).bytes ≢ OLD_FILE_LEN
         → (result.0 ≡ old) × (result.1 ≡ new) }
     ensures wrong_new_length { length (N.device new).bytes ≢ FILE_LEN
         → (result.0 ≡ old) × (result.1 ≡ new) }
-    ensures old_any_time { LeavesNoMore O.device O.is_honest O.clock O.might_have_left
-        old result.0 }
+    ensures old_any_time { LeavesNoMore O.Disk old result.0 }
     ensures new_any_time { O.is_honest result.0
-        → AnyCrashLeaves N.is_honest N.clock N.might_have_left new result.1
+        → AnyCrashLeaves N.Disk new result.1
         (MigrationLeaves order.now.index order.now.count (O.device old) (N.device new)) }
 {
     let (mut old, mut new) = (old, new);

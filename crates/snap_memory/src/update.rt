@@ -22,7 +22,8 @@ pub fn prepare(seat: &mut WriteSeat) -> View
     ensures view { MayPublish seat.new result }
     ensures left { TakesLooks seat.old seat.new }
 {
-    // that it writes no other segment: the updates of its own are all that it may not miss
+    // for what it says of the seat, that it writes no other segment (docs/DECISIONS.md, 180): the
+    // updates of its own are all that it may not miss
     let _own = seat.segment();
     let mut numbers = [0; MAX_SEGMENTS];
     gather(seat, &mut numbers)

@@ -3,12 +3,12 @@ use Rattle.std.specs.Prelude.{◌≡◌, ◌≢◌, ◌⊎◌, ℕ, ◌≤◌, L
 use Rattle.snap_disk.specs.Device.{part}
 use Rattle.snap_disk.specs.declared.refusal.Refusal.{Refusal}
 use Rattle.snap_disk.specs.declared.refusal.Refusal.TheVariants.{DeviceFailed, Unformatted, Damaged, WrongFile}
-use Rattle.snap_history.specs.Limits.{IsNumber}
+use Rattle.snap_slot.specs.Limits.{IsNumber}
 use Rattle.snap_slot.specs.Layout.{IsUnformatted, gate_at, body_at}
 use Rattle.snap_slot.specs.Findings.{value_in}
 use Rattle.snap_slot.specs.Header.{IsMarkedHeader}
 use Rattle.snap_slot.specs.Slot.{IsReadAs}
-use Rattle.snap_history.specs.declared.limits.TheConstants.{MAX_VALUE_LEN}
+use Rattle.snap_slot.specs.limits.TheConstants.{MAX_VALUE_LEN}
 use Rattle.snap_slot.specs.declared.layout.TheConstants.{BLOCK_LEN}
 use Rattle.snap_slot.specs.declared.header.Header.{Header}
 use Rattle.snap_slot.specs.declared.slot.Slot.{Slot}

@@ -1,7 +1,7 @@
 //! Finds what an old file holds.
 ghost use Rattle.std.specs.Prelude.{◌≡◌, ◌+◌, ◌<◌, ◌≤◌, ℕ, List, length, IfOk, IfErr, MatchOption};
 ghost use Rattle.snap_disk.specs.Device.{part};
-ghost use Rattle.snap_history.specs.declared.limits.TheConstants.{MAX_VALUE_LEN};
+ghost use Rattle.snap_slot.specs.limits.TheConstants.{MAX_VALUE_LEN};
 ghost use Rattle.snap_slot.specs.declared.layout.TheConstants.{BLOCK_LEN};
 ghost use Rattle.snap_old_slot.specs.declared.layout.TheConstants.{OLD_FILE_LEN, OLD_SLOT_COUNT};
 ghost use Rattle.snap_slot.specs.Findings.{IsOfBytes};

@@ -6,7 +6,7 @@ ghost use Rattle.std.specs.Prelude.{◌≡◌};
 pub enum Status {
     /// It did what was asked.
     Done,
-    /// A path or a standard stream failed.
+    /// A path, a standard stream, an address or a connection failed.
     Failed,
     /// The words or a script's line can't be read, or numbers are outside their limits.
     Misused,

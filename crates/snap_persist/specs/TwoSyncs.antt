@@ -1,8 +1,8 @@
 -- Why two syncs are enough for a store.
 use Rattle.std.specs.Prelude.{ℕ, ◌+◌, Bool, true, List}
-use Rattle.snap_disk.specs.Device.{Device, MayLeave, opened}
+use Rattle.snap_slot.specs.Device.{Device, MayLeave, opened}
 use Rattle.snap_slot.specs.declared.layout.TheConstants.{BLOCK_LEN}
-use Rattle.snap_history.specs.Limits.{IsNumber, IsShort}
+use Rattle.snap_slot.specs.Limits.{IsNumber, IsShort}
 use Rattle.snap_slot.specs.Layout.{slot_of, next_slot, gate_at, body_at, IsClosed, IsFileOf}
 use Rattle.snap_slot.specs.States.{IsAtRest, IsEither}
 use Rattle.snap_persist.specs.Device.{IsBodyStored}

@@ -10,7 +10,6 @@ pub mod Later
 pub mod Views
 pub mod Opens
 pub mod Updates
-pub mod SeatLooks
 pub mod Drafts
 pub mod Pairs
 pub mod Packed

@@ -5,7 +5,7 @@ use Rattle.snap_register.specs.declared.plan.SeatView.{SeatView}
 use Rattle.snap_register.specs.Rule.{segments, buffers, width, size, cell}
 use Rattle.snap_register.specs.Held.{held}
 use Rattle.snap_register.specs.Setup.{IsSeated}
-use Rattle.snap_register.specs.Steps.{Owns, IsFree, IsNext, IsLast, LiesAt}
+use Rattle.snap_register.specs.Steps.{Owns, IsFree, LiesAt, IsNext, IsLast}
 use Rattle.snap_register.proofs.Places.{cell_inside}
 
 -- the words of a buffer lie one behind the other

@@ -20,7 +20,7 @@ use Rattle.snap_register.specs.Rule as rule
 use Rattle.snap_register.specs.Words.{value_at, size_at, IsBlock, AreBlocks, IsRecord}
 use Rattle.snap_register.specs.Held.{held, view_in, taken, Readable, CanTake, MayTake, IsPinned, IsShown}
 use Rattle.snap_register.specs.Seat.{known, looked, IsBelow, Grows, Looks, HasLooked, HasFoundUpdate, IsValue, IsView, MayPublish}
-use Rattle.snap_register.specs.Seat.{Shows}
+use Rattle.snap_register.specs.Seat.{Meets, Shows}
 use Rattle.snap_register.proofs.Lines.{find, prefix_trans, count_push_same, record_prefix}
 use Rattle.snap_register.proofs.Blocks.{record_of}
 use Rattle.snap_register.proofs.Views.{viewed}
@@ -133,6 +133,14 @@ last_look_is z v j k is =
     same_Some _ _ (sym (looked_some z v j some) ∙ is) in
     (some, omega arith)
 
+pub update_found : (z : TableId) (v : SeatView) (j : ℕ) → HasFoundUpdate (known z v) j
+    → (0 < get_or v.pins j 0) × (0 < get_or v.records j 0)
+update_found z v j found =
+    let t = last_look_is z v j found.told found.is in
+    let above = found.above in
+    let e = t.1 in
+    (t.0, omega arith)
+
 -- a seat's calls
 
 pub grows_is : (z z' : TableId) (v w : SeatView) → z' ≡ z → w.plan ≡ v.plan → w.low ≡ v.low
@@ -147,6 +155,22 @@ grows_is z z' v w same plan low high later own = record {
   own = λ i l h. let a = updates_count i w.seen in let b = updates_count i v.seen in
       let c : count i w.seen ≡ count i v.seen = ap length (own i (l, h)) in omega arith;
 }
+
+-- a meeting, after which the seat has seen this
+pub meets_is : (z z' : TableId) (v w : SeatView) (h : List Entry) → z' ≡ z
+    → w ≡ record v { seen = h } → IsPrefix v.seen h
+    → ((i : ℕ) → Has v i → only i h ≡ only i v.seen) → Meets (known z v) (known z' w)
+meets_is z z' v w h same is later own =
+    let seen : w.seen ≡ h = ap (λ (u : SeatView). u.seen) is in
+    record {
+      grows = grows_is z z' v w same (ap (λ (u : SeatView). u.plan) is)
+          (ap (λ (u : SeatView). u.low) is) (ap (λ (u : SeatView). u.high) is)
+          (subst (λ (l : List Entry). IsPrefix v.seen l) (sym seen) later)
+          (λ i has. ap (only i) seen ∙ own i has);
+      looks = λ i. ap (λ (u : SeatView). looked (known z u) i) is;
+      left = ap (λ (u : SeatView). u.left) is;
+      sights = ap (λ (u : SeatView). (known z u).sights) is;
+    }
 
 pub below_is : (z : TableId) (v : SeatView) → rule.IsBelow v.plan v.seen → IsBelow (known z v)
 below_is z v b i li = let n = number_is v.plan v.seen i in let l = b i li in omega arith
@@ -214,8 +238,7 @@ view_shown z v j xs legal found le size each =
 pub can_take : (z : TableId) (v : SeatView) (view : View) → MayPublish (known z v) view
     → CanTake v view
 can_take z v Collected m = λ i li. (last_look_is z v i _ (m.each i li)).0
-can_take z v (Borrowed j) m = let t = last_look_is z v j m.found.told m.found.is in let a =
-    m.found.above in let e = t.1 in (m.inside, t.0, omega arith)
+can_take z v (Borrowed j) m = let u = update_found z v j m.found in (m.inside, u.0, u.1)
 
 pub may_take : (z : TableId) (v : SeatView) (view : View)
     → ((i : ℕ) → i < segments v.plan → Readable v.plan v.seen i (get_or v.records i 0))

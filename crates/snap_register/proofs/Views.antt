@@ -1,13 +1,15 @@
 -- What a published record holds: its number, its value and its view.
 use Rattle.std.proofs.Common.{◌≡◌, ℕ, zero, suc, ◌+◌, ◌*◌, ◌<◌, ◌≤◌, List, [], ◌∷◌, length, get_or, ap, subst, ◌∙◌, arith, suc-mul}
 use mathlib.Core.List.{IsPrefix}
+use Rattle.snap_register.specs.declared.access.Access.{Access}
 use Rattle.snap_register.specs.declared.plan.Entry.{Entry}
 use Rattle.snap_register.specs.declared.plan.Plan.{Plan}
 use Rattle.snap_register.specs.History.{entry, only, number, count, record_words, start_at, memory}
 use Rattle.snap_register.specs.Rule.{segments, width, Follows, IsLegal}
-use Rattle.snap_register.specs.Words.{value_at, size_at, behind, IsBlock, AreBlocks}
-use Rattle.snap_register.specs.Held.{Readable}
+use Rattle.snap_register.specs.Words.{value_at, size_at, behind, IsWhole, IsBlock, AreBlocks}
+use Rattle.snap_register.specs.Held.{held, Readable}
 use Rattle.snap_register.specs.Setup.{IsSized}
+use Rattle.snap_register.specs.Steps.{view_of}
 use Rattle.snap_register.proofs.Blocks.{behind_small, size_small}
 use Rattle.snap_register.proofs.Lines.{find, prefix_trans}
 
@@ -87,3 +89,24 @@ pub all_readable : (n s block_words words : ℕ) (p : Plan) (h : List Entry) (ms
     → Readable p h j (get_or ms j 0)
 all_readable n s block_words words p h ms sized legal old j lj = let start = sized.starts j lj in
     readable p h j (get_or ms j 0) legal sized.block_words_is start.0 start.1 (old j lj)
+
+-- the blocks of a pinned record's view lie within its words
+pub view_whole : (a : Access) (j k : ℕ) → IsLegal (view_of a).plan (view_of a).seen
+    → 0 < get_or (view_of a).records j 0 → j < segments (view_of a).plan
+    → k < segments (view_of a).plan
+    → IsWhole (held (view_of a) j) (behind (held (view_of a) j) (size_at (held (view_of a) j) 0) k)
+view_whole a j k legal updated lj lk =
+    ((viewed (view_of a).plan (view_of a).seen j (get_or (view_of a).records j 0) legal updated
+    (a.seated.records_are j lj)).view.each k lk).whole
+
+-- and these are few
+pub held_small : (a : Access) (j : ℕ) → j < segments (view_of a).plan
+    → length (held (view_of a) j) ≤ 8704
+held_small a j lj =
+    let wide : ℕ = width (view_of a).plan in
+    let fits : length (held (view_of a) j) ≤ wide = (a.seated.readable j lj).fits in
+    let wide_is : wide ≡ 512 + segments (view_of a).plan * 512 =
+    width_is (view_of a).plan a.sized.block_words_is in
+    let few = a.sized.few in
+    let n = a.sized.segments_are in
+    omega arith

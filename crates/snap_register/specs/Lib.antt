@@ -6,3 +6,4 @@ pub mod Parts
 pub mod Words
 pub mod Held
 pub mod Steps
+pub mod Registers

@@ -8,11 +8,11 @@ use Rattle.snap_register.specs.History.{starts}
 use Rattle.snap_register.specs.Words.{IsBlock}
 use Rattle.snap_register.specs.Rule.{segments}
 use Rattle.snap_register.specs.Seat.{Known}
-use Rattle.atomic_table.specs.Seated.{TableId}
+use Rattle.snap_register.specs.Registers.{RegistersId}
 
 -- a seat that has seen nothing yet, with all its looks, that writes the segments from `low` on and
 -- below `high`
-pub record IsNewSeat (z : TableId) (p : Plan) (low high : ℕ) (a : Known) : Type 0 where
+pub record IsNewSeat (z : RegistersId) (p : Plan) (low high : ℕ) (a : Known) : Type 0 where
   pub table_is : a.table ≡ z
   pub plan_is : a.plan ≡ p
   pub seen_is : a.seen ≡ []
@@ -21,11 +21,11 @@ pub record IsNewSeat (z : TableId) (p : Plan) (low high : ℕ) (a : Known) : Typ
   pub left_is : a.left ≡ p.looks
 
 -- the seats are those of the writers, in order of their segments
-abbrev pub AreWriters : TableId → Plan → List Known → Type 0
+abbrev pub AreWriters : RegistersId → Plan → List Known → Type 0
 AreWriters z p xs = (i : ℕ) (a : Known) → slice_get xs i ≡ Some a → IsNewSeat z p i (i + 1) a
 
 -- the seats write nothing
-abbrev pub AreReaders : TableId → Plan → List Known → Type 0
+abbrev pub AreReaders : RegistersId → Plan → List Known → Type 0
 AreReaders z p xs = (i : ℕ) (a : Known) → slice_get xs i ≡ Some a → IsNewSeat z p 0 0 a
 
 -- at the start each segment has its number and its value

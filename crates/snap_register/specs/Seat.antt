@@ -1,7 +1,7 @@
 -- What a caller sees of a seat.
 use Rattle.std.specs.Prelude.{◌≡◌, ◌≢◌, ℕ, ◌+◌, ◌<◌, ◌≤◌, ◌==◌, Option, Some, None, cond, List, [], ◌∷◌, ◌++◌, length, map, slice_index}
 use Rattle.std.specs.Prelude.{slice_get}
-use Rattle.atomic_table.specs.Seated.{TableId}
+use Rattle.snap_register.specs.Registers.{RegistersId}
 use Rattle.snap_history.specs.History.{Update, IsBeginning, number_after, value_after, updates_of}
 use Rattle.snap_history.specs.Limits.{IsNumber}
 use Rattle.snap_register.specs.declared.plan.Plan.{Plan}
@@ -15,7 +15,7 @@ use Rattle.snap_register.specs.Rule.{segments}
 -- `low` on and below `high`, which buffers and which records its last looks found, how many looks
 -- it has left, and what it had seen at each look that it took, in order
 pub record Known : Type 0 where
-  pub table : TableId
+  pub table : RegistersId
   pub plan : Plan
   pub seen : List Update
   pub low : ℕ
@@ -25,7 +25,7 @@ pub record Known : Type 0 where
   pub left : ℕ
   pub sights : List (List Update)
 
-abbrev pub known : TableId → SeatView → Known
+abbrev pub known : RegistersId → SeatView → Known
 known z v = record {
   table = z;
   plan = v.plan;

@@ -1,4 +1,4 @@
--- What a call changes of a seat at its table.
+-- What a seat at its table knows, and what a call changes of it.
 use Rattle.std.specs.Prelude.{◌≡◌, ℕ, ◌-◌, ◌<◌, ◌≤◌, List, [], length, slice_index}
 use Rattle.atomic_table.specs.Table.{Me}
 use Rattle.atomic_table.specs.declared.shared.Seat.{Seat}
@@ -8,6 +8,23 @@ use Rattle.snap_register.specs.declared.plan.SeatView.{SeatView}
 use Rattle.snap_register.specs.Held.{held}
 use Rattle.snap_register.specs.Rule.{segments, buffers, width, cell, IsWriter, Learns}
 use Rattle.snap_register.specs.Setup.{IsSeated}
+use Rattle.snap_register.specs.Seat.{Known, known}
+
+-- what the seat knows
+abbrev pub view_of : Access → SeatView
+view_of a = a.seat.me.0
+
+-- the same, as its callers see it
+abbrev pub known_of : Access → Known
+known_of a = known a.seat.table_id (view_of a)
+
+-- what it knows of its own register's buffers
+abbrev pub pool_of : Access → Pool
+pool_of a = (view_of a).pool
+
+-- the words that it drafted in the free one
+abbrev pub draft_of : Access → List ℕ
+draft_of a = (pool_of a).draft
 
 -- the seat writes the segment i alone, which there is
 abbrev pub Owns : SeatView → ℕ → Type 0
@@ -64,9 +81,9 @@ IsSame a b = (b.seat.table_id ≡ a.seat.table_id) × (b.seat.id ≡ a.seat.id) 
 
 -- what it knows of its own buffers is this, and all else that it knows is the same
 abbrev pub HasPool : Access → Access → Pool → Type 0
-HasPool a b d = b.seat.me ≡ (record a.seat.me.0 { pool = d }, a.seat.me.1)
+HasPool a b d = b.seat.me ≡ (record (view_of a) { pool = d }, a.seat.me.1)
 
 -- the words that it drafted in the free buffer are these, and nothing else changed
 abbrev pub HasDrafted : Access → Access → List ℕ → Type 0
 HasDrafted a b ws = (b.left ≡ a.left) × (b.seat.table_id ≡ a.seat.table_id)
-    × (b.seat.id ≡ a.seat.id) × HasPool a b (record a.seat.me.0.pool { draft = ws })
+    × (b.seat.id ≡ a.seat.id) × HasPool a b (record (pool_of a) { draft = ws })

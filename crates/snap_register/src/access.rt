@@ -1,8 +1,14 @@
-//! A seat with its table, and where each word lies.
-ghost use Rattle.std.specs.Prelude.{◌≡◌, ◌<◌, ◌≤◌, slice_index, IsTrue, ◌↔◌};
+//! A seat with its table, and where each word lies. What it does there stands in the folder: its
+//! looks, the draft of an update, the update's publication, and meetings.
+ghost use Rattle.std.specs.Prelude.{◌≡◌, ◌<◌, ◌≤◌, IsTrue, ◌↔◌};
 ghost use Rattle.snap_history.specs.declared.limits.TheConstants.{MAX_COUNT};
 ghost use Rattle.snap_register.specs.Rule.{segments, buffers, width, given, cell};
 ghost use Rattle.snap_register.specs.Setup.{IsSized, IsSeated};
+
+mod draft;
+mod looks;
+mod meetings;
+mod publications;
 
 use crate::plan::MAX_SEGMENTS;
 use crate::setup::{TableSeat, WordTable};
@@ -30,40 +36,43 @@ pub(crate) struct Access {
 }
 
 impl Access {
+    ghost use Rattle.snap_register.specs.Seat.{HasLooked};
+    ghost use Rattle.snap_register.specs.Steps.{view_of, known_of};
+
     /// How many segments there are.
     pub(crate) fn count_segments(&self) -> usize
-        ensures count { result ≡ segments self.now.seat.me.0.plan }
+        ensures count { result ≡ segments (view_of self.now).plan }
         ensures some { (0 < result) × (result ≤ MAX_COUNT) }
     {
         self.segments
     }
 
-    /// Whether a buffer of j is pinned.
+    /// Whether there was a look at j, whose buffer is pinned since.
     pub(crate) fn has_looked(&self, j: usize) -> bool
-        requires { j < segments self.now.seat.me.0.plan }
-        ensures { IsTrue result ↔ (0 < slice_index self.now.seat.me.0.pins j) }
+        requires { j < segments (view_of self.now).plan }
+        ensures { IsTrue result ↔ HasLooked (known_of self.now) j }
     {
         self.pins[j] > 0
     }
 
     /// How many buffers a register has.
     pub(crate) fn buffers(&self) -> usize
-        ensures { result ≡ buffers self.now.seat.me.0.plan }
+        ensures { result ≡ buffers (view_of self.now).plan }
     {
         self.segments + self.scanners + 2
     }
 
     /// How many words a buffer has.
     pub(crate) fn width(&self) -> usize
-        ensures { result ≡ width self.now.seat.me.0.plan }
+        ensures { result ≡ width (view_of self.now).plan }
     {
         (self.segments + 1) * self.block_words
     }
 
     /// Where the given-back count of the buffer b of the register i lies.
     pub(crate) fn given(&self, i: usize, b: usize) -> usize
-        requires { (i < segments self.now.seat.me.0.plan) × (b < buffers self.now.seat.me.0.plan) }
-        ensures { (result ≡ given self.now.seat.me.0.plan i b)
+        requires { (i < segments (view_of self.now).plan) × (b < buffers (view_of self.now).plan) }
+        ensures { (result ≡ given (view_of self.now).plan i b)
             × (result < self.now.seat.table_id.words) }
     {
         let _words = self.words;
@@ -73,9 +82,9 @@ impl Access {
 
     /// Where the word q of that buffer lies.
     pub(crate) fn cell(&self, i: usize, b: usize, q: usize) -> usize
-        requires { (i < segments self.now.seat.me.0.plan) × (b < buffers self.now.seat.me.0.plan)
-            × (q < width self.now.seat.me.0.plan) }
-        ensures { (result ≡ cell self.now.seat.me.0.plan i b q)
+        requires { (i < segments (view_of self.now).plan) × (b < buffers (view_of self.now).plan)
+            × (q < width (view_of self.now).plan) }
+        ensures { (result ≡ cell (view_of self.now).plan i b q)
             × (result < self.now.seat.table_id.words) }
     {
         let _words = self.words;

@@ -31,13 +31,13 @@
 //!
 //! | Step | Whose | What it does | What its seat knows then | Where |
 //! |---|---|---|---|---|
-//! | `Pin` | any | adds 1 to a current word | the whole history; that buffer is pinned, and a look taken | looks.rt, `pin` |
-//! | `Read` | any | loads a word of a pinned buffer | that word of the record | looks.rt, `load_word` |
-//! | `GiveBack` | any | adds 1 to a given-back count | the pin is gone | looks.rt, `give_back` |
-//! | `Check` | writer | loads the given-back count of an own buffer that isn't current | the buffer is free, or held | publications.rt, `check` |
-//! | `Reuse`, `Redraft` | writer | loads the next word of the free buffer; stores another in its place | one word more of the draft | draft.rt, `draft` |
-//! | `Publish` | writer | swaps the free buffer in as the current one | the history, and the update behind it; the pins of the old buffer | publications.rt, `swap` |
-//! | `Glance`, and joins and splits | any two | loads a word, once one seat's knowledge was joined into the other's | the whole history, for both | meetings.rt, `meet` |
+//! | `Pin` | any | adds 1 to a current word | the whole history; that buffer is pinned, and a look taken | access/looks.rt, `pin` |
+//! | `Read` | any | loads a word of a pinned buffer | that word of the record | access/looks.rt, `load_word` |
+//! | `GiveBack` | any | adds 1 to a given-back count | the pin is gone | access/looks.rt, `give_back` |
+//! | `Check` | writer | loads the given-back count of an own buffer that isn't current | the buffer is free, or held | access/publications.rt, `check` |
+//! | `Reuse`, `Redraft` | writer | loads the next word of the free buffer; stores another in its place | one word more of the draft | access/draft.rt, `draft` |
+//! | `Publish` | writer | swaps the free buffer in as the current one | the history, and the update behind it; the pins of the old buffer | access/publications.rt, `swap` |
+//! | `Glance`, and joins and splits | any two | loads a word, once one seat's knowledge was joined into the other's | the whole history, for both | access/meetings.rt, `meet` |
 //!
 //! What a step tells is a function of the view (`pinning`, `read`, `giving`, `checked`, `reused`,
 //! `redrafted`, `published`, `glanced`), named where the step is (setup.rt); that it keeps the rule is
@@ -46,11 +46,7 @@
 #![tactic(auto)]
 
 mod access;
-mod draft;
-mod looks;
-mod meetings;
 mod plan;
-mod publications;
 mod registers;
 mod seats;
 mod setup;

@@ -4,11 +4,12 @@ ghost use Rattle.std.specs.Prelude.{IsTrue, ◌↔◌};
 ghost use Rattle.snap_history.specs.Limits.{IsNumber, IsShort};
 ghost use Rattle.snap_history.specs.declared.limits.TheConstants.{MAX_COUNT, MAX_VALUE_LEN};
 ghost use Rattle.snap_register.specs.History.{start_at};
-ghost use Rattle.snap_register.specs.Rule.{segments, IsWriter};
+ghost use Rattle.snap_register.specs.Rule.{segments};
 ghost use Rattle.snap_register.specs.Setup.{IsPool, first_pool};
-ghost use Rattle.snap_register.specs.Seat.{Known, known as known_of, own_of, number_in, IsBelow};
+ghost use Rattle.snap_register.specs.Seat.{Known, own_of, number_in, IsBelow};
 ghost use Rattle.snap_register.specs.Seat.{AreTogether, Grows, Meets, Looks, HasLooked};
 ghost use Rattle.snap_register.specs.Seat.{HasFoundUpdate, IsValue, IsView, MayPublish, Shows};
+ghost use Rattle.snap_register.specs.Steps.{view_of, known_of, pool_of, Owns};
 
 use crate::access::Access;
 use crate::plan::MAX_BUFFERS;
@@ -118,8 +119,8 @@ impl Looker for ReadSeat {
 
 impl ReadSeat {
     pub(crate) fn of(access: Access) -> ReadSeat
-        requires { (access.seat.me.0.low ≡ 0) × (access.seat.me.0.high ≡ 0) }
-        ensures { result ≡ known_of access.seat.table_id access.seat.me.0 }
+        requires { ((view_of access).low ≡ 0) × ((view_of access).high ≡ 0) }
+        ensures { result ≡ known_of access }
     {
         ReadSeat { access }
     }
@@ -190,12 +191,11 @@ impl Looker for WriteSeat {
 
 impl WriteSeat {
     pub(crate) fn of(access: Access, segment: usize, number: u64) -> WriteSeat
-        requires role { IsWriter access.seat.me.0 segment
-            × (segment < segments access.seat.me.0.plan) }
-        requires number { (number ≡ (start_at access.seat.me.0.plan segment).number)
-            × (access.seat.me.0.seen ≡ []) }
-        requires pool { access.seat.me.0.pool ≡ first_pool access.seat.me.0.plan }
-        ensures { result ≡ known_of access.seat.table_id access.seat.me.0 }
+        requires role { Owns (view_of access) segment }
+        requires number { (number ≡ (start_at (view_of access).plan segment).number)
+            × ((view_of access).seen ≡ []) }
+        requires pool { pool_of access ≡ first_pool (view_of access).plan }
+        ensures { result ≡ known_of access }
     {
         WriteSeat {
             access,

@@ -1,9 +1,9 @@
 -- What is told of a crash at any moment from an opening on, and at any cut once all are back.
-use Rattle.std.proofs.Common.{◌≡◌, ℕ, zero, suc, ◌<◌, inl, List, [], ◌∷◌, ◌++◌, length, map, Some, slice_get, refl, sym, subst, ◌∙◌, arith}
+use Rattle.std.proofs.Common.{◌≡◌, ℕ, zero, suc, ◌<◌, inl, List, [], ◌∷◌, ◌++◌, length, map, Some, slice_get, refl, sym, subst, ◌∙◌}
+use Rattle.std.proofs.Common.{arith}
 use Rattle.std.proofs.lemmas.List.{length-map}
 use Rattle.std.proofs.lemmas.Option.{slice_get_within, same_Some}
 use Rattle.snap_disk.specs.declared.refusal.Refusal.{Refusal}
-use Rattle.snap_disk.specs.Device.{Device}
 use Rattle.snap_slot.specs.Layout.{IsFileOf}
 use Rattle.snap_slot.proofs.Readings.{holds_same}
 use Rattle.snap_slot.proofs.Rest.{at_rest_leaves}
@@ -24,6 +24,7 @@ use Rattle.snap_restart.specs.Closed.{AreBack, IsHistory}
 use Rattle.snap_restart.specs.Opened.{IsBack, IsOpened, IsStopped, AreFresh}
 use Rattle.snap_restart.specs.Crash.{AnyMoment, AreOpened, StayKept, AnyCut}
 use Rattle.snap_restart.proofs.Removals.{get_map}
+use Rattle.snap_disk.specs.declared.disk.Disk as Disk
 
 pub unmap : {A B : Type 0} (f : A → B) (xs : List A) (i : ℕ) (y : B)
     → slice_get (map f xs) i ≡ Some y → (x : A) × (slice_get xs i ≡ Some x) × (f x ≡ y)
@@ -31,22 +32,22 @@ unmap f [] i y e = absurd (cc e)
 unmap f (x ∷ xs) zero y e = (x, refl, same_Some (f x) y e)
 unmap f (x ∷ xs) (suc i) y e = unmap f xs i y e
 
-module _ {D : Type 0} (device : D → Device) (honest : D → Type 0) (clock : D → ℕ)
-    (might_have_left : D → ℕ → List ℕ → Type 0) where
+module _ {D : Type 0} (disk : Disk.Ghosts D) where
   -- ---- an opening
 
   -- it starts with what the files hold
-  starts_with : (failures : D → ℕ) (devices : List D) (writers : List (WriterState D))
-      → Pairs (IsOpened device failures honest clock might_have_left (length devices)) devices
+  starts_with : (devices : List D) (writers : List (WriterState D))
+      → Pairs (IsOpened disk (length devices)) devices
       (map (λ (w : WriterState D). w.segment) writers)
       → (start : Start) (h : List Update) (begun : ℕ → List ℕ → Type 0)
-      → (r : IsRecovered (length devices) start h begun (map (λ (d : D). (device d).bytes) devices))
-      → (i : ℕ) (w : WriterState D) → slice_get writers i ≡ Some w → honest w.segment.device
+      → (r : IsRecovered (length devices) start h begun (map (λ (d : D). (disk.device d).bytes)
+      devices))
+      → (i : ℕ) (w : WriterState D) → slice_get writers i ≡ Some w → disk.is_honest w.segment.device
       → (w.segment.number ≡ number_after start (h ++ r.begun_too) i)
       × (w.segment.value ≡ value_after start (h ++ r.begun_too) i)
-  starts_with failures devices writers were start h begun r i w at hon =
+  starts_with devices writers were start h begun r i w at hon =
       let segment_of : WriterState D → SegmentState D = λ w. w.segment in
-      let bytes_of : D → List ℕ = λ d. (device d).bytes in
+      let bytes_of : D → List ℕ = λ d. (disk.device d).bytes in
       let within : i < length writers = slice_get_within writers i w at in
       let size : length devices ≡ length writers = were.size ∙ length-map writers segment_of in
       let d = element devices i (omega (arith, within, size)) in
@@ -54,18 +55,18 @@ module _ {D : Type 0} (device : D → Device) (honest : D → Type 0) (clock : D
       holds_same (bytes_of d.0) w.segment.number _ w.segment.value _ is.1
       (r.holds i (bytes_of d.0) (get_map bytes_of devices i d.0 d.1)).holds
 
-  pub opened : (failures : D → ℕ) (devices : List D) (writers : List (WriterState D))
+  pub opened : (devices : List D) (writers : List (WriterState D))
       (scanners : List Known) → AreFresh writers scanners
-      → Pairs (IsOpened device failures honest clock might_have_left (length devices)) devices
+      → Pairs (IsOpened disk (length devices)) devices
       (map (λ (w : WriterState D). w.segment) writers)
       → ((i : ℕ) (w : WriterState D) → slice_get writers i ≡ Some w → IsPaired w)
       → AreBack writers scanners
-      → AreOpened device honest clock might_have_left devices writers
-  opened failures devices writers scanners fresh were paired back =
+      → AreOpened disk devices writers
+  opened devices writers scanners fresh were paired back =
       let segment_of : WriterState D → SegmentState D = λ w. w.segment in
       let size : length devices ≡ length writers = were.size ∙ length-map writers segment_of in
       let all_are : (i : ℕ) (w : WriterState D) → slice_get writers i ≡ Some w
-      → IsWriterOf device honest clock might_have_left back.plan (length writers) i w = λ i w at. (
+      → IsWriterOf disk back.plan (length writers) i w = λ i w at. (
       let seat = back.writers_are i w at in
       let there = get_map segment_of writers i w at in
       let low : i < length writers = slice_get_within writers i w at in
@@ -83,7 +84,7 @@ module _ {D : Type 0} (device : D → Device) (honest : D → Type 0) (clock : D
             w.segment.number w.segment.value x)
             (λ t. (sym is.index_is t, sym is.count_is t))
             (at_rest_leaves i (length devices) w.segment.number w.segment.value
-            w.segment.spare_open (device w.segment.device) (is.rests hon) x left));
+            w.segment.spare_open (disk.device w.segment.device) (is.rests hon) x left));
       }) in
       let starts_are : (i : ℕ) (w : WriterState D) → slice_get writers i ≡ Some w
       → (w.segment.number ≡ (starts back.plan i).0) × (w.segment.value ≡ (starts back.plan i).1) =
@@ -97,14 +98,14 @@ module _ {D : Type 0} (device : D → Device) (honest : D → Type 0) (clock : D
       (λ t. value_after (starts (seat.plan_is t)) (none t) (seat.low_is t)) in
       let paired_number = pair.number_is in
       (omega (arith, number, paired_number), pair.value_is ∙ value)) in
-      let any_moment : AnyMoment device honest clock might_have_left back.plan writers =
+      let any_moment : AnyMoment disk back.plan writers =
       λ s kept places files count each left.
-      moment_recovers device honest clock might_have_left back.plan (length writers) s kept
+      moment_recovers disk back.plan (length writers) s kept
       places files count
       (λ i p at. (
       let e = each i p at in
       let x = e.0 in (
-        (life_fits device honest clock might_have_left back.plan (length writers) i x.0
+        (life_fits disk back.plan (length writers) i x.0
             x.1 x.2 p (all_are i x.0 x.3) x.4 x.5).0,
         e.1,
       )))
@@ -120,7 +121,7 @@ module _ {D : Type 0} (device : D → Device) (honest : D → Type 0) (clock : D
             let with : (i : ℕ) (w : WriterState D) → slice_get writers i ≡ Some w
             → (w.segment.number ≡ number_after start (h ++ r.begun_too) i)
             × (w.segment.value ≡ value_after start (h ++ r.begun_too) i) = λ i w at.
-            starts_with failures devices writers were start h (Begun crashed) r i w at
+            starts_with devices writers were start h (Begun crashed) r i w at
             (hon i w at) in
             let after : StartsAfter (length writers) start (h ++ r.begun_too) (starts back.plan) =
             λ i low. (
@@ -144,8 +145,8 @@ module _ {D : Type 0} (device : D → Device) (honest : D → Type 0) (clock : D
   -- ---- a crash during an opening
 
   stay_kept : (olds news : List D)
-      → Pairs (λ _. IsBack device honest clock might_have_left) olds news
-      → StayKept device honest clock might_have_left olds news
+      → Pairs (λ _. IsBack disk) olds news
+      → StayKept disk olds news
   stay_kept olds news back n start h crashed files kept size left = kept files (record {
     size = size;
     each = λ i d b ed eb. (
@@ -154,43 +155,43 @@ module _ {D : Type 0} (device : D → Device) (honest : D → Type 0) (clock : D
         (e.2.any_time was.0).each b was.1);
   })
 
-  pub kept_opened : (failures : D → ℕ) (devices : List D) (writers : List (WriterState D))
-      → Pairs (IsOpened device failures honest clock might_have_left (length devices)) devices
+  pub kept_opened : (devices : List D) (writers : List (WriterState D))
+      → Pairs (IsOpened disk (length devices)) devices
       (map (λ (w : WriterState D). w.segment) writers)
-      → StayKept device honest clock might_have_left devices
+      → StayKept disk devices
       (map (λ (w : WriterState D). w.segment.device) writers)
-  kept_opened failures devices writers were =
+  kept_opened devices writers were =
       let segment_of : WriterState D → SegmentState D = λ w. w.segment in
       let device_of : WriterState D → D = λ w. w.segment.device in
       stay_kept devices (map device_of writers) (record {
         size = were.size ∙ length-map writers segment_of ∙ sym (length-map writers device_of);
         each = λ i d e ed ee. (
             let w = unmap device_of writers i e ee in
-            subst (λ (x : D). IsBack device honest clock might_have_left d x) w.2
+            subst (λ (x : D). IsBack disk d x) w.2
             (were.each i d w.0.segment ed (get_map segment_of writers i w.0 w.1)).back);
       })
 
-  pub kept_stopped : (failures : D → ℕ) (olds news : List D) (why : Refusal) (k : ℕ)
-      → IsStopped device failures honest clock might_have_left olds news why k
-      → StayKept device honest clock might_have_left olds news
-  kept_stopped failures olds news why k is = stay_kept olds news
+  pub kept_stopped : (olds news : List D) (why : Refusal) (k : ℕ)
+      → IsStopped disk olds news why k
+      → StayKept disk olds news
+  kept_stopped olds news why k is = stay_kept olds news
       (Pairs-map _ _ olds news (λ i d e returned. returned.back) is.returned)
 
   -- ---- all are back
 
   pub any_cut : (h : List Update) (writers : List (WriterState D)) (scanners : List Known)
       → AreBack writers scanners → IsHistory h writers scanners
-      → AnyCut device honest clock might_have_left h writers scanners
+      → AnyCut disk h writers scanners
   any_cut h writers scanners back history plan places saw files size lived seen consistent left =
       let some = back.some in
-      cut_recovers device honest clock might_have_left plan h places saw files
+      cut_recovers disk plan h places saw files
       (omega (arith, some, size))
       (λ i p e. (
       let x = lived i p e in (
         x.0,
         x.1,
         x.2,
-        subst (λ (n : ℕ). IsWriterOf device honest clock might_have_left plan n i x.0)
+        subst (λ (n : ℕ). IsWriterOf disk plan n i x.0)
             (sym size) x.4,
         x.5,
         x.6,

@@ -1,9 +1,9 @@
 -- What a scanner knows that meets all writers twice, and what their devices then hold.
-use Rattle.std.proofs.Common.{◌≡◌, ℕ, suc, ◌+◌, ◌<◌, ◌≤◌, List, [], ◌∷◌, length, map, slice_get, slice_set, Some, refl, ap, sym, subst, ◌∙◌, arith}
+use Rattle.std.proofs.Common.{◌≡◌, ℕ, suc, ◌+◌, ◌<◌, ◌≤◌, List, [], ◌∷◌, length, map, slice_get, slice_set, Some, refl, ap, sym, subst}
+use Rattle.std.proofs.Common.{◌∙◌, arith}
 use mathlib.Core.Logic.{dite}
 use native.Mathlib.Decide.{ℕ_discrete}
 use Rattle.std.proofs.lemmas.Option.{same_Some, slice_get_within}
-use Rattle.snap_disk.specs.Device.{Device}
 use Rattle.snap_segment.specs.Segment.{SegmentState, IsKept}
 use Rattle.snap_history.specs.History.{Update, IsBeginning, updates_of}
 use Rattle.snap_history.specs.Pairs.{Pairs}
@@ -16,6 +16,7 @@ use Rattle.snap_memory.proofs.ScanAnswer.{same_value}
 use Rattle.snap_writer.specs.Writer.{WriterState, number_of, value_of}
 use Rattle.snap_writer.proofs.Shown.{number_grown, value_grown}
 use Rattle.snap_restart.specs.Closed.{AreBack, IsHistory, HoldsAfter, HasMet, IsTold, Rests}
+use Rattle.snap_disk.specs.declared.disk.Disk as Disk
 
 -- ---- lists side by side
 
@@ -172,12 +173,12 @@ module _ {D : Type 0} where
   )
 
   -- the devices that come back hold the history's numbers and values
-  pub holds_after : (device : D → Device) (honest : D → Type 0) (h : List Update)
+  pub holds_after : (disk : Disk.Ghosts D) (h : List Update)
       (writers met : List (WriterState D)) (scanners : List Known) → AreBack writers scanners
       → IsHistory h writers scanners → Pairs (λ _. HasMet) writers met
-      → ((i : ℕ) (w : WriterState D) → slice_get met i ≡ Some w → Rests device honest w)
-      → (i : ℕ) (w : WriterState D) → slice_get writers i ≡ Some w → HoldsAfter device honest h i w
-  holds_after device honest h writers met scanners back history p rest i w at =
+      → ((i : ℕ) (w : WriterState D) → slice_get met i ≡ Some w → Rests disk w)
+      → (i : ℕ) (w : WriterState D) → slice_get writers i ≡ Some w → HoldsAfter disk h i w
+  holds_after disk h writers met scanners back history p rest i w at =
       let x = partner (λ _. HasMet) writers met i w p at in
       let r = rest i x.0 x.1 in
       let a = back.writers_are i w at in
@@ -197,43 +198,49 @@ module _ {D : Type 0} where
       let number_is : w.segment.number ≡ number_in w.seat h i = omega arith in
       let value_is : w.segment.value ≡ value_in w.seat h i = value_now
       ∙ same_value (starts w.seat.plan) h w.seat.seen h i saw.0 (beginning-self h) (omega arith) in
-      let kept : honest w.segment.device → IsKept w.segment.index w.segment.count w.segment.number
-      w.segment.value w.segment.begun w.segment.spare_open (device w.segment.device) =
-      subst (λ (s : SegmentState D). honest s.device → IsKept s.index s.count s.number s.value s.begun
-      s.spare_open (device s.device)) same r.kept in
+      let kept : disk.is_honest w.segment.device
+      → IsKept w.segment.index w.segment.count w.segment.number
+      w.segment.value w.segment.begun w.segment.spare_open (disk.device w.segment.device) =
+      subst (λ (s : SegmentState D). disk.is_honest s.device
+      → IsKept s.index s.count s.number s.value s.begun
+      s.spare_open (disk.device s.device)) same r.kept in
       record {
         number_is = number_is;
         value_is = value_is;
         file = λ hon. subst (λ (y : ℕ × List ℕ). IsKept w.segment.index w.segment.count y.0 y.1
-            w.segment.begun w.segment.spare_open (device w.segment.device))
+            w.segment.begun w.segment.spare_open (disk.device w.segment.device))
             (λ t. (number_is t, value_is t)) (kept hon);
       }
 
 -- ---- devices that come back
 
-module _ {D : Type 0} (device : D → Device) (honest : D → Type 0) where
+module _ {D : Type 0} (disk : Disk.Ghosts D) where
   -- a writer's device, taken out of its segment
   pub rests_moved : (w : WriterState D) (t : SegmentState D) (d : D) → t ≡ w.segment → d ≡ t.device
       → w.segment.number ≡ number_of w → w.segment.value ≡ value_of w
-      → (honest d → IsKept t.index t.count t.number t.value t.begun t.spare_open (device d))
-      → Rests device honest w
+      → (disk.is_honest d → IsKept t.index t.count t.number t.value t.begun t.spare_open
+      (disk.device d))
+      → Rests disk w
   rests_moved w t d same is number value kept =
-      let here : honest t.device → IsKept t.index t.count t.number t.value t.begun t.spare_open
-      (device t.device) = subst (λ (x : D). honest x → IsKept t.index t.count t.number t.value t.begun
-      t.spare_open (device x)) is kept in
+      let here : disk.is_honest t.device
+      → IsKept t.index t.count t.number t.value t.begun t.spare_open
+      (disk.device t.device) = subst (λ (x : D). disk.is_honest x
+      → IsKept t.index t.count t.number t.value t.begun
+      t.spare_open (disk.device x)) is kept in
       record {
         number_is = number;
         value_is = value;
-        kept = subst (λ (s : SegmentState D). honest s.device → IsKept s.index s.count s.number
-            s.value s.begun s.spare_open (device s.device)) same here;
+        kept = subst (λ (s : SegmentState D). disk.is_honest s.device
+            → IsKept s.index s.count s.number
+            s.value s.begun s.spare_open (disk.device s.device)) same here;
       }
 
   -- one writer more
   pub rests_more : (ws : List (WriterState D)) (k : ℕ) (w : WriterState D)
       → slice_get ws k ≡ Some w → ((i : ℕ) (x : WriterState D) → slice_get ws i ≡ Some x → i < k
-      → Rests device honest x) → Rests device honest w → (i : ℕ) (x : WriterState D)
-      → slice_get ws i ≡ Some x → i < k + 1 → Rests device honest x
+      → Rests disk x) → Rests disk w → (i : ℕ) (x : WriterState D)
+      → slice_get ws i ≡ Some x → i < k + 1 → Rests disk x
   rests_more ws k w there before this i x at low = dite (ℕ_discrete i k)
       (λ e. let same : w ≡ x = cc (at, there, e) in
-      subst (λ (y : WriterState D). Rests device honest y) same this)
+      subst (λ (y : WriterState D). Rests disk y) same this)
       (λ other. before i x at (omega arith))

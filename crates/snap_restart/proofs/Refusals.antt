@@ -3,7 +3,8 @@ use Rattle.std.proofs.Common.{◌≡◌, ℕ, ◌<◌, ◌≤◌, List, ◌∷�
 use Rattle.std.proofs.lemmas.List.{length-take-le, take-append-drop}
 use Rattle.snap_disk.specs.declared.refusal.Refusal.{Refusal}
 use Rattle.snap_disk.specs.declared.refusal.Refusal.TheVariants.{NoMemory}
-use Rattle.snap_disk.specs.Device.{Device, MayLeave, LeavesOnly}
+use Rattle.snap_disk.specs.Device.{MayLeave}
+use Rattle.snap_disk.specs.Time.{LeavesOnly}
 use Rattle.snap_disk.specs.Laws.{started}
 use Rattle.snap_slot.specs.Findings.{IsNoOpening}
 use Rattle.snap_segment.specs.Segment.{SegmentState}
@@ -12,27 +13,33 @@ use Rattle.snap_segment.specs.Refusals.{IsOpenRefusal}
 use Rattle.snap_history.specs.Pairs.{Pairs}
 use Rattle.snap_restart.proofs.Pairs.{Pairs-mapped, Pairs-spliced}
 use Rattle.snap_restart.specs.Opened.{IsBack, IsOpened, IsReturned, IsStopped}
+use Rattle.snap_disk.specs.declared.disk.Disk as Disk
 
-module _ {D : Type 0} (device : D → Device) (failures : D → ℕ) (honest : D → Type 0) (clock : D → ℕ) (left : D → ℕ → List ℕ → Type 0) where
+module _ {D : Type 0} (disk : Disk.Ghosts D) where
   -- a device that was not touched
-  pub back_same : ((d : D) (b : List ℕ) → honest d → left d (clock d) b → MayLeave (device d) b) → (d : D) → IsBack device honest clock left d d
+  pub back_same : ((d : D) (b : List ℕ) → disk.is_honest d
+      → disk.might_have_left d (disk.clock d) b → MayLeave (disk.device d) b) → (d : D)
+      → IsBack disk d d
   back_same only_now d = record {
     honest_then = λ h. h;
-    any_time = λ h. started clock left d (MayLeave (device d)) (λ b l. only_now d b h l);
+    any_time = λ h. started disk d (MayLeave (disk.device d)) (λ b l. only_now d b h l);
     now = λ h b m. m;
   }
 
   -- what a crash may leave now is among what one since then might have left
-  pub back_later : ((d : D) (t : ℕ) (b : List ℕ) → honest d → t ≤ clock d → MayLeave (device d) b → left d t b) → (d e : D) → (honest e → honest d)
-      → (honest e → LeavesOnly clock left d e (MayLeave (device d))) → IsBack device honest clock left d e
+  pub back_later : ((d : D) (t : ℕ) (b : List ℕ) → disk.is_honest d → t ≤ disk.clock d
+      → MayLeave (disk.device d) b → disk.might_have_left d t b) → (d e : D) → (disk.is_honest e
+      → disk.is_honest d)
+      → (disk.is_honest e → LeavesOnly disk d e (MayLeave (disk.device d))) → IsBack disk d e
   back_later counts_now d e then any = record {
     honest_then = then;
     any_time = any;
-    now = λ h b m. (any h).each b (counts_now e (clock d) b h (any h).later m);
+    now = λ h b m. (any h).each b (counts_now e (disk.clock d) b h (any h).later m);
   }
 
   module _ (n k : ℕ) (why : Refusal) where
-    pub returned_opened : (i : ℕ) (d : D) (s : SegmentState D) → i < k → IsOpened device failures honest clock left n i d s → IsReturned device failures honest clock left n k why i d s.device
+    pub returned_opened : (i : ℕ) (d : D) (s : SegmentState D) → i < k → IsOpened disk n i d s
+        → IsReturned disk n k why i d s.device
     returned_opened i d s low o = record {
       back = o.back;
       before = λ _. (o.failures_same, λ h. ((o.found h).0, (s.number, s.value, (o.found h).1)));
@@ -40,7 +47,9 @@ module _ {D : Type 0} (device : D → Device) (failures : D → ℕ) (honest : D
       behind = λ l. absurd (omega arith);
     }
 
-    pub returned_same : ((d : D) (b : List ℕ) → honest d → left d (clock d) b → MayLeave (device d) b) → (i : ℕ) (d : D) → k < i → IsReturned device failures honest clock left n k why i d d
+    pub returned_same : ((d : D) (b : List ℕ) → disk.is_honest d
+        → disk.might_have_left d (disk.clock d) b → MayLeave (disk.device d) b) → (i : ℕ) (d : D)
+        → k < i → IsReturned disk n k why i d d
     returned_same only_now i d low = record {
       back = back_same only_now d;
       before = λ l. absurd (omega arith);
@@ -48,7 +57,9 @@ module _ {D : Type 0} (device : D → Device) (failures : D → ℕ) (honest : D
       behind = λ _. refl;
     }
 
-    pub returned_here : (d e : D) → IsBack device honest clock left d e → CountsFailed why (failures d) (failures e) → (honest e → IsNoOpening k n (device d).bytes why) → IsReturned device failures honest clock left n k why k d e
+    pub returned_here : (d e : D) → IsBack disk d e
+        → CountsFailed why (disk.failure_count d) (disk.failure_count e) → (disk.is_honest e
+        → IsNoOpening k n (disk.device d).bytes why) → IsReturned disk n k why k d e
     returned_here d e back counts none = record {
       back = back;
       before = λ l. absurd (omega arith);
@@ -57,14 +68,19 @@ module _ {D : Type 0} (device : D → Device) (failures : D → ℕ) (honest : D
     }
 
   -- the segments before were opened, this one was refused, and the others were not touched
-  pub stopped_at : ((d : D) (b : List ℕ) → honest d → left d (clock d) b → MayLeave (device d) b) → (why : Refusal) (olds news : List D) (ss : List (SegmentState D)) (d e : D) (rest : List D) (k : ℕ)
-      → k ≡ length ss → drop k olds ≡ d ∷ rest → k < length olds → Pairs (IsOpened device failures honest clock left (length olds)) (take k olds) ss
-      → IsOpenRefusal why → IsReturned device failures honest clock left (length olds) k why k d e → news ≡ map (λ s. s.device) ss ++ e ∷ rest
-      → IsStopped device failures honest clock left olds news why k
+  pub stopped_at : ((d : D) (b : List ℕ) → disk.is_honest d
+      → disk.might_have_left d (disk.clock d) b → MayLeave (disk.device d) b)
+      → (why : Refusal) (olds news : List D) (ss : List (SegmentState D)) (d e : D) (rest : List D)
+      (k : ℕ)
+      → k ≡ length ss → drop k olds ≡ d ∷ rest → k < length olds
+      → Pairs (IsOpened disk (length olds)) (take k olds) ss
+      → IsOpenRefusal why → IsReturned disk (length olds) k why k d e
+      → news ≡ map (λ s. s.device) ss ++ e ∷ rest
+      → IsStopped disk olds news why k
   stopped_at only_now why olds news ss d e rest k count front low p kind here is =
-      let R : ℕ → D → D → Type 0 = IsReturned device failures honest clock left (length olds) k why in
+      let R : ℕ → D → D → Type 0 = IsReturned disk (length olds) k why in
       let long : length (take k olds) ≡ k = length-take-le k olds (omega arith) in
-      let first = Pairs-mapped (IsOpened device failures honest clock left (length olds)) R (λ s. s.device) (take k olds) ss
+      let first = Pairs-mapped (IsOpened disk (length olds)) R (λ s. s.device) (take k olds) ss
       (λ i a s l o. returned_opened (length olds) k why i a s (omega arith) o) p in
       let all = Pairs-spliced R (take k olds) (map (λ s. s.device) ss) d e rest first (subst (λ j. R j d e) (sym long) here) (λ i a l. returned_same (length olds) k why only_now i a (omega arith)) in
       let whole : take k olds ++ d ∷ rest ≡ olds = ap (λ l. take k olds ++ l) (sym front) ∙ take-append-drop k olds in
@@ -76,7 +92,9 @@ module _ {D : Type 0} (device : D → Device) (failures : D → ℕ) (honest : D
       }
 
   -- no memory at once: nothing was touched
-  pub stopped_first : ((d : D) (b : List ℕ) → honest d → left d (clock d) b → MayLeave (device d) b) → (olds : List D) → IsStopped device failures honest clock left olds olds NoMemory 0
+  pub stopped_first : ((d : D) (b : List ℕ) → disk.is_honest d
+      → disk.might_have_left d (disk.clock d) b → MayLeave (disk.device d) b) → (olds : List D)
+      → IsStopped disk olds olds NoMemory 0
   stopped_first only_now olds = record {
     kind = tt;
     within = omega arith;
@@ -84,20 +102,23 @@ module _ {D : Type 0} (device : D → Device) (failures : D → ℕ) (honest : D
     returned = record {
       size = refl;
       each = λ i a b ea eb.
-          let R : D → Type 0 = IsReturned device failures honest clock left (length olds) 0 NoMemory i a in
+          let R : D → Type 0 = IsReturned disk (length olds) 0 NoMemory i a in
           let same : a ≡ b = cc (ea, eb) in
           subst R same (record { back = back_same only_now a; before = λ l. absurd (omega arith); here = λ _. (refl, λ ne. absurd (ne refl)); behind = λ _. refl });
     };
   }
 
   -- no memory once all were opened
-  pub stopped_last : (olds news : List D) (ss : List (SegmentState D)) → Pairs (IsOpened device failures honest clock left (length olds)) olds ss → news ≡ map (λ s. s.device) ss
-      → IsStopped device failures honest clock left olds news NoMemory (length olds)
+  pub stopped_last : (olds news : List D) (ss : List (SegmentState D))
+      → Pairs (IsOpened disk (length olds)) olds ss → news ≡ map (λ s. s.device) ss
+      → IsStopped disk olds news NoMemory (length olds)
   stopped_last olds news ss p is = record {
     kind = tt;
     within = omega arith;
     refused = λ ne. absurd (ne refl);
-    returned = subst (λ l. Pairs (IsReturned device failures honest clock left (length olds) (length olds) NoMemory) olds l) (sym is)
-        (Pairs-mapped (IsOpened device failures honest clock left (length olds)) (IsReturned device failures honest clock left (length olds) (length olds) NoMemory) (λ s. s.device) olds ss
+    returned = subst (λ l. Pairs (IsReturned disk (length olds) (length olds) NoMemory) olds l)
+        (sym is)
+        (Pairs-mapped (IsOpened disk (length olds)) (IsReturned disk (length olds) (length olds)
+        NoMemory) (λ s. s.device) olds ss
         (λ i a s l o. returned_opened (length olds) (length olds) NoMemory i a s l o) p);
   }

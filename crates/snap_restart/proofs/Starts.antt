@@ -2,7 +2,6 @@
 use Rattle.std.proofs.Common.{◌≡◌, ℕ, List, [], ◌∷◌, ◌++◌, length, map, refl, sym, subst, ◌∙◌, arith}
 use Rattle.std.proofs.lemmas.List.{length-map}
 use Rattle.std.proofs.lemmas.Option.{slice_get_within}
-use Rattle.snap_disk.specs.Device.{Device}
 use Rattle.snap_history.specs.History.{Update, Start}
 use Rattle.snap_history.proofs.Pairs.{element, partner}
 use Rattle.snap_register.specs.History.{starts, updates}
@@ -11,12 +10,12 @@ use Rattle.snap_cut.specs.Crash.{Begun, IsRecovered}
 use Rattle.snap_cut.proofs.Starts.{kept_now}
 use Rattle.snap_restart.specs.Crash.{GoesOn, AreOpened}
 use Rattle.snap_restart.specs.Restarts.{Restarts, First, Crashed, Interrupted, Last}
+use Rattle.snap_disk.specs.declared.disk.Disk as Disk
 
-module _ {D : Type 0} (device : D → Device) (honest : D → Type 0) (clock : D → ℕ)
-    (might_have_left : D → ℕ → List ℕ → Type 0) (n : ℕ) (start : Start) where
+module _ {D : Type 0} (disk : Disk.Ghosts D) (n : ℕ) (start : Start) where
   pub last : (moments : List (List Update)) (devices : List D)
-      → Restarts device honest clock might_have_left n start moments devices
-      → Last device n start moments devices
+      → Restarts disk n start moments devices
+      → Last disk n start moments devices
   last [] _ (First devices kept) = record {
     history = [];
     crashed = [];
@@ -25,8 +24,8 @@ module _ {D : Type 0} (device : D → Device) (honest : D → Type 0) (clock : D
   }
   last (_ ∷ _) _ (Crashed moments devices nexts writers crashed s past opened hon kept count each follow) =
       let l = last moments devices past in
-      let bytes_of : D → List ℕ = λ d. (device d).bytes in
-      let now = kept_now device n start l.history (Begun l.crashed) devices l.kept in
+      let bytes_of : D → List ℕ = λ d. (disk.device d).bytes in
+      let now = kept_now disk n start l.history (Begun l.crashed) devices l.kept in
       let size : length devices ≡ n = sym (length-map devices bytes_of) ∙ now.size in
       let on = opened.again start l.history l.crashed
       (subst (λ (k : ℕ). IsRecovered k start l.history (Begun l.crashed) (map bytes_of devices))
@@ -61,11 +60,10 @@ module _ {D : Type 0} (device : D → Device) (honest : D → Type 0) (clock : D
             follow.1 i d e f.0 b ed ee f.1 (left.each i f.0 b f.1 eb)));
       }
 
-module _ {D : Type 0} (device : D → Device) (honest : D → Type 0) (clock : D → ℕ)
-    (might_have_left : D → ℕ → List ℕ → Type 0) where
+module _ {D : Type 0} (disk : Disk.Ghosts D) where
   pub first : (devices : List D) (writers : List (WriterState D))
-      (opened : AreOpened device honest clock might_have_left devices writers)
-      → GoesOn device honest clock might_have_left opened.plan (starts opened.plan) [] [] writers
+      (opened : AreOpened disk devices writers)
+      → GoesOn disk opened.plan (starts opened.plan) [] [] writers
   first devices writers opened = record {
     more = [];
     were_begun = λ j u e. absurd (cc e);

@@ -1,8 +1,7 @@
 -- All writers and scanners of one opening, what they have seen, and what their devices hold once
 -- they are closed.
 use Rattle.std.specs.Prelude.{◌≡◌, ℕ, ◌+◌, ◌<◌, ◌≤◌, List, length, slice_get, Some}
-use Rattle.atomic_table.specs.Seated.{TableId}
-use Rattle.snap_disk.specs.Device.{Device}
+use Rattle.snap_register.specs.Registers.{RegistersId}
 use Rattle.snap_history.specs.declared.limits.TheConstants.{MAX_COUNT}
 use Rattle.snap_segment.specs.Segment.{IsKept}
 use Rattle.snap_history.specs.History.{Update, IsBeginning, updates_of}
@@ -10,9 +9,10 @@ use Rattle.snap_register.specs.declared.plan.Plan.{Plan}
 use Rattle.snap_register.specs.Rule.{segments}
 use Rattle.snap_register.specs.Seat.{Known, Grows, number_in, value_in}
 use Rattle.snap_writer.specs.Writer.{WriterState, number_of, value_of}
+use Rattle.snap_disk.specs.declared.disk.Disk as Disk
 
 -- the seat is one of this opening, and writes the segments from `low` on and below `high`
-pub record IsSeatAt (table : TableId) (plan : Plan) (low high : ℕ) (a : Known) : Type 0 where
+pub record IsSeatAt (table : RegistersId) (plan : Plan) (low high : ℕ) (a : Known) : Type 0 where
   pub table_is : a.table ≡ table
   pub plan_is : a.plan ≡ plan
   pub low_is : a.low ≡ low
@@ -21,7 +21,7 @@ pub record IsSeatAt (table : TableId) (plan : Plan) (low high : ℕ) (a : Known)
 -- the writers of all segments of one opening, in order, and its scanners: at least one is here
 pub record AreBack {D : Type 0} (writers : List (WriterState D)) (scanners : List Known)
     : Type 0 where
-  pub table : TableId
+  pub table : RegistersId
   pub plan : Plan
   pub all : length writers ≡ segments plan
   pub some : 0 < length writers
@@ -43,13 +43,13 @@ pub record IsHistory {D : Type 0} (h : List Update) (writers : List (WriterState
 -- the writer of segment i stopped at the number and the value of the history, and its device holds
 -- them: no place is open, or after a failed store a crash leaves these or the next number with the
 -- value that was begun
-pub record HoldsAfter {D : Type 0} (device : D → Device) (honest : D → Type 0) (h : List Update)
+pub record HoldsAfter {D : Type 0} (disk : Disk.Ghosts D) (h : List Update)
     (i : ℕ) (w : WriterState D) : Type 0 where
   pub number_is : w.segment.number ≡ number_in w.seat h i
   pub value_is : w.segment.value ≡ value_in w.seat h i
-  pub file : honest w.segment.device → IsKept w.segment.index w.segment.count
+  pub file : disk.is_honest w.segment.device → IsKept w.segment.index w.segment.count
       (number_in w.seat h i) (value_in w.seat h i) w.segment.begun w.segment.spare_open
-      (device w.segment.device)
+      (disk.device w.segment.device)
 
 -- the writer took part in a meeting: its file is as it was, and its seat may have seen more
 pub record HasMet {D : Type 0} (old new : WriterState D) : Type 0 where
@@ -64,9 +64,10 @@ pub record IsTold (writer before after : Known) : Type 0 where
       → number_in writer before.seen i ≤ number_in writer writer.seen i
 
 -- what a writer says of its device: it holds the number and the value that were shown last
-pub record Rests {D : Type 0} (device : D → Device) (honest : D → Type 0) (w : WriterState D)
+pub record Rests {D : Type 0} (disk : Disk.Ghosts D) (w : WriterState D)
     : Type 0 where
   pub number_is : w.segment.number ≡ number_of w
   pub value_is : w.segment.value ≡ value_of w
-  pub kept : honest w.segment.device → IsKept w.segment.index w.segment.count w.segment.number
-      w.segment.value w.segment.begun w.segment.spare_open (device w.segment.device)
+  pub kept : disk.is_honest w.segment.device
+      → IsKept w.segment.index w.segment.count w.segment.number
+      w.segment.value w.segment.begun w.segment.spare_open (disk.device w.segment.device)

@@ -2,8 +2,7 @@
 use Rattle.std.specs.Prelude.{◌≡◌, ℕ, ◌<◌, ◌≤◌, List, ◌++◌, length, map, Some, slice_get}
 use mathlib.Core.Option.{some}
 use lib.ListN.{get_elem?}
-use Rattle.atomic_table.specs.Table.{State}
-use Rattle.snap_disk.specs.Device.{Device}
+use Rattle.snap_register.specs.Registers.{Moment}
 use Rattle.snap_history.specs.History.{Update, Start, IsBeginning, updates_of, number_after, value_after}
 use Rattle.snap_history.specs.Pairs.{Pairs}
 use Rattle.snap_register.specs.declared.plan.Plan.{Plan}
@@ -15,36 +14,36 @@ use Rattle.snap_writer.specs.Writer.{WriterState}
 use Rattle.snap_writer.specs.Life.{Place, Lived, IsIn, CrashLeaves, IsWriterOf}
 use Rattle.snap_cut.specs.Crash.{IsConsistent, Begun, IsRecovered, KeepMemory, Recovers}
 use Rattle.snap_cut.specs.Laws.{IsSeatOf}
+use Rattle.snap_disk.specs.declared.disk.Disk as Disk
 
-module _ {D : Type 0} (device : D → Device) (honest : D → Type 0) (clock : D → ℕ)
-    (might_have_left : D → ℕ → List ℕ → Type 0) where
+module _ {D : Type 0} (disk : Disk.Ghosts D) where
   -- the place lies in a life that began with this writer of segment i
   abbrev pub IsLifeFrom : List (WriterState D) → ℕ → Place D → Type 0
   IsLifeFrom writers i p = (a z : WriterState D) × (life : List (WriterState D))
       × (slice_get writers i ≡ Some a)
-      × Lived device honest clock might_have_left a life z
-      × IsIn device honest clock might_have_left z a life p
+      × Lived disk a life z
+      × IsIn disk z a life p
 
   -- Whatever these writers do from now on: at any moment of their registers a crash of all devices is
   -- recovered as the memory after the whole history of that moment, of which each seat has seen a
   -- beginning, followed by at most one begun update of each writer.
   abbrev pub AnyMoment : Plan → List (WriterState D) → Type 0
-  AnyMoment plan writers = (s : State (Unit {0}) SeatView) (kept : Kept plan s)
+  AnyMoment plan writers = (s : Moment) (kept : Kept plan s)
       (places : List (Place D)) (files : List (List ℕ)) → length places ≡ length writers
       → ((i : ℕ) (p : Place D) → slice_get places i ≡ Some p
       → IsLifeFrom writers i p × IsSeatOf s.views i p)
-      → Pairs (λ _. CrashLeaves device honest clock might_have_left) places files
+      → Pairs (λ _. CrashLeaves disk) places files
       → ((j : ℕ) (v : SeatView) → get_elem? s.views j ≡ some v
       → IsBeginning (updates v.seen) (updates kept.history))
       × IsRecovered (length writers) (starts plan) (updates kept.history) (Begun places) files
 
   -- the same, told from an earlier start, where these writers began behind the base
   abbrev pub AnyMomentAfter : Plan → Start → List Update → List (WriterState D) → Type 0
-  AnyMomentAfter plan start base writers = (s : State (Unit {0}) SeatView) (kept : Kept plan s)
+  AnyMomentAfter plan start base writers = (s : Moment) (kept : Kept plan s)
       (places : List (Place D)) (files : List (List ℕ)) → length places ≡ length writers
       → ((i : ℕ) (p : Place D) → slice_get places i ≡ Some p
       → IsLifeFrom writers i p × IsSeatOf s.views i p)
-      → Pairs (λ _. CrashLeaves device honest clock might_have_left) places files
+      → Pairs (λ _. CrashLeaves disk) places files
       → IsRecovered (length writers) start (base ++ updates kept.history) (Begun places) files
 
   -- The history goes on over a crash: the writers begin with the memory after it and then some of the
@@ -62,7 +61,7 @@ module _ {D : Type 0} (device : D → Device) (honest : D → Type 0) (clock : D
 
   abbrev pub AllHonest : List (WriterState D) → Type 0
   AllHonest writers = (i : ℕ) (w : WriterState D) → slice_get writers i ≡ Some w
-      → honest w.segment.device
+      → disk.is_honest w.segment.device
 
   -- all writers were opened at rest, of the segments in order, and their history starts with what
   -- the files hold: where that is what a crash left, the history before goes on
@@ -71,32 +70,32 @@ module _ {D : Type 0} (device : D → Device) (honest : D → Type 0) (clock : D
     pub all : length writers ≡ segments plan
     pub one_each : length writers ≡ length devices
     pub writers_are : (i : ℕ) (w : WriterState D) → slice_get writers i ≡ Some w
-        → IsWriterOf device honest clock might_have_left plan (length writers) i w
+        → IsWriterOf disk plan (length writers) i w
     pub starts_are : (i : ℕ) (w : WriterState D) → slice_get writers i ≡ Some w
         → (w.segment.number ≡ (starts plan i).0) × (w.segment.value ≡ (starts plan i).1)
     pub any_moment : AnyMoment plan writers
     pub again : (start : Start) (h : List Update) (crashed : List (Place D))
         → IsRecovered (length devices) start h (Begun crashed)
-        (map (λ (d : D). (device d).bytes) devices)
+        (map (λ (d : D). (disk.device d).bytes) devices)
         → AllHonest writers → GoesOn plan start h crashed writers
 
   -- These devices are what became of the others since a call began: whatever a crash left of all of
   -- them at any times since then, that are times of each by itself, is the memory that was kept.
   abbrev pub StayKept : List D → List D → Type 0
   StayKept olds news = (n : ℕ) (start : Start) (h : List Update) (crashed : List (Place D))
-      (files : List (List ℕ)) → KeepMemory device n start h (Begun crashed) olds
+      (files : List (List ℕ)) → KeepMemory disk n start h (Begun crashed) olds
       → length olds ≡ length files
       → ((i : ℕ) (d e : D) (b : List ℕ) → slice_get olds i ≡ Some d → slice_get news i ≡ Some e
-      → slice_get files i ≡ Some b → honest e × might_have_left e (clock d) b)
+      → slice_get files i ≡ Some b → disk.is_honest e × disk.might_have_left e (disk.clock d) b)
       → IsRecovered n start h (Begun crashed) files
 
   -- the place lies in a life that came to this writer of segment i
   abbrev pub IsLifeOf : Plan → List (WriterState D) → ℕ → Place D → Type 0
   IsLifeOf plan writers i p = (a z : WriterState D) × (life : List (WriterState D))
       × (slice_get writers i ≡ Some z)
-      × IsWriterOf device honest clock might_have_left plan (length writers) i a
-      × Lived device honest clock might_have_left a life z
-      × IsIn device honest clock might_have_left z a life p
+      × IsWriterOf disk plan (length writers) i a
+      × Lived disk a life z
+      × IsIn disk z a life p
 
   -- one of the scanners had seen these updates by some time
   abbrev pub HadSeen : List Known → List Update → Type 0
@@ -110,5 +109,5 @@ module _ {D : Type 0} (device : D → Device) (honest : D → Type 0) (clock : D
       → ((i : ℕ) (p : Place D) → slice_get places i ≡ Some p → IsLifeOf plan writers i p)
       → ((k : ℕ) (seen : List Update) → slice_get saw k ≡ Some seen → HadSeen scanners seen)
       → IsConsistent (starts plan) places saw
-      → Pairs (λ _. CrashLeaves device honest clock might_have_left) places files
+      → Pairs (λ _. CrashLeaves disk) places files
       → Recovers (length places) (starts plan) h places saw files

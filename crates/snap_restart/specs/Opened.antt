@@ -1,13 +1,13 @@
--- Devices before and after an opening of all files. What is said is over any kind D of device: its
--- bytes and open places, its failure count, whether it is honest, its clock, and what a crash at a
--- time of the clock or later could have left.
+-- Devices before and after an opening of all files. What is said is over any type D of
+-- device, and `Disk.Ghosts D` is what `Disk` lets one say of it.
 use Rattle.std.specs.Prelude.{◌≡◌, ◌≢◌, ℕ, ◌+◌, ◌^◌, ◌<◌, ◌≤◌, List, [], length, None, Some, slice_get}
 use Rattle.snap_disk.specs.declared.refusal.Refusal.{Refusal}
 use Rattle.snap_disk.specs.declared.refusal.Refusal.TheVariants.{NoMemory}
-use Rattle.snap_disk.specs.Device.{Device, MayLeave, LeavesOnly}
-use Rattle.snap_slot.specs.Layout.{Head, Holds}
-use Rattle.snap_slot.specs.States.{IsAtRest}
-use Rattle.snap_slot.specs.Findings.{IsNoOpening}
+use Rattle.snap_disk.specs.Device.{MayLeave}
+use Rattle.snap_disk.specs.Time.{LeavesOnly}
+use Rattle.snap_segment.specs.Layout.{Head, Holds}
+use Rattle.snap_segment.specs.States.{IsAtRest}
+use Rattle.snap_segment.specs.Findings.{IsNoOpening}
 use Rattle.snap_segment.specs.Segment.{SegmentState}
 use Rattle.snap_segment.specs.Open.{CountsFailed}
 use Rattle.snap_segment.specs.Refusals.{IsOpenRefusal}
@@ -15,54 +15,55 @@ use Rattle.snap_history.specs.Pairs.{Pairs}
 use Rattle.snap_register.specs.Seat.{Known, own_of, number_in, value_in}
 use Rattle.snap_writer.specs.Writer.{WriterState}
 use Rattle.snap_restart.specs.declared.report.Recovered.{Recovered}
+use Rattle.snap_disk.specs.declared.disk.Disk as Disk
 
 -- the bytes are the file of segment i of n, with some number and value
 abbrev pub IsOpenable : (i n : ℕ) → List ℕ → Type 0
 IsOpenable i n b = Head b i n × ((k : ℕ) × (v : List ℕ) × Holds b k v)
 
 -- whatever a crash at any time since d leaves of the device, and one now, a crash of d could leave
-pub record IsBack {D : Type 0} (device : D → Device) (honest : D → Type 0) (clock : D → ℕ)
-    (might_have_left : D → ℕ → List ℕ → Type 0) (d e : D) : Type 0 where
-  pub honest_then : honest e → honest d
-  pub any_time : honest e → LeavesOnly clock might_have_left d e (MayLeave (device d))
-  pub now : honest e → (b : List ℕ) → MayLeave (device e) b → MayLeave (device d) b
+pub record IsBack {D : Type 0} (disk : Disk.Ghosts D) (d e : D) : Type 0 where
+  pub honest_then : disk.is_honest e → disk.is_honest d
+  pub any_time : disk.is_honest e → LeavesOnly disk d e (MayLeave (disk.device d))
+  pub now : disk.is_honest e → (b : List ℕ) → MayLeave (disk.device e) b
+      → MayLeave (disk.device d) b
 
 -- segment i of n was opened on device d: it isn't fenced, no place is open, and it holds the number
 -- and the value that the bytes held
-pub record IsOpened {D : Type 0} (device : D → Device) (failures : D → ℕ) (honest : D → Type 0)
-    (clock : D → ℕ) (might_have_left : D → ℕ → List ℕ → Type 0) (n i : ℕ) (d : D)
+pub record IsOpened {D : Type 0} (disk : Disk.Ghosts D) (n i : ℕ) (d : D)
     (s : SegmentState D) : Type 0 where
   pub index_is : s.index ≡ i
   pub count_is : s.count ≡ n
   pub unfenced : s.begun ≡ None
-  pub failures_same : failures s.device ≡ failures d
-  pub calls : clock s.device ≡ clock d + 2
-  pub found : honest s.device → Head (device d).bytes i n × Holds (device d).bytes s.number s.value
-  pub rests : honest s.device → IsAtRest i n s.number s.value s.spare_open (device s.device)
-  pub back : IsBack device honest clock might_have_left d s.device
+  pub failures_same : disk.failure_count s.device ≡ disk.failure_count d
+  pub calls : disk.clock s.device ≡ disk.clock d + 2
+  pub found : disk.is_honest s.device → Head (disk.device d).bytes i n
+      × Holds (disk.device d).bytes s.number s.value
+  pub rests : disk.is_honest s.device
+      → IsAtRest i n s.number s.value s.spare_open (disk.device s.device)
+  pub back : IsBack disk d s.device
 
 -- device e is what came back for device d, of segment i, where the opening of n segments was
 -- refused at segment k
-pub record IsReturned {D : Type 0} (device : D → Device) (failures : D → ℕ) (honest : D → Type 0)
-    (clock : D → ℕ) (might_have_left : D → ℕ → List ℕ → Type 0) (n k : ℕ) (why : Refusal)
+pub record IsReturned {D : Type 0} (disk : Disk.Ghosts D) (n k : ℕ) (why : Refusal)
     (i : ℕ) (d e : D) : Type 0 where
-  pub back : IsBack device honest clock might_have_left d e
+  pub back : IsBack disk d e
   -- those before were opened
-  pub before : i < k → (failures e ≡ failures d) × (honest e → IsOpenable i n (device d).bytes)
+  pub before : i < k → (disk.failure_count e ≡ disk.failure_count d) × (disk.is_honest e
+      → IsOpenable i n (disk.device d).bytes)
   -- this one was refused, save for want of memory by what its bytes are or by a fault
-  pub here : i ≡ k → CountsFailed why (failures d) (failures e)
-      × (why ≢ NoMemory → honest e → IsNoOpening i n (device d).bytes why)
+  pub here : i ≡ k → CountsFailed why (disk.failure_count d) (disk.failure_count e)
+      × (why ≢ NoMemory → disk.is_honest e → IsNoOpening i n (disk.device d).bytes why)
   -- and those behind it weren't touched
   pub behind : k < i → e ≡ d
 
 -- the opening of these devices was refused at segment k, and they came back in order
-pub record IsStopped {D : Type 0} (device : D → Device) (failures : D → ℕ) (honest : D → Type 0)
-    (clock : D → ℕ) (might_have_left : D → ℕ → List ℕ → Type 0) (olds news : List D)
+pub record IsStopped {D : Type 0} (disk : Disk.Ghosts D) (olds news : List D)
     (why : Refusal) (k : ℕ) : Type 0 where
   pub kind : IsOpenRefusal why
   pub within : k ≤ length olds
   pub refused : why ≢ NoMemory → k < length olds
-  pub returned : Pairs (IsReturned device failures honest clock might_have_left (length olds) k why)
+  pub returned : Pairs (IsReturned disk (length olds) k why)
       olds news
 
 -- how many looks a seat may take between an opening and the next

@@ -1,7 +1,7 @@
 -- How a report is printed.
 use Rattle.std.specs.Prelude.{ℕ, ◌+◌, Bool, true, false, List, [], ◌∷◌, ◌++◌, length, codes}
 use Rattle.std.specs.Fmt.{decimal}
-use Rattle.snap_slot.specs.Text.{line}
+use Rattle.snap_segment.specs.Text.{line}
 use Rattle.snap_restart.specs.declared.report.Recovered.{Recovered}
 use Rattle.snap_restart.specs.declared.report.Report.{Report}
 

@@ -49,12 +49,10 @@ pub(crate) fn open_segments<D: Disk + Drop>(
     requires count { length devices.items ≤ MAX_COUNT }
     requires headroom { All (λ d. D.failure_count d < 2 ^ 64 - 1) devices.items }
     ensures opened { IfOk result (λ r.
-        Pairs (IsOpened D.device D.failure_count D.is_honest D.clock D.might_have_left
-        (length devices.items)) devices.items r.0.items) }
+        Pairs (IsOpened D.Disk (length devices.items)) devices.items r.0.items) }
     ensures emptied { IfOk result (λ r. (r.1.items ≡ []) × (MAX_COUNT ≤ vec_capacity r.1)) }
     ensures stopped { IfErr result (λ e.
-        IsStopped D.device D.failure_count D.is_honest D.clock D.might_have_left
-        devices.items e.devices.items e.refusal e.segment) }
+        IsStopped D.Disk devices.items e.devices.items e.refusal e.segment) }
 {
     let count = devices.len();
     let Ok(emptied) = Vec::with_capacity(alloc, MAX_COUNT as usize) else {
@@ -82,8 +80,7 @@ pub(crate) fn open_segments<D: Disk + Drop>(
 
 // There was no memory to begin with.
 fn unopened<D: Disk>(devices: Vec<D>) -> Stopped<D>
-    ensures { IsStopped D.device D.failure_count D.is_honest D.clock D.might_have_left
-        devices.items result.devices.items result.refusal result.segment }
+    ensures { IsStopped D.Disk devices.items result.devices.items result.refusal result.segment }
 {
     Stopped {
         devices,

@@ -11,6 +11,6 @@ use snap_disk::Disk;
 /// The premise of each next start is that a crash before its sync leaves only what the last one could
 /// leave. So it is where a crash leaves open places open.
 pub fn restart_laws<D: Disk>()
-    ensures any_number { AnyNumberLaw D.device D.is_honest D.clock D.might_have_left }
-    ensures first { FirstLaw D.device D.is_honest D.clock D.might_have_left }
+    ensures any_number { AnyNumberLaw D.Disk }
+    ensures first { FirstLaw D.Disk }
 {}

@@ -28,7 +28,7 @@ use snap_memory::Scanner;
 use snap_writer::Writer;
 
 /// Tells what all of them have seen: beginnings of one history. The files stay as they are.
-pub(crate) fn gather<D: Disk>(writers: &mut Vec<Writer<D>>, scanners: &mut Vec<Scanner>)
+pub(crate) fn hear_everybody<D: Disk>(writers: &mut Vec<Writer<D>>, scanners: &mut Vec<Scanner>)
     requires back { AreBack writers.old.items scanners.old.items }
     ensures met { Pairs (λ _. HasMet) writers.old.items writers.new.items }
     ensures history { (h : List Update) × IsHistory h writers.old.items scanners.old.items }
@@ -72,7 +72,7 @@ pub(crate) fn release_all<D: Disk + Drop>(writers: Vec<Writer<D>>, mut devices: 
     requires room { length writers.items ≤ vec_capacity devices }
     ensures devices { result.items ≡ map (λ w. w.segment.device) writers.items }
     ensures rests { (i : ℕ) (w : _) → slice_get writers.items i ≡ Some w
-        → Rests D.device D.is_honest w }
+        → Rests D.Disk w }
 {
     'writers: for writer in writers {
         keep(&mut devices, writer.into_segment().into_device());

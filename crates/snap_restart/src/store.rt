@@ -18,7 +18,7 @@ ghost use Rattle.std.specs.Prelude.{
   IfErr,
   vec_capacity,
 };
-ghost use Rattle.atomic_table.specs.Seated.{TableId};
+ghost use Rattle.snap_register.specs.Registers.{RegistersId};
 ghost use Rattle.snap_history.specs.declared.limits.TheConstants.{MAX_COUNT};
 ghost use Rattle.snap_history.specs.Limits.{IsNumber, IsShort};
 ghost use Rattle.snap_history.specs.declared.limits.TheConstants.{MAX_SCANNERS};
@@ -36,7 +36,7 @@ ghost use Rattle.snap_restart.specs.Durability.{AllStays};
 use crate::files::{Stopped, open_segments, release};
 use crate::keep::keep;
 use crate::report::{Recovered, Report};
-use crate::shutdown::{gather, release_all};
+use crate::shutdown::{hear_everybody, release_all};
 use snap_disk::{Disk, Refusal};
 use snap_memory::Scanner;
 use snap_register::{Parts, ReadSeat, Registers, WriteSeat};
@@ -75,13 +75,13 @@ impl<D: Disk + Drop> Store<D> {
         ensures history { (h : List Update)
             × IsHistory h self.writers.items self.scanners.items
             × ((i : ℕ) (w : _) → slice_get self.writers.items i ≡ Some w
-            → HoldsAfter D.device D.is_honest h i w) }
+            → HoldsAfter D.Disk h i w) }
 
         // A crash of all devices at any time before, that found them so that nobody had seen an
         // update which its writer hadn't shown, is recovered as one memory.
         ensures crash { (h : List Update)
             × IsHistory h self.writers.items self.scanners.items
-            × AnyCut D.device D.is_honest D.clock D.might_have_left h self.writers.items
+            × AnyCut D.Disk h self.writers.items
             self.scanners.items }
     {
         let Store {
@@ -89,8 +89,21 @@ impl<D: Disk + Drop> Store<D> {
             mut scanners,
             devices,
         } = self;
-        gather(&mut writers, &mut scanners);
+        hear_everybody(&mut writers, &mut scanners);
         release_all(writers, devices)
+    }
+
+    /// The writers in order of their segments and the scanners, for who never closes the store.
+    pub fn into_parts(self) -> (Vec<Writer<D>>, Vec<Scanner>)
+        ensures writers { result.0.items ≡ self.writers.items }
+        ensures scanners { result.1.items ≡ self.scanners.items }
+    {
+        let Store {
+            writers,
+            scanners,
+            ..
+        } = self;
+        (writers, scanners)
     }
 }
 
@@ -111,7 +124,7 @@ pub fn open_all<D: Disk + Drop>(
 
     // Each file was opened, and its number and value are those of its writer.
     ensures opened { IfOk result (λ r.
-        Pairs (IsOpened D.device D.failure_count D.is_honest D.clock D.might_have_left
+        Pairs (IsOpened D.Disk
         (length devices.items)) devices.items (map (λ w. w.segment) r.0.writers.items)) }
     ensures starts { IfOk result (λ r. (i : ℕ) (w : _)
         → slice_get r.0.writers.items i ≡ Some w → IsPaired w) }
@@ -126,31 +139,27 @@ pub fn open_all<D: Disk + Drop>(
     // A crash of all devices at any moment from now on is recovered as the memory after the history
     // of that moment, followed by at most one begun update of each writer. Where the files hold what
     // such a crash left, the history before it goes on.
-    ensures crash { IfOk result (λ r. AreOpened D.device D.is_honest D.clock D.might_have_left
-        devices.items r.0.writers.items) }
+    ensures crash { IfOk result (λ r. AreOpened D.Disk devices.items r.0.writers.items) }
 
     // And what a writer has stored stays: once an update was answered with number k, each later
     // crash leaves k with its value, or a later number with the value that the writer gave to it.
-    ensures stays { IfOk result (λ r. AllStays D.device D.is_honest D.clock D.might_have_left
-        r.0.writers.items) }
+    ensures stays { IfOk result (λ r. AllStays D.Disk r.0.writers.items) }
 
     // A crash during the opening, however it ends, leaves the memory that was there before.
-    ensures kept_ok { IfOk result (λ r. StayKept D.device D.is_honest D.clock D.might_have_left
+    ensures kept_ok { IfOk result (λ r. StayKept D.Disk
         devices.items (map (λ w. w.segment.device) r.0.writers.items)) }
-    ensures kept_err { IfErr result (λ e. StayKept D.device D.is_honest D.clock D.might_have_left
-        devices.items e.devices.items) }
+    ensures kept_err { IfErr result (λ e. StayKept D.Disk devices.items e.devices.items) }
 
     // After a refusal no writer exists, and all devices come back.
     ensures stopped { IfErr result (λ e.
-        IsStopped D.device D.failure_count D.is_honest D.clock D.might_have_left
-        devices.items e.devices.items e.refusal e.segment) }
+        IsStopped D.Disk devices.items e.devices.items e.refusal e.segment) }
 {
     let (segments, mut emptied) = match open_segments(alloc, devices) {
         Ok(opened) => opened,
         Err(stopped) => return Err(stopped),
     };
     let count = segments.len();
-    match prepare(alloc, &segments, scanners) {
+    match take_memory(alloc, &segments, scanners) {
         Ok(
             Ready {
                 parts,
@@ -164,8 +173,8 @@ pub fn open_all<D: Disk + Drop>(
                 scanners: scanner_seats,
             } = parts;
             let store = Store {
-                writers: seat_writers(segments, writer_seats, writers),
-                scanners: seat_scanners(scanner_seats, scanners),
+                writers: place_writers(segments, writer_seats, writers),
+                scanners: place_scanners(scanner_seats, scanners),
                 devices: emptied,
             };
             Ok((store, report))
@@ -193,7 +202,7 @@ struct Ready<D: Disk> {
 }
 
 // Takes it.
-fn prepare<D: Disk + Drop>(
+fn take_memory<D: Disk + Drop>(
     alloc: Global,
     segments: &Vec<Segment<D>>,
     scanners: usize,
@@ -204,7 +213,7 @@ fn prepare<D: Disk + Drop>(
     ensures counts { IfOk result (λ r.
         (length r.parts.writers.items ≡ length segments.now.items)
         × (length r.parts.scanners.items ≡ scanners)) }
-    ensures seats { IfOk result (λ r. (z : TableId) × (p : Plan)
+    ensures seats { IfOk result (λ r. (z : RegistersId) × (p : Plan)
         × IsOpening p LOOKS (map contents segments.now.items)
         × AreWriters z p r.parts.writers.items × AreReaders z p r.parts.scanners.items) }
     ensures writers { IfOk result (λ r. (r.writers.items ≡ [])
@@ -260,7 +269,7 @@ fn report_of<D: Disk>(alloc: Global, segments: &Vec<Segment<D>>) -> Result<Repor
 }
 
 // Puts each writer at its seat.
-fn seat_writers<D: Disk + Drop>(
+fn place_writers<D: Disk + Drop>(
     segments: Vec<Segment<D>>,
     seats: Vec<WriteSeat>,
     mut writers: Vec<Writer<D>>,
@@ -282,7 +291,7 @@ fn seat_writers<D: Disk + Drop>(
 }
 
 // Puts each scanner at its seat.
-fn seat_scanners(seats: Vec<ReadSeat>, mut scanners: Vec<Scanner>) -> Vec<Scanner>
+fn place_scanners(seats: Vec<ReadSeat>, mut scanners: Vec<Scanner>) -> Vec<Scanner>
     requires empty { scanners.items ≡ [] }
     requires room { length seats.items ≤ vec_capacity scanners }
     ensures { result.items ≡ seats.items }

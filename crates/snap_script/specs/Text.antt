@@ -4,10 +4,9 @@ use Rattle.std.specs.Fmt.{decimal}
 use Rattle.snap_hex.specs.Text.{hex_text}
 use Rattle.snap_world.specs.declared.event.Kind.{Kind}
 use Rattle.snap_world.specs.declared.event.Kind.TheVariants.{Write, Sync, Read}
-use Rattle.snap_persist.specs.declared.persist.Write.TheVariants as write
+use Rattle.snap_world.specs.persist.Write.TheVariants as write
 use Rattle.snap_world.specs.declared.event.Reply.{Reply}
-use Rattle.snap_world.specs.declared.event.Reply.TheVariants.{Begun, Number, Called, DeviceFailed}
-use Rattle.snap_world.specs.declared.event.Reply.TheVariants.{Shown, Stored, ScanBegun, Memory}
+use Rattle.snap_world.specs.declared.event.Reply.TheVariants.{Begun, Number, Called, DeviceFailed, Shown, Stored, ScanBegun, Memory}
 use Rattle.snap_world.specs.declared.event.Reply.TheVariants.{Crashed, Restarting, NotNow}
 
 -- the name of a device call

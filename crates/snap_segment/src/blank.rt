@@ -29,8 +29,8 @@ ghost use Rattle.snap_disk.specs.Device.{
   MayLeave,
   CountsFailure,
   CountsCalls,
-  LeavesOnly,
 };
+ghost use Rattle.snap_disk.specs.Time.{LeavesOnly};
 ghost use Rattle.snap_history.specs.declared.limits.TheConstants.{MAX_COUNT};
 ghost use Rattle.snap_slot.specs.Layout.{fresh_file, header_front, IsUnformatted, IsFormatted};
 ghost use Rattle.snap_slot.specs.States.{IsAtRest, IsPrepared};
@@ -74,14 +74,14 @@ pub fn format<D: Disk>(device: &mut D, index: u8, count: u8) -> Result<(), Refus
     // Of a formatted file, whatever is answered, a crash at any time during the call leaves what
     // one before it could leave, and so does one after it.
     ensures kept { D.is_honest device.new → IsFormatted (D.device device.old).bytes
-        → LeavesOnly D.clock D.might_have_left device.old device.new
+        → LeavesOnly D.Disk device.old device.new
         (MayLeave (D.device device.old)) }
     ensures kept_now { D.is_honest device.new → IsFormatted (D.device device.old).bytes
         → (b : List ℕ) → MayLeave (D.device device.new) b → MayLeave (D.device device.old) b }
 
     // A crash at any time during the call, and one after it.
     ensures any_time { D.is_honest device.new
-        → LeavesOnly D.clock D.might_have_left device.old device.new
+        → LeavesOnly D.Disk device.old device.new
         (IsFresh index count (D.device device.old)) }
     ensures now { D.is_honest device.new → (b : List ℕ) → MayLeave (D.device device.new) b
         → IsFresh index count (D.device device.old) b }

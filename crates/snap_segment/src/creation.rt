@@ -25,8 +25,8 @@ ghost use Rattle.snap_disk.specs.Device.{
   MayLeave,
   CountsFailure,
   CountsCalls,
-  LeavesOnly,
 };
+ghost use Rattle.snap_disk.specs.Time.{LeavesOnly};
 ghost use Rattle.snap_history.specs.declared.limits.TheConstants.{MAX_COUNT};
 ghost use Rattle.snap_history.specs.Limits.{IsNumber, IsShort};
 ghost use Rattle.snap_slot.specs.Layout.{IsUnformatted, IsFormatted};
@@ -78,14 +78,14 @@ pub(crate) fn make_file<D: Disk>(
     // Of a formatted file, whatever is answered, a crash at any time during the call leaves what
     // one before it could leave, and so does one after it.
     ensures kept { D.is_honest device.new → IsFormatted (D.device device.old).bytes
-        → LeavesOnly D.clock D.might_have_left device.old device.new
+        → LeavesOnly D.Disk device.old device.new
         (MayLeave (D.device device.old)) }
     ensures kept_now { D.is_honest device.new → IsFormatted (D.device device.old).bytes
         → (b : List ℕ) → MayLeave (D.device device.new) b → MayLeave (D.device device.old) b }
 
     // A crash at any time during the call, and one after it.
     ensures any_time { D.is_honest device.new
-        → LeavesOnly D.clock D.might_have_left device.old device.new
+        → LeavesOnly D.Disk device.old device.new
         (IsMadeOrLeft index count number value.now (D.device device.old)) }
     ensures now { D.is_honest device.new → (b : List ℕ) → MayLeave (D.device device.new) b
         → IsMadeOrLeft index count number value.now (D.device device.old) b }
@@ -119,7 +119,7 @@ fn is_unformatted<D: Disk>(device: &mut D) -> Result<bool, DeviceFault>
     ensures calls { CountsCalls result 2 (D.clock device.old) (D.clock device.new) }
     ensures honest { D.is_honest device.new → D.is_honest device.old }
     ensures any_time { D.is_honest device.new
-        → LeavesOnly D.clock D.might_have_left device.old device.new
+        → LeavesOnly D.Disk device.old device.new
         (MayLeave (D.device device.old)) }
     ensures now { D.is_honest device.new → (b : List ℕ) → MayLeave (D.device device.new) b
         → MayLeave (D.device device.old) b }
@@ -155,7 +155,7 @@ fn write_front<D: Disk>(
     ensures honest { D.is_honest device.new → D.is_honest device.old }
     ensures any_time { D.is_honest device.new → IsSettled (D.device device.old)
         → IsUnformatted (D.device device.old).bytes
-        → LeavesOnly D.clock D.might_have_left device.old device.new IsUnformatted }
+        → LeavesOnly D.Disk device.old device.new IsUnformatted }
     ensures now { D.is_honest device.new → IsSettled (D.device device.old)
         → IsUnformatted (D.device device.old).bytes → (b : List ℕ)
         → MayLeave (D.device device.new) b → IsUnformatted b }

@@ -18,7 +18,8 @@ ghost use Rattle.std.specs.Prelude.{
   IsErrOf,
 };
 ghost use Rattle.snap_slot.specs.declared.layout.TheConstants.{FILE_LEN};
-ghost use Rattle.snap_disk.specs.Device.{Device, IsSynced, MayLeave, CountsCalls, LeavesOnly};
+ghost use Rattle.snap_disk.specs.Device.{Device, IsSynced, MayLeave, CountsCalls};
+ghost use Rattle.snap_disk.specs.Time.{LeavesOnly};
 ghost use Rattle.snap_history.specs.declared.limits.TheConstants.{MAX_COUNT};
 ghost use Rattle.snap_slot.specs.Layout.{IsUnformatted, IsFormatted};
 ghost use Rattle.snap_slot.specs.States.{IsAtRest};
@@ -107,7 +108,7 @@ pub fn migrate<O: Disk, N: Disk>(
     // The old file is never written: a crash leaves of it what one before could leave, at any time
     // during the call and after it, and where no call on it failed its bytes are the same.
     ensures old_kept { O.is_honest old.new
-        → LeavesOnly O.clock O.might_have_left old.old old.new (MayLeave (O.device old.old)) }
+        → LeavesOnly O.Disk old.old old.new (MayLeave (O.device old.old)) }
     ensures old_kept_now { O.is_honest old.new → (b : List ℕ)
         → MayLeave (O.device old.new) b → MayLeave (O.device old.old) b }
     ensures old_same { O.is_honest old.new
@@ -116,14 +117,14 @@ pub fn migrate<O: Disk, N: Disk>(
 
     // Of a new file that is formatted already a crash leaves what one before could leave.
     ensures kept { N.is_honest new.new → IsFormatted (N.device new.old).bytes
-        → LeavesOnly N.clock N.might_have_left new.old new.new (MayLeave (N.device new.old)) }
+        → LeavesOnly N.Disk new.old new.new (MayLeave (N.device new.old)) }
     ensures kept_now { N.is_honest new.new → IsFormatted (N.device new.old).bytes
         → (b : List ℕ) → MayLeave (N.device new.new) b → MayLeave (N.device new.old) b }
 
     // A crash of the new file at any time during the call, and one after it.
     ensures any_time { O.is_honest old.new → N.is_honest new.new → (k : ℕ) (v : List ℕ)
         → OldHolds (O.device old.old).bytes k v
-        → LeavesOnly N.clock N.might_have_left new.old new.new
+        → LeavesOnly N.Disk new.old new.new
         (IsMadeOrLeft index count k v (N.device new.old)) }
     ensures now { O.is_honest old.new → N.is_honest new.new → (k : ℕ) (v : List ℕ)
         → OldHolds (O.device old.old).bytes k v
@@ -174,7 +175,7 @@ fn read_old<D: Disk>(
     ensures calls { CountsCalls result 2 (D.clock device.old) (D.clock device.new) }
     ensures honest { D.is_honest device.new → D.is_honest device.old }
     ensures any_time { D.is_honest device.new
-        → LeavesOnly D.clock D.might_have_left device.old device.new
+        → LeavesOnly D.Disk device.old device.new
         (MayLeave (D.device device.old)) }
     ensures now { D.is_honest device.new → (b : List ℕ) → MayLeave (D.device device.new) b
         → MayLeave (D.device device.old) b }

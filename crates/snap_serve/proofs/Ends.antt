@@ -25,10 +25,9 @@ ends_opened disk devices site connections r o n (Err (Server fault)) is ends = (
 
 pub reported : {D : Type 0} (disk : Disk.Ghosts D) (devices : List D)
     (writers : List (WriterState D)) (r : Report)
-    → Pairs (IsOpened disk.device disk.failure_count disk.is_honest disk.clock disk.might_have_left
-    (length devices)) devices (map (λ w. w.segment) writers)
+    → Pairs (IsOpened disk (length devices)) devices (map (λ w. w.segment) writers)
     → r.segments.items ≡ map (λ w. recovered w.segment) writers
-    → AreOpened disk.device disk.is_honest disk.clock disk.might_have_left devices writers
+    → AreOpened disk devices writers
     → IsReportOf disk devices r
 reported disk devices writers r opened says crash = record {
   segments = map (λ w. w.segment) writers;

@@ -1,7 +1,6 @@
 -- The writers and the scanners of a store are of the memory of its first scanner.
-use Rattle.std.proofs.Common.{◌≡◌, ℕ, ◌<◌, List, [], ◌∷◌, length, slice_get, Some, ap, sym, ◌∙◌}
-use Rattle.std.proofs.Common.{refl, arith}
-use Rattle.atomic_table.specs.Seated.{TableId}
+use Rattle.std.proofs.Common.{◌≡◌, ℕ, ◌<◌, List, [], ◌∷◌, length, slice_get, Some, ap, sym, ◌∙◌, refl, arith}
+use Rattle.snap_memory.specs.Registers.{RegistersId}
 use Rattle.snap_register.specs.declared.plan.Plan.{Plan}
 use Rattle.snap_register.specs.Rule.{segments}
 use Rattle.snap_register.specs.Seat.{Known}
@@ -10,7 +9,7 @@ use Rattle.snap_restart.specs.Closed.{AreBack, IsSeatAt}
 use Rattle.snap_service.specs.Memory.{AreWriters}
 use Rattle.snap_serve.specs.Scanners.{AreScanners, table_of, plan_of}
 
-firsts : (table : TableId) (plan : Plan) (rs : List Known) → 0 < length rs
+firsts : (table : RegistersId) (plan : Plan) (rs : List Known) → 0 < length rs
     → ((k : ℕ) (b : Known) → slice_get rs k ≡ Some b → IsSeatAt table plan 0 0 b)
     → (table_of rs ≡ table) × (plan_of rs ≡ plan)
 firsts table plan [] some are = absurd (omega arith)

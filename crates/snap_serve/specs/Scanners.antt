@@ -1,18 +1,18 @@
 -- The scanners of one memory.
 use Rattle.std.specs.Prelude.{◌≡◌, ℕ, List, [], ◌∷◌, slice_get, Some}
-use Rattle.atomic_table.specs.Seated.{TableId}
-use Rattle.snap_register.specs.declared.plan.Plan.{Plan}
-use Rattle.snap_register.specs.Seat.{Known}
-use Rattle.snap_service.specs.Memory.{IsOf, no_table, no_plan}
+use Rattle.snap_memory.specs.Registers.{RegistersId, no_registers}
+use Rattle.snap_memory.specs.plan.Plan.{Plan}
+use Rattle.snap_memory.specs.Seat.{Known}
+use Rattle.snap_service.specs.Memory.{IsOf, no_plan}
 
 -- these are scanners of these registers
-abbrev pub AreScanners : TableId → Plan → List Known → Type 0
+abbrev pub AreScanners : RegistersId → Plan → List Known → Type 0
 AreScanners table plan scanners = (k : ℕ) (b : Known) → slice_get scanners k ≡ Some b
     → IsOf table plan b
 
 -- whose registers they are: those of the first
-abbrev pub table_of : List Known → TableId
-table_of [] = no_table
+abbrev pub table_of : List Known → RegistersId
+table_of [] = no_registers
 table_of (b ∷ rest) = b.table
 
 abbrev pub plan_of : List Known → Plan

@@ -1,20 +1,18 @@
 -- How a server ends, and what it has written by then.
-use Rattle.std.specs.Prelude.{◌≡◌, ◌≢◌, ◌⊎◌, ℕ, Bool, true, List, ◌++◌, length, map, slice_get}
-use Rattle.std.specs.Prelude.{Option, Some, None, Result, Ok, Err, codes}
+use Rattle.std.specs.Prelude.{◌≡◌, ◌≢◌, ◌⊎◌, ℕ, Bool, true, List, ◌++◌, length, map, slice_get, Option, Some, None, Result, Ok, Err}
+use Rattle.std.specs.Prelude.{codes}
 use Rattle.std.specs.Fmt.{decimal}
 use Rattle.std.specs.Io.KnownBytes.{Appends, Keeps}
 use Rattle.std.specs.Net.Text.{socket_text}
 use Rattle.std.specs.declared.io.Error.{Error}
 use Rattle.std.specs.declared.net.socket_addr.SocketAddr.{SocketAddr}
-use Rattle.snap_disk.specs.Device.{Device}
 use Rattle.snap_disk.specs.declared.disk.Disk as Disk
 use Rattle.snap_disk.specs.declared.refusal.Refusal.{Refusal}
 use Rattle.snap_disk.specs.declared.refusal.Refusal.TheVariants as refusal
-use Rattle.snap_history.specs.Pairs.{Pairs}
-use Rattle.snap_segment.specs.Segment.{SegmentState}
+use Rattle.snap_restart.specs.Pairs.{Pairs}
+use Rattle.snap_writer.specs.Segment.{SegmentState}
 use Rattle.snap_writer.specs.Writer.{WriterState}
-use Rattle.snap_stream.specs.Streams.{AppendsBeginning, Complains, SaysLines, file_line}
-use Rattle.snap_stream.specs.Streams.{refused_line}
+use Rattle.snap_stream.specs.Streams.{AppendsBeginning, Complains, SaysLines, file_line, refused_line}
 use Rattle.snap_order.specs.declared.order.Serving.{Serving}
 use Rattle.snap_order.specs.declared.status.Exit.{Exit}
 use Rattle.snap_order.specs.declared.status.Status.{Status}
@@ -34,8 +32,7 @@ use Rattle.snap_server.specs.declared.fault.ServerFault.{ServerFault}
 use Rattle.snap_server.specs.declared.fault.ServerFault.TheVariants as faults
 use Rattle.snap_serve.specs.declared.bind.Bind as Bind
 use Rattle.snap_serve.specs.declared.failure.HostFailure.{HostFailure}
-use Rattle.snap_serve.specs.declared.failure.HostFailure.TheVariants.{Refused, NoMemory, Address}
-use Rattle.snap_serve.specs.declared.failure.HostFailure.TheVariants.{Output, Server}
+use Rattle.snap_serve.specs.declared.failure.HostFailure.TheVariants.{Refused, NoMemory, Address, Output, Server}
 
 -- it ends with the number of connections that were accepted, or early
 abbrev pub End : Type 0
@@ -73,18 +70,17 @@ whole_text report a k = opening_text report a ++ served_line k
 pub record IsReportOf {D : Type 0} (disk : Disk.Ghosts D) (devices : List D) (report : Report)
     : Type 0 where
   pub segments : List (SegmentState D)
-  pub opened : Pairs (IsOpened disk.device disk.failure_count disk.is_honest disk.clock
-      disk.might_have_left (length devices)) devices segments
+  pub opened : Pairs (IsOpened disk (length devices)) devices segments
   pub says : report.segments.items ≡ map recovered segments
   pub writers : List (WriterState D)
   pub theirs : segments ≡ map (λ (w : WriterState D). w.segment) writers
-  pub crash : AreOpened disk.device disk.is_honest disk.clock disk.might_have_left devices writers
+  pub crash : AreOpened disk devices writers
 
 -- the device of this segment, where there is one, has so many bytes
-abbrev pub IsLengthAt : {D : Type 0} (device : D → Device) (devices : List D) (segment len : ℕ)
+abbrev pub IsLengthAt : {D : Type 0} (disk : Disk.Ghosts D) (devices : List D) (segment len : ℕ)
     → Type 0
-IsLengthAt {D} device devices segment len = (d : D) → slice_get devices segment ≡ Some d
-    → len ≡ length (device d).bytes
+IsLengthAt {D} disk devices segment len = (d : D) → slice_get devices segment ≡ Some d
+    → len ≡ length (disk.device d).bytes
 
 -- the opening of these devices was refused at this segment, whose device has so many bytes, and a
 -- crash leaves what one before could
@@ -92,10 +88,9 @@ pub record IsStopOf {D : Type 0} (disk : Disk.Ghosts D) (devices : List D) (segm
     (why : Refusal) (len : ℕ) : Type 0 where
   -- the devices as they came back
   pub news : List D
-  pub stopped : IsStopped disk.device disk.failure_count disk.is_honest disk.clock
-      disk.might_have_left devices news why segment
-  pub kept : StayKept disk.device disk.is_honest disk.clock disk.might_have_left devices news
-  pub len_is : IsLengthAt disk.device news segment len
+  pub stopped : IsStopped disk devices news why segment
+  pub kept : StayKept disk devices news
+  pub len_is : IsLengthAt disk news segment len
 
 -- ---- where it listens
 

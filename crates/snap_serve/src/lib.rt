@@ -2,8 +2,8 @@
 //! found, listens, and serves.
 //!
 //! Each worker is a desk with a scanner of its own, and each segment's updates are stored by a
-//! thread of its own. What the system gives, an address and what is told of ended connections,
-//! comes from the caller ([`Edge`]).
+//! thread of its own. What the system gives, how an address is bound, who is told of connections and
+//! of stores that failed, and the limits come from the caller ([`Edge`]).
 #![tactic(auto)]
 
 mod announcement;

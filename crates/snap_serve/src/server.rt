@@ -139,7 +139,7 @@ where
 
 /// How many bytes the device of this segment has, or 0 where there is none.
 fn length_at<D: Disk>(devices: &Vec<D>, segment: usize) -> u64
-    ensures { IsLengthAt D.device devices.now.items segment result }
+    ensures { IsLengthAt D.Disk devices.now.items segment result }
 {
     match devices.get(segment) {
         Some(device) => device.len(),

@@ -1,6 +1,6 @@
 //! The threads that store, and the workers' desks.
 ghost use Rattle.std.specs.Prelude.{◌≡◌, ◌+◌, length, Some, IfOk, IfErr, OnOk};
-ghost use Rattle.snap_register.specs.Rule.{segments};
+ghost use Rattle.snap_memory.specs.Rule.{segments};
 ghost use Rattle.snap_service.specs.Memory.{AreWriters, IsOf};
 ghost use Rattle.snap_restart.specs.Closed.{AreBack};
 ghost use Rattle.snap_serve.specs.Scanners.{AreScanners};
@@ -13,12 +13,11 @@ use snap_disk::{Disk, Refusal};
 use snap_memory::{Scanner, Snapshot};
 use snap_restart::Store;
 use snap_server::{Announce, Gate, Limits, Listen, Note, RunFault, ServerFault, run};
-use snap_service::{Memory, WriterOf, name_writers};
+use snap_service::{Memory, WriterOf};
 use snap_session::{Background, Done};
 use snap_writer::Writer;
 use std::alloc::{AllocError, Global};
 use std::marker::Brand;
-use std::mem;
 use std::net::Net;
 use std::rt::Clock;
 use std::sync::Wait;
@@ -45,20 +44,22 @@ impl<R: Wait + Copy, M: Memory, D: Disk + Drop, H: Watch + Drop> Background
     }
 }
 
-/// A store for each writer, and their windows in the same order.
+/// A store for each writer of the memory, and their windows in the same order.
 fn open_stores<R: Wait + Copy, M: Memory, D: Disk + Drop, H: Watch + Copy + Drop>(
     rt: R,
     alloc: Global,
-    writers: Vec<WriterOf<M, D>>,
+    writers: Vec<Writer<D>>,
     watch: H,
 ) -> Result<(Vec<Storing<R, M, D, H>>, Vec<Window>), AllocError>
+    requires { AreWriters M.table M.plan writers.items }
     ensures stores { IfOk result (λ r. length r.0.items ≡ length writers.items) }
     ensures windows { IfOk result (λ r. length r.1.items ≡ length writers.items) }
 {
     let mut stores = Vec::new(alloc);
     let mut windows = Vec::new(alloc);
     'writers: for writer in writers {
-        add_store(rt, alloc, writer, watch, &mut stores, &mut windows)?;
+        let writer = WriterOf::new(writer, stores.len());
+        add_store::<R, M, D, H>(rt, alloc, writer, watch, &mut stores, &mut windows)?;
     }
     Ok((stores, windows))
 }
@@ -136,10 +137,7 @@ where
     requires scanners { AreScanners M.table M.plan scanners.items }
     ensures { IfErr result (λ fault. fault ≡ ServerFault.NoMemory) }
 {
-    let Ok(writers) = name_writers::<M, D>(alloc, writers) else {
-        return Err(ServerFault::NoMemory);
-    };
-    let Ok((stores, windows)) = open_stores(rt, alloc, writers, watch) else {
+    let Ok((stores, windows)) = open_stores::<X, M, D, H>(rt, alloc, writers, watch) else {
         return Err(ServerFault::NoMemory);
     };
     let Ok(desks) = open_desks::<X, M, D>(rt, alloc, windows, scanners) else {
@@ -220,9 +218,7 @@ where
     ensures announced { Announced (A.announces announce.now) (A.fails announce.now)
         to.old result to.new }
 {
-    let mut store = store;
-    let writers = mem::replace(&mut store.writers, Vec::new(alloc));
-    let scanners = mem::replace(&mut store.scanners, Vec::new(alloc));
+    let (writers, scanners) = store.into_parts();
     serve_memory::<Brand, X, D, L, G, N, H, A, T>(
         rt, alloc, writers, scanners, listener, limits, gate, note, watch, announce, to,
     )

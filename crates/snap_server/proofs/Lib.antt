@@ -1,6 +1,6 @@
-mod SharedService
+mod Step
 mod TurnList
-mod Turns
+mod SharedService
 mod Round
 mod Made
 mod Deals

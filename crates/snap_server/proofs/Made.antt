@@ -1,5 +1,6 @@
 -- A list that a loop makes, one by one, of what an iterator gives.
-use Rattle.std.proofs.Common.{◌≡◌, ℕ, zero, suc, ◌+◌, List, [], ◌∷◌, ◌++◌, length, length-append, map, Bool, true, sym, ap, ◌∙◌, append_assoc, append-nil, arith}
+use Rattle.std.proofs.Common.{◌≡◌, ℕ, zero, suc, ◌+◌, List, [], ◌∷◌, ◌++◌, length, length-append, map, Bool, true, sym, ap, ◌∙◌}
+use Rattle.std.proofs.Common.{append_assoc, append-nil, arith}
 use Rattle.std.specs.List.{range_with_len}
 use Rattle.std.specs.Bool.{if◌then◌else◌}
 use Rattle.std.proofs.lemmas.List.{map_push, length-map}

@@ -18,7 +18,7 @@ use Rattle.snap_server.specs.declared.connection.Stage.TheVariants.{Idle, Listed
 use Rattle.snap_server.specs.TurnList.{Lists, KeepsOthers, again_behind}
 use Rattle.snap_server.specs.Scene.{scene}
 use Rattle.snap_server.specs.Turns.{HadRounds, HadTurn, HadItsTurn}
-use Rattle.snap_server.proofs.TurnList.{same_value}
+use Rattle.snap_server.proofs.Step.{same_value}
 
 -- a key is on a list or not
 contains_or : (keys : List ℕ) (key : ℕ) → Contains keys key ⊎ (Contains keys key → ⊥)
@@ -126,7 +126,8 @@ module _ {S : Type 0} (gives : S → Request → Reply → S → Type 0) (most :
         → get now key ≡ Some d → HadItsTurn gives most Listed s t c d
     pub left : (key : ℕ) → (Contains (take i keys) key → ⊥) → get now key ≡ get old key
 
-  pub no_turn_yet : (keys : List ℕ) (s : S) (old : Slab Connection) → IsRound keys 0 s s old old keys
+  pub no_turn_yet : (keys : List ℕ) (s : S) (old : Slab Connection)
+      → IsRound keys 0 s s old old keys
   no_turn_yet keys s old = record {
     again = [];
     order = sym (append-nil keys);

@@ -1,23 +1,28 @@
 -- Sessions that share a service.
-use Rattle.std.proofs.Common.{◌≡◌, ◌⊎◌, ℕ, [], ◌++◌, Some, None, OnSome, refl, sym, ◌∙◌, ap, subst, inl, inr}
+use Rattle.std.proofs.Common.{◌≡◌, ◌↔◌, ◌≤◌, ◌⊎◌, ℕ, [], ◌++◌, Some, None, refl, sym, ◌∙◌, ap, subst, inl, inr, arith}
+use mathlib.Core.Logic.{∥∥₁_map}
+use Rattle.std.specs.VecDeque.{deque_capacity}
 use Rattle.std.proofs.lemmas.Bool.{cases_eq}
-use Rattle.slab.specs.Slab.{Slab, get, with_value, Updates}
+use Rattle.slab.specs.Slab.{Slab, get, slab_len, Updates}
 use Rattle.snap_frame.specs.declared.request.Request.{Request}
 use Rattle.snap_frame.specs.declared.reply.Reply.{Reply}
-use Rattle.snap_session.specs.Talk.{Talk, Stays, Moves, start}
-use Rattle.snap_session.specs.Turns.{Turns}
+use Rattle.snap_session.specs.Talk.{Talk, Moves, start}
+use Rattle.snap_session.specs.declared.service.Service.{Ghosts}
 use Rattle.snap_session.proofs.Runs.{moves_joins, run_then}
 use Rattle.snap_session.proofs.Continuation.{by_run}
+use Rattle.snap_session.proofs.TurnRuns.{begins}
 use Rattle.snap_session.proofs.SharedService.{has_turn, shares}
 use Rattle.snap_server.specs.declared.connection.Connection.{Connection}
+use Rattle.snap_server.specs.declared.connection.Stage.TheVariants.{Listed}
+use Rattle.snap_server.specs.declared.sessions.Sessions.{Sessions}
 use Rattle.snap_server.specs.SharedService.{IsSession, IsTurn, AreSessions}
-use Rattle.snap_server.specs.TurnList.{KeepsOthers}
-use Rattle.snap_server.proofs.TurnList.{same_value, written_at, written_others}
+use Rattle.snap_server.specs.TurnList.{Lists}
+use Rattle.snap_server.proofs.Step.{IsStep, same_value, none_there}
+use Rattle.snap_server.proofs.TurnList.{lists_step}
 
 module _ {S : Type 0} (gives : S → Request → Reply → S → Type 0) where
   -- a turn of a session moves the service
-  pub moved : (t u : S) (a b : Talk) → Turns Stays gives t u a None None None None b
-      → Moves gives t u
+  pub moved : (t u : S) (a b : Talk) → IsTurn gives t u a b → Moves gives t u
   moved t u a b turn =
       let g = turn.goes in (g.payloads, g.replies ++ g.unsaid, g.run)
 
@@ -42,7 +47,7 @@ module _ {S : Type 0} (gives : S → Request → Reply → S → Type 0) where
   none_are t connections none = record {
     first = t;
     moves = ([], [], refl);
-    each = λ key c at. let wrong : None ≡ Some c = sym (none key) ∙ at in absurd cc;
+    each = λ key c at. absurd (none_there connections key (none key) c at);
   }
 
   -- each connection is one that was there, with the session that it had, or a new one
@@ -62,88 +67,33 @@ module _ {S : Type 0} (gives : S → Request → Reply → S → Type 0) where
   }
 
   -- one of them had a turn
-  pub turned_are : (t u : S) (old new : Slab Connection) (key : ℕ) (c d : Connection)
-      → AreSessions gives t old → get old key ≡ Some c
-      → Turns Stays gives t u c.session None None None None d.session
-      → get new key ≡ Some d → KeepsOthers key old new → AreSessions gives u new
-  turned_are t u old new key c d are at turn now others = record {
+  pub turned_are : (t u : S) {key : ℕ} {old new : Slab Connection} {c d : Connection}
+      → IsStep key old new c d → IsTurn gives t u c.session d.session → AreSessions gives t old
+      → AreSessions gives u new
+  turned_are t u {key} {old} {new} {c} {d} step turn are = record {
     first = are.first;
     moves = moves_joins gives are.first t u are.moves (moved t u c.session d.session turn);
     each = λ k e found. elim (cases_eq k key) [
-      | inl same ↦ let here : Some d ≡ Some e = sym now ∙ ap (get new) (sym same) ∙ found in
-          let is : d ≡ e = cc in
+      | inl same ↦
+          let is = same_value new key d e step.behind (ap (get new) (sym same) ∙ found) in
           subst (IsSession gives are.first u) (ap (λ (z : Connection). z.session) is)
           (has_turn gives are.first t u start c.session d.session None None None None None None
-          (are.each key c at) turn)
+          (are.each key c step.before) turn)
       | inr other ↦
-          then_moves are.first t u e.session (are.each k e (sym (others k other) ∙ found))
+          then_moves are.first t u e.session (are.each k e (sym (step.others k other) ∙ found))
           (moved t u c.session d.session turn)
     ];
   }
 
-  -- a connection is written, with the session that it had
-  pub written_are : (t : S) (old : Slab Connection) (key : ℕ) (c d : Connection)
-      → get old key ≡ Some c → d.session ≡ c.session → AreSessions gives t old
-      → AreSessions gives t (with_value old key d)
-  written_are t old key c d at same are =
-      still_are t old (with_value old key d) are (λ k e found. elim (cases_eq k key) [
-        | inl here ↦
-            let one : Some d ≡ Some e = sym (written_at old key c d at)
-            ∙ ap (get (with_value old key d)) (sym here) ∙ found in
-            let is : e ≡ d = cc in
-            inr (c, ap (get old) here ∙ at, ap (λ (z : Connection). z.session) is ∙ same)
-        | inr other ↦ inr (e, sym (written_others old key c d at k other) ∙ found, refl)
-      ])
-
-  -- a connection is written once it had a turn
-  pub written_turned : (t u : S) (old : Slab Connection) (key : ℕ) (c d : Connection)
-      → get old key ≡ Some c → Turns Stays gives t u c.session None None None None d.session
-      → AreSessions gives t old → AreSessions gives u (with_value old key d)
-  written_turned t u old key c d at turn are =
-      turned_are t u old (with_value old key d) key c d are at turn (written_at old key c d at)
-      (written_others old key c d at)
-
-  -- two connections stand at a key, one before and one behind a turn of it
-  pub turn_at : (t u v : S) (old new : Slab Connection) (key : ℕ) (c d was is : Connection)
-      → get old key ≡ Some was → get new key ≡ Some is → v ≡ u
-      → IsTurn gives t u was.session is.session → get old key ≡ Some c → get new key ≡ Some d
-      → IsTurn gives t v c.session d.session
-  turn_at t u v old new key c d was is at stands same turn at_c at_d =
-      let one : was ≡ c = same_value old key was c at at_c in
-      let two : is ≡ d = same_value new key is d stands at_d in
-      subst (λ z. IsTurn gives t z c.session d.session) (sym same)
-      (subst (λ (z : Connection). IsTurn gives t u z.session d.session) one
-      (subst (λ (z : Connection). IsTurn gives t u was.session z.session) two turn))
-
-  -- the same, wherever the connection stands behind it
-  pub last_at : (t u v : S) (old : Slab Connection) (key : ℕ) (c was is : Connection)
-      → get old key ≡ Some was → v ≡ u → IsTurn gives t u was.session is.session
-      → get old key ≡ Some c → (talk : Talk) × IsTurn gives t v c.session talk
-  last_at t u v old key c was is at same turn at_c =
-      let one : was ≡ c = same_value old key was c at at_c in (
-        is.session,
-        subst (λ z. IsTurn gives t z c.session is.session) (sym same)
-            (subst (λ (z : Connection). IsTurn gives t u z.session is.session) one turn),
-      )
-
-  -- the same of a fact about what is handed over
-  pub under_at : (P : Type 0) (old new : Slab Connection) (key : ℕ) (c d was is : Connection)
-      → get old key ≡ Some was → get new key ≡ Some is
-      → (was.session.asked ≡ None → OnSome is.session.asked P)
-      → get old key ≡ Some c → get new key ≡ Some d
-      → c.session.asked ≡ None → OnSome d.session.asked P
-  under_at P old new key c d was is at stands under at_c at_d free =
-      let one : was ≡ c = same_value old key was c at at_c in
-      let two : is ≡ d = same_value new key is d stands at_d in
-      subst (λ (z : Connection). OnSome z.session.asked P) two
-      (under (ap (λ (z : Connection). z.session.asked) one ∙ free))
+  -- a session that nothing came to
+  pub no_turn : (t : S) (a b : Talk) → b ≡ a → IsTurn gives t t a b
+  no_turn t a b same = subst (IsTurn gives t t a) (sym same) (begins gives t a None None)
 
   -- one is let go
   pub removed_are : (t : S) (old new : Slab Connection) (key : ℕ) → Updates old new key None
       → AreSessions gives t old → AreSessions gives t new
   removed_are t old new key gone are = still_are t old new are (λ k e found. elim (cases_eq k key) [
-    | inl here ↦
-        let wrong : None ≡ Some e = sym gone.changed ∙ ap (get new) (sym here) ∙ found in absurd cc
+    | inl here ↦ absurd (none_there new key gone.changed e (ap (get new) (sym here) ∙ found))
     | inr other ↦ inr (e, sym (gone.others k other) ∙ found, refl)
   ])
 
@@ -154,14 +104,31 @@ module _ {S : Type 0} (gives : S → Request → Reply → S → Type 0) where
   added_are t old new key d came new_one are =
       still_are t old new are (λ k e found. elim (cases_eq k key) [
         | inl here ↦
-            let one : Some d ≡ Some e = sym came.changed ∙ ap (get new) (sym here) ∙ found in
-            let is : e ≡ d = cc in
-            inl (ap (λ (z : Connection). z.session) is ∙ new_one)
+            let is = same_value new key d e came.changed (ap (get new) (sym here) ∙ found) in
+            inl (ap (λ (z : Connection). z.session) (sym is) ∙ new_one)
         | inr other ↦ inr (e, sym (came.others k other) ∙ found, refl)
       ])
 
-  -- each key has what it had
-  pub same_are : (t : S) (old new : Slab Connection) → ((key : ℕ) → get new key ≡ get old key)
-      → AreSessions gives t old → AreSessions gives t new
-  same_are t old new same are =
-      still_are t old new are (λ k e found. inr (e, sym (same k) ∙ found, refl))
+  -- there is room for more
+  pub same_are : (t : S) (old new : Slab Connection)
+      → new ≡ record old { capacity = new.capacity } → AreSessions gives t old
+      → AreSessions gives t new
+  same_are t old new same are = still_are t old new are (λ k e found.
+      inr (e, sym (ap (λ (s : Slab Connection). get s k) same) ∙ found, refl))
+
+-- one of a worker's connections had a turn, and says the same of the list: all holds still
+pub still_holds : {S O : Type 0} {service : Ghosts S O} (self : Sessions S O service) (u : S)
+    {key : ℕ} {new : Slab Connection} {was is : Connection}
+    → IsStep key self.connections new was is
+    → IsTurn service.gives self.service u was.session is.session
+    → (is.stage ≡ Listed ↔ was.stage ≡ Listed)
+    → record {
+      are : ∥ AreSessions service.gives u new ∥₁;
+      lists : ∥ Lists self.listed.items new ∥₁;
+      room : slab_len new ≤ deque_capacity self.listed;
+    }
+still_holds {service = service} self u step turn says = record {
+  are = ∥∥₁_map self.are (turned_are service.gives self.service u step turn);
+  lists = ∥∥₁_map self.lists (lists_step self.listed.items step says);
+  room = omega (arith, self.room, step.count);
+}

@@ -357,8 +357,7 @@ where
     }
 
     /// Serves until no more connections will come and none is left, or until it stops and has let go of
-    /// all. It fails only where the system
-    /// refuses to watch, never for want of memory.
+    /// all. It fails only where the system refuses to watch, never for want of memory.
     pub fn work<X: Wait + Clock, N: Fn(&Note)>(
         &mut self,
         rt: &X,

@@ -4,9 +4,9 @@ use Rattle.snap_disk.specs.declared.refusal.Refusal.{Refusal}
 use Rattle.snap_disk.specs.declared.refusal.Refusal.TheVariants.{NoSegment, TooLong, NoMemory, Worn}
 use Rattle.snap_history.specs.declared.limits.TheConstants.{MAX_VALUE_LEN}
 use Rattle.snap_history.specs.Limits.{IsShort}
-use Rattle.snap_scan.specs.Looks.{most_looks}
-use Rattle.snap_register.specs.Rule.{segments}
-use Rattle.snap_register.specs.Seat.{Known, Grows}
+use Rattle.snap_memory.specs.Looks.{most_looks}
+use Rattle.snap_memory.specs.Rule.{segments}
+use Rattle.snap_memory.specs.Seat.{Known, Grows}
 use Rattle.snap_memory.specs.Scans.{IsSnapshot, TakesLooks}
 use Rattle.snap_frame.specs.declared.request.Request.{Request}
 use Rattle.snap_frame.specs.declared.request.Request.TheVariants as request

@@ -2,8 +2,8 @@
 use Rattle.std.specs.Prelude.{◌≡◌, ℕ, ◌+◌, ◌%◌, ◌^◌, ◌<◌, ◌≤◌, ◌⊎◌, List, length}
 use Rattle.snap_history.specs.declared.limits.TheConstants.{MAX_VALUE_LEN}
 use Rattle.snap_history.specs.Limits.{IsShort}
-use Rattle.snap_register.specs.Rule.{segments}
-use Rattle.snap_register.specs.Seat.{Known}
+use Rattle.snap_memory.specs.Rule.{segments}
+use Rattle.snap_memory.specs.Seat.{Known}
 use Rattle.snap_frame.specs.declared.request.Request.{Request}
 use Rattle.snap_frame.specs.declared.request.Request.TheVariants as request
 

@@ -4,7 +4,7 @@ use Rattle.snap_disk.specs.declared.refusal.Refusal.{Refusal}
 use Rattle.snap_disk.specs.declared.refusal.Refusal.TheVariants as refusal
 use Rattle.snap_history.specs.declared.limits.TheConstants.{LAST_NUMBER}
 use Rattle.snap_history.specs.Limits.{IsNumber}
-use Rattle.snap_register.specs.Seat.{Known, number_in, value_in}
+use Rattle.snap_memory.specs.Seat.{Known, number_in, value_in}
 use Rattle.snap_frame.specs.declared.reply.Reply.{Reply}
 use Rattle.snap_frame.specs.declared.reply.Reply.TheVariants.{Stored, Snapshot, Status, Refused}
 use Rattle.snap_writer.specs.Writer.{WriterState, number_of, value_of}

@@ -1,8 +1,8 @@
 //! A writer under its lock, and what a node changes it by.
 ghost use Rattle.std.specs.Prelude.{◌≡◌, ◌≢◌, ◌<◌, ◌↔◌, IsTrue, IsSome};
 ghost use Rattle.snap_history.specs.Limits.{IsShort};
-ghost use Rattle.snap_register.specs.Rule.{segments};
-ghost use Rattle.snap_register.specs.Seat.{own_of};
+ghost use Rattle.snap_memory.specs.Rule.{segments};
+ghost use Rattle.snap_memory.specs.Seat.{own_of};
 ghost use Rattle.snap_frame.specs.Messages.{IsInLimits, IsStatus};
 ghost use Rattle.snap_writer.specs.Writer.{number_of};
 ghost use Rattle.snap_service.specs.Memory.{IsOf};
@@ -147,8 +147,7 @@ impl<M: Memory, D: Disk> Held<M, D> {
             pen.new.scanner }
         ensures looks { LooksOnce pen.old.scanner pen.new.scanner }
         ensures limits { IsInLimits result }
-        ensures own { own_of self.old.seat ≡ segment → IsUpdatedAndTold D.device D.failure_count
-            D.is_honest D.clock D.might_have_left self.old self.new number value.now result }
+        ensures own { own_of self.old.seat ≡ segment → IsUpdatedAndTold D.Disk self.old self.new number value.now result }
         ensures other { own_of self.old.seat ≢ segment → self.new ≡ self.old }
         ensures locks { pen.new.locks ≡ pen.old.locks }
         ensures counts { pen.new.updates ≡ next_count pen.old.updates }

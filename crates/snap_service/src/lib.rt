@@ -3,8 +3,10 @@
 //! What a service answers is one relation, `Answers` of specs/Answers.antt, from what its scanner had
 //! seen before to what it has seen after. The reply to an update is what its writer told
 //! ([`settle`]); a scan is the memory at one moment of what the scanner sees ([`answer_scan`]).
-//! [`Node`] is a service whose writers stand under locks, one for each segment: scans lock nothing,
-//! and an update locks its own segment alone.
+//!
+//! [`Node`] (node.rt, with shared.rt, held.rt and lock.rt) is a service whose writers stand under locks,
+//! one for each segment: scans lock nothing, and an update locks its own segment alone. It is for a
+//! server within a program, as in tests and benchmarks; `snapd` runs the desks of `snap_desk`.
 #![tactic(auto)]
 
 mod held;
@@ -16,7 +18,7 @@ mod settlement;
 mod shared;
 mod verdict;
 
-pub use memory::{Memory, WriterOf, name_writers};
+pub use memory::{Memory, WriterOf};
 pub use node::Node;
 pub use scans::answer_scan;
 pub use settlement::{reply_told, settle, update};

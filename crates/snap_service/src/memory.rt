@@ -15,16 +15,17 @@ ghost use Rattle.std.specs.Prelude.{
   IfOk,
   IfErr,
 };
-ghost use Rattle.atomic_table.specs.Seated.{TableId};
+ghost use Rattle.snap_memory.specs.Registers.{RegistersId, no_registers};
 ghost use Rattle.snap_history.specs.Limits.{IsNumber, IsShort};
-ghost use Rattle.snap_register.specs.declared.plan.Plan.{Plan};
-ghost use Rattle.snap_register.specs.Rule.{segments};
-ghost use Rattle.snap_register.specs.Seat.{own_of, Meets};
+ghost use Rattle.snap_memory.specs.plan.Plan.{Plan};
+ghost use Rattle.snap_memory.specs.Rule.{segments};
+ghost use Rattle.snap_memory.specs.Seat.{own_of, Meets};
 ghost use Rattle.snap_frame.specs.Messages.{IsInLimits};
 ghost use Rattle.snap_writer.specs.Writer.{number_of};
-ghost use Rattle.snap_service.specs.Memory.{IsOf, AreWriters, no_table, no_plan};
+ghost use Rattle.snap_service.specs.Memory.{IsOf, AreWriters, no_plan};
 ghost use Rattle.snap_service.specs.Settled.{IsSettledAt, IsTellable, reply_of};
-ghost use Rattle.snap_service.specs.Updated.{IsUpdated, IsUpdatedAndTold, HasMet};
+ghost use Rattle.snap_writer.specs.Updated.{IsUpdated};
+ghost use Rattle.snap_service.specs.Updated.{IsUpdatedAndTold, HasMet};
 
 use crate::settlement::{reply_told, settle, update};
 use snap_disk::{Disk, Refusal};
@@ -37,13 +38,13 @@ use std::marker::{Brand, Model, PhantomData};
 /// A name for one memory: the registers of one opening. It has no values; a function over any memory
 /// is called with `Brand`, and the proof of the call says which registers are meant.
 pub trait Memory {
-    ghost table: { TableId };
+    ghost table: { RegistersId };
 
     ghost plan: { Plan };
 }
 
 impl Memory for Brand {
-    ghost table = { no_table };
+    ghost table = { no_registers };
 
     ghost plan = { no_plan };
 }
@@ -58,7 +59,7 @@ pub struct WriterOf<M: Memory, D: Disk> {
 
 impl<M: Memory, D: Disk> Model for WriterOf<M, D> {
     ghost use Rattle.std.specs.Prelude.{◌≡◌};
-    ghost use Rattle.snap_register.specs.Seat.{own_of};
+    ghost use Rattle.snap_memory.specs.Seat.{own_of};
     ghost use Rattle.snap_writer.specs.Writer.{WriterState};
     ghost use Rattle.snap_service.specs.Memory.{IsOf};
 
@@ -113,7 +114,7 @@ impl<M: Memory, D: Disk> WriterOf<M, D> {
         ensures memory { IsOf M.table M.plan result.seat }
         ensures alone { result.seat.high ≡ result.seat.low + 1 }
     {
-        // that it writes no other segment
+        // for what it says of the seat: that it writes no other segment (docs/DECISIONS.md, 180)
         let _own = self.writer.segment();
         self.writer
     }
@@ -121,11 +122,10 @@ impl<M: Memory, D: Disk> WriterOf<M, D> {
     /// An update of the writer, as [`update`](crate::update) does it.
     pub fn update(&mut self, number: u64, value: &[u8]) -> Result<u64, Refusal>
         requires size { IsShort value.now }
-        ensures updated { IsUpdated D.device D.failure_count D.is_honest D.clock D.might_have_left
-            self.old self.new number value.now result }
+        ensures updated { IsUpdated D.Disk self.old self.new number value.now result }
         ensures tellable { IsTellable self.new number value.now result }
     {
-        let _segment = self.segment();
+        let _ = &self.segment;
         update(&mut self.writer, number, value)
     }
 
@@ -140,13 +140,12 @@ impl<M: Memory, D: Disk> WriterOf<M, D> {
         requires memory { IsOf M.table M.plan scanner.old }
         requires own { own_of self.old.seat ≡ segment }
         requires size { IsShort value.now }
-        ensures told { IsUpdatedAndTold D.device D.failure_count D.is_honest D.clock
-            D.might_have_left self.old self.new number value.now result }
+        ensures told { IsUpdatedAndTold D.Disk self.old self.new number value.now result }
         ensures settled { IsSettledAt scanner.new segment number value.now result }
         ensures limits { IsInLimits result }
         ensures scanner { Meets scanner.old scanner.new }
     {
-        let _segment = self.segment();
+        let _ = &self.segment;
         settle(&mut self.writer, scanner, segment, number, value)
     }
 
@@ -161,30 +160,7 @@ impl<M: Memory, D: Disk> WriterOf<M, D> {
         ensures scanner { Meets scanner.old scanner.new }
         ensures writer { HasMet self.old self.new }
     {
-        let _segment = self.segment();
+        let _ = &self.segment;
         reply_told(told, &mut self.writer, scanner)
     }
-}
-
-/// The writers of all segments, in order, each with the memory told by its type. Where memory runs
-/// out the writers come back as they were.
-pub fn name_writers<M: Memory, D: Disk + Drop>(
-    alloc: Global,
-    writers: Vec<Writer<D>>,
-) -> Result<Vec<WriterOf<M, D>>, Vec<Writer<D>>>
-    requires { AreWriters M.table M.plan writers.items }
-    ensures named { IfOk result (λ named. named.items ≡ writers.items) }
-    ensures back { IfErr result (λ back. back.items ≡ writers.items) }
-{
-    let Ok(mut named) = Vec::with_capacity(alloc, writers.len()) else {
-        return Err(writers);
-    };
-    'writers: for writer in writers {
-        let segment = named.len();
-        match named.push(WriterOf::new(writer, segment)) {
-            Ok(()) => {}
-            Err(_) => unreachable!(),
-        }
-    }
-    Ok(named)
 }

@@ -1,6 +1,6 @@
 //! A service over writers that stand under locks.
 ghost use Rattle.std.specs.Prelude.{◌≡◌, length};
-ghost use Rattle.snap_register.specs.Rule.{segments};
+ghost use Rattle.snap_memory.specs.Rule.{segments};
 ghost use Rattle.snap_frame.specs.Messages.{IsInLimits};
 ghost use Rattle.snap_service.specs.Memory.{IsOf};
 ghost use Rattle.snap_service.specs.Counted.{Counts, CountsNothing, CountsUpdate};
@@ -88,7 +88,7 @@ impl<'a, R: Wait, M: Memory, D: Disk + Drop> Node<'a, R, M, D> {
         ensures limits { IsInLimits result }
         ensures counts { self.new.updates ≡ self.old.updates }
     {
-        // how many segments there are
+        // for what it says of the scanner (docs/DECISIONS.md, 180)
         let _segments = self.pen.scanner().segments();
         let shared = self.shared;
         match shared.list_statuses(self.rt, self.alloc, &mut self.pen) {

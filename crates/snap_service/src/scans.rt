@@ -44,7 +44,7 @@ pub fn answer_scan(alloc: Global, scanner: &mut Scanner) -> Reply
         Ok(snapshot) => snapshot,
         Err(why) => return Reply::Refused { why, detail: 0 },
     };
-    // how many segments there are
+    // for what it says of the scanner (docs/DECISIONS.md, 180)
     let _segments = scanner.segments();
     let listed = list_of(alloc, &snapshot);
     scanner.keep(snapshot);

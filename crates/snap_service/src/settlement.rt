@@ -1,12 +1,13 @@
 //! The reply to an update: what its writer told.
 ghost use Rattle.std.specs.Prelude.{◌≡◌, ℕ, List};
 ghost use Rattle.snap_history.specs.Limits.{IsShort};
-ghost use Rattle.snap_register.specs.Seat.{AreTogether, Meets, own_of};
+ghost use Rattle.snap_memory.specs.Seat.{AreTogether, Meets, own_of};
 ghost use Rattle.snap_frame.specs.Messages.{IsInLimits};
 ghost use Rattle.snap_writer.specs.Writer.{number_of};
 ghost use Rattle.snap_writer.specs.Update.{IsSameSeat};
 ghost use Rattle.snap_service.specs.Settled.{IsSettledAt, IsTellable, reply_of};
-ghost use Rattle.snap_service.specs.Updated.{IsUpdated, IsUpdatedAndTold, HasMet};
+ghost use Rattle.snap_writer.specs.Updated.{IsUpdated};
+ghost use Rattle.snap_service.specs.Updated.{IsUpdatedAndTold, HasMet};
 
 use snap_disk::{Disk, Refusal};
 use snap_frame::Reply;
@@ -17,11 +18,10 @@ use snap_writer::Writer;
 /// writer then stands.
 pub fn update<D: Disk>(writer: &mut Writer<D>, number: u64, value: &[u8]) -> Result<u64, Refusal>
     requires size { IsShort value.now }
-    ensures updated { IsUpdated D.device D.failure_count D.is_honest D.clock D.might_have_left
-        writer.old writer.new number value.now result }
+    ensures updated { IsUpdated D.Disk writer.old writer.new number value.now result }
     ensures tellable { IsTellable writer.new number value.now result }
 {
-    // what it shows before and after
+    // for what they say of the writer before and after (docs/DECISIONS.md, 180)
     let _before = writer.number();
     let told = writer.update(number, value);
     let _after = writer.number();
@@ -45,7 +45,7 @@ pub fn reply_told<D: Disk>(
     ensures scanner { Meets scanner.old scanner.new }
     ensures writer { HasMet writer.old writer.new }
 {
-    // what it shows before and after
+    // for what they say of the writer before and after (docs/DECISIONS.md, 180)
     let _before = writer.number();
     let _held = writer.value();
     writer.meet(scanner);
@@ -76,14 +76,12 @@ pub fn settle<D: Disk>(
     requires together { AreTogether scanner.old writer.old.seat }
     requires own { own_of writer.old.seat ≡ segment }
     requires size { IsShort value.now }
-    ensures told { IsUpdatedAndTold D.device D.failure_count D.is_honest D.clock D.might_have_left
-        writer.old writer.new number value.now result }
+    ensures told { IsUpdatedAndTold D.Disk writer.old writer.new number value.now result }
     ensures settled { IsSettledAt scanner.new segment number value.now result }
     ensures limits { IsInLimits result }
     ensures scanner { Meets scanner.old scanner.new }
     ensures seat { IsSameSeat writer.old.seat writer.new.seat }
 {
-    let _segment = segment;
     let told = update(writer, number, value);
     reply_told(told, writer, scanner)
 }

@@ -15,7 +15,7 @@ ghost use Rattle.std.specs.Prelude.{
   IfErr,
 };
 ghost use Rattle.snap_history.specs.Limits.{IsShort};
-ghost use Rattle.snap_register.specs.Rule.{segments};
+ghost use Rattle.snap_memory.specs.Rule.{segments};
 ghost use Rattle.snap_frame.specs.Messages.{IsInLimits, IsStatus};
 ghost use Rattle.snap_service.specs.Memory.{IsOf, AreWriters, AreDisplaced};
 ghost use Rattle.snap_service.specs.Answers.{AnswersUpdate};

@@ -2,7 +2,7 @@
 ghost use Rattle.std.specs.Prelude.{◌≡◌, ℕ, ◌+◌, ◌<◌, IfSome, IfNone};
 ghost use Rattle.snap_disk.specs.declared.refusal.Refusal.{Refusal};
 ghost use Rattle.snap_history.specs.Limits.{IsNumber, IsShort};
-ghost use Rattle.snap_register.specs.Rule.{segments};
+ghost use Rattle.snap_memory.specs.Rule.{segments};
 ghost use Rattle.snap_frame.specs.declared.reply.Reply.{Reply};
 ghost use Rattle.snap_frame.specs.Messages.{IsInLimits};
 ghost use Rattle.snap_service.specs.Settled.{IsSettled, IsReplyByLook};
@@ -63,7 +63,7 @@ pub fn answer_by_look(scanner: &mut Scanner, segment: usize, number: u64, value:
     }
     let mut held = [0; MAX_VALUE_LEN];
     let (current, size) = scanner.read_one(segment, &mut held);
-    // that the number found is within the limit
+    // for what it says of the scanner (docs/DECISIONS.md, 180)
     let _segments = scanner.segments();
     reply_found(number, value, current, &held[..size])
 }

@@ -1,5 +1,6 @@
 -- A talk that goes on.
-use Rattle.std.proofs.Common.{◌≡◌, ◌+◌, ℕ, List, [], ◌++◌, length, length-append, arith, Option, Some, None, refl, sym, ◌∙◌, ap, subst, append-nil, append_assoc}
+use Rattle.std.proofs.Common.{◌≡◌, ◌+◌, ℕ, List, [], ◌++◌, length, length-append, arith, Option, Some, None, refl, sym, ◌∙◌, ap, subst}
+use Rattle.std.proofs.Common.{append-nil, append_assoc}
 use Rattle.snap_frame.specs.declared.request.Request.{Request}
 use Rattle.snap_frame.specs.declared.reply.Reply.{Reply}
 use Rattle.snap_frame.specs.declared.frame_buffer.Failure.{Failure}
@@ -74,7 +75,8 @@ goes_going between joins gives s t u t0 t1 t2 a b g h going one two =
         run =
             subst (λ (zs : List (List ℕ)). Run between gives s ps zs u)
             (ap (λ (us : List (List ℕ)). (one.replies ++ us) ++ (two.replies ++ two.unsaid)) was.1
-            ∙ ap (λ (zs : List (List ℕ)). zs ++ (two.replies ++ two.unsaid)) (append-nil one.replies)
+            ∙ ap (λ (zs : List (List ℕ)). zs ++ (two.replies ++ two.unsaid))
+            (append-nil one.replies)
             ∙ sym (append_assoc one.replies two.replies two.unsaid))
             (run_on between joins gives s t u one.payloads (one.replies
             ++ one.unsaid) two.payloads (two.replies ++ two.unsaid) one.run two.run);
@@ -85,7 +87,8 @@ goes_going between joins gives s t u t0 t1 t2 a b g h going one two =
             two.cut
             (frames-append one.payloads two.payloads);
         said =
-            joined_said g h t0.owed t1.owed t2.owed (frames one.replies) (frames two.replies) two.tail
+            joined_said g h t0.owed t1.owed t2.owed (frames one.replies) (frames two.replies)
+            two.tail
             (frames rs)
             (one.said ∙ ap (λ zs. t0.owed ++ (frames one.replies ++ zs)) was.2
             ∙ ap (λ zs. t0.owed ++ zs) (append-nil (frames one.replies)))
@@ -125,7 +128,8 @@ goes_over between joins gives s t u t0 t1 t2 a b g h w over one two =
         rest = one.rest;
         tail = one.tail;
         run =
-            subst (λ (zs : List (List ℕ)). Run between gives s zs answers u) (append-nil one.payloads)
+            subst (λ (zs : List (List ℕ)). Run between gives s zs answers u)
+            (append-nil one.payloads)
             (subst (λ (zs : List (List ℕ)). Run between gives s (one.payloads ++ []) zs u)
             (append-nil answers)
             (run_on between joins gives s t u one.payloads answers [] [] one.run

@@ -25,7 +25,8 @@ bytes_append xs ys one two i =
 pub bytes_behind : (xs x rest : List ℕ) → IsBytes xs → HasFrame xs x rest → IsBytes rest
 bytes_behind xs x rest bytes has i =
     rw (sym (get_or-append-add (frame x) rest i 0))
-    (subst (λ zs. get_or zs (length (frame x) + i) 0 < 256) has.split (bytes (length (frame x) + i)))
+    (subst (λ zs. get_or zs (length (frame x) + i) 0 < 256) has.split
+    (bytes (length (frame x) + i)))
 
 first_four : (xs : List ℕ) → IsBytes xs → 4 ≤ length xs
     → (to_be_bytes w32 (from_be_bytes w32 (take 4 xs)) ≡ take 4 xs)

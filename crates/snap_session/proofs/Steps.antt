@@ -3,12 +3,11 @@ use Rattle.std.proofs.Common.{◌≡◌, ◌≢◌, inl, inr, ℕ, ◌≤◌, Li
 use Rattle.std.proofs.Common.{◌∙◌, ap, arith, append-nil, append_assoc, subst, length-append}
 use Rattle.std.specs.Int.{w32, to_be_bytes}
 use Rattle.snap_frame.specs.declared.request.Request.{Request}
-use Rattle.snap_frame.specs.Messages.{max_payload, frame, payload}
+use Rattle.snap_frame.specs.Messages.{max_payload, frame, payload, says, IsInLimits}
 use Rattle.snap_frame.specs.Stream.{HasFrame, HasLongLength}
 use Rattle.snap_frame.specs.declared.reply.Reply.{Reply}
 use Rattle.snap_frame.specs.declared.frame_buffer.Failure.{Failure}
 use Rattle.snap_frame.specs.declared.frame_buffer.Failure.TheVariants.{TooLarge, NoMemory}
-use Rattle.snap_frame.specs.Messages.{says, IsInLimits}
 use Rattle.snap_session.specs.Talk.{refused_too_large, Talk, Goes, GoesBy, Stays, Run, Answer, Phase, HasTaken, Owes, frames, came}
 use Rattle.snap_session.specs.Talk.{asked_bytes}
 

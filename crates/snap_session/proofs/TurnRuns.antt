@@ -232,7 +232,8 @@ none_owed is_empty (x ∷ xs) owed so by same =
 pub some_owed : (is_empty : Bool) (seen owed : List ℕ) → is_empty ≡ false
     → is_empty ≡ (length seen == 0) → seen ≡ owed → owed ≡ [] → ⊥
 some_owed is_empty [] owed so by same none = let wrong : true ≡ false = sym by ∙ so in absurd cc
-some_owed is_empty (x ∷ xs) owed so by same none = let wrong : x ∷ xs ≡ [] = same ∙ none in absurd cc
+some_owed is_empty (x ∷ xs) owed so by same none =
+    let wrong : x ∷ xs ≡ [] = same ∙ none in absurd cc
 
 -- one ends in one way
 pub again_apart : Again ≡ NeedsOutcome → ⊥

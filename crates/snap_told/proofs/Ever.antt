@@ -1,14 +1,13 @@
 -- What was told stands in what a crash at a moment leaves, and in what any number of crashes leave.
-use Rattle.std.proofs.Common.{◌≡◌, ⊎_elim, ℕ, inl, inr, List, [], ◌∷◌, ◌++◌, length, map, Option, refl, sym, subst, ◌∙◌, arith, append_assoc}
+use Rattle.std.proofs.Common.{◌≡◌, ⊎_elim, ℕ, inl, inr, List, [], ◌∷◌, ◌++◌, length, map, Option, refl, sym, subst, ◌∙◌, arith}
+use Rattle.std.proofs.Common.{append_assoc}
 use Rattle.std.proofs.lemmas.List.{length-map}
 use Rattle.std.proofs.lemmas.Option.{slice_get_within}
-use Rattle.atomic_table.specs.Table.{State}
-use Rattle.snap_disk.specs.Device.{Device}
+use Rattle.snap_register.specs.Registers.{Moment}
 use Rattle.snap_history.specs.History.{Update, Start, IsBeginning}
 use Rattle.snap_history.proofs.Beginnings.{beginning-trans}
 use Rattle.snap_history.proofs.Pairs.{element, partner}
 use Rattle.snap_register.specs.declared.plan.Plan.{Plan}
-use Rattle.snap_register.specs.declared.plan.SeatView.{SeatView}
 use Rattle.snap_register.specs.History.{starts, updates}
 use Rattle.snap_register.specs.Rule.{segments, Kept}
 use Rattle.snap_register.specs.Seat.{Known}
@@ -29,9 +28,10 @@ use Rattle.snap_told.specs.Ever.{WasTold, EverLaw}
 use Rattle.snap_told.proofs.ClientAnswers.{answered_stands}
 use Rattle.snap_told.proofs.Runs.{run_told}
 use Rattle.snap_told.proofs.Stands.{stands_on, told_earlier, all_earlier, told_at, all_at}
+use Rattle.snap_disk.specs.declared.disk.Disk as Disk
 
 -- what a seat had seen is a beginning of the history of the moment
-pub seen_then : (plan : Plan) (s : State (Unit {0}) SeatView) (kept : Kept plan s)
+pub seen_then : (plan : Plan) (s : Moment) (kept : Kept plan s)
     (seen : List Update) → WasSeenIn s.views seen → IsBeginning seen (updates kept.history)
 seen_then plan s kept seen was =
     let seat = was.1 in
@@ -40,13 +40,12 @@ seen_then plan s kept seen was =
     (subst (λ (y : List Update). IsBeginning y (updates kept.history)) (sym seat.3)
     (beginning_is v.seen kept.history (kept.each_seat seat.0 v seat.2).seen))
 
-module _ {D : Type 0} (device : D → Device) (honest : D → Type 0) (clock : D → ℕ)
-    (might_have_left : D → ℕ → List ℕ → Type 0) (devices : List D)
+module _ {D : Type 0} (disk : Disk.Ghosts D) (devices : List D)
     (writers : List (WriterState D))
-    (opened : AreOpened device honest clock might_have_left devices writers) (start : Start)
+    (opened : AreOpened disk devices writers) (start : Start)
     (before : List Update) (earlier : List (Place D))
-    (on : GoesOn device honest clock might_have_left opened.plan start before earlier writers)
-    (s : State (Unit {0}) SeatView) (kept : Kept opened.plan s) where
+    (on : GoesOn disk opened.plan start before earlier writers)
+    (s : Moment) (kept : Kept opened.plan s) where
   abbrev n : ℕ
   n = length writers
 
@@ -101,10 +100,9 @@ module _ {D : Type 0} (device : D → Device) (honest : D → Type 0) (clock : D
       (client_stands b same was remaining contents heard.asked heard.answers heard.was_answered)
       heard.asked_is heard.answer_is
 
-module _ {D R W : Type 0} (device : D → Device) (honest : D → Type 0) (clock : D → ℕ)
-    (might_have_left : D → ℕ → List ℕ → Type 0) (remaining : R → Option (List ℕ))
+module _ {D R W : Type 0} (disk : Disk.Ghosts D) (remaining : R → Option (List ℕ))
     (contents : W → Option (List ℕ)) where
-  pub ever : EverLaw device honest clock might_have_left remaining contents
+  pub ever : EverLaw disk remaining contents
   ever n start [] _ (First devices kept) = (
     record { history = []; crashed = []; joined = refl; kept = kept },
     λ q r told. absurd told,
@@ -113,8 +111,8 @@ module _ {D R W : Type 0} (device : D → Device) (honest : D → Type 0) (clock
       (Crashed moments devices nexts writers crashed s past opened hon kept count each follow) =
       let e = ever n start moments devices past in
       let l = e.0 in
-      let bytes_of : D → List ℕ = λ d. (device d).bytes in
-      let now = kept_now device n start l.history (Begun l.crashed) devices l.kept in
+      let bytes_of : D → List ℕ = λ d. (disk.device d).bytes in
+      let now = kept_now disk n start l.history (Begun l.crashed) devices l.kept in
       let size : length devices ≡ n = sym (length-map devices bytes_of) ∙ now.size in
       let all : length writers ≡ n = opened.one_each ∙ size in
       let on = opened.again start l.history l.crashed
@@ -136,10 +134,10 @@ module _ {D R W : Type 0} (device : D → Device) (honest : D → Type 0) (clock
         },
         λ q r told. ⊎_elim
             (λ t. subst (λ (k : ℕ). Stands k start h q r) all
-            (told_stands device honest clock might_have_left devices writers opened start l.history
+            (told_stands disk devices writers opened start l.history
             l.crashed on s kept remaining contents q r t))
             (λ t. subst (λ (k : ℕ). Stands k start h q r) all
-            (before_stands device honest clock might_have_left devices writers opened start l.history
+            (before_stands disk devices writers opened start l.history
             l.crashed on s kept q r
             (subst (λ (k : ℕ). Stands k start l.history q r) (sym all) (e.1 q r t))))
             told,

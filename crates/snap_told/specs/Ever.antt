@@ -1,6 +1,5 @@
 -- What was told over any number of crashes and starts.
 use Rattle.std.specs.Prelude.{◌≡◌, ◌⊎◌, ℕ, List, [], ◌∷◌, ◌++◌, Option, Some, slice_get}
-use Rattle.snap_disk.specs.Device.{Device}
 use Rattle.snap_history.specs.History.{Update, Start}
 use Rattle.snap_register.specs.declared.plan.Plan.{Plan}
 use Rattle.snap_register.specs.declared.plan.SeatView.{SeatView}
@@ -15,6 +14,7 @@ use Rattle.snap_service.specs.Answers.{Answers}
 use Rattle.snap_restart.specs.Restarts.{Restarts, First, Crashed, Interrupted, Last}
 use Rattle.snap_told.specs.Told.{Stands, HasNumber}
 use Rattle.snap_told.specs.Laws.{WasAnswered, WasSeenIn}
+use Rattle.snap_disk.specs.declared.disk.Disk as Disk
 
 -- Some session, of a service that has come to the state b since, gave out, or owed, bytes that say
 -- this reply to this request.
@@ -53,12 +53,11 @@ abbrev pub WasTold : {R W : Type 0} → (R → Option (List ℕ)) → (W → Opt
 WasTold remaining contents plan views q r = (b : Known) × (b.plan ≡ plan)
     × WasSeenIn views b.seen × (WasReplied b q r ⊎ WasHeard remaining contents b q r)
 
-module _ {D R W : Type 0} (device : D → Device) (honest : D → Type 0) (clock : D → ℕ)
-    (might_have_left : D → ℕ → List ℕ → Type 0) (remaining : R → Option (List ℕ))
+module _ {D R W : Type 0} (disk : Disk.Ghosts D) (remaining : R → Option (List ℕ))
     (contents : W → Option (List ℕ)) where
   -- in some opening of these files somebody was told this, by the moment at which its crash came
   abbrev pub WasEverTold : (n : ℕ) (start : Start) (moments : List (List Update))
-      (devices : List D) → Restarts device honest clock might_have_left n start moments devices
+      (devices : List D) → Restarts disk n start moments devices
       → Request → Reply → Type 0
   WasEverTold n start [] _ (First devices kept) q r = ⊥
   WasEverTold n start (_ ∷ _) _
@@ -72,7 +71,7 @@ module _ {D R W : Type 0} (device : D → Device) (honest : D → Type 0) (clock
   -- of all moments at which a crash came, and in it stands all that anybody was told in any opening.
   abbrev pub EverLaw : Type 0
   EverLaw = (n : ℕ) (start : Start) (moments : List (List Update)) (devices : List D)
-      (past : Restarts device honest clock might_have_left n start moments devices)
-      → (last : Last device n start moments devices)
+      (past : Restarts disk n start moments devices)
+      → (last : Last disk n start moments devices)
       × ((q : Request) (r : Reply) → WasEverTold n start moments devices past q r
       → Stands n start last.history q r)

@@ -13,7 +13,7 @@ use Rattle.snap_session.specs.Talk.{Talk, Moves}
 use Rattle.snap_session.specs.Talk as session
 use Rattle.snap_session.specs.Turns.{Turns}
 use Rattle.snap_service.specs.Answers.{Answers}
-use Rattle.snap_service.specs.Memory.{no_table}
+use Rattle.snap_register.specs.Registers.{no_registers}
 use Rattle.snap_client.specs.Calls as calls
 use Rattle.snap_cut.specs.Crash.{Has}
 use Rattle.snap_told.specs.Told.{IsSendable}
@@ -52,7 +52,7 @@ one_file = record {
 -- a scanner there that has seen these updates
 abbrev pub scanner_after : List Update → Known
 scanner_after seen = record {
-  table = no_table;
+  table = no_registers;
   plan = one_file;
   seen = seen;
   low = 0;

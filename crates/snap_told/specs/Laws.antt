@@ -1,8 +1,7 @@
 -- What a service, a session and a client tell stands in every history that begins with what the
 -- service's scanner had seen. So it stands in what a crash at any moment leaves.
 use Rattle.std.specs.Prelude.{◌≡◌, ℕ, ◌<◌, List, [], ◌∷◌, ◌++◌, length, map, All, Option, Some, Ok, slice_get}
-use Rattle.atomic_table.specs.Table.{State}
-use Rattle.snap_disk.specs.Device.{Device}
+use Rattle.snap_register.specs.Registers.{Moment}
 use Rattle.snap_history.specs.History.{Update, Start, IsBeginning}
 use Rattle.snap_history.specs.Pairs.{Pairs}
 use Rattle.snap_register.specs.declared.plan.SeatView.{SeatView}
@@ -24,6 +23,7 @@ use Rattle.snap_cut.specs.Crash.{Has, Begun, IsRecovered}
 use Rattle.snap_cut.specs.Laws.{IsSeatOf, IsSeenIn}
 use Rattle.snap_restart.specs.Crash.{IsLifeFrom, AreOpened, GoesOn}
 use Rattle.snap_told.specs.Told.{Stands, IsSendable, AreTold}
+use Rattle.snap_disk.specs.declared.disk.Disk as Disk
 
 -- ---- a reply
 
@@ -127,8 +127,7 @@ ClientLaw remaining contents = (b : Known) (qs : List Request) (rs : List Reply)
 abbrev pub WasSeenIn : List SeatView → List Update → Type 0
 WasSeenIn views seen = (later : List Update) × IsSeenIn views later × IsBeginning seen later
 
-module _ {D R W : Type 0} (device : D → Device) (honest : D → Type 0) (clock : D → ℕ)
-    (might_have_left : D → ℕ → List ℕ → Type 0) (remaining : R → Option (List ℕ))
+module _ {D R W : Type 0} (disk : Disk.Ghosts D) (remaining : R → Option (List ℕ))
     (contents : W → Option (List ℕ)) where
   -- Pull the plug: files that were opened where a history goes on, a moment of their registers, and a
   -- crash of all devices there. It is recovered as the memory after the whole history, from the first
@@ -137,13 +136,13 @@ module _ {D R W : Type 0} (device : D → Device) (honest : D → Type 0) (clock
   abbrev pub PlugLaw : Type 0
   PlugLaw = (devices : List D) (writers : List (WriterState D)) (start : Start)
       (before : List Update) (earlier : List (Place D))
-      (opened : AreOpened device honest clock might_have_left devices writers)
-      (on : GoesOn device honest clock might_have_left opened.plan start before earlier writers)
-      (s : State (Unit {0}) SeatView) (kept : Kept opened.plan s) (crashed : List (Place D))
+      (opened : AreOpened disk devices writers)
+      (on : GoesOn disk opened.plan start before earlier writers)
+      (s : Moment) (kept : Kept opened.plan s) (crashed : List (Place D))
       (files : List (List ℕ)) → length crashed ≡ length writers
       → ((i : ℕ) (p : Place D) → slice_get crashed i ≡ Some p
-      → IsLifeFrom device honest clock might_have_left writers i p × IsSeatOf s.views i p)
-      → Pairs (λ _. CrashLeaves device honest clock might_have_left) crashed files
+      → IsLifeFrom disk writers i p × IsSeatOf s.views i p)
+      → Pairs (λ _. CrashLeaves disk) crashed files
       → let whole = (before ++ on.more) ++ updates kept.history in
       IsRecovered (length writers) start whole (Begun crashed) files
       × ((a b : Known) (talk : Talk) (read_old read_new written_old written_new : Option (List ℕ))

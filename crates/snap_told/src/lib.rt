@@ -55,8 +55,8 @@ pub fn client_laws<R: Read, W: Write>()
 /// So it is over any number of crashes and starts: files keep the memory after one history, in which
 /// all stands that a session replied or a client answered in any opening, by the moment of its crash.
 pub fn plug_laws<D: Disk, R: Read, W: Write>()
-    ensures plug { PlugLaw D.device D.is_honest D.clock D.might_have_left R.remaining W.contents }
-    ensures ever { EverLaw D.device D.is_honest D.clock D.might_have_left R.remaining W.contents }
+    ensures plug { PlugLaw D.Disk R.remaining W.contents }
+    ensures ever { EverLaw D.Disk R.remaining W.contents }
 {}
 
 /// The premises of these laws are met. Whatever a service answers, a client may have answered its

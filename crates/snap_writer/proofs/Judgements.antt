@@ -1,4 +1,4 @@
--- Some rule applies to every update.
+-- Some rule applies to every update, and no other.
 use Rattle.std.proofs.Common.{rules, ◌≡◌, ℕ, ◌+◌, List, length, Option, Some, None, refl, arith}
 use mathlib.Core.Logic.{dite}
 use mathlib.Core.List.{List-discrete}
@@ -39,3 +39,6 @@ module _ {D : Type 0} (w : WriterState D) (k : ℕ) (v : List ℕ) where
   some_rule low = dite (dec_le (length v) MAX_VALUE_LEN)
       (λ short. short_ruled low short)
       (λ long. (TooLong, omega arith))
+
+  pub one_rule : (a b : Judgement) → IsJudged w k v a → IsJudged w k v b → a ≡ b
+  one_rule a b is also = search rules

@@ -1,7 +1,8 @@
 -- What an update and a meeting are of a writer's life.
 use Rattle.std.proofs.Common.{◌≡◌, ⊎_elim, ℕ, ◌+◌, inl, inr, List, [], ◌∷◌, None, Result, Ok, Err, refl, ap, sym, subst, ◌∙◌}
 use Rattle.std.specs.Prelude.{OnOk, OnErr}
-use Rattle.snap_disk.specs.Device.{Device, MayLeave, LeavesOnly, IsSettled}
+use Rattle.snap_disk.specs.Device.{MayLeave, IsSettled}
+use Rattle.snap_disk.specs.Time.{LeavesOnly}
 use Rattle.snap_disk.specs.declared.refusal.Refusal.{Refusal}
 use Rattle.snap_slot.specs.Layout.{IsFileOf}
 use Rattle.snap_slot.specs.States.{IsEither}
@@ -10,14 +11,14 @@ use Rattle.snap_register.specs.Seat.{Meets}
 use Rattle.snap_writer.specs.Writer.{WriterState, number_of, value_of}
 use Rattle.snap_writer.specs.Update.{IsSameSeat, EndsWith, Advances, Fails}
 use Rattle.snap_writer.specs.Life.{IsShown, Sees, Stores, Shows, HasLived, StoresFirst}
+use Rattle.snap_disk.specs.declared.disk.Disk as Disk
 
-module _ {D : Type 0} (device : D → Device) (honest : D → Type 0) (clock : D → ℕ)
-    (might_have_left : D → ℕ → List ℕ → Type 0) where
+module _ {D : Type 0} (disk : Disk.Ghosts D) where
   abbrev Past : WriterState D → WriterState D → Type 0
-  Past a z = HasLived device honest clock might_have_left a z
+  Past a z = HasLived disk a z
 
   abbrev First : List ℕ → WriterState D → WriterState D → Type 0
-  First v a z = StoresFirst device honest clock might_have_left v a z
+  First v a z = StoresFirst disk v a z
 
   -- ---- an update
 
@@ -30,12 +31,12 @@ module _ {D : Type 0} (device : D → Device) (honest : D → Type 0) (clock : D
         y.0 y.1 v x) (λ t. (sym shown.0 t, sym shown.1 t)) is
 
     abbrev AnyTime : Type 0
-    AnyTime = honest z.segment.device
-        → LeavesOnly clock might_have_left a.segment.device z.segment.device
+    AnyTime = disk.is_honest z.segment.device
+        → LeavesOnly disk a.segment.device z.segment.device
         (IsEither a.segment.index a.segment.count (number_of a) (value_of a) v)
 
-    any_time_stored : IsShown a → AnyTime → honest z.segment.device
-        → LeavesOnly clock might_have_left a.segment.device z.segment.device
+    any_time_stored : IsShown a → AnyTime → disk.is_honest z.segment.device
+        → LeavesOnly disk a.segment.device z.segment.device
         (IsEither a.segment.index a.segment.count a.segment.number a.segment.value v)
     any_time_stored shown any hon =
         let l = any hon in
@@ -50,8 +51,9 @@ module _ {D : Type 0} (device : D → Device) (honest : D → Type 0) (clock : D
     between = record { segment = z.segment; seat = a.seat }
 
     pub advanced : IsShown a → a.segment.begun ≡ None → IsSameSeat a.seat z.seat → Advances a z v
-        → (honest z.segment.device → honest a.segment.device) → AnyTime
-        → (honest z.segment.device → (x : List ℕ) → MayLeave (device z.segment.device) x
+        → (disk.is_honest z.segment.device → disk.is_honest a.segment.device) → AnyTime
+        → (disk.is_honest z.segment.device → (x : List ℕ)
+        → MayLeave (disk.device z.segment.device) x
         → IsFileOf a.segment.index a.segment.count (number_of a + 1) v x)
         → First v a z
     unfolding between
@@ -64,7 +66,7 @@ module _ {D : Type 0} (device : D → Device) (honest : D → Type 0) (clock : D
         let number : z.segment.number ≡ number_of a + 1 =
         ap (λ (s : SegmentState D). s.number) is ∙ ap (λ (k : ℕ). k + 1) shown.0 in
         let value : z.segment.value ≡ v = ap (λ (s : SegmentState D). s.value) is in
-        let stores : Stores device honest clock might_have_left v a between = record {
+        let stores : Stores disk v a between = record {
           seat_is = refl;
           unfenced = unfenced;
           shown = shown;
@@ -75,7 +77,7 @@ module _ {D : Type 0} (device : D → Device) (honest : D → Type 0) (clock : D
           honest_then = honest_then;
           any_time = any_time_stored shown any;
         } in
-        let shows : Shows device honest clock might_have_left between z = record {
+        let shows : Shows disk between z = record {
           segment_is = refl;
           stored = (number, ap (λ (s : SegmentState D). s.begun) is ∙ unfenced);
           same_seat = seat;
@@ -84,8 +86,9 @@ module _ {D : Type 0} (device : D → Device) (honest : D → Type 0) (clock : D
         (between, stores, inl shows)
 
     pub failed : IsShown a → a.segment.begun ≡ None → Fails a z v
-        → (honest z.segment.device → honest a.segment.device) → AnyTime
-        → (honest z.segment.device → (x : List ℕ) → MayLeave (device z.segment.device) x
+        → (disk.is_honest z.segment.device → disk.is_honest a.segment.device) → AnyTime
+        → (disk.is_honest z.segment.device → (x : List ℕ)
+        → MayLeave (disk.device z.segment.device) x
         → IsEither a.segment.index a.segment.count (number_of a) (value_of a) v x)
         → First v a z
     unfolding between
@@ -99,7 +102,7 @@ module _ {D : Type 0} (device : D → Device) (honest : D → Type 0) (clock : D
         sym (ap (λ (s : SegmentState D). s.number) is ∙ shown.0) in
         let value : value_of a ≡ z.segment.value =
         sym (ap (λ (s : SegmentState D). s.value) is ∙ shown.1) in
-        let stores : Stores device honest clock might_have_left v a between = record {
+        let stores : Stores disk v a between = record {
           seat_is = refl;
           unfenced = unfenced;
           shown = shown;
@@ -117,7 +120,7 @@ module _ {D : Type 0} (device : D → Device) (honest : D → Type 0) (clock : D
           honest_then = honest_then;
           any_time = any_time_stored shown any;
         } in
-        let sees : Sees device honest clock might_have_left between z =
+        let sees : Sees disk between z =
         record { segment_is = refl; grows = f.unshown } in
         (between, stores, inr sees)
 
@@ -135,14 +138,14 @@ module _ {D : Type 0} (device : D → Device) (honest : D → Type 0) (clock : D
   pub went_on : (k : ℕ) (v : List ℕ) (a z : WriterState D) (result : Result ℕ Refusal)
       → IsShown a → a.segment.begun ≡ None → k ≡ number_of a + 1 → IsSameSeat a.seat z.seat
       → OnOk result (Advances a z v) → OnErr result (Fails a z v)
-      → (honest z.segment.device → honest a.segment.device)
-      → (honest z.segment.device → LeavesOnly clock might_have_left a.segment.device
+      → (disk.is_honest z.segment.device → disk.is_honest a.segment.device)
+      → (disk.is_honest z.segment.device → LeavesOnly disk a.segment.device
       z.segment.device (IsEither a.segment.index a.segment.count (number_of a) (value_of a) v))
-      → (honest z.segment.device → OnOk result (IsSettled (device z.segment.device)
-      × ((x : List ℕ) → MayLeave (device z.segment.device) x
+      → (disk.is_honest z.segment.device → OnOk result (IsSettled (disk.device z.segment.device)
+      × ((x : List ℕ) → MayLeave (disk.device z.segment.device) x
       → IsFileOf a.segment.index a.segment.count k v x)))
-      → (honest z.segment.device → OnErr result ((x : List ℕ)
-      → MayLeave (device z.segment.device) x
+      → (disk.is_honest z.segment.device → OnErr result ((x : List ℕ)
+      → MayLeave (disk.device z.segment.device) x
       → IsEither a.segment.index a.segment.count (number_of a) (value_of a) v x))
       → First v a z
   went_on k v a z (Ok n) shown unfenced next seat advances fails then any last either =
@@ -154,6 +157,6 @@ module _ {D : Type 0} (device : D → Device) (honest : D → Type 0) (clock : D
 
   pub met : (a z : WriterState D) → z.segment ≡ a.segment → Meets a.seat z.seat → Past a z
   met a z segment meets =
-      let sees : Sees device honest clock might_have_left a z =
+      let sees : Sees disk a z =
       record { segment_is = segment; grows = meets.grows } in
       (z ∷ [], (inl sees, refl))

@@ -1,4 +1,9 @@
 pub mod Judge
 pub mod Life
 pub mod Update
+pub mod Updated
 pub mod Writer
+pub use Rattle.snap_segment.specs.Stage
+pub use Rattle.snap_segment.specs.Segment
+pub use Rattle.snap_segment.specs.Layout
+pub use Rattle.snap_segment.specs.States

@@ -1,15 +1,17 @@
 -- The life of a writer: what it does, one thing after the other, each to its device alone or to its
 -- seat alone, and the places in it at which a crash may find it.
 use Rattle.std.specs.Prelude.{◌≡◌, ◌⊎◌, ℕ, ◌+◌, List, [], ◌∷◌, Option, Some, None, true}
-use Rattle.snap_disk.specs.Device.{Device, MayLeave, LeavesOnly}
-use Rattle.snap_slot.specs.Layout.{IsFileOf}
-use Rattle.snap_slot.specs.States.{IsEither}
+use Rattle.snap_disk.specs.Device.{MayLeave}
+use Rattle.snap_disk.specs.Time.{LeavesOnly}
+use Rattle.snap_segment.specs.Layout.{IsFileOf}
+use Rattle.snap_segment.specs.States.{IsEither}
 use Rattle.snap_segment.specs.Segment.{SegmentState}
 use Rattle.snap_history.specs.History.{Update, IsBeginning}
 use Rattle.snap_register.specs.declared.plan.Plan.{Plan}
 use Rattle.snap_register.specs.Seat.{Grows}
 use Rattle.snap_writer.specs.Writer.{WriterState, number_of, value_of}
 use Rattle.snap_writer.specs.Update.{IsSameSeat, EndsWith}
+use Rattle.snap_disk.specs.declared.disk.Disk as Disk
 
 -- where a crash finds a writer: its segment as the last store that ended left it, what its seat
 -- knows now, and the store in progress, if one is: its value, and the device as that store will
@@ -52,12 +54,12 @@ abbrev pub HoldsOf : {D : Type 0} → SegmentState D → List ℕ → Type 0
 HoldsOf s b = IsFileOf s.index s.count s.number s.value b
     ⊎ ((u : List ℕ) × (s.begun ≡ Some u) × IsFileOf s.index s.count (s.number + 1) u b)
 
-module _ {D : Type 0} (device : D → Device) (honest : D → Type 0) (clock : D → ℕ)
-    (might_have_left : D → ℕ → List ℕ → Type 0) where
+module _ {D : Type 0} (disk : Disk.Ghosts D) where
   -- between two stores a crash leaves what is stored, or after a store that failed the next number
   -- with the value that was begun
   abbrev pub Rests : WriterState D → Type 0
-  Rests w = honest w.segment.device → (b : List ℕ) → MayLeave (device w.segment.device) b
+  Rests w = disk.is_honest w.segment.device → (b : List ℕ)
+      → MayLeave (disk.device w.segment.device) b
       → HoldsOf w.segment b
 
   -- its seat sees more, at the end of its list, and no further update of its own segment: by a
@@ -78,9 +80,9 @@ module _ {D : Type 0} (device : D → Device) (honest : D → Type 0) (clock : D
       spare_open = true;
     }) ⊎ (b.segment ≡ record a.segment { device = b.segment.device; begun = Some v })
     pub rests : Rests b
-    pub honest_then : honest b.segment.device → honest a.segment.device
-    pub any_time : honest b.segment.device
-        → LeavesOnly clock might_have_left a.segment.device b.segment.device
+    pub honest_then : disk.is_honest b.segment.device → disk.is_honest a.segment.device
+    pub any_time : disk.is_honest b.segment.device
+        → LeavesOnly disk a.segment.device b.segment.device
         (IsEither a.segment.index a.segment.count a.segment.number a.segment.value v)
 
   -- it shows the update that is stored
@@ -117,8 +119,9 @@ module _ {D : Type 0} (device : D → Device) (honest : D → Type 0) (clock : D
   -- the device is honest, and this is what a crash there may leave of it: at a moment between two
   -- stores, or at any time since a store began
   abbrev pub Leaves : WriterState D → Option (List ℕ × D) → List ℕ → Type 0
-  Leaves w None b = honest w.segment.device × MayLeave (device w.segment.device) b
-  Leaves w (Some s) b = honest s.1 × might_have_left s.1 (clock w.segment.device) b
+  Leaves w None b = disk.is_honest w.segment.device × MayLeave (disk.device w.segment.device) b
+  Leaves w (Some s) b = disk.is_honest s.1
+      × disk.might_have_left s.1 (disk.clock w.segment.device) b
 
   abbrev pub CrashLeaves : Place D → List ℕ → Type 0
   CrashLeaves p b = Leaves p.writer p.storing b
@@ -137,8 +140,8 @@ module _ {D : Type 0} (device : D → Device) (honest : D → Type 0) (clock : D
   -- and if a store is in progress, a crash leaves what was shown last or the begun value
   abbrev pub IsMidStore : WriterState D → Option (List ℕ × D) → Type 0
   IsMidStore w None = Unit {0}
-  IsMidStore w (Some s) = IsShown w × (honest s.1 → (b : List ℕ)
-      → might_have_left s.1 (clock w.segment.device) b
+  IsMidStore w (Some s) = IsShown w × (disk.is_honest s.1 → (b : List ℕ)
+      → disk.might_have_left s.1 (disk.clock w.segment.device) b
       → IsEither w.segment.index w.segment.count w.segment.number w.segment.value s.0 b)
 
   pub record IsPlaceOf (plan : Plan) (n i : ℕ) (p : Place D) : Type 0 where

@@ -16,11 +16,12 @@ ghost use Rattle.std.specs.Prelude.{
   OnErr,
 };
 ghost use Rattle.std.specs.Option.{option_copied};
-ghost use Rattle.snap_disk.specs.Device.{IsSettled, CountsCalls, MayLeave, LeavesOnly};
+ghost use Rattle.snap_disk.specs.Device.{IsSettled, CountsCalls, MayLeave};
+ghost use Rattle.snap_disk.specs.Time.{LeavesOnly};
 ghost use Rattle.snap_history.specs.Limits.{IsNumber, IsShort};
-ghost use Rattle.snap_slot.specs.Layout.{IsFileOf};
-ghost use Rattle.snap_slot.specs.States.{IsEither};
-ghost use Rattle.snap_persist.specs.Stage.{store_calls};
+ghost use Rattle.snap_segment.specs.Layout.{IsFileOf};
+ghost use Rattle.snap_segment.specs.States.{IsEither};
+ghost use Rattle.snap_segment.specs.Stage.{store_calls};
 ghost use Rattle.snap_segment.specs.Segment.{CountsRefusal, IsKept};
 ghost use Rattle.snap_register.specs.Seat.{AreTogether, Meets, IsBelow, own_of};
 ghost use Rattle.snap_register.specs.Seat.{number_in, value_in, MayPublish, Shows};
@@ -28,7 +29,8 @@ ghost use Rattle.snap_memory.specs.Scans.{CanScan, TakesLooks};
 ghost use Rattle.snap_writer.specs.Writer.{number_of, value_of};
 ghost use Rattle.snap_writer.specs.Judge.{IsJudged, IsAnswer};
 ghost use Rattle.snap_writer.specs.Update.{IsSameSeat, Advances, Fails};
-ghost use Rattle.snap_writer.specs.Life.{HasLived, IsShown, StoresFirst};
+ghost use Rattle.snap_writer.specs.Life.{HasLived, IsShown};
+ghost use Rattle.snap_writer.specs.Updated.{IsUpdated};
 
 use crate::judgement::Judgement;
 use snap_disk::{Disk, Refusal};
@@ -67,7 +69,7 @@ impl<D: Disk> Writer<D> {
         ensures segment { result.segment ≡ segment }
         ensures seat { result.seat ≡ seat }
     {
-        // that it writes no other segment
+        // for what it says of the seat: that it writes no other segment (docs/DECISIONS.md, 180)
         let _own = seat.segment();
         Writer { segment, seat }
     }
@@ -137,56 +139,7 @@ impl<D: Disk> Writer<D> {
     /// scans, stores and shows. `DeviceFailed` where a device call failed: the number, the value and
     /// what scans show stay as they were, and the writer is fenced from then on.
     pub fn update(&mut self, number: u64, value: &[u8]) -> Result<u64, Refusal>
-        ensures count { CountsRefusal result (D.failure_count self.old.segment.device)
-            (D.failure_count self.new.segment.device) }
-        ensures honest { D.is_honest self.new.segment.device
-            → D.is_honest self.old.segment.device }
-        ensures same_seat { IsSameSeat self.old.seat self.new.seat }
-
-        // What is answered, and that only one rule does anything.
-        ensures judged { (rule : Judgement) → IsJudged self.old number value.now rule
-            → IsAnswer number rule result }
-        ensures unchanged { (rule : Judgement) → IsJudged self.old number value.now rule
-            → rule ≢ Judgement.Go → self.new ≡ self.old }
-
-        // What that one does.
-        ensures advances { IsJudged self.old number value.now Judgement.Go
-            → OnOk result (Advances self.old self.new value.now) }
-        ensures fails { IsJudged self.old number value.now Judgement.Go
-            → OnErr result (Fails self.old self.new value.now) }
-        ensures calls { IsJudged self.old number value.now Judgement.Go
-            → CountsCalls result (length (store_calls self.old.segment.spare_open))
-            (D.clock self.old.segment.device) (D.clock self.new.segment.device) }
-        ensures left { IsJudged self.old number value.now Judgement.Go
-            → TakesLooks self.old.seat self.new.seat }
-        ensures below { IsJudged self.old number value.now Judgement.Go → IsBelow self.new.seat }
-
-        // It is a part of its writer's life. One that goes on stores first and shows second.
-        ensures lived { HasLived D.device D.is_honest D.clock D.might_have_left self.old self.new }
-        ensures stored_first { IsJudged self.old number value.now Judgement.Go
-            → StoresFirst D.device D.is_honest D.clock D.might_have_left value.now
-            self.old self.new }
-
-        // A crash at any time during the call leaves the number and value that were shown last, or
-        // the begun ones.
-        ensures any_time { D.is_honest self.new.segment.device → self.old.segment.begun ≡ None
-            → LeavesOnly D.clock D.might_have_left self.old.segment.device self.new.segment.device
-            (IsEither self.old.segment.index self.old.segment.count
-            (number_of self.old) (value_of self.old) value.now) }
-
-        // Once a new update was stored, no place is open, and a crash leaves the begun ones.
-        ensures last { D.is_honest self.new.segment.device
-            → IsJudged self.old number value.now Judgement.Go
-            → OnOk result (IsSettled (D.device self.new.segment.device)
-            × ((b : List ℕ) → MayLeave (D.device self.new.segment.device) b
-            → IsFileOf self.old.segment.index self.old.segment.count number value.now b)) }
-
-        // After a fault it leaves either.
-        ensures either { D.is_honest self.new.segment.device
-            → IsJudged self.old number value.now Judgement.Go
-            → OnErr result ((b : List ℕ) → MayLeave (D.device self.new.segment.device) b
-            → IsEither self.old.segment.index self.old.segment.count
-            (number_of self.old) (value_of self.old) value.now b) }
+        ensures updated { IsUpdated D.Disk self.old self.new number value.now result }
     {
         match self.judge(number, value) {
             Judgement::TooLong => Err(Refusal::TooLong),
@@ -209,7 +162,7 @@ impl<D: Disk> Writer<D> {
         ensures met { scanner.new.seen ≡ self.new.seat.seen }
         ensures below { IsBelow scanner.new }
         ensures segment { self.new.segment ≡ self.old.segment }
-        ensures lived { HasLived D.device D.is_honest D.clock D.might_have_left self.old self.new }
+        ensures lived { HasLived D.Disk self.old self.new }
     {
         scanner.meet(&mut self.seat);
     }
@@ -281,7 +234,7 @@ impl<D: Disk> Writer<D> {
         ensures left { TakesLooks self.old.seat self.new.seat }
         ensures below { IsBelow self.new.seat }
         ensures any_time { D.is_honest self.new.segment.device
-            → LeavesOnly D.clock D.might_have_left self.old.segment.device self.new.segment.device
+            → LeavesOnly D.Disk self.old.segment.device self.new.segment.device
             (IsEither self.old.segment.index self.old.segment.count
             (number_of self.old) (value_of self.old) value.now) }
         ensures last { D.is_honest self.new.segment.device

@@ -2,7 +2,6 @@
 use Rattle.std.proofs.Common.{◌≡◌, ℕ, ◌<◌, List, length, map, get_or, All, ap, sym, subst, ◌∙◌, arith}
 use Rattle.std.proofs.lemmas.List.{length-map}
 use Rattle.std.proofs.lemmas.Option.{slice_get_within, slice_get-get_or, get_or_from_slice_get}
-use Rattle.snap_disk.specs.Device.{Device}
 use Rattle.snap_history.specs.History.{Update}
 use Rattle.snap_history.specs.Pairs.{Pairs}
 use Rattle.snap_history.proofs.Pairs.{element}
@@ -21,26 +20,26 @@ use Rattle.snap_restart.proofs.Removals.{get_map}
 use Rattle.snap_restart.proofs.Crash.{unmap}
 use Rattle.tests_crash.specs.Again.{AreOfOne, GoOnBehind}
 use Rattle.tests_crash.proofs.Premises.{at_rest_recovers}
+use Rattle.snap_disk.specs.declared.disk.Disk as Disk
 
-module _ {D : Type 0} (device : D → Device) (failures : D → ℕ) (honest : D → Type 0)
-    (clock : D → ℕ) (might_have_left : D → ℕ → List ℕ → Type 0) where
+module _ {D : Type 0} (disk : Disk.Ghosts D) where
   pub go_on_behind : (plan : Plan) (h : List Update) (firsts : List (WriterState D))
       (scanners : List Known) (devices : List D) (seconds : List (WriterState D))
       → devices ≡ map (λ (w : WriterState D). w.segment.device) firsts
-      → AreOfOne device honest clock might_have_left plan firsts → IsHistory h firsts scanners
-      → AnyCut device honest clock might_have_left h firsts scanners
-      → Pairs (IsOpened device failures honest clock might_have_left (length devices)) devices
+      → AreOfOne disk plan firsts → IsHistory h firsts scanners
+      → AnyCut disk h firsts scanners
+      → Pairs (IsOpened disk (length devices)) devices
       (map (λ (w : WriterState D). w.segment) seconds)
-      → AreOpened device honest clock might_have_left devices seconds
-      → GoOnBehind device honest clock might_have_left firsts scanners seconds
+      → AreOpened disk devices seconds
+      → GoOnBehind disk firsts scanners seconds
   go_on_behind plan h firsts scanners devices seconds theirs are history cut were opened hon =
       let at_rest : WriterState D → Place D = λ w. resting w in
       let segment_of : WriterState D → SegmentState D = λ w. w.segment in
       let device_of : WriterState D → D = λ w. w.segment.device in
       let places = map at_rest firsts in
-      let files = map (λ (d : D). (device d).bytes) devices in
-      let now = bytes_left device devices in
-      let r = at_rest_recovers device honest clock might_have_left plan h firsts scanners devices
+      let files = map (λ (d : D). (disk.device d).bytes) devices in
+      let now = bytes_left disk devices in
+      let r = at_rest_recovers disk plan h firsts scanners devices
       theirs are history cut files (record {
         size = now.size;
         each = λ i d b ed eb. (
@@ -66,10 +65,11 @@ module _ {D : Type 0} (device : D → Device) (failures : D → ℕ) (honest : D
 
   -- an opening that goes well leaves the devices' failure counts as they were
   pub still_headroom : (most : ℕ) (devices : List D) (writers : List (WriterState D))
-      → Pairs (IsOpened device failures honest clock might_have_left (length devices)) devices
+      → Pairs (IsOpened disk (length devices)) devices
       (map (λ (w : WriterState D). w.segment) writers)
-      → All (λ (d : D). failures d < most) devices
-      → All (λ (d : D). failures d < most) (map (λ (w : WriterState D). w.segment.device) writers)
+      → All (λ (d : D). disk.failure_count d < most) devices
+      → All (λ (d : D). disk.failure_count d < most) (map (λ (w : WriterState D). w.segment.device)
+      writers)
   still_headroom most devices writers were few k d low =
       let segment_of : WriterState D → SegmentState D = λ w. w.segment in
       let device_of : WriterState D → D = λ w. w.segment.device in
@@ -80,8 +80,8 @@ module _ {D : Type 0} (device : D → Device) (failures : D → ℕ) (honest : D
       let size = length-map writers segment_of in
       let old = element devices k (omega (arith, inside, sizes, size)) in
       let same = (were.each k old.0 w.0.segment old.1 (get_map segment_of writers k w.0 w.1)).failures_same in
-      let was : failures old.0 < most = subst (λ (e : D). failures e < most)
+      let was : disk.failure_count old.0 < most = subst (λ (e : D). disk.failure_count e < most)
       (get_or_from_slice_get devices k old.0 old.0 old.1)
       (few k old.0 (slice_get_within devices k old.0 old.1)) in
-      subst (λ (e : D). failures e < most) w.2
+      subst (λ (e : D). disk.failure_count e < most) w.2
       (subst (λ (n : ℕ). n < most) (sym same) was)

@@ -1,7 +1,6 @@
 -- A life goes on behind a life, and loses nothing that was stored.
 use Rattle.std.proofs.Common.{◌≡◌, ℕ, List, [], ◌∷◌, ◌++◌, length, Option, Some, slice_get, ap, sym, subst, ◌∙◌}
 use Rattle.std.specs.Option.{option_to_list}
-use Rattle.snap_disk.specs.Device.{Device}
 use Rattle.snap_slot.specs.Layout.{IsFileOf}
 use Rattle.snap_history.proofs.Lists.{get-append_last}
 use Rattle.snap_writer.specs.Writer.{WriterState}
@@ -10,23 +9,22 @@ use Rattle.snap_cut.specs.Durability.{Keeps, StaysLaw}
 use Rattle.snap_cut.proofs.Durability.{lived_is}
 use Rattle.snap_restart.specs.Crash.{AreOpened}
 use Rattle.tests_crash.specs.Durability.{IsAWriter, LosesNothing}
+use Rattle.snap_disk.specs.declared.disk.Disk as Disk
 
-module _ {D : Type 0} (device : D → Device) (honest : D → Type 0) (clock : D → ℕ)
-    (might_have_left : D → ℕ → List ℕ → Type 0) where
+module _ {D : Type 0} (disk : Disk.Ghosts D) where
   lived_on : (a m z : WriterState D) (first second : List (WriterState D))
-      → Lived device honest clock might_have_left a first m
-      → Lived device honest clock might_have_left m second z
-      → Lived device honest clock might_have_left a (first ++ second) z
+      → Lived disk a first m
+      → Lived disk m second z
+      → Lived disk a (first ++ second) z
   lived_on a m z [] second one other =
-      subst (λ (w : WriterState D). Lived device honest clock might_have_left w second z) one other
+      subst (λ (w : WriterState D). Lived disk w second z) one other
   lived_on a m z (b ∷ first) second one other =
       (one.0, lived_on b m z first second one.1 other)
 
-  pub loses_nothing : (a m z : WriterState D) → StaysLaw device honest clock might_have_left
-      → IsAWriter device honest clock might_have_left a
-      → HasLived device honest clock might_have_left a m
-      → HasLived device honest clock might_have_left m z
-      → LosesNothing device honest clock might_have_left a z
+  pub loses_nothing : (a m z : WriterState D) → StaysLaw disk → IsAWriter disk a
+      → HasLived disk a m
+      → HasLived disk m z
+      → LosesNothing disk a z
   loses_nothing a m z law is first second hon b left =
       let all = lived_on a m z first.0 second.0 first.1 second.1 in
       let stays = law is.0 is.1 is.2 a z (first.0 ++ second.0) is.3 all hon in
@@ -42,10 +40,10 @@ module _ {D : Type 0} (device : D → Device) (honest : D → Type 0) (clock : D
   -- the last writer of an opening is one, and stays one
   pub is_a_writer : (devices : List D) (writers mid : List (WriterState D))
       (popped : Option (WriterState D)) (w z : WriterState D)
-      → AreOpened device honest clock might_have_left devices writers
+      → AreOpened disk devices writers
       → writers ≡ mid ++ option_to_list popped → popped ≡ Some w
-      → HasLived device honest clock might_have_left w z
-      → IsAWriter device honest clock might_have_left z
+      → HasLived disk w z
+      → IsAWriter disk z
   is_a_writer devices writers mid popped w z opened all some lived =
       let are : writers ≡ mid ++ w ∷ [] =
       all ∙ ap (λ (o : Option (WriterState D)). mid ++ option_to_list o) some in
@@ -55,6 +53,6 @@ module _ {D : Type 0} (device : D → Device) (honest : D → Type 0) (clock : D
         opened.plan,
         length writers,
         length mid,
-        lived_is device honest clock might_have_left opened.plan (length writers) (length mid) w z
+        lived_is disk opened.plan (length writers) (length mid) w z
             lived.0 (opened.writers_are (length mid) w at) lived.1,
       )

@@ -1,12 +1,12 @@
 -- The registers as they were made, with all writers' seats handed out, keep their rule.
-use Rattle.std.proofs.Common.{◌≡◌, ℕ, zero, suc, ◌+◌, ◌-◌, ◌<◌, ◌≤◌, List, [], ◌∷◌, ◌++◌, length, Some, slice_get, refl, ap, sym, subst, ◌∙◌, arith, length-append}
+use Rattle.std.proofs.Common.{◌≡◌, ℕ, zero, suc, ◌+◌, ◌-◌, ◌<◌, ◌≤◌, List, [], ◌∷◌, ◌++◌, length, Some, slice_get, refl, ap, sym, subst}
+use Rattle.std.proofs.Common.{◌∙◌, arith, length-append}
 use Rattle.std.proofs.lemmas.Option.{slice_get_within}
 use mathlib.Core.Logic.{dite}
 use mathlib.Core.Option.{some}
 use native.Mathlib.Decide.{ℕ_discrete}
 use lib.ListN.{get_elem?}
-use Rattle.atomic_table.specs.Table.{State}
-use Rattle.snap_disk.specs.Device.{Device}
+use Rattle.snap_register.specs.Registers.{Moment}
 use Rattle.snap_register.specs.declared.plan.Entry.{Entry}
 use Rattle.snap_register.specs.declared.plan.Plan.{Plan}
 use Rattle.snap_register.specs.declared.plan.SeatView.{SeatView}
@@ -22,6 +22,7 @@ use Rattle.snap_cut.specs.Laws.{IsSeatOf}
 use Rattle.snap_restart.specs.Crash.{IsLifeFrom}
 use Rattle.snap_restart.specs.Restarts.{Crashed}
 use Rattle.tests_crash.specs.Moment.{ShowNothing, HasNone, AtOnceLaw, OverLaw}
+use Rattle.snap_disk.specs.declared.disk.Disk as Disk
 
 -- ---- the end of a list of views
 
@@ -37,7 +38,7 @@ at_its_end (z ∷ xs) y = at_its_end xs y
 
 module _ (p : Plan) (ready : IsReady p) where
   -- the table as it was made, with these seats
-  abbrev table : List SeatView → State (Unit {0}) SeatView
+  abbrev table : List SeatView → Moment
   table views = record { words = opening_words p; homes = []; views = views }
 
   -- the first seat has handed out the seats of the first k writers, and has seats left for others
@@ -113,7 +114,7 @@ module _ (p : Plan) (ready : IsReady p) where
 
   -- a moment of these registers at which each writer's seat is there, and nothing was shown
   pub record AtOnce : Type 0 where
-    pub state : State (Unit {0}) SeatView
+    pub state : Moment
     pub kept : Kept p state
     pub seat : (i : ℕ) → i < segments p → (j : ℕ) × (v : SeatView)
         × (get_elem? state.views j ≡ some v) × IsWriter v i × (v.seen ≡ [])
@@ -145,20 +146,19 @@ module _ (p : Plan) (ready : IsReady p) where
       let seat = m.seat i low in
       (seat.0, seat.1, seat.2, seat.3, none ∙ sym (ap (λ (l : List Entry). updates l) seat.4))
 
-module _ {D : Type 0} (device : D → Device) (honest : D → Type 0) (clock : D → ℕ)
-    (might_have_left : D → ℕ → List ℕ → Type 0) where
+module _ {D : Type 0} (disk : Disk.Ghosts D) where
   seats_there : (plan : Plan) (ready : IsReady plan) (m : AtOnce plan ready)
       (writers : List (WriterState D)) (places : List (Place D)) → length writers ≡ segments plan
       → length places ≡ length writers
-      → ShowNothing device honest clock might_have_left writers places
+      → ShowNothing disk writers places
       → (i : ℕ) (q : Place D) → slice_get places i ≡ Some q
-      → IsLifeFrom device honest clock might_have_left writers i q × IsSeatOf m.state.views i q
+      → IsLifeFrom disk writers i q × IsSeatOf m.state.views i q
   seats_there plan ready m writers places all size nothing i q at =
       let is = nothing i q at in
       let low = slice_get_within places i q at in
       (is.0, seat_there plan ready m i q (omega (arith, low, all, size)) is.1)
 
-  pub crash_at_once : AtOnceLaw device honest clock might_have_left
+  pub crash_at_once : AtOnceLaw disk
   crash_at_once devices writers opened ready places files size nothing left =
       let m = at_once opened.plan ready in
       let all = opened.all in (
@@ -168,7 +168,7 @@ module _ {D : Type 0} (device : D → Device) (honest : D → Type 0) (clock : D
             (seats_there opened.plan ready m writers places opened.all size nothing) left).1,
       )
 
-  pub come_over : OverLaw device honest clock might_have_left
+  pub come_over : OverLaw disk
   come_over n start moments devices writers places nexts past opened hon ready size nothing follow =
       let m = at_once opened.plan ready in
       let all = opened.all in (

@@ -1,10 +1,11 @@
 -- The premises of the law of a cut, where all writers are at rest and all are back, and of what follows
 -- any number of starts.
-use Rattle.std.proofs.Common.{◌≡◌, ◌⊎◌, ⊎_elim, ℕ, zero, suc, ◌≤◌, inl, inr, List, [], ◌∷◌, ◌++◌, length, map, Some, slice_get, refl, ap, sym, subst, ◌∙◌, arith}
+use Rattle.std.proofs.Common.{◌≡◌, ◌⊎◌, ⊎_elim, ℕ, zero, suc, ◌≤◌, inl, inr, List, [], ◌∷◌, ◌++◌, length, map, Some, slice_get, refl}
+use Rattle.std.proofs.Common.{ap, sym, subst, ◌∙◌, arith}
 use Rattle.std.proofs.lemmas.List.{length-map}
 use Rattle.std.proofs.lemmas.Option.{same_Some, slice_get_within}
 use Rattle.snap_disk.specs.declared.refusal.Refusal.{Refusal}
-use Rattle.snap_disk.specs.Device.{Device, MayLeave}
+use Rattle.snap_disk.specs.Device.{MayLeave}
 use Rattle.snap_slot.specs.Layout.{IsFileOf}
 use Rattle.snap_slot.proofs.Rest.{at_rest_leaves}
 use Rattle.snap_segment.specs.Segment.{SegmentState}
@@ -26,6 +27,7 @@ use Rattle.snap_restart.specs.Crash.{AreOpened, StayKept, AnyCut}
 use Rattle.snap_restart.proofs.Crash.{unmap}
 use Rattle.tests_crash.specs.Worked.{IsLeft, IsRecoveredNow, KeepAStart, ComeThrough}
 use Rattle.tests_crash.specs.Again.{AreOfOne}
+use Rattle.snap_disk.specs.declared.disk.Disk as Disk
 
 mapped : {A B : Type 0} (f : A → B) (xs : List A) (i : ℕ) (x : A) → slice_get xs i ≡ Some x
     → slice_get (map f xs) i ≡ Some (f x)
@@ -40,15 +42,14 @@ either_part (y ∷ xs) ys zero x e = inl (zero, e)
 either_part (y ∷ xs) ys (suc j) x e = ⊎_elim (λ a. inl (suc a.0, a.1)) (λ b. inr b)
     (either_part xs ys j x e)
 
-module _ {D : Type 0} (device : D → Device) (honest : D → Type 0) (clock : D → ℕ)
-    (might_have_left : D → ℕ → List ℕ → Type 0) where
+module _ {D : Type 0} (disk : Disk.Ghosts D) where
   -- what a crash leaves of the devices of writers at rest, whatever these did
   pub at_rest_recovers : (plan : Plan) (h : List Update) (writers : List (WriterState D))
       (scanners : List Known) (devices : List D)
       → devices ≡ map (λ (w : WriterState D). w.segment.device) writers
-      → AreOfOne device honest clock might_have_left plan writers → IsHistory h writers scanners
-      → AnyCut device honest clock might_have_left h writers scanners
-      → (files : List (List ℕ)) → Pairs (IsLeft device honest) devices files
+      → AreOfOne disk plan writers → IsHistory h writers scanners
+      → AnyCut disk h writers scanners
+      → (files : List (List ℕ)) → Pairs (IsLeft disk) devices files
       → Recovers (length (map (λ (w : WriterState D). resting w) writers)) (starts plan) h
       (map (λ (w : WriterState D). resting w) writers)
       (map (λ (b : Known). b.seen) scanners) files
@@ -108,15 +109,15 @@ module _ {D : Type 0} (device : D → Device) (honest : D → Type 0) (clock : D
             let there : slice_get devices i ≡ Some w.0.segment.device =
             ap (λ (l : List D). slice_get l i) theirs
             ∙ mapped device_of writers i w.0 w.1 in
-            subst (λ (q : Place D). CrashLeaves device honest clock might_have_left q b) w.2
+            subst (λ (q : Place D). CrashLeaves disk q b) w.2
             (left.each i w.0.segment.device b there eb));
       })
 
   pub now : (h : List Update) (writers : List (WriterState D)) (scanners : List Known)
       (olds devices : List D) → devices ≡ map (λ (w : WriterState D). w.segment.device) writers
-      → AreOpened device honest clock might_have_left olds writers → IsHistory h writers scanners
-      → AnyCut device honest clock might_have_left h writers scanners
-      → IsRecoveredNow device honest devices
+      → AreOpened disk olds writers → IsHistory h writers scanners
+      → AnyCut disk h writers scanners
+      → IsRecoveredNow disk devices
   now h writers scanners olds devices theirs opened history cut = record {
     plan = opened.plan;
     history = h;
@@ -128,13 +129,13 @@ module _ {D : Type 0} (device : D → Device) (honest : D → Type 0) (clock : D
   }
 
   -- as they were opened they keep the memory that the writers start with
-  pub keep_a_start : (failures : D → ℕ) (olds : List D) (writers : List (WriterState D))
+  pub keep_a_start : (olds : List D) (writers : List (WriterState D))
       (devices : List D) → devices ≡ map (λ (w : WriterState D). w.segment.device) writers
-      → Pairs (IsOpened device failures honest clock might_have_left (length olds)) olds
+      → Pairs (IsOpened disk (length olds)) olds
       (map (λ (w : WriterState D). w.segment) writers)
-      → AreOpened device honest clock might_have_left olds writers
-      → KeepAStart device honest clock might_have_left devices
-  keep_a_start failures olds writers devices theirs were opened hon =
+      → AreOpened disk olds writers
+      → KeepAStart disk devices
+  keep_a_start olds writers devices theirs were opened hon =
       let segment_of : WriterState D → SegmentState D = λ w. w.segment in
       let device_of : WriterState D → D = λ w. w.segment.device in
       let size : length devices ≡ length writers =
@@ -158,7 +159,7 @@ module _ {D : Type 0} (device : D → Device) (honest : D → Type 0) (clock : D
               let is = were.each i old.0 w.0.segment old.1
               (mapped segment_of writers i w.0 w.1) in
               let file = at_rest_leaves i (length olds) w.0.segment.number w.0.segment.value
-              w.0.segment.spare_open (device w.0.segment.device)
+              w.0.segment.spare_open (disk.device w.0.segment.device)
               (is.rests (hon i w.0.segment.device there)) b
               (left.each i w.0.segment.device b there eb) in
               let now = opened.starts_are i w.0 w.1 in
@@ -169,11 +170,12 @@ module _ {D : Type 0} (device : D → Device) (honest : D → Type 0) (clock : D
         }),
       )
 
-  come_through : ((d : D) (t : ℕ) (b : List ℕ) → honest d → t ≤ clock d → MayLeave (device d) b
-      → might_have_left d t b) → (olds news : List D)
-      → StayKept device honest clock might_have_left olds news
-      → Pairs (λ _. IsBack device honest clock might_have_left) olds news
-      → ComeThrough device honest clock might_have_left olds news
+  come_through : ((d : D) (t : ℕ) (b : List ℕ) → disk.is_honest d → t ≤ disk.clock d
+      → MayLeave (disk.device d) b
+      → disk.might_have_left d t b) → (olds news : List D)
+      → StayKept disk olds news
+      → Pairs (λ _. IsBack disk) olds news
+      → ComeThrough disk olds news
   come_through counts_now olds news stay back hon n start moments past =
       Interrupted moments olds news news past stay (
         back.size,
@@ -181,39 +183,39 @@ module _ {D : Type 0} (device : D → Device) (honest : D → Type 0) (clock : D
             let is = hon i e ee in
             let same : f ≡ e = same_Some f e (sym ef ∙ ee) in (
               is,
-              counts_now e (clock d) b is ((back.each i d e ed ee).any_time is).later
-                  (subst (λ (x : D). MayLeave (device x) b) same left),
+              counts_now e (disk.clock d) b is ((back.each i d e ed ee).any_time is).later
+                  (subst (λ (x : D). MayLeave (disk.device x) b) same left),
             )),
       )
 
   -- an opening that went well, and devices that came back of it
-  pub through_opened : ((d : D) (t : ℕ) (b : List ℕ) → honest d → t ≤ clock d
-      → MayLeave (device d) b → might_have_left d t b) → (failures : D → ℕ) (olds : List D)
+  pub through_opened : ((d : D) (t : ℕ) (b : List ℕ) → disk.is_honest d → t ≤ disk.clock d
+      → MayLeave (disk.device d) b → disk.might_have_left d t b) → (olds : List D)
       (writers : List (WriterState D)) (news : List D)
       → news ≡ map (λ (w : WriterState D). w.segment.device) writers
-      → Pairs (IsOpened device failures honest clock might_have_left (length olds)) olds
+      → Pairs (IsOpened disk (length olds)) olds
       (map (λ (w : WriterState D). w.segment) writers)
-      → StayKept device honest clock might_have_left olds
+      → StayKept disk olds
       (map (λ (w : WriterState D). w.segment.device) writers)
-      → ComeThrough device honest clock might_have_left olds news
-  through_opened counts_now failures olds writers news theirs were stay =
+      → ComeThrough disk olds news
+  through_opened counts_now olds writers news theirs were stay =
       let segment_of : WriterState D → SegmentState D = λ w. w.segment in
       let device_of : WriterState D → D = λ w. w.segment.device in
-      subst (λ (l : List D). ComeThrough device honest clock might_have_left olds l) (sym theirs)
+      subst (λ (l : List D). ComeThrough disk olds l) (sym theirs)
       (come_through counts_now olds (map device_of writers) stay (record {
         size = were.size ∙ length-map writers segment_of ∙ sym (length-map writers device_of);
         each = λ i d e ed ee. (
             let w = unmap device_of writers i e ee in
-            subst (λ (x : D). IsBack device honest clock might_have_left d x) w.2
+            subst (λ (x : D). IsBack disk d x) w.2
             (were.each i d w.0.segment ed (mapped segment_of writers i w.0 w.1)).back);
       }))
 
   -- an opening that was refused
-  pub through_stopped : ((d : D) (t : ℕ) (b : List ℕ) → honest d → t ≤ clock d
-      → MayLeave (device d) b → might_have_left d t b) → (failures : D → ℕ) (olds news : List D)
-      (why : Refusal) (k : ℕ) → IsStopped device failures honest clock might_have_left olds news why k
-      → StayKept device honest clock might_have_left olds news
-      → ComeThrough device honest clock might_have_left olds news
-  through_stopped counts_now failures olds news why k is stay =
+  pub through_stopped : ((d : D) (t : ℕ) (b : List ℕ) → disk.is_honest d → t ≤ disk.clock d
+      → MayLeave (disk.device d) b → disk.might_have_left d t b) → (olds news : List D)
+      (why : Refusal) (k : ℕ) → IsStopped disk olds news why k
+      → StayKept disk olds news
+      → ComeThrough disk olds news
+  through_stopped counts_now olds news why k is stay =
       come_through counts_now olds news stay
       (Pairs-map _ _ olds news (λ i d e returned. returned.back) is.returned)

@@ -1,9 +1,9 @@
 -- The premises of the law of a cut, where two writers are at work.
-use Rattle.std.proofs.Common.{◌≡◌, ◌⊎◌, ℕ, zero, suc, ◌+◌, ◌≤◌, inl, inr, List, [], ◌∷◌, ◌++◌, length, Option, Some, slice_get, refl, ap, sym, subst, ◌∙◌, arith, length-append}
+use Rattle.std.proofs.Common.{◌≡◌, ◌⊎◌, ℕ, zero, suc, ◌+◌, ◌≤◌, inl, inr, List, [], ◌∷◌, ◌++◌, length, Option, Some, slice_get, refl}
+use Rattle.std.proofs.Common.{ap, sym, subst, ◌∙◌, arith, length-append}
 use Rattle.std.specs.Option.{option_to_list}
 use Rattle.std.proofs.lemmas.Bool.{cases_lt}
 use Rattle.std.proofs.lemmas.Option.{same_Some, slice_get_within}
-use Rattle.snap_disk.specs.Device.{Device}
 use Rattle.snap_history.specs.History.{Update, IsBeginning, number_after}
 use Rattle.snap_history.specs.Limits.{IsNumber, IsShort}
 use Rattle.snap_history.specs.declared.limits.TheConstants.{LAST_NUMBER}
@@ -26,27 +26,27 @@ use Rattle.snap_cut.proofs.Crash.{cut_recovers}
 use Rattle.snap_restart.proofs.Removals.{get_map}
 use Rattle.tests_crash.specs.Opened.{AreNew}
 use Rattle.tests_crash.specs.Together.{stored_unshown, AreTwo, IsRecoveredAt}
+use Rattle.snap_disk.specs.declared.disk.Disk as Disk
 
-module _ {D : Type 0} (device : D → Device) (honest : D → Type 0) (clock : D → ℕ)
-    (might_have_left : D → ℕ → List ℕ → Type 0) where
-  sees_itself : (w : WriterState D) → Sees device honest clock might_have_left w w
+module _ {D : Type 0} (disk : Disk.Ghosts D) where
+  sees_itself : (w : WriterState D) → Sees disk w w
   sees_itself w = record { segment_is = refl; grows = grows_self w.seat }
 
   -- what is shown, or seen more, leaves the segment as it was
-  same_segment : (b z : WriterState D) → (Shows device honest clock might_have_left b z)
-      ⊎ (Sees device honest clock might_have_left b z) → z.segment ≡ b.segment
+  same_segment : (b z : WriterState D) → (Shows disk b z)
+      ⊎ (Sees disk b z) → z.segment ≡ b.segment
   same_segment b z (inl shows) = shows.segment_is
   same_segment b z (inr sees) = sees.segment_is
 
   module _ (plan : Plan) (i : ℕ) (v : List ℕ) (a z : WriterState D)
-      (is : IsWriterOf device honest clock might_have_left plan 2 i a) (fresh : a.seat.seen ≡ [])
-      (first : StoresFirst device honest clock might_have_left v a z) where
+      (is : IsWriterOf disk plan 2 i a) (fresh : a.seat.seen ≡ [])
+      (first : StoresFirst disk v a z) where
     none_seen : IsBeginning first.0.seat.seen []
     none_seen = subst (λ (h : List Update). IsBeginning h []) (sym (ap (λ (k : Known). k.seen)
         first.1.seat_is ∙ fresh)) (beginning-self [])
 
     -- inside its store
-    lived_inside : IsLivedIn device honest clock might_have_left plan 2 [] i
+    lived_inside : IsLivedIn disk plan 2 [] i
         (in_store a v z.segment.device)
     lived_inside =
         let b = first.0 in (
@@ -68,7 +68,7 @@ module _ {D : Type 0} (device : D → Device) (honest : D → Type 0) (clock : D
         )
 
     -- between its store and its show
-    lived_between : IsLivedIn device honest clock might_have_left plan 2 [] i
+    lived_between : IsLivedIn disk plan 2 [] i
         (stored_unshown a z)
     lived_between =
         let b = first.0 in
@@ -89,14 +89,14 @@ module _ {D : Type 0} (device : D → Device) (honest : D → Type 0) (clock : D
         )
 
   module _ (plan : Plan) (p q : Place D)
-      (first : IsLivedIn device honest clock might_have_left plan 2 [] 0 p)
-      (second : IsLivedIn device honest clock might_have_left plan 2 [] 1 q)
+      (first : IsLivedIn disk plan 2 [] 0 p)
+      (second : IsLivedIn disk plan 2 [] 1 q)
       (p_fresh : seen_at p ≡ []) (q_fresh : seen_at q ≡ []) where
     lived : (i : ℕ) (r : Place D) → slice_get (p ∷ q ∷ []) i ≡ Some r
-        → IsLivedIn device honest clock might_have_left plan 2 [] i r
-    lived zero r e = subst (IsLivedIn device honest clock might_have_left plan 2 [] 0)
+        → IsLivedIn disk plan 2 [] i r
+    lived zero r e = subst (IsLivedIn disk plan 2 [] 0)
         (same_Some p r e) first
-    lived (suc zero) r e = subst (IsLivedIn device honest clock might_have_left plan 2 [] 1)
+    lived (suc zero) r e = subst (IsLivedIn disk plan 2 [] 1)
         (same_Some q r e) second
     lived (suc (suc i)) r e = absurd (cc e)
 
@@ -111,9 +111,9 @@ module _ {D : Type 0} (device : D → Device) (honest : D → Type 0) (clock : D
     fresh_at (suc zero) r e = ap (λ (x : Place D). seen_at x) (sym (same_Some q r e)) ∙ q_fresh
     fresh_at (suc (suc i)) r e = absurd (cc e)
 
-    recovered_at : IsRecoveredAt device honest clock might_have_left plan (p ∷ q ∷ [])
+    recovered_at : IsRecoveredAt disk plan (p ∷ q ∷ [])
     recovered_at files left =
-        cut_recovers device honest clock might_have_left plan [] (p ∷ q ∷ []) [] files
+        cut_recovers disk plan [] (p ∷ q ∷ []) [] files
         (omega arith) lived (λ k seen e. absurd (cc e))
         (λ j seen e i r at. (
         let one = ap (λ (h : List Update). number_after (starts plan) h i) (fresh_seen j seen e) in
@@ -123,30 +123,30 @@ module _ {D : Type 0} (device : D → Device) (honest : D → Type 0) (clock : D
 
   -- both were updated, first stored and then shown
   module _ (first second first_new second_new : WriterState D) (v w : List ℕ)
-      (two : AreTwo device honest clock might_have_left first second)
-      (one : StoresFirst device honest clock might_have_left v first first_new)
-      (other : StoresFirst device honest clock might_have_left w second second_new) where
-    inside_first : IsLivedIn device honest clock might_have_left first.seat.plan 2 [] 0
+      (two : AreTwo disk first second)
+      (one : StoresFirst disk v first first_new)
+      (other : StoresFirst disk w second second_new) where
+    inside_first : IsLivedIn disk first.seat.plan 2 [] 0
         (in_store first v first_new.segment.device)
     inside_first = lived_inside first.seat.plan 0 v first first_new two.first_is two.first_fresh one
 
-    between_second : IsLivedIn device honest clock might_have_left first.seat.plan 2 [] 1
+    between_second : IsLivedIn disk first.seat.plan 2 [] 1
         (stored_unshown second second_new)
     between_second =
         lived_between first.seat.plan 1 w second second_new two.second_is two.second_fresh other
 
-    pub both_inside : IsRecoveredAt device honest clock might_have_left first.seat.plan
+    pub both_inside : IsRecoveredAt disk first.seat.plan
         (in_store first v first_new.segment.device ∷ in_store second w second_new.segment.device ∷ [])
     both_inside = recovered_at first.seat.plan _ _ inside_first
         (lived_inside first.seat.plan 1 w second second_new two.second_is two.second_fresh other)
         two.first_fresh two.second_fresh
 
-    pub one_beside : IsRecoveredAt device honest clock might_have_left first.seat.plan
+    pub one_beside : IsRecoveredAt disk first.seat.plan
         (in_store first v first_new.segment.device ∷ stored_unshown second second_new ∷ [])
     one_beside =
         recovered_at first.seat.plan _ _ inside_first between_second two.first_fresh two.second_fresh
 
-    pub both_between : IsRecoveredAt device honest clock might_have_left first.seat.plan
+    pub both_between : IsRecoveredAt disk first.seat.plan
         (stored_unshown first first_new ∷ stored_unshown second second_new ∷ [])
     both_between = recovered_at first.seat.plan _ _
         (lived_between first.seat.plan 0 v first first_new two.first_is two.first_fresh one)
@@ -180,10 +180,9 @@ below_last k low other = elim (cases_lt k LAST_NUMBER) [
   | inr least ↦ absurd (other (omega (arith, least, low)))
 ]
 
-module _ {D : Type 0} (device : D → Device) (failures : D → ℕ) (honest : D → Type 0)
-    (clock : D → ℕ) (might_have_left : D → ℕ → List ℕ → Type 0) (devices : List D)
+module _ {D : Type 0} (disk : Disk.Ghosts D) (devices : List D)
     (writers : List (WriterState D)) (x y : WriterState D) (are : writers ≡ x ∷ y ∷ [])
-    (new : AreNew device failures honest clock might_have_left devices writers) where
+    (new : AreNew disk devices writers) where
   at_0 : slice_get writers 0 ≡ Some x
   at_0 = ap (λ (l : List (WriterState D)). slice_get l 0) are
 
@@ -197,12 +196,12 @@ module _ {D : Type 0} (device : D → Device) (failures : D → ℕ) (honest : D
   same_plan = (new.opened.writers_are 0 x at_0).plan_is
 
   of_two : (i : ℕ) (w : WriterState D) → slice_get writers i ≡ Some w
-      → IsWriterOf device honest clock might_have_left x.seat.plan 2 i w
+      → IsWriterOf disk x.seat.plan 2 i w
   of_two i w at = subst (λ (z : Plan × ℕ).
-      IsWriterOf device honest clock might_have_left z.0 z.1 i w)
+      IsWriterOf disk z.0 z.1 i w)
       (λ t. (sym same_plan t, two t)) (new.opened.writers_are i w at)
 
-  pub are_two : AreTwo device honest clock might_have_left x y
+  pub are_two : AreTwo disk x y
   are_two = record {
     first_is = of_two 0 x at_0;
     second_is = of_two 1 y at_1;

@@ -1,6 +1,5 @@
 -- An opening behind another one.
 use Rattle.std.specs.Prelude.{◌≡◌, ℕ, List, length, map, Some, slice_get}
-use Rattle.snap_disk.specs.Device.{Device}
 use Rattle.snap_history.specs.History.{Update, IsBeginning}
 use Rattle.snap_register.specs.declared.plan.Plan.{Plan}
 use Rattle.snap_register.specs.History.{starts}
@@ -9,24 +8,24 @@ use Rattle.snap_writer.specs.Writer.{WriterState}
 use Rattle.snap_writer.specs.Life.{resting, IsWriterOf}
 use Rattle.snap_cut.specs.Crash.{all_seen}
 use Rattle.snap_restart.specs.Crash.{AllHonest, GoesOn}
+use Rattle.snap_disk.specs.declared.disk.Disk as Disk
 
-module _ {D : Type 0} (device : D → Device) (honest : D → Type 0) (clock : D → ℕ)
-    (might_have_left : D → ℕ → List ℕ → Type 0) where
+module _ {D : Type 0} (disk : Disk.Ghosts D) where
   -- they are the writers of one opening, in order of their segments, whatever they have done since
   abbrev pub AreOfOne : Plan → List (WriterState D) → Type 0
   AreOfOne plan writers = (i : ℕ) (w : WriterState D) → slice_get writers i ≡ Some w
-      → IsWriterOf device honest clock might_have_left plan (length writers) i w
+      → IsWriterOf disk plan (length writers) i w
 
   -- The second writers go on where the first ones stopped: behind one history, from the first ones'
   -- start on, which begins with all that any of these and of the scanners beside them had seen, and at
   -- most one update of each that was begun and not shown.
   abbrev pub GoOnBehind : List (WriterState D) → List Known → List (WriterState D) → Type 0
   GoOnBehind firsts scanners seconds =
-      AllHonest device honest clock might_have_left seconds
+      AllHonest disk seconds
       → (plan : Plan) × (next : Plan) × (h : List Update)
       × AreOfOne plan firsts
       × ((j : ℕ) (seen : List Update)
       → slice_get (all_seen (map (λ (w : WriterState D). resting w) firsts)
       (map (λ (b : Known). b.seen) scanners)) j ≡ Some seen → IsBeginning seen h)
-      × GoesOn device honest clock might_have_left next (starts plan) h
+      × GoesOn disk next (starts plan) h
       (map (λ (w : WriterState D). resting w) firsts) seconds

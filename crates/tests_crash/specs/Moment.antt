@@ -1,6 +1,5 @@
 -- A crash at the moment at which the registers of an opening were just made.
 use Rattle.std.specs.Prelude.{◌≡◌, ℕ, ◌<◌, List, [], ◌∷◌, length, Some, slice_get}
-use Rattle.snap_disk.specs.Device.{Device}
 use Rattle.snap_history.specs.History.{Update, Start, updates_of}
 use Rattle.snap_history.specs.Pairs.{Pairs}
 use Rattle.snap_register.specs.History.{starts}
@@ -10,27 +9,27 @@ use Rattle.snap_writer.specs.Life.{Place, seen_at, CrashLeaves}
 use Rattle.snap_cut.specs.Crash.{Begun, IsRecovered}
 use Rattle.snap_restart.specs.Crash.{IsLifeFrom, AllHonest, AreOpened}
 use Rattle.snap_restart.specs.Restarts.{FollowCrash, Restarts}
+use Rattle.snap_disk.specs.declared.disk.Disk as Disk
 
 -- no update of any of n files
 abbrev pub HasNone : ℕ → List Update → Type 0
 HasNone n h = (i : ℕ) → i < n → updates_of i h ≡ 0
 
-module _ {D : Type 0} (device : D → Device) (honest : D → Type 0) (clock : D → ℕ)
-    (might_have_left : D → ℕ → List ℕ → Type 0) where
+module _ {D : Type 0} (disk : Disk.Ghosts D) where
   -- each of these places lies in the life of a writer of the opening, before it has shown an update:
   -- before its first store, inside it, or behind it
   abbrev pub ShowNothing : List (WriterState D) → List (Place D) → Type 0
   ShowNothing writers places = (i : ℕ) (p : Place D) → slice_get places i ≡ Some p
-      → IsLifeFrom device honest clock might_have_left writers i p × (seen_at p ≡ [])
+      → IsLifeFrom disk writers i p × (seen_at p ≡ [])
 
   -- The registers as they were made are a moment of theirs, at which nothing is shown: a crash there
   -- leaves what the files were opened with, and at most one update of each that was begun.
   abbrev pub AtOnceLaw : Type 0
   AtOnceLaw = (devices : List D) (writers : List (WriterState D))
-      (opened : AreOpened device honest clock might_have_left devices writers)
+      (opened : AreOpened disk devices writers)
       → IsReady opened.plan → (places : List (Place D)) (files : List (List ℕ))
       → length places ≡ length writers → ShowNothing writers places
-      → Pairs (λ _. CrashLeaves device honest clock might_have_left) places files
+      → Pairs (λ _. CrashLeaves disk) places files
       → (h : List Update) × HasNone (length writers) h
       × IsRecovered (length writers) (starts opened.plan) h (Begun places) files
 
@@ -38,10 +37,10 @@ module _ {D : Type 0} (device : D → Device) (honest : D → Type 0) (clock : D
   abbrev pub OverLaw : Type 0
   OverLaw = (n : ℕ) (start : Start) (moments : List (List Update)) (devices : List D)
       (writers : List (WriterState D)) (places : List (Place D)) (nexts : List D)
-      → Restarts device honest clock might_have_left n start moments devices
-      → (opened : AreOpened device honest clock might_have_left devices writers)
-      → AllHonest device honest clock might_have_left writers
+      → Restarts disk n start moments devices
+      → (opened : AreOpened disk devices writers)
+      → AllHonest disk writers
       → IsReady opened.plan → length places ≡ length writers → ShowNothing writers places
-      → FollowCrash device honest clock might_have_left places nexts
+      → FollowCrash disk places nexts
       → (h : List Update) × HasNone (length writers) h
-      × Restarts device honest clock might_have_left n start (h ∷ moments) nexts
+      × Restarts disk n start (h ∷ moments) nexts

@@ -28,9 +28,8 @@ use std::alloc::Global;
 pub fn worked<D: Disk + Drop>(alloc: Global, devices: Vec<D>) -> Result<Vec<D>, Stopped<D>>
     requires count { (0 < length devices.items) × (length devices.items ≤ MAX_COUNT) }
     requires headroom { All (λ d. D.failure_count d < 2 ^ 64 - 1) devices.items }
-    ensures now { IfOk result (λ ds. IsRecoveredNow D.device D.is_honest ds.items) }
-    ensures start { IfOk result (λ ds. KeepAStart D.device D.is_honest D.clock D.might_have_left
-        ds.items) }
+    ensures now { IfOk result (λ ds. IsRecoveredNow D.Disk ds.items) }
+    ensures start { IfOk result (λ ds. KeepAStart D.Disk ds.items) }
 {
     match open_all(alloc, devices, 1) {
         Ok((store, _)) => Ok(store.close()),
@@ -43,7 +42,7 @@ pub fn worked<D: Disk + Drop>(alloc: Global, devices: Vec<D>) -> Result<Vec<D>, 
 pub fn open_and_give_back<D: Disk + Drop>(alloc: Global, devices: Vec<D>) -> Vec<D>
     requires count { (0 < length devices.items) × (length devices.items ≤ MAX_COUNT) }
     requires headroom { All (λ d. D.failure_count d < 2 ^ 64 - 1) devices.items }
-    ensures { ComeThrough D.device D.is_honest D.clock D.might_have_left devices.items
+    ensures { ComeThrough D.Disk devices.items
         result.items }
 {
     match open_all(alloc, devices, 1) {
@@ -56,11 +55,10 @@ pub fn open_and_give_back<D: Disk + Drop>(alloc: Global, devices: Vec<D>) -> Vec
 /// opening go on where those of the first one stopped.
 pub fn reopen<D: Disk + Drop>(alloc: Global, store: Store<D>) -> Result<Store<D>, Stopped<D>>
     requires back { AreBack store.writers.items store.scanners.items }
-    requires writers { (plan : Plan) × AreOfOne D.device D.is_honest D.clock D.might_have_left
-        plan store.writers.items }
+    requires writers { (plan : Plan) × AreOfOne D.Disk plan store.writers.items }
     requires headroom { All (λ d. D.failure_count d < 2 ^ 64 - 1)
         (map (λ w. w.segment.device) store.writers.items) }
-    ensures { IfOk result (λ r. GoOnBehind D.device D.is_honest D.clock D.might_have_left
+    ensures { IfOk result (λ r. GoOnBehind D.Disk
         store.writers.items store.scanners.items r.writers.items) }
 {
     match open_all(alloc, store.close(), 1) {
@@ -90,17 +88,16 @@ pub fn two_at_once<D: Disk>(
     two: u64,
     other: &[u8],
 )
-    requires writers { AreTwo D.device D.is_honest D.clock D.might_have_left first.old second.old }
+    requires writers { AreTwo D.Disk first.old second.old }
     requires first { IsJudged first.old one value.now Judgement.Go }
     requires second { IsJudged second.old two other.now Judgement.Go }
-    ensures inside { IsRecoveredAt D.device D.is_honest D.clock D.might_have_left
+    ensures inside { IsRecoveredAt D.Disk
         first.old.seat.plan (in_store first.old value.now first.new.segment.device
         ∷ in_store second.old other.now second.new.segment.device ∷ []) }
-    ensures beside { IsRecoveredAt D.device D.is_honest D.clock D.might_have_left
+    ensures beside { IsRecoveredAt D.Disk
         first.old.seat.plan (in_store first.old value.now first.new.segment.device
         ∷ stored_unshown second.old second.new ∷ []) }
-    ensures between { IsRecoveredAt D.device D.is_honest D.clock D.might_have_left
-        first.old.seat.plan (stored_unshown first.old first.new
+    ensures between { IsRecoveredAt D.Disk first.old.seat.plan (stored_unshown first.old first.new
         ∷ stored_unshown second.old second.new ∷ []) }
 {
     let _ = first.update(one, value);
@@ -111,8 +108,7 @@ pub fn two_at_once<D: Disk>(
 fn writers_of<D: Disk + Drop>(alloc: Global, devices: Vec<D>) -> Option<Vec<Writer<D>>>
     requires count { (0 < length devices.items) × (length devices.items ≤ MAX_COUNT) }
     requires headroom { All (λ d. D.failure_count d < 2 ^ 64 - 1) devices.items }
-    ensures { IfSome result (λ writers. AreNew D.device D.failure_count D.is_honest D.clock
-        D.might_have_left devices.items writers.items) }
+    ensures { IfSome result (λ writers. AreNew D.Disk devices.items writers.items) }
 {
     match open_all(alloc, devices, 1) {
         Ok((store, _)) => Some(store.writers),
@@ -147,8 +143,8 @@ pub fn open_two<D: Disk + Drop>(alloc: Global, devices: Vec<D>, value: &[u8], ot
 /// Two updates of one writer, whatever they are answered. A crash at any time since before the first
 /// of them leaves the number that was stored then, with its value, or a later number.
 pub fn goes_on<D: Disk>(writer: &mut Writer<D>, one: u64, value: &[u8], two: u64, other: &[u8])
-    requires { IsAWriter D.device D.is_honest D.clock D.might_have_left writer.old }
-    ensures { LosesNothing D.device D.is_honest D.clock D.might_have_left writer.old writer.new }
+    requires { IsAWriter D.Disk writer.old }
+    ensures { LosesNothing D.Disk writer.old writer.new }
 {
     life_laws::<D>();
     let _ = writer.update(one, value);
@@ -177,6 +173,6 @@ pub fn open_and_go_on<D: Disk + Drop>(alloc: Global, devices: Vec<D>, number: u6
 /// them, or behind them. And files come over it to the next opening. The plan of the registers has to
 /// be ready, as it is wherever they are made.
 pub fn moment_laws<D: Disk>()
-    ensures at_once { AtOnceLaw D.device D.is_honest D.clock D.might_have_left }
-    ensures over { OverLaw D.device D.is_honest D.clock D.might_have_left }
+    ensures at_once { AtOnceLaw D.Disk }
+    ensures over { OverLaw D.Disk }
 {}

@@ -1,8 +1,8 @@
 -- The seat of fresh registers with one segment has the number and the value that they start with.
-use Rattle.std.proofs.Common.{◌≡◌, ℕ, ◌+◌, ◌++◌, List, [], ◌∷◌, length, Option, Some, slice_get, refl, ap, sym, ◌∙◌, arith}
+use Rattle.std.proofs.Common.{◌≡◌, ℕ, ◌+◌, ◌++◌, List, [], ◌∷◌, length, Option, Some, slice_get, ap, ◌∙◌, arith}
 use Rattle.std.specs.Option.{option_to_list}
 use Rattle.std.proofs.lemmas.List.{length_push}
-use Rattle.atomic_table.specs.Seated.{TableId}
+use Rattle.snap_register.specs.Registers.{RegistersId}
 use Rattle.snap_history.specs.History.{number_after, value_after}
 use Rattle.snap_register.specs.declared.plan.Plan.{Plan}
 use Rattle.snap_register.specs.History.{starts}
@@ -19,7 +19,7 @@ none_left before after r x items is one =
     let push : length (after ++ x ∷ []) ≡ length after + 1 = length_push after x in
     omega arith
 
-pub seat_is_new : (z : TableId) (p : Plan) (before after : List Known) (r : Option Known)
+pub seat_is_new : (z : RegistersId) (p : Plan) (before after : List Known) (r : Option Known)
     (a : Known) → AreWriters z p before → before ≡ after ++ option_to_list r → r ≡ Some a
     → length before ≡ 1 → IsNewSeat z p 0 1 a
 seat_is_new z p before after r a all items is one =
@@ -36,7 +36,7 @@ seat_is_new z p before after r a all items is one =
       left_is = n.left_is;
     }
 
-module _ (z : TableId) (p : Plan) (looks : ℕ) (xs : List (ℕ × List ℕ)) (x : ℕ × List ℕ)
+module _ (z : RegistersId) (p : Plan) (looks : ℕ) (xs : List (ℕ × List ℕ)) (x : ℕ × List ℕ)
     (a : Known) where
   first_is : xs ≡ x ∷ [] → IsOpening p looks xs → starts p 0 ≡ x
   first_is only o = o.each 0 x (ap (λ l. slice_get l 0) only)

@@ -5,12 +5,12 @@
 #![tactic(auto)]
 
 #[cfg(test)]
-mod ask;
+mod args;
 #[cfg(test)]
-mod command;
+mod call;
 #[cfg(test)]
-mod host;
+mod file_commands;
 #[cfg(test)]
 mod script;
 #[cfg(test)]
-mod words;
+mod serve;

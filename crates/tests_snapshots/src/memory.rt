@@ -1,6 +1,6 @@
 //! Scans and updates by hand, and in threads.
 ghost use Rattle.std.specs.Prelude.{◌≡◌, ℕ, ◌^◌, ◌<◌, ◌≤◌, length, IfOk};
-ghost use Rattle.atomic_table.specs.Seated.{TableId};
+ghost use Rattle.snap_register.specs.Registers.{RegistersId};
 ghost use Rattle.snap_register.specs.declared.plan.Plan.{Plan};
 ghost use Rattle.snap_register.specs.Parts.{AreWriters, AreReaders};
 ghost use Rattle.snap_register.specs.Seat.{AreTogether};
@@ -25,7 +25,7 @@ fn open(alloc: Global, segments: usize, scanners: usize, looks: u64) -> Result<P
     requires looks { looks ≤ 2 ^ 50 }
     ensures writers { IfOk result (λ r. length r.writers.items ≡ segments) }
     ensures scanners { IfOk result (λ r. length r.scanners.items ≡ scanners) }
-    ensures seats { IfOk result (λ r. (z : TableId) × (p : Plan)
+    ensures seats { IfOk result (λ r. (z : RegistersId) × (p : Plan)
         × AreWriters z p r.writers.items × AreReaders z p r.scanners.items) }
 {
     let mut values = Vec::new(alloc);

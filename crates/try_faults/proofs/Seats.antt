@@ -1,7 +1,7 @@
 -- Seats of one opening, taken out of a store and put back.
 use Rattle.std.proofs.Common.{◌≡◌, ℕ, ◌+◌, ◌<◌, ◌≤◌, List, [], ◌∷◌, length, slice_get, Some, refl, ap, sym, subst, ◌∙◌, arith}
 use Rattle.std.proofs.lemmas.Option.{slice_get_within}
-use Rattle.atomic_table.specs.Seated.{TableId}
+use Rattle.snap_register.specs.Registers.{RegistersId, no_registers}
 use Rattle.snap_history.specs.declared.limits.TheConstants.{MAX_COUNT}
 use Rattle.snap_register.specs.declared.plan.Plan.{Plan}
 use Rattle.snap_register.specs.Rule.{segments}
@@ -9,10 +9,10 @@ use Rattle.snap_register.specs.Seat.{Known, Grows}
 use Rattle.snap_writer.specs.Update.{IsSameSeat}
 use Rattle.snap_writer.specs.Writer.{WriterState}
 use Rattle.snap_restart.specs.Closed.{AreBack, IsSeatAt}
-use Rattle.snap_service.specs.Memory.{no_table, no_plan}
+use Rattle.snap_service.specs.Memory.{no_plan}
 
 -- a seat that did something stays the seat that it was
-pub seat_same : (z : TableId) (p : Plan) (low high : ℕ) (a b : Known) → IsSeatAt z p low high a
+pub seat_same : (z : RegistersId) (p : Plan) (low high : ℕ) (a b : Known) → IsSeatAt z p low high a
     → IsSameSeat a b → IsSeatAt z p low high b
 seat_same z p low high a b is same = record {
   table_is = same.table ∙ is.table_is;
@@ -21,7 +21,7 @@ seat_same z p low high a b is same = record {
   high_is = same.high ∙ is.high_is;
 }
 
-pub seat_grown : (z : TableId) (p : Plan) (low high : ℕ) (a b : Known) → IsSeatAt z p low high a
+pub seat_grown : (z : RegistersId) (p : Plan) (low high : ℕ) (a b : Known) → IsSeatAt z p low high a
     → Grows a b → IsSeatAt z p low high b
 seat_grown z p low high a b is grown = record {
   table_is = grown.table ∙ is.table_is;
@@ -31,15 +31,15 @@ seat_grown z p low high a b is grown = record {
 }
 
 -- the memory of scanners: that of the first one
-abbrev pub table_of : List Known → TableId
-table_of [] = no_table
+abbrev pub table_of : List Known → RegistersId
+table_of [] = no_registers
 table_of (b ∷ rest) = b.table
 
 abbrev pub plan_of : List Known → Plan
 plan_of [] = no_plan
 plan_of (b ∷ rest) = b.plan
 
-first_is : (z : TableId) (p : Plan) (rs : List Known) → 0 < length rs
+first_is : (z : RegistersId) (p : Plan) (rs : List Known) → 0 < length rs
     → ((k : ℕ) (b : Known) → slice_get rs k ≡ Some b → IsSeatAt z p 0 0 b)
     → (table_of rs ≡ z) × (plan_of rs ≡ p)
 first_is z p [] some are = absurd (omega arith)
@@ -72,7 +72,7 @@ scanners_out ws rs back k b at =
     }
 
 -- as many writers as a scanner knows of segments, with it and other scanners, are back
-pub back_again : {D : Type 0} (z : TableId) (p : Plan) (ws : List (WriterState D))
+pub back_again : {D : Type 0} (z : RegistersId) (p : Plan) (ws : List (WriterState D))
     (rs : List Known) (b : Known) (n : ℕ)
     → ((i : ℕ) (w : WriterState D) → slice_get ws i ≡ Some w → IsSeatAt z p i (i + 1) w.seat)
     → ((k : ℕ) (s : Known) → slice_get rs k ≡ Some s → IsSeatAt z p 0 0 s)

@@ -7,19 +7,15 @@ returns-clause-plug g c = λ devices writers start before earlier opened on s ke
     size each left. (
       on.any_moment s kept crashed files size each left,
       λ a b talk read_old read_new written_old written_new t same was.
-          session_stands g.D.Disk.device g.D.Disk.is_honest g.D.Disk.clock
-          g.D.Disk.might_have_left devices writers opened start before earlier on s kept b same was
+          session_stands g.D.Disk devices writers opened start before earlier on s kept b same was
           a t.goes.payloads (t.goes.replies ++ t.goes.unsaid) t.goes.run,
       λ b qs rs answered same was.
-          client_stands g.D.Disk.device g.D.Disk.is_honest g.D.Disk.clock
-          g.D.Disk.might_have_left devices writers opened start before earlier on s kept b same was
+          client_stands g.D.Disk devices writers opened start before earlier on s kept b same was
           g.R.Read.remaining g.W.Write.contents qs rs answered,
       λ q r stands.
-          before_stands g.D.Disk.device g.D.Disk.is_honest g.D.Disk.clock
-          g.D.Disk.might_have_left devices writers opened start before earlier on s kept q r
+          before_stands g.D.Disk devices writers opened start before earlier on s kept q r
           stands,
     )
 
 pub returns-clause-ever : goal.returns-clause-ever
-returns-clause-ever g c = ever g.D.Disk.device g.D.Disk.is_honest g.D.Disk.clock
-    g.D.Disk.might_have_left g.R.Read.remaining g.W.Write.contents
+returns-clause-ever g c = ever g.D.Disk g.R.Read.remaining g.W.Write.contents

@@ -3,6 +3,6 @@ use Rattle.tests_crash.proofs.goes_on.Goals as goal
 
 pub returns : goal.returns
 returns g c =
-    loses_nothing g.D.Disk.device g.D.Disk.is_honest g.D.Disk.clock g.D.Disk.might_have_left
+    loses_nothing g.D.Disk
     c.args.writer.now c.update.new.self c.update-2.new.self c.life_laws.ensures.stays c.requires
-    c.update.ensures.lived c.update-2.ensures.lived
+    c.update.ensures.updated.lived c.update-2.ensures.updated.lived

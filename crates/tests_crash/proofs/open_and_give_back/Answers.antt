@@ -3,14 +3,12 @@ use Rattle.tests_crash.proofs.open_and_give_back.Goals as goal
 
 pub returns-in-Ok : goal.returns-in-Ok
 returns-in-Ok g c =
-    through_opened g.D.Disk.device g.D.Disk.is_honest g.D.Disk.clock g.D.Disk.might_have_left
-    g.met.D.Disk.counts_now g.D.Disk.failure_count c.args.devices.items
+    through_opened g.D.Disk g.met.D.Disk.counts_now c.args.devices.items
     c.in-Ok.store.writers.items c.close.result.items c.close.ensures.devices
     c.in-Ok.ensures.opened c.in-Ok.ensures.kept_ok
 
 pub returns : goal.returns
 returns g c =
-    through_stopped g.D.Disk.device g.D.Disk.is_honest g.D.Disk.clock g.D.Disk.might_have_left
-    g.met.D.Disk.counts_now g.D.Disk.failure_count c.args.devices.items
+    through_stopped g.D.Disk g.met.D.Disk.counts_now c.args.devices.items
     c.in-Err.stopped.devices.items c.in-Err.stopped.refusal c.in-Err.stopped.segment
     c.in-Err.ensures.stopped c.in-Err.ensures.kept_err

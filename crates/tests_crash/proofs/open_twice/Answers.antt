@@ -8,6 +8,5 @@ reopen-requires-clause-writers g c =
 
 pub reopen-requires-clause-headroom : goal.reopen-requires-clause-headroom
 reopen-requires-clause-headroom g c =
-    still_headroom g.D.Disk.device g.D.Disk.failure_count g.D.Disk.is_honest g.D.Disk.clock
-    g.D.Disk.might_have_left (2 ^ 64 - 1) c.args.devices.items c.in-Ok.store.writers.items
+    still_headroom g.D.Disk (2 ^ 64 - 1) c.args.devices.items c.in-Ok.store.writers.items
     c.in-Ok.ensures.opened c.requires.headroom

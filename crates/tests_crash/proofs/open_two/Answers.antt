@@ -8,8 +8,7 @@ two_at_once-requires-clause-writers g c =
     let are = two_popped c.in-Some.writers.items _ _ c.pop.result c.pop-2.result
     c.in-Some-pop-2.first c.in-Some-pop.second (new.opened.one_each ∙ c.requires.count)
     c.pop.ensures.items c.in-Some-pop.is c.pop-2.ensures.items c.in-Some-pop-2.is in
-    are_two g.D.Disk.device g.D.Disk.failure_count g.D.Disk.is_honest g.D.Disk.clock
-    g.D.Disk.might_have_left c.args.devices.items c.in-Some.writers.items c.in-Some-pop-2.first
+    are_two g.D.Disk c.args.devices.items c.in-Some.writers.items c.in-Some-pop-2.first
     c.in-Some-pop.second are new
 
 pub two_at_once-requires-clause-first : goal.two_at_once-requires-clause-first
@@ -19,8 +18,7 @@ two_at_once-requires-clause-first g c =
     c.in-Some-pop-2.first c.in-Some-pop.second (new.opened.one_each ∙ c.requires.count)
     c.pop.ensures.items c.in-Some-pop.is c.pop-2.ensures.items c.in-Some-pop-2.is in
     let number = c.number-one.ensures in
-    first_goes g.D.Disk.device g.D.Disk.failure_count g.D.Disk.is_honest g.D.Disk.clock
-    g.D.Disk.might_have_left c.args.devices.items c.in-Some.writers.items c.in-Some-pop-2.first
+    first_goes g.D.Disk c.args.devices.items c.in-Some.writers.items c.in-Some-pop-2.first
     c.in-Some-pop.second are new _ c.args.value.now c.requires.value
     (ap (λ (k : ℕ). k + 1) number.number)
     (below_last c.number-one.result number.low c.if-one-ne-LAST_NUMBER.true)
@@ -32,8 +30,7 @@ two_at_once-requires-clause-second g c =
     c.in-Some-pop-2.first c.in-Some-pop.second (new.opened.one_each ∙ c.requires.count)
     c.pop.ensures.items c.in-Some-pop.is c.pop-2.ensures.items c.in-Some-pop-2.is in
     let number = c.number-two.ensures in
-    second_goes g.D.Disk.device g.D.Disk.failure_count g.D.Disk.is_honest g.D.Disk.clock
-    g.D.Disk.might_have_left c.args.devices.items c.in-Some.writers.items c.in-Some-pop-2.first
+    second_goes g.D.Disk c.args.devices.items c.in-Some.writers.items c.in-Some-pop-2.first
     c.in-Some-pop.second are new _ c.args.other.now c.requires.other
     (ap (λ (k : ℕ). k + 1) number.number)
     (below_last c.number-two.result number.low c.if-two-ne-LAST_NUMBER.true)

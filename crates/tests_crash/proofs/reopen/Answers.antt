@@ -10,8 +10,7 @@ open_all-requires-clause-headroom g c =
 pub returns-in-Ok : goal.returns-in-Ok
 returns-in-Ok g c =
     let told = c.close.ensures.crash in
-    go_on_behind g.D.Disk.device g.D.Disk.failure_count g.D.Disk.is_honest g.D.Disk.clock
-    g.D.Disk.might_have_left c.requires.writers.0 told.0 c.args.store.writers.items
+    go_on_behind g.D.Disk c.requires.writers.0 told.0 c.args.store.writers.items
     c.args.store.scanners.items c.close.result.items c.in-Ok.store.writers.items
     c.close.ensures.devices c.requires.writers.1 told.1 told.2 c.in-Ok.ensures.opened
     c.in-Ok.ensures.crash

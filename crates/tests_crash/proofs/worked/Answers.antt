@@ -5,12 +5,11 @@ pub returns-in-Ok : goal.returns-in-Ok
 returns-in-Ok g c =
     let told = c.close.ensures.crash in
     record {
-      now = now g.D.Disk.device g.D.Disk.is_honest g.D.Disk.clock g.D.Disk.might_have_left told.0
+      now = now g.D.Disk told.0
           c.in-Ok.store.writers.items c.in-Ok.store.scanners.items c.args.devices.items c.close.result.items
           c.close.ensures.devices c.in-Ok.ensures.crash told.1 told.2;
       start =
-          keep_a_start g.D.Disk.device g.D.Disk.is_honest g.D.Disk.clock g.D.Disk.might_have_left
-          g.D.Disk.failure_count c.args.devices.items c.in-Ok.store.writers.items
+          keep_a_start g.D.Disk c.args.devices.items c.in-Ok.store.writers.items
           c.close.result.items c.close.ensures.devices c.in-Ok.ensures.opened
           c.in-Ok.ensures.crash;
     }

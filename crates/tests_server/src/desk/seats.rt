@@ -1,5 +1,5 @@
 //! A desk's worker and two stores, each in a thread of its own.
-ghost use Rattle.std.specs.Prelude.{◌≡◌, length};
+ghost use Rattle.std.specs.Prelude.{◌≡◌, length, IfOk, IfErr};
 ghost use Rattle.snap_restart.specs.Closed.{AreBack};
 ghost use Rattle.snap_service.specs.Memory.{AreWriters, IsOf};
 
@@ -7,14 +7,14 @@ use super::course::{Course, Worker};
 use crossbeam_channel::{Sender, bounded};
 use snap_desk::{Desk, Outcome, StoreThread, Window};
 use snap_devices::{Held, Waited};
+use snap_disk::Disk;
 use snap_memory::{Scanner, Snapshot};
 use snap_restart::Store;
-use snap_service::{Memory, WriterOf, name_writers};
+use snap_service::{Memory, WriterOf};
 use snap_session::Done;
 use snap_writer::Writer;
 use std::alloc::{AllocError, Global};
 use std::marker::Brand;
-use std::mem;
 use std::rt::Clock;
 use std::sync::Wait;
 use std::sync::atomic::AtomicU64;
@@ -213,6 +213,29 @@ fn run_writers<R: Threads + Wait + Clock + Sync + Send + Copy, M: Memory + Send>
     seen_by(alloc, written, threads)
 }
 
+/// The writers of all segments, in order, each with the memory told by its type. Where memory runs
+/// out the writers come back as they were.
+fn name_writers<M: Memory, D: Disk + Drop>(
+    alloc: Global,
+    writers: Vec<Writer<D>>,
+) -> Result<Vec<WriterOf<M, D>>, Vec<Writer<D>>>
+    requires { AreWriters M.table M.plan writers.items }
+    ensures named { IfOk result (λ named. named.items ≡ writers.items) }
+    ensures back { IfErr result (λ back. back.items ≡ writers.items) }
+{
+    let Ok(mut named) = Vec::with_capacity(alloc, writers.len()) else {
+        return Err(writers);
+    };
+    'writers: for writer in writers {
+        let segment = named.len();
+        match named.push(WriterOf::new(writer, segment)) {
+            Ok(()) => {}
+            Err(_) => unreachable!(),
+        }
+    }
+    Ok(named)
+}
+
 /// A run of the memory that these are of.
 fn run_memory<R: Threads + Wait + Clock + Sync + Send + Copy, M: Memory + Send>(
     rt: &R,
@@ -234,13 +257,13 @@ fn run_memory<R: Threads + Wait + Clock + Sync + Send + Copy, M: Memory + Send>(
 pub(crate) fn run_store<R: Threads + Wait + Clock + Sync + Send + Copy>(
     rt: &R,
     alloc: Global,
-    mut store: Store<Held>,
+    store: Store<Held>,
     work: (Course, &[u8], &AtomicU64),
 ) -> Result<Seen, AllocError>
     requires { AreBack store.writers.items store.scanners.items }
 {
-    let writers = mem::replace(&mut store.writers, Vec::new(alloc));
-    match store.scanners.pop() {
+    let (writers, mut scanners) = store.into_parts();
+    match scanners.pop() {
         Some(scanner) => run_memory::<R, Brand>(rt, alloc, writers, scanner, work),
         None => Err(AllocError),
     }

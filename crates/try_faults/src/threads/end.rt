@@ -1,7 +1,7 @@
 //! The end of a run: what its workers know, and the store that is closed with them.
 ghost use Rattle.std.specs.Prelude.{◌≡◌, ℕ, ◌+◌, List, map, slice_get, Some, IfOk};
 ghost use Rattle.snap_history.specs.History.{Update};
-ghost use Rattle.snap_devices.specs.MemDisk.{memory_device};
+ghost use Rattle.try_faults.specs.Memory.{memory_disk};
 ghost use Rattle.snap_restart.specs.Closed.{IsSeatAt, IsHistory, HoldsAfter};
 
 use crate::threads::generation::{Outcome, Workers, stored_by};
@@ -99,7 +99,7 @@ fn close<M: Memory>(
     ensures history { IfOk result (λ _. (h : List Update)
         × IsHistory h (map (λ c. c.writer) workers.clients.items) workers.watchers.items
         × ((i : ℕ) (w : _) → slice_get (map (λ c. c.writer) workers.clients.items) i ≡ Some w
-        → HoldsAfter memory_device (λ _. Unit {0}) h i w)) }
+        → HoldsAfter memory_disk h i w)) }
     ensures devices { IfOk result (λ devices. devices.items
         ≡ map (λ w. w.segment.device) (map (λ c. c.writer) workers.clients.items)) }
 {

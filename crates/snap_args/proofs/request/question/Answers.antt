@@ -1,24 +1,8 @@
 use Rattle.std.proofs.Common.{◌≡◌, length, map, arith, rules}
 use Rattle.std.proofs.lemmas.Bool.Decides.{nat_tests}
-use Rattle.std.proofs.lemmas.Grind.{common_steps}
 use Rattle.snap_args.specs.Requests.{IsRequestFault}
 use Rattle.snap_args.proofs.Requests.{four_words, update_fault}
 use Rattle.snap_args.proofs.request.question.Goals as goal
-
-pub returns-then-is-clause-question : goal.returns-then-is-clause-question
-returns-then-is-clause-question c = grind (arith, common_steps)
-
-pub returns-then-is-2-clause-question : goal.returns-then-is-2-clause-question
-returns-then-is-2-clause-question c = grind (arith, common_steps)
-
-pub returns-then-is-3-clause-question : goal.returns-then-is-3-clause-question
-returns-then-is-3-clause-question c = grind (arith, common_steps)
-
-pub returns-then-is-4-clause-question : goal.returns-then-is-4-clause-question
-returns-then-is-4-clause-question c = grind (arith, common_steps)
-
-pub returns-clause-fault : goal.returns-clause-fault
-returns-clause-fault c = grind (arith, common_steps)
 
 pub returns-in_err-update-clause-fault : goal.returns-in_err-update-clause-fault
 returns-in_err-update-clause-fault c =

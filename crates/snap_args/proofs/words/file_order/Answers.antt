@@ -1,9 +1,7 @@
 use Rattle.std.proofs.Common.{◌∙◌, arith, codes, inl, inr, refl, rules, sym}
 use Rattle.std.proofs.lemmas.Grind.{common_steps}
 use Rattle.clap.specs.Words.{found_of, rows_of}
-use Rattle.snap_args.specs.Faults.{IsFaultOf}
-use Rattle.snap_args.specs.Words.{OfCommand}
-use Rattle.snap_args.proofs.Asked.{asked, failed, missing, no_command, number_is, word_is}
+use Rattle.snap_args.proofs.Asked.{asked, missing, no_command, place_is, word_is}
 use Rattle.snap_args.proofs.Faulted.{placed_fault}
 use Rattle.snap_args.proofs.words.file_order.Goals as goal
 use Rattle.snap_args.proofs.words.file_order.Goals.{in-format, in-put, in-get}
@@ -12,8 +10,8 @@ pub returns-in_default-clause-faults : goal.returns-in_default-clause-faults
 returns-in_default-clause-faults c = λ words has.
     let other = c.requires.other in
     missing has (codes "file")
-    (inr (inr (other.0, other.1, other.2, inl (inr (other.3, refl)))))
-    (sym (word_is has (codes "file")) ∙ sym c.in_default.ensures)
+    (inr (inr (other.0, other.1, other.2, inl (inr (other.3, refl))))) (codes "file")
+    (refl, sym (c.in_default.ensures ∙ word_is has (codes "file")))
 
 pub returns-then-is-clause-asked : goal.returns-then-is-clause-asked
 returns-then-is-clause-asked c = λ words has.
@@ -23,18 +21,15 @@ returns-then-is-clause-asked c = λ words has.
 pub returns-in_err-index-clause-faults : goal.returns-in_err-index-clause-faults
 returns-in_err-index-clause-faults c =
     let other = c.requires.other in
-    let fault : OfCommand c.args.command.now (found_of c.args.matches.now) (λ words.
-    IsFaultOf words c.in_err-index.field-0.0) = λ words has.
-    placed_fault has other.0 other.1 other.2 (failed _ _ c.is.ensures c.if-is.false)
-    c.in_err-index.field-0.0 c.in_err-index.ensures.fault in
+    let fault = placed_fault (found_of c.args.matches.now) other.0 other.1 other.2
+    (grind (arith, common_steps)) c.in_err-index.field-0.0
+    c.in_err-index.ensures.fault in
     search rules
 
 pub returns-in_default-command-clause-faults : goal.returns-in_default-command-clause-faults
 returns-in_default-command-clause-faults c = λ words has.
-    let other = c.requires.other in
     no_command words c.args.command.now (rows_of (found_of c.args.matches.now)) has.is
-    (grind (arith, common_steps)) (grind (arith, common_steps)) (grind (arith, common_steps))
-    (failed _ _ c.is.ensures c.if-is.false) other.3 other.1 other.2 other.0
+    (λ named. grind (arith, common_steps))
 
 pub returns-clause-asked : goal.returns-clause-asked
 returns-clause-asked c =
@@ -48,18 +43,9 @@ returns-clause-asked c =
 
 pub returns-clause-numbers : goal.returns-clause-numbers
 returns-clause-numbers c =
-    let place = c.in_ok-index.ensures in
+    let its = c.in_ok-index.ensures in
     elim c.match-command.branch [
-      | in-format w ↦ rw w.order-is (λ words has. (
-        number_is has (codes "index") _ place.index,
-        number_is has (codes "count") _ place.count,
-      ))
-      | in-put w ↦ rw w.order-is (λ words has. (
-        number_is has (codes "index") _ place.index,
-        number_is has (codes "count") _ place.count,
-      ))
-      | in-get w ↦ rw w.order-is (λ words has. (
-        number_is has (codes "index") _ place.index,
-        number_is has (codes "count") _ place.count,
-      ))
+      | in-format w ↦ rw w.order-is (λ words has. place_is has _ _ its.index its.count)
+      | in-put w ↦ rw w.order-is (λ words has. place_is has _ _ its.index its.count)
+      | in-get w ↦ rw w.order-is (λ words has. place_is has _ _ its.index its.count)
     ]

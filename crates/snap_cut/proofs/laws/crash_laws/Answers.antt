@@ -4,15 +4,13 @@ use Rattle.snap_cut.proofs.Crash.{cut_recovers, moment_consistent, moment_recove
 use Rattle.snap_cut.proofs.laws.crash_laws.Goals as goal
 
 pub returns-clause-cut : goal.returns-clause-cut
-returns-clause-cut g c = cut_recovers g.D.Disk.device g.D.Disk.is_honest g.D.Disk.clock
-    g.D.Disk.might_have_left
+returns-clause-cut g c = cut_recovers g.D.Disk
 
 pub returns-clause-consistent : goal.returns-clause-consistent
 returns-clause-consistent g c = moment_consistent
 
 pub returns-clause-moment : goal.returns-clause-moment
-returns-clause-moment g c plan = moment_recovers g.D.Disk.device g.D.Disk.is_honest g.D.Disk.clock
-    g.D.Disk.might_have_left plan (segments plan)
+returns-clause-moment g c plan = moment_recovers g.D.Disk plan (segments plan)
 
 pub returns-clause-scans : goal.returns-clause-scans
 returns-clause-scans g c before after memory visible is seen =

@@ -4,9 +4,9 @@ use Rattle.snap_cut.proofs.laws.life_laws.Goals as goal
 
 pub returns-clause-lives : goal.returns-clause-lives
 returns-clause-lives g c =
-    life_fits g.D.Disk.device g.D.Disk.is_honest g.D.Disk.clock g.D.Disk.might_have_left
+    life_fits g.D.Disk
 
 pub returns-clause-stays : goal.returns-clause-stays
 returns-clause-stays g c plan n i a z life is lived honest =
-    stays g.D.Disk.device g.D.Disk.is_honest g.D.Disk.clock g.D.Disk.might_have_left plan n i a life
+    stays g.D.Disk plan n i a life
     z g.met.D.Disk.only_now is lived honest

@@ -1,6 +1,7 @@
 use Rattle.std.proofs.Common.{rules, ◌≡◌, ℕ, [], take, subst, sym, ap, ◌∙◌, Err}
 use Rattle.std.proofs.KnownBytes.{Keeps-refl}
-use Rattle.snap_disk.specs.Device.{LeavesOnly, MayLeave}
+use Rattle.snap_disk.specs.Device.{MayLeave}
+use Rattle.snap_disk.specs.Time.{LeavesOnly}
 use Rattle.snap_stream.proofs.Known.{had}
 use Rattle.snap_file_commands.specs.Calls.{CountsPut}
 use Rattle.snap_file_commands.specs.Commands.{CountsEnd, EndsPut, PutLeaves}
@@ -36,8 +37,7 @@ returns-in-Err-open-clause-keeps g c =
     let out = g.W.Write.contents c.args.writer.now in
     let answer = c.in-Err-open.ensures in
     let why = c.in-Err-open.why in
-    let kept = LeavesNoMore device g.D.Disk.is_honest g.D.Disk.clock g.D.Disk.might_have_left
-    c.args.disk c.in-Err-open.disk in
+    let kept = LeavesNoMore g.D.Disk c.args.disk c.in-Err-open.disk in
     put_keeps honest (c.in-Err-open.disk ≡ c.args.disk) kept kept c.args.index c.args.count []
     (device c.args.disk) (device c.in-Err-open.disk) out out (Err (Refused why)) (λ k. k)
     (refused_open honest c.args.index c.args.count [] (device c.args.disk)
@@ -87,7 +87,7 @@ returns-clause-keeps g c =
     let opened = c.in-Ok-open.ensures in
     put_keeps _ _ _ _ _ _ _ _ _ _ _ c.store-end.result (λ same honest.
     let is = c.into_device.ensures.device ∙ ap (λ s. s.device) same in
-    subst (λ (d : g.row.D.Denot). LeavesOnly g.D.Disk.clock g.D.Disk.might_have_left c.args.disk d
+    subst (λ (d : g.row.D.Denot). LeavesOnly g.D.Disk c.args.disk d
     (MayLeave (device c.args.disk))) (sym is)
     (opened.any_time_ok (subst g.D.Disk.is_honest is honest)))
     (c.store-end.ensures.ends (device c.args.disk) (λ honest. held c.args.index c.args.count
@@ -105,10 +105,10 @@ returns-clause-any_time g c = λ honest.
     let opened = c.in-Ok-open.ensures in
     let is_honest = subst g.D.Disk.is_honest c.into_device.ensures.device honest in
     let was_honest = c.store-end.ensures.honest is_honest in
-    subst (λ (d : g.row.D.Denot). LeavesOnly g.D.Disk.clock g.D.Disk.might_have_left c.args.disk d
+    subst (λ (d : g.row.D.Denot). LeavesOnly g.D.Disk c.args.disk d
     (PutLeaves c.args.index c.args.count (g.R.Read.remaining c.args.reader.now)
     (g.D.Disk.device c.args.disk))) (sym c.into_device.ensures.device)
-    (put_leaves g.D.Disk.clock g.D.Disk.might_have_left
+    (put_leaves g.D.Disk
     (g.D.Disk.is_honest c.store-end.new.segment.device) c.args.disk segment c.store-end.new.segment
     (g.D.Disk.device c.args.disk) _ c.args.index c.args.count _ is_honest opened.opened.0
     opened.opened.1 (had _ _ _ came.came (came.ended (search rules))) (opened.holds was_honest)

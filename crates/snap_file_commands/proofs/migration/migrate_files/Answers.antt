@@ -1,35 +1,36 @@
 use Rattle.std.proofs.Common.{rules, ◌≡◌, ◌++◌, ◌∙◌, ap, ap₂, subst, List, ℕ, Err, codes}
 use Rattle.std.specs.Fmt.{decimal}
 use Rattle.std.specs.Io.KnownBytes.{Appends}
-use Rattle.snap_disk.specs.Device.{LeavesOnly, MayLeave}
+use Rattle.snap_disk.specs.Device.{MayLeave}
+use Rattle.snap_disk.specs.Time.{LeavesOnly}
 use Rattle.snap_disk.specs.declared.refusal.Refusal.{Refusal}
 use Rattle.snap_disk.specs.declared.refusal.Refusal.TheVariants.{DeviceFailed}
 use Rattle.snap_segment.specs.declared.migration.Which.{Which}
 use Rattle.snap_segment.specs.declared.migration.Which.TheVariants.{Old}
 use Rattle.snap_stream.specs.Streams.{AppendsBeginning}
 use Rattle.snap_file_commands.specs.Migration.{MigrationLeaves, migrated_line}
-use Rattle.snap_file_commands.proofs.Carried.{by_refusal, made_leaves, migrated, migration_keeps}
-use Rattle.snap_file_commands.proofs.Carried.{refused_reads, told_apart, untouched_leaves}
+use Rattle.snap_file_commands.proofs.Carried.{by_refusal, made_leaves, migrated, migration_keeps, refused_reads, told_apart}
+use Rattle.snap_file_commands.proofs.Carried.{untouched_leaves}
 use Rattle.snap_file_commands.proofs.migration.migrate_files.Goals as goal
 
 pub returns-in-Err-clause-new_any_time : goal.returns-in-Err-clause-new_any_time
 returns-in-Err-clause-new_any_time g c = λ old_honest new_honest.
-    let clock = g.N.Disk.clock in
-    let left = g.N.Disk.might_have_left in
+    let disk = g.N.Disk in
     let answer = c.in-Err.ensures in
     let old = g.O.Disk.device c.args.old in
     let new = g.N.Disk.device c.args.new in
     let index = c.args.order.now.index in
     let count = c.args.order.now.count in
-    let now : (x : List ℕ) → left c.args.new (clock c.args.new) x → MayLeave new x =
+    let now : (x : List ℕ) → disk.might_have_left c.args.new (disk.clock c.args.new) x
+    → MayLeave new x =
     λ x l. g.met.N.Disk.only_now c.args.new x (answer.honest_new new_honest) l in
-    by_refusal (LeavesOnly clock left c.args.new c.migrate.new.new
+    by_refusal (LeavesOnly disk c.args.new c.migrate.new.new
     (MigrationLeaves index count old new)) c.in-Err.which c.in-Err.why answer.refusals
-    (λ is_old. untouched_leaves clock left c.args.new c.migrate.new.new index count old new
+    (λ is_old. untouched_leaves disk c.args.new c.migrate.new.new index count old new
     (answer.new_untouched is_old) now)
-    (λ is_new is_wrong. untouched_leaves clock left c.args.new c.migrate.new.new index count old new
+    (λ is_new is_wrong. untouched_leaves disk c.args.new c.migrate.new.new index count old new
     (answer.wrong_new_same (ap₂ (λ (w : Which) (y : Refusal). Err (w, y)) is_new is_wrong)).1 now)
-    (λ past. made_leaves clock left c.args.new c.migrate.new.new index count old new
+    (λ past. made_leaves disk c.args.new c.migrate.new.new index count old new
     (answer.old_read old_honest past) (answer.any_time old_honest new_honest))
 
 pub returns-in-Ok-write_whole-clause-ends : goal.returns-in-Ok-write_whole-clause-ends
@@ -62,7 +63,7 @@ pub returns-in-Ok-write_whole-clause-new_any_time :
     goal.returns-in-Ok-write_whole-clause-new_any_time
 returns-in-Ok-write_whole-clause-new_any_time g c = λ old_honest new_honest.
     let answer = c.in-Ok-migrate.ensures in
-    made_leaves g.N.Disk.clock g.N.Disk.might_have_left c.args.new c.migrate.new.new
+    made_leaves g.N.Disk c.args.new c.migrate.new.new
     c.args.order.now.index c.args.order.now.count (g.O.Disk.device c.args.old)
     (g.N.Disk.device c.args.new) (answer.old_read old_honest tt)
     (answer.any_time old_honest new_honest)
@@ -95,7 +96,7 @@ returns-clause-ends g c =
 pub returns-clause-new_any_time : goal.returns-clause-new_any_time
 returns-clause-new_any_time g c = λ old_honest new_honest.
     let answer = c.in-Ok-migrate.ensures in
-    made_leaves g.N.Disk.clock g.N.Disk.might_have_left c.args.new c.migrate.new.new
+    made_leaves g.N.Disk c.args.new c.migrate.new.new
     c.args.order.now.index c.args.order.now.count (g.O.Disk.device c.args.old)
     (g.N.Disk.device c.args.new) (answer.old_read old_honest tt)
     (answer.any_time old_honest new_honest)

@@ -28,7 +28,7 @@ opening-preserved g c =
     let next = taken k ds d _ _ inv.rest c.in-Some.ensures.cases.0 in
     let low = next.inside in
     let index : c.len-index.result ≡ k = search rules in
-    let Opened = IsOpened g.D.Disk.device g.D.Disk.failure_count g.D.Disk.is_honest g.D.Disk.clock g.D.Disk.might_have_left in
+    let Opened = IsOpened g.D.Disk in
     let here : Opened c.len-count.result c.len-index.result d s = record {
       index_is = o.opened.0;
       count_is = o.opened.1;
@@ -37,7 +37,7 @@ opening-preserved g c =
       calls = o.calls_ok;
       found = o.holds;
       rests = o.at_rest;
-      back = back_later g.D.Disk.device g.D.Disk.failure_count g.D.Disk.is_honest g.D.Disk.clock g.D.Disk.might_have_left g.met.D.Disk.counts_now d s.device o.honest_ok o.any_time_ok;
+      back = back_later g.D.Disk g.met.D.Disk.counts_now d s.device o.honest_ok o.any_time_ok;
     } in
     let long : length (take k ds) ≡ k = length-take-le k ds inv.within in
     let placed : Opened (length ds) (length (take k ds)) d s = subst (λ (p : ℕ × ℕ). Opened p.0 p.1 d s) (λ i. (inv.count i, (index ∙ sym long) i)) here in
@@ -68,13 +68,15 @@ returns-in-Err-clause-stopped g c =
     let next = taken k ds d _ _ inv.rest c.in-Some.ensures.cases.0 in
     let low = next.inside in
     let index : c.len-index.result ≡ k = search rules in
-    let Returned = IsReturned g.D.Disk.device g.D.Disk.failure_count g.D.Disk.is_honest g.D.Disk.clock g.D.Disk.might_have_left in
-    let back = back_later g.D.Disk.device g.D.Disk.failure_count g.D.Disk.is_honest g.D.Disk.clock g.D.Disk.might_have_left g.met.D.Disk.counts_now d e o.honest_err o.any_time_err in
-    let here = returned_here g.D.Disk.device g.D.Disk.failure_count g.D.Disk.is_honest g.D.Disk.clock g.D.Disk.might_have_left c.len-count.result c.len-index.result why d e back o.count_err o.refused in
+    let Returned = IsReturned g.D.Disk in
+    let back = back_later g.D.Disk g.met.D.Disk.counts_now d e o.honest_err o.any_time_err in
+    let here = returned_here g.D.Disk c.len-count.result c.len-index.result why d e back
+    o.count_err o.refused in
     let placed : Returned (length ds) c.len-index.result why c.len-index.result d e = subst (λ (n : ℕ). Returned n c.len-index.result why c.len-index.result d e) inv.count here in
-    stopped_at g.D.Disk.device g.D.Disk.failure_count g.D.Disk.is_honest g.D.Disk.clock g.D.Disk.might_have_left g.met.D.Disk.only_now why ds c.returned.result.items ss d e _ c.len-index.result
+    stopped_at g.D.Disk g.met.D.Disk.only_now why ds c.returned.result.items ss d e _
+    c.len-index.result
     index (ap (λ (n : ℕ). drop n ds) index ∙ next.head) (omega arith)
-    (subst (λ (n : ℕ). Pairs (IsOpened g.D.Disk.device g.D.Disk.failure_count g.D.Disk.is_honest g.D.Disk.clock g.D.Disk.might_have_left (length ds)) (take n ds) ss) (sym index) inv.opened)
+    (subst (λ (n : ℕ). Pairs (IsOpened g.D.Disk (length ds)) (take n ds) ss) (sym index) inv.opened)
     o.refusals placed c.returned.ensures
 
 pub open-requires-clause-below : goal.open-requires-clause-below
@@ -103,6 +105,5 @@ returns-clause-opened g c =
     let inv = c.opening.invariant in
     let none = c.in_default-next.not-Some in
     let empty = none_comes _ _ c.next.ensures.variant.1 none in
-    subst (λ (l : List _). Pairs (IsOpened g.D.Disk.device g.D.Disk.failure_count g.D.Disk.is_honest
-    g.D.Disk.clock g.D.Disk.might_have_left (length c.args.devices.items)) l
+    subst (λ (l : List _). Pairs (IsOpened g.D.Disk (length c.args.devices.items)) l
     c.opening.segments.items) (all_taken _ c.args.devices.items _ inv.rest (sym inv.long ∙ empty)) inv.opened

@@ -10,7 +10,8 @@ abbrev pub invariant-opening : goal.invariant-opening
 invariant-opening g l = record {
   rest : into_iter_items l.rest ≡ drop (length l.segments.items) l.fn.devices.items;
   long : into_iter_len l.rest ≡ length (into_iter_items l.rest);
-  opened : Pairs (IsOpened g.D.Disk.device g.D.Disk.failure_count g.D.Disk.is_honest g.D.Disk.clock g.D.Disk.might_have_left (length l.fn.devices.items)) (take (length l.segments.items) l.fn.devices.items) l.segments.items;
+  opened : Pairs (IsOpened g.D.Disk (length l.fn.devices.items)) (take (length l.segments.items)
+      l.fn.devices.items) l.segments.items;
   within : length l.segments.items ≤ length l.fn.devices.items;
   count : l.count ≡ length l.fn.devices.items;
   room : length l.fn.devices.items ≤ vec_capacity l.segments;

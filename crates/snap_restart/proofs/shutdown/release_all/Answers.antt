@@ -25,8 +25,8 @@ writers-preserved g c =
           ∙ sym (map_front (λ w. w.segment.device) k ws w _ next _ on));
       room = (let r = c.keep.ensures.room in let was = inv.room in omega arith);
       within = omega arith;
-      rests = λ i x there low. rests_more g.D.Disk.device g.D.Disk.is_honest ws k w next.at inv.rests
-          (rests_moved g.D.Disk.device g.D.Disk.is_honest w _ _
+      rests = λ i x there low. rests_more g.D.Disk ws k w next.at inv.rests
+          (rests_moved g.D.Disk w _ _
           c.into_segment.ensures.segment c.into_device.ensures.device
           c.into_segment.ensures.number c.into_segment.ensures.value
           c.into_device.ensures.kept) i x there (omega arith);

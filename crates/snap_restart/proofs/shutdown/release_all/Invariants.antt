@@ -13,5 +13,5 @@ invariant-writers g l = record {
   room : length l.fn.writers.items ≤ vec_capacity l.devices;
   within : length l.yielded ≤ length l.fn.writers.items;
   rests : (i : ℕ) (w : _) → slice_get l.fn.writers.items i ≡ Some w → i < length l.yielded
-      → Rests g.D.Disk.device g.D.Disk.is_honest w;
+      → Rests g.D.Disk w;
 }

@@ -24,7 +24,7 @@ pub returns-in-Ok-clause-any_time : goal.returns-in-Ok-clause-any_time
 returns-in-Ok-clause-any_time g c honest i n k u v is =
     let old = c.args.device.now in
     let new = c.make_call.new.device in
-    one_call g.D.Disk.clock g.D.Disk.might_have_left old new (IsEither i n k u v)
+    one_call g.D.Disk old new (IsEither i n k u v)
     (g.D.Disk.device new)
     (λ b left. before i n k u v c.args.persist.now c.args.body.now (g.D.Disk.device old)
     (g.D.Disk.device new) is b
@@ -35,7 +35,7 @@ pub returns-in-Err-clause-any_time : goal.returns-in-Err-clause-any_time
 returns-in-Err-clause-any_time g c honest i n k u v is =
     let old = c.args.device.now in
     let new = c.make_call.new.device in
-    one_call g.D.Disk.clock g.D.Disk.might_have_left old new (IsEither i n k u v)
+    one_call g.D.Disk old new (IsEither i n k u v)
     (g.D.Disk.device new)
     (λ b left. before i n k u v c.args.persist.now c.args.body.now (g.D.Disk.device old)
     (g.D.Disk.device new) is b

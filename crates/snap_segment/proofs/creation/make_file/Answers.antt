@@ -1,12 +1,14 @@
 use Rattle.std.proofs.Common.{◌≡◌, inl, inr, ℕ, Bool, true, List, Result, Ok, Err, is_ok, sym, subst}
 use Rattle.std.specs.Prelude.{IsTrue, ◌↔◌, OnOk}
-use Rattle.snap_disk.specs.Device.{Device, MayLeave, IsSynced, LeavesOnly}
+use Rattle.snap_disk.specs.Device.{Device, MayLeave, IsSynced}
+use Rattle.snap_disk.specs.Time.{LeavesOnly}
 use Rattle.snap_disk.specs.Laws.{then, weaker}
 use Rattle.snap_slot.specs.Layout.{IsUnformatted}
 use Rattle.snap_slot.proofs.Blank.{gate_leaves, formatted}
 use Rattle.snap_segment.specs.Creation.{IsMadeOrLeft}
 use Rattle.snap_segment.proofs.Made.{made_bytes}
 use Rattle.snap_segment.proofs.creation.make_file.Goals as goal
+use Rattle.snap_disk.specs.declared.disk.Disk as Disk
 
 -- what follows where the call succeeded follows where its answer does
 on_ok_too : {T E F P Q : Type 0} (call : Result T E) (answer : Result T F)
@@ -22,19 +24,18 @@ still_closed : (old new : Device) (found : Bool) → found ≡ true → IsSynced
 still_closed old new found closed synced is =
     subst IsUnformatted (sym synced.same) (is.0 closed)
 
-module _ {D : Type 0} (clock : D → ℕ) (left : D → ℕ → List ℕ → Type 0) (device : D
-    → Device) (i n k : ℕ) (v : List ℕ) (old looked front : D) where
+module _ {D : Type 0} (disk : Disk.Ghosts D) (i n k : ℕ) (v : List ℕ) (old looked front : D) where
   -- the look at the gate, and the front
-  front_leaves : LeavesOnly clock left old looked (MayLeave (device old))
-      → LeavesOnly clock left looked front IsUnformatted
-      → LeavesOnly clock left old front (IsMadeOrLeft i n k v (device old))
+  front_leaves : LeavesOnly disk old looked (MayLeave (disk.device old))
+      → LeavesOnly disk looked front IsUnformatted
+      → LeavesOnly disk old front (IsMadeOrLeft i n k v (disk.device old))
   front_leaves first second =
-      then clock left old looked front _ _ _ first second (λ b was. inl was)
+      then disk old looked front _ _ _ first second (λ b was. inl was)
       (λ b closed. inr (inl closed))
 
 pub returns-in-Err-clause-any_time : goal.returns-in-Err-clause-any_time
 returns-in-Err-clause-any_time g c honest =
-    weaker g.D.Disk.clock g.D.Disk.might_have_left c.args.device.now c.is_unformatted.new.device _ _
+    weaker g.D.Disk c.args.device.now c.is_unformatted.new.device _ _
     (c.is_unformatted.ensures.any_time honest) (λ b left. inl left)
 
 pub returns-in-Err-write_front-clause-honest : goal.returns-in-Err-write_front-clause-honest
@@ -47,7 +48,7 @@ returns-in-Err-write_front-clause-any_time g c honest =
     let synced = c.in-Ok-true.ensures.settled first in
     let closed = still_closed _ _ _ c.in-Ok-true.field-0-test synced
     (c.in-Ok-true.ensures.unformatted first) in
-    front_leaves g.D.Disk.clock g.D.Disk.might_have_left g.D.Disk.device _ _ _ _ _ _ _
+    front_leaves g.D.Disk _ _ _ _ _ _ _
     (c.is_unformatted.ensures.any_time first)
     (c.write_front.ensures.any_time honest synced.settled closed)
 
@@ -77,10 +78,10 @@ returns-clause-any_time g c honest =
     let synced = c.in-Ok-true.ensures.settled first in
     let closed = still_closed _ _ _ c.in-Ok-true.field-0-test synced
     (c.in-Ok-true.ensures.unformatted first) in
-    let front = front_leaves g.D.Disk.clock g.D.Disk.might_have_left g.D.Disk.device c.args.index
+    let front = front_leaves g.D.Disk c.args.index
     c.args.count c.args.number c.args.value.now _ _ _ (c.is_unformatted.ensures.any_time first)
     (c.write_front.ensures.any_time second synced.settled closed) in
-    then g.D.Disk.clock g.D.Disk.might_have_left _ _ _ _ _ _ front
+    then g.D.Disk _ _ _ _ _ _ front
     (c.write_synced.ensures.any_time honest) (λ b p. p)
     (λ b left. inr (gate_leaves c.args.index c.args.count c.args.number c.args.value.now
     c.requires.below c.requires.few c.requires.number c.requires.fits _

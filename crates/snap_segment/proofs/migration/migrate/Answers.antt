@@ -1,5 +1,5 @@
 use Rattle.std.proofs.Common.{◌≡◌, ℕ, List, false, ◌∙◌, rules}
-use Rattle.snap_disk.specs.Device.{LeavesOnly}
+use Rattle.snap_disk.specs.Time.{LeavesOnly}
 use Rattle.snap_slot.specs.States.{IsAtRest}
 use Rattle.snap_segment.specs.Creation.{IsMadeOrLeft, new_file}
 use Rattle.snap_segment.proofs.MigratedFile.{found_same, carried}
@@ -11,8 +11,7 @@ returns-in-Ok-make_file-clause-any_time g c old_honest new_honest k v holds =
     let same = found_same c.args.index c.args.count k v (g.O.Disk.device c.args.old.now).bytes
     c.read_old.new.file found c.in-Ok.ensures.found (c.in-Ok.ensures.given old_honest) holds in
     let value : c.value-value.result.now ≡ v = c.value-value.ensures.value ∙ same.1 in
-    carried (λ (m : ℕ) (x : List ℕ). LeavesOnly g.N.Disk.clock g.N.Disk.might_have_left
-    c.args.new.now c.make_file.new.device
+    carried (λ (m : ℕ) (x : List ℕ). LeavesOnly g.N.Disk c.args.new.now c.make_file.new.device
     (IsMadeOrLeft c.args.index c.args.count m x (g.N.Disk.device c.args.new.now)))
     found.number k c.value-value.result.now v same.0 value (c.make_file.ensures.any_time new_honest)
 
@@ -32,8 +31,7 @@ returns-in-Err-make_file-clause-any_time g c old_honest new_honest k v holds =
     let same = found_same c.args.index c.args.count k v (g.O.Disk.device c.args.old.now).bytes
     c.read_old.new.file found c.in-Ok.ensures.found (c.in-Ok.ensures.given old_honest) holds in
     let value : c.value-value.result.now ≡ v = c.value-value.ensures.value ∙ same.1 in
-    carried (λ (m : ℕ) (x : List ℕ). LeavesOnly g.N.Disk.clock g.N.Disk.might_have_left
-    c.args.new.now c.make_file.new.device
+    carried (λ (m : ℕ) (x : List ℕ). LeavesOnly g.N.Disk c.args.new.now c.make_file.new.device
     (IsMadeOrLeft c.args.index c.args.count m x (g.N.Disk.device c.args.new.now)))
     found.number k c.value-value.result.now v same.0 value (c.make_file.ensures.any_time new_honest)
 

@@ -12,15 +12,15 @@ serve_memory-requires-clause-writers g c = λ κs within. (
     let rs = c.args.store.scanners.items in
     let all = writers_of ws rs c.requires.back in
     let here = subst (λ (r : List Known). AreWriters (table_of r) (plan_of r) ws)
-    (λ i. (sym c.replace-scanners.ensures.value i).items) all in
-    subst (λ (w : List (WriterState _)). AreWriters (table_of c.replace-scanners.result.items)
-    (plan_of c.replace-scanners.result.items) w)
-    (λ i. (sym c.replace-writers.ensures.value i).items) here)
+    (sym c.into_parts-writers.ensures.scanners) all in
+    subst (λ (w : List (WriterState _)). AreWriters (table_of c.into_parts-writers.result.1.items)
+    (plan_of c.into_parts-writers.result.1.items) w)
+    (sym c.into_parts-writers.ensures.writers) here)
 
 pub serve_memory-requires-clause-scanners : goal.serve_memory-requires-clause-scanners
 serve_memory-requires-clause-scanners g c = λ κs within. (
     let ws = c.args.store.writers.items in
     let rs = c.args.store.scanners.items in
     subst (λ (r : List Known). AreScanners (table_of r) (plan_of r) r)
-    (λ i. (sym c.replace-scanners.ensures.value i).items)
+    (sym c.into_parts-writers.ensures.scanners)
     (scanners_of ws rs c.requires.back))

@@ -3,7 +3,7 @@ use Rattle.snap_service.proofs.Told.{told_fits}
 use Rattle.snap_service.proofs.settlement.update.Goals as goal
 
 pub returns-clause-tellable : goal.returns-clause-tellable
-returns-clause-tellable g c = let u = c.update-told.ensures in
+returns-clause-tellable g c = let u = c.update-told.ensures.updated in
     let before = c.number-before.ensures in
     let after = c.number-after.ensures in
     told_fits c.args.writer.now c.update-told.new.self c.args.number c.args.value.now

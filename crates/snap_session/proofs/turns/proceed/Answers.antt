@@ -1,16 +1,62 @@
-use Rattle.std.proofs.Common.{ap, sym, subst, length, ◌≤◌, ◌∙◌, take, [], ◌≡◌, ◌<◌, ℕ, List, Option, Some, true≢false, refl, arith}
+use Rattle.std.proofs.Common.{None, OnSome, inl, inr, ◌⊎◌, ap, sym, subst, length, ◌≤◌, ◌∙◌, take, [], ◌≡◌, ◌<◌, ℕ, List, Option, Some}
+use Rattle.std.proofs.Common.{true≢false, refl, arith}
 use Rattle.std.specs.Io.KnownBytes.{Consumes}
-use Rattle.snap_session.specs.Talk.{most_owed}
-use Rattle.snap_session.specs.Turns.{FewRounds, WholeRounds, most_rounds}
+use Rattle.snap_session.specs.Talk.{Talk, Stays, HoldsFrameAnd, most_owed}
+use Rattle.snap_session.specs.Turns.{Turns, StandsAt, TakesRounds, FewRounds, WholeRounds, most_rounds}
+use Rattle.snap_frame.specs.declared.request.Request.{Request}
+use Rattle.snap_frame.specs.declared.reply.Reply.{Reply}
+use Rattle.snap_session.specs.declared.turns.End.TheVariants.{Closed, Truncated, TooLarge, NoMemory, ReadFailed, WriteFailed}
+use Rattle.snap_session.specs.declared.turns.Turn.{Turn}
+use Rattle.snap_session.specs.declared.turns.Turn.TheVariants.{NeedsInput, NeedsRoom, NeedsOutcome, Over}
 use Rattle.snap_session.proofs.Known.{consumes_none, consumes_kept}
 use Rattle.snap_session.proofs.Held.{holds_sent, holds_answered, holds_taken}
 use Rattle.snap_session.proofs.Rounds.{scene, only_sends, reads_nothing, answers_some, reads_some, one_more, and_last}
 use Rattle.snap_session.proofs.Steps.{taken_asked, taken_owed}
-use Rattle.snap_session.proofs.TurnRuns.{Stood, stood_sent, begins, then_round, then_takes, then_keeps, then_ends, few_left, none_owed}
-use Rattle.snap_session.proofs.TurnRuns.{some_owed, again_apart, input_apart, room_apart, over_apart, blocked_apart, failed_apart}
-use Rattle.snap_session.proofs.TurnRuns.{on_any, on_none, or_new}
+use Rattle.snap_session.proofs.TurnRuns.{Stood, stood_sent, begins, then_round, then_takes, then_ends, few_left, none_owed, some_owed}
+use Rattle.snap_session.proofs.TurnRuns.{again_apart, input_apart, room_apart, over_apart, blocked_apart, failed_apart, on_any, on_none}
+use Rattle.snap_session.proofs.TurnRuns.{or_new}
 use Rattle.snap_session.proofs.turns.proceed.Goals as goal
-use Rattle.snap_session.proofs.turns.proceed.Goals.{After-send_owed, In-Bytes}
+use Rattle.snap_session.proofs.turns.proceed.Goals.{After-send_owed, After-answer}
+
+-- it stands when a read gives nothing
+stood_reads : {S : Type 0} {gives : S → Request → Reply → S → Type 0} {hands_over one : Type 0}
+    {more : ℕ} {s t : S} {old new : Talk} {r0 r1 r2 w0 w1 : Option (List ℕ)}
+    → Stood gives hands_over one more s t old new r0 r1 w0 w1 → Consumes r1 r2 []
+    → Stood gives hands_over one more s t old new r0 r2 w0 w1
+stood_reads {gives = gives} stood read = record {
+  turns = then_ends gives _ _ _ _ _ _ _ _ _ [] stood.turns read refl;
+  bounded = stood.bounded;
+  free = stood.free;
+  under = stood.under;
+  held = stood.held;
+}
+
+-- what a turn that ends so keeps of what stands
+ends : {S : Type 0} {gives : S → Request → Reply → S → Type 0} {hands_over one : Type 0}
+    {more : ℕ} {s t : S} {old new : Talk} {r0 r1 w0 w1 : Option (List ℕ)}
+    → Stood gives hands_over one more s t old new r0 r1 w0 w1 → (turn : Turn)
+    → TakesRounds gives more turn (scene s old r0 w0) (scene t new r1 w1) → StandsAt turn new r1
+    → ((hands_over → ⊥) → old.asked ≡ None → turn ≡ NeedsOutcome → ⊥)
+    → record {
+      goes : Turns Stays gives s t old r0 r1 w0 w1 new;
+      stands : StandsAt turn new r1;
+      bounded : length old.owed ≤ most_owed → length new.owed ≤ most_owed;
+      free : (hands_over → ⊥) → old.asked ≡ None → new.asked ≡ None;
+      outcome : (hands_over → ⊥) → old.asked ≡ None → turn ≡ NeedsOutcome → ⊥;
+      under : old.asked ≡ None → OnSome new.asked one;
+      held : HoldsFrameAnd more old → HoldsFrameAnd more new;
+      rounds : TakesRounds gives more turn (scene s old r0 w0) (scene t new r1 w1);
+    }
+ends stood turn rounds stands outcome = record {
+  goes = stood.turns;
+  stands = stands;
+  bounded = stood.bounded;
+  free = stood.free;
+  outcome = outcome;
+  under = stood.under;
+  held = stood.held;
+  rounds = rounds;
+}
 
 -- what stands once the bytes that are owed are written
 sent_on : (g : _) (c : After-send_owed g) → Stood g.S.Service.gives g.S.Service.hands_over
@@ -29,19 +75,30 @@ sent_on g c = stood_sent g.S.Service.gives _ _ _ _ _ _ _ _ _ _ _ _ _
     })
     c.send_owed.ensures.sends
 
--- and once all that is held is answered
-answered_on : (g : _) (c : In-Bytes g) → Stood g.S.Service.gives g.S.Service.hands_over
+-- and once frames are answered: no request is handed over behind that, or one that may be
+answered_on : (g : _) (c : After-answer g) → (c.answer.new.self.asked ≡ None)
+    ⊎ (c.send_owed.new.session.asked ≡ None
+    → g.S.Service.hands_over × g.S.Service.hands_over_under c.args.key)
+    → Stood g.S.Service.gives g.S.Service.hands_over
     (g.S.Service.hands_over_under c.args.key) (length c.args.piece.now) c.args.service.now
     c.answer.new.service c.args.session.now c.answer.new.self (g.R.Read.remaining c.args.reader.now)
     (g.R.Read.remaining c.loop.reader) (g.W.Write.contents c.args.writer.now)
     (g.W.Write.contents c.send_owed.new.writer)
-answered_on g c = record {
+answered_on g c asked = record {
   turns = then_round g.S.Service.gives _ _ _ _ _ _ _ _ _ _ _ _ c.loop.invariant.turns
       c.send_owed.ensures.sends c.answer.ensures.goes;
   bounded = λ few. c.answer.ensures.bounded
       (few_left _ _ _ c.send_owed.ensures.sends.owed (c.loop.invariant.bounded few));
-  free = λ no at. c.in-Bytes.ensures.wants.1;
-  under = λ none. on_none _ _ c.in-Bytes.ensures.wants.1;
+  free = λ no at. elim asked [
+    | inl none ↦ none
+    | inr handed ↦ absurd (no (handed (c.send_owed.ensures.sends.asked
+        ∙ c.loop.invariant.free no at)).0)
+  ];
+  under = λ free. elim asked [
+    | inl none ↦ on_none _ _ none
+    | inr handed ↦ on_any _ _ (or_new _ _ (c.loop.invariant.under free)
+        (λ none. (handed (c.send_owed.ensures.sends.asked ∙ none)).1))
+  ];
   held = λ small. holds_answered _ c.send_owed.new.session c.answer.new.self
       (sym c.over.ensures ∙ c.in-None.is) c.answer.ensures.held
       (holds_sent _ _ _ _ _ c.send_owed.ensures.sends (c.loop.invariant.held small));
@@ -58,7 +115,7 @@ few_sent g c = and_last g.S.Service.gives _ c.loop.counter _ _ _ (omega arith)
     (only_sends g.S.Service.gives _ _ _ _ _ _ _ c.send_owed.ensures.sends)
 
 -- and where it ends behind a read that gave nothing
-few_read : (g : _) (c : In-Bytes g) (left : Option (List ℕ))
+few_read : (g : _) (c : After-answer g) (left : Option (List ℕ))
     → Consumes (g.R.Read.remaining c.loop.reader) left []
     → FewRounds g.S.Service.gives (length c.args.piece.now)
     (scene c.args.service.now c.args.session.now (g.R.Read.remaining c.args.reader.now)
@@ -83,17 +140,14 @@ loop-init g c = record {
 
 pub loop-preserved-in-Turn : goal.loop-preserved-in-Turn
 loop-preserved-in-Turn g c =
+    let answered = answered_on g (goal.at.loop-preserved-in-Turn g c).After-answer
+    (inl c.in-Turn.ensures.wants.0) in
     record {
-      turns = then_round g.S.Service.gives _ _ _ _ _ _ _ _ _ _ _ _ c.loop.invariant.turns
-          c.send_owed.ensures.sends c.answer.ensures.goes;
-      free = λ no at. c.in-Turn.ensures.wants.0;
-      under = λ none. on_none _ _ c.in-Turn.ensures.wants.0;
-      bounded = λ few. c.answer.ensures.bounded
-          (few_left _ _ _ c.send_owed.ensures.sends.owed (c.loop.invariant.bounded few));
-      held = λ small. holds_answered _ c.send_owed.new.session c.answer.new.self
-          (sym c.over.ensures ∙ c.in-None.is)
-          c.answer.ensures.held
-          (holds_sent _ _ _ _ _ c.send_owed.ensures.sends (c.loop.invariant.held small));
+      turns = answered.turns;
+      free = answered.free;
+      under = answered.under;
+      bounded = answered.bounded;
+      held = answered.held;
       rounds = one_more g.S.Service.gives _ c.loop.counter _ _ _ c.loop.invariant.rounds
           (answers_some g.S.Service.gives _ _ _ _ _ _ _ _ _ c.send_owed.ensures.sends
           c.answer.ensures.few (c.send_owed.ensures.all.0 c.in-All.is)
@@ -102,21 +156,14 @@ loop-preserved-in-Turn g c =
 
 pub loop-preserved-in-Outcome-2 : goal.loop-preserved-in-Outcome-2
 loop-preserved-in-Outcome-2 g c =
+    let answered = answered_on g (goal.at.loop-preserved-in-Outcome-2 g c).After-answer
+    (inr c.in-Outcome-2.ensures.wants.0) in
     record {
-      turns = then_round g.S.Service.gives _ _ _ _ _ _ _ _ _ _ _ _ c.loop.invariant.turns
-          c.send_owed.ensures.sends c.answer.ensures.goes;
-      free =
-          λ no at. absurd (no (c.in-Outcome-2.ensures.wants.0 (c.send_owed.ensures.sends.asked
-          ∙ c.loop.invariant.free no at)).0);
-      under = λ none. on_any _ _ (or_new _ _ (c.loop.invariant.under none)
-          (λ free. (c.in-Outcome-2.ensures.wants.0 (c.send_owed.ensures.sends.asked ∙ free)).1));
-      bounded =
-          λ few. c.answer.ensures.bounded
-          (few_left _ _ _ c.send_owed.ensures.sends.owed (c.loop.invariant.bounded few));
-      held = λ small. holds_answered _ c.send_owed.new.session c.answer.new.self
-          (sym c.over.ensures ∙ c.in-None.is)
-          c.answer.ensures.held
-          (holds_sent _ _ _ _ _ c.send_owed.ensures.sends (c.loop.invariant.held small));
+      turns = answered.turns;
+      free = answered.free;
+      under = answered.under;
+      bounded = answered.bounded;
+      held = answered.held;
       rounds = one_more g.S.Service.gives _ c.loop.counter _ _ _ c.loop.invariant.rounds
           (answers_some g.S.Service.gives _ _ _ _ _ _ _ _ _ c.send_owed.ensures.sends
           c.answer.ensures.few (c.send_owed.ensures.all.0 c.in-All.is)
@@ -125,7 +172,8 @@ loop-preserved-in-Outcome-2 g c =
 
 pub loop-preserved-then-not-is_empty : goal.loop-preserved-then-not-is_empty
 loop-preserved-then-not-is_empty g c =
-    let answered = answered_on g (goal.at.loop-preserved-then-not-is_empty g c).In-Bytes in
+    let answered = answered_on g (goal.at.loop-preserved-then-not-is_empty g c).After-answer
+    (inl c.in-Bytes.ensures.wants.1) in
     record {
       turns = answered.turns;
       free = answered.free;
@@ -141,7 +189,8 @@ loop-preserved-then-not-is_empty g c =
 
 pub loop-preserved : goal.loop-preserved
 loop-preserved g c =
-    let answered = answered_on g (goal.at.loop-preserved g c).In-Bytes in
+    let answered = answered_on g (goal.at.loop-preserved g c).After-answer
+    (inl c.in-Bytes.ensures.wants.1) in
     let piece = take c.in-Ok.n c.read.new.buf in
     let many : length piece ≡ c.in-Ok.n = sym c.in-Ok.ensures.bound.1 in
     let some : 0 < length piece = omega (arith, many, c.in-Ok.n-test.1) in
@@ -169,189 +218,112 @@ loop-preserved g c =
 
 pub returns-in-Blocked : goal.returns-in-Blocked
 returns-in-Blocked g c =
-    let sent = sent_on g (goal.at.returns-in-Blocked g c).After-send_owed in
-    record {
-      goes = sent.turns;
-      stands = λ empty. blocked_apart (sym c.in-Blocked.is ∙ c.send_owed.ensures.all.1 empty);
-      bounded = sent.bounded;
-      free = sent.free;
-      outcome = λ no at. room_apart;
-      under = sent.under;
-      held = sent.held;
-      rounds = few_sent g ((goal.at.returns-in-Blocked g c).After-send_owed);
-    }
+    let at = (goal.at.returns-in-Blocked g c).After-send_owed in
+    ends (sent_on g at) NeedsRoom (few_sent g at)
+    (λ empty. blocked_apart (sym c.in-Blocked.is ∙ c.send_owed.ensures.all.1 empty))
+    (λ no at. room_apart)
 
 pub returns-in-Failed : goal.returns-in-Failed
 returns-in-Failed g c =
-    let sent = sent_on g (goal.at.returns-in-Failed g c).After-send_owed in
-    record {
-      goes = sent.turns;
-      stands = λ empty. failed_apart (sym c.in-Failed.is ∙ c.send_owed.ensures.all.1 empty);
-      bounded = sent.bounded;
-      free = sent.free;
-      outcome = λ no at. over_apart _;
-      under = sent.under;
-      held = sent.held;
-      rounds = few_sent g ((goal.at.returns-in-Failed g c).After-send_owed);
-    }
+    let at = (goal.at.returns-in-Failed g c).After-send_owed in
+    ends (sent_on g at) (Over WriteFailed) (few_sent g at)
+    (λ empty. failed_apart (sym c.in-Failed.is ∙ c.send_owed.ensures.all.1 empty))
+    (λ no at. over_apart _)
 
 pub returns-in-Some-TooLarge : goal.returns-in-Some-TooLarge
 returns-in-Some-TooLarge g c =
-    let sent = sent_on g (goal.at.returns-in-Some-TooLarge g c).After-send_owed in
-    record {
-      goes = sent.turns;
-      stands = (
-        sym c.over.ensures ∙ c.in-Some-TooLarge.is ∙ ap Some c.in-Some-TooLarge.field-0-is,
-        c.send_owed.ensures.all.0 c.in-All.is,
-      );
-      bounded = sent.bounded;
-      free = sent.free;
-      outcome = λ no at. over_apart _;
-      under = sent.under;
-      held = sent.held;
-      rounds = few_sent g ((goal.at.returns-in-Some-TooLarge g c).After-send_owed);
-    }
+    let at = (goal.at.returns-in-Some-TooLarge g c).After-send_owed in
+    ends (sent_on g at) (Over TooLarge) (few_sent g at) (
+      sym c.over.ensures ∙ c.in-Some-TooLarge.is ∙ ap Some c.in-Some-TooLarge.field-0-is,
+      c.send_owed.ensures.all.0 c.in-All.is,
+    )
+    (λ no at. over_apart _)
 
 pub returns-in-Some-NoMemory : goal.returns-in-Some-NoMemory
 returns-in-Some-NoMemory g c =
-    let sent = sent_on g (goal.at.returns-in-Some-NoMemory g c).After-send_owed in
-    record {
-      goes = sent.turns;
-      stands = (
-        sym c.over.ensures ∙ c.in-Some-NoMemory.is ∙ ap Some c.in-Some-NoMemory.field-0-is,
-        c.send_owed.ensures.all.0 c.in-All.is,
-      );
-      bounded = sent.bounded;
-      free = sent.free;
-      outcome = λ no at. over_apart _;
-      under = sent.under;
-      held = sent.held;
-      rounds = few_sent g ((goal.at.returns-in-Some-NoMemory g c).After-send_owed);
-    }
+    let at = (goal.at.returns-in-Some-NoMemory g c).After-send_owed in
+    ends (sent_on g at) (Over NoMemory) (few_sent g at) (
+      sym c.over.ensures ∙ c.in-Some-NoMemory.is ∙ ap Some c.in-Some-NoMemory.field-0-is,
+      c.send_owed.ensures.all.0 c.in-All.is,
+    )
+    (λ no at. over_apart _)
 
 pub returns-in-Outcome : goal.returns-in-Outcome
-returns-in-Outcome g c = record {
-  goes = then_round g.S.Service.gives _ _ _ _ _ _ _ _ _ _ _ _ c.loop.invariant.turns
-      c.send_owed.ensures.sends c.answer.ensures.goes;
-  stands = (
-    c.in-Outcome.ensures.wants.1,
-    none_owed _ _ _ c.if-is_empty.true c.is_empty.ensures c.owed.ensures,
-    c.in-Outcome.ensures.wants.2,
-  );
-  bounded = λ few. c.answer.ensures.bounded
-      (few_left _ _ _ c.send_owed.ensures.sends.owed (c.loop.invariant.bounded few));
-  free = λ no at. absurd (no (c.in-Outcome.ensures.wants.0 (c.send_owed.ensures.sends.asked
-      ∙ c.loop.invariant.free no at)).0);
-  outcome = λ no at same. no (c.in-Outcome.ensures.wants.0 (c.send_owed.ensures.sends.asked
-      ∙ c.loop.invariant.free no at)).0;
-  under = λ none. on_any _ _ (or_new _ _ (c.loop.invariant.under none)
-      (λ free. (c.in-Outcome.ensures.wants.0 (c.send_owed.ensures.sends.asked ∙ free)).1));
-  held = λ small. holds_answered _ c.send_owed.new.session c.answer.new.self
-      (sym c.over.ensures ∙ c.in-None.is) c.answer.ensures.held
-      (holds_sent _ _ _ _ _ c.send_owed.ensures.sends (c.loop.invariant.held small));
-  rounds = and_last g.S.Service.gives _ c.loop.counter _ _ _ (omega arith) c.loop.invariant.rounds
-      (reads_nothing g.S.Service.gives _ _ _ _ _ _ _ _ _ _ c.send_owed.ensures.sends
-      c.answer.ensures.few (consumes_none _));
-}
+returns-in-Outcome g c =
+    let at = (goal.at.returns-in-Outcome g c).After-answer in
+    let handed = c.in-Outcome.ensures.wants.0 in
+    ends (answered_on g at (inr handed)) NeedsOutcome (few_read g at _ (consumes_none _)) (
+      c.in-Outcome.ensures.wants.1,
+      none_owed _ _ _ c.if-is_empty.true c.is_empty.ensures c.owed.ensures,
+      c.in-Outcome.ensures.wants.2,
+    )
+    (λ no at same. no (handed (c.send_owed.ensures.sends.asked ∙ c.loop.invariant.free no at)).0)
 
 pub returns-in-Ok-eq0 : goal.returns-in-Ok-eq0
 returns-in-Ok-eq0 g c =
-    let answered = answered_on g (goal.at.returns-in-Ok-eq0 g c).In-Bytes in
+    let at = (goal.at.returns-in-Ok-eq0 g c).After-answer in
     let read = rw c.in-Ok-eq0.is at c.read.ensures.bytes in
     let none : take c.in-Ok-eq0.field-0 c.read.new.buf ≡ [] =
     ap (λ k. take k c.read.new.buf) c.in-Ok-eq0.field-0-test in
-    record {
-      goes = then_ends g.S.Service.gives _ _ _ _ _ _ _ _ _ _
-          answered.turns read.0 none;
-      stands = (
-        c.in-Bytes.ensures.wants.0,
-        none_owed _ _ _ c.if-not-is_empty.false c.is_empty-in-loop.ensures c.owed-in-loop.ensures,
-        c.in-Bytes.ensures.wants.1,
-        (c.is_between.ensures.0 c.if-is_between.true).1,
-        read.1 c.in-Ok-eq0.field-0-test (subst (λ n. 0 < n)
-            (sym (c.read.auto.buf ∙ c.loop.auto.piece)) c.requires),
-      );
-      bounded = answered.bounded;
-      free = answered.free;
-      outcome = λ no at. over_apart _;
-      under = answered.under;
-      held = answered.held;
-      rounds = few_read g ((goal.at.returns-in-Ok-eq0 g c).In-Bytes) _
-          (subst (Consumes _ _) none read.0);
-    }
+    let nothing = subst (Consumes _ _) none read.0 in
+    ends (stood_reads (answered_on g at (inl c.in-Bytes.ensures.wants.1)) nothing) (Over Closed)
+    (few_read g at _ nothing) (
+      c.in-Bytes.ensures.wants.0,
+      none_owed _ _ _ c.if-not-is_empty.false c.is_empty-in-loop.ensures c.owed-in-loop.ensures,
+      c.in-Bytes.ensures.wants.1,
+      (c.is_between.ensures.0 c.if-is_between.true).1,
+      read.1 c.in-Ok-eq0.field-0-test (subst (λ n. 0 < n)
+          (sym (c.read.auto.buf ∙ c.loop.auto.piece)) c.requires),
+    )
+    (λ no at. over_apart _)
 
 pub returns-in-Ok-eq0-2 : goal.returns-in-Ok-eq0-2
 returns-in-Ok-eq0-2 g c =
-    let answered = answered_on g (goal.at.returns-in-Ok-eq0-2 g c).In-Bytes in
+    let at = (goal.at.returns-in-Ok-eq0-2 g c).After-answer in
     let read = rw c.in-Ok-eq0-2.is at c.read.ensures.bytes in
     let zero = sym c.in-Ok-eq0-2.field-0-is ∙ c.in-Ok-eq0.field-0-test in
     let none : take c.in-Ok-eq0-2.field-0 c.read.new.buf ≡ [] = ap (λ k. take k c.read.new.buf) zero
     in
-    record {
-      goes = then_ends g.S.Service.gives _ _ _ _ _ _ _ _ _ _
-          answered.turns read.0 none;
-      stands = (
-        (
-          c.in-Bytes.ensures.wants.0,
-          none_owed _ _ _ c.if-not-is_empty.false c.is_empty-in-loop.ensures c.owed-in-loop.ensures,
-          c.in-Bytes.ensures.wants.1,
-          c.in-Bytes.ensures.wants.2,
-        ),
-        λ empty. true≢false
-            (sym (c.is_between.ensures.1 (c.in-Bytes.ensures.wants.0, empty)) ∙
-            c.if-is_between.false),
-        read.1 zero (subst (λ n. 0 < n) (sym (c.read.auto.buf ∙ c.loop.auto.piece)) c.requires),
-      );
-      bounded = answered.bounded;
-      free = answered.free;
-      outcome = λ no at. over_apart _;
-      under = answered.under;
-      held = answered.held;
-      rounds = few_read g ((goal.at.returns-in-Ok-eq0-2 g c).In-Bytes) _
-          (subst (Consumes _ _) none read.0);
-    }
+    let nothing = subst (Consumes _ _) none read.0 in
+    ends (stood_reads (answered_on g at (inl c.in-Bytes.ensures.wants.1)) nothing) (Over Truncated)
+    (few_read g at _ nothing) (
+      (
+        c.in-Bytes.ensures.wants.0,
+        none_owed _ _ _ c.if-not-is_empty.false c.is_empty-in-loop.ensures c.owed-in-loop.ensures,
+        c.in-Bytes.ensures.wants.1,
+        c.in-Bytes.ensures.wants.2,
+      ),
+      λ empty. true≢false (sym (c.is_between.ensures.1 (c.in-Bytes.ensures.wants.0, empty))
+          ∙ c.if-is_between.false),
+      read.1 zero (subst (λ n. 0 < n) (sym (c.read.auto.buf ∙ c.loop.auto.piece)) c.requires),
+    )
+    (λ no at. over_apart _)
 
 pub returns-in-Err : goal.returns-in-Err
 returns-in-Err g c =
-    let answered = answered_on g (goal.at.returns-in-Err g c).In-Bytes in
-    record {
-      goes = then_keeps g.S.Service.gives _ _ _ _ _ _ _ _ _
-          answered.turns c.in-Err.ensures.bytes;
-      stands = (
-        c.in-Bytes.ensures.wants.0,
-        none_owed _ _ _ c.if-not-is_empty.false c.is_empty-in-loop.ensures c.owed-in-loop.ensures,
-        c.in-Bytes.ensures.wants.1,
-        c.in-Bytes.ensures.wants.2,
-      );
-      bounded = answered.bounded;
-      free = answered.free;
-      outcome = λ no at. input_apart;
-      under = answered.under;
-      held = answered.held;
-      rounds = few_read g ((goal.at.returns-in-Err g c).In-Bytes) _
-          (consumes_kept _ _ _ [] (consumes_none _) c.in-Err.ensures.bytes);
-    }
+    let at = (goal.at.returns-in-Err g c).After-answer in
+    let nothing = consumes_kept _ _ _ [] (consumes_none _) c.in-Err.ensures.bytes in
+    ends (stood_reads (answered_on g at (inl c.in-Bytes.ensures.wants.1)) nothing) NeedsInput
+    (few_read g at _ nothing) (
+      c.in-Bytes.ensures.wants.0,
+      none_owed _ _ _ c.if-not-is_empty.false c.is_empty-in-loop.ensures c.owed-in-loop.ensures,
+      c.in-Bytes.ensures.wants.1,
+      c.in-Bytes.ensures.wants.2,
+    )
+    (λ no at. input_apart)
 
 pub returns-in-Err-2 : goal.returns-in-Err-2
 returns-in-Err-2 g c =
-    let answered = answered_on g (goal.at.returns-in-Err-2 g c).In-Bytes in
-    record {
-      goes = then_keeps g.S.Service.gives _ _ _ _ _ _ _ _ _
-          answered.turns c.in-Err-2.ensures.bytes;
-      stands = (
-        c.in-Bytes.ensures.wants.0,
-        none_owed _ _ _ c.if-not-is_empty.false c.is_empty-in-loop.ensures c.owed-in-loop.ensures,
-        c.in-Bytes.ensures.wants.1,
-        c.in-Bytes.ensures.wants.2,
-      );
-      bounded = answered.bounded;
-      free = answered.free;
-      outcome = λ no at. over_apart _;
-      under = answered.under;
-      held = answered.held;
-      rounds = few_read g ((goal.at.returns-in-Err-2 g c).In-Bytes) _
-          (consumes_kept _ _ _ [] (consumes_none _) c.in-Err-2.ensures.bytes);
-    }
+    let at = (goal.at.returns-in-Err-2 g c).After-answer in
+    let nothing = consumes_kept _ _ _ [] (consumes_none _) c.in-Err-2.ensures.bytes in
+    ends (stood_reads (answered_on g at (inl c.in-Bytes.ensures.wants.1)) nothing) (Over ReadFailed)
+    (few_read g at _ nothing) (
+      c.in-Bytes.ensures.wants.0,
+      none_owed _ _ _ c.if-not-is_empty.false c.is_empty-in-loop.ensures c.owed-in-loop.ensures,
+      c.in-Bytes.ensures.wants.1,
+      c.in-Bytes.ensures.wants.2,
+    )
+    (λ no at. over_apart _)
 
 pub returns : goal.returns
 returns g c = record {

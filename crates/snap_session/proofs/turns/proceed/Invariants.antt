@@ -10,9 +10,11 @@ invariant-loop g l = record {
       (g.R.Read.remaining l.fn.reader) (g.R.Read.remaining l.reader)
       (g.W.Write.contents l.fn.writer) (g.W.Write.contents l.writer) l.session;
   free : (g.S.Service.hands_over → ⊥) → l.fn.session.asked ≡ None → l.session.asked ≡ None;
-  under : l.fn.session.asked ≡ None → OnSome l.session.asked (g.S.Service.hands_over_under l.fn.key);
+  under : l.fn.session.asked ≡ None
+      → OnSome l.session.asked (g.S.Service.hands_over_under l.fn.key);
   bounded : length l.fn.session.owed ≤ most_owed → length l.session.owed ≤ most_owed;
-  held : HoldsFrameAnd (length l.fn.piece) l.fn.session → HoldsFrameAnd (length l.fn.piece) l.session;
+  held : HoldsFrameAnd (length l.fn.piece) l.fn.session
+      → HoldsFrameAnd (length l.fn.piece) l.session;
   rounds : WholeRounds g.S.Service.gives (length l.fn.piece) l.counter
       (scene l.fn.service l.fn.session (g.R.Read.remaining l.fn.reader)
       (g.W.Write.contents l.fn.writer))

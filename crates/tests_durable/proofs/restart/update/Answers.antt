@@ -11,5 +11,5 @@ returns g c =
     slice_get_read ws (length ws) 0 x refl c.requires.back.some c.index_mut.ensures.value in
     record {
       back = back_updated ws c.args.store.now.scanners.items 0 x c.update.new.self c.requires.back
-          at c.update.ensures.same_seat;
+          at c.update.ensures.updated.same_seat;
     }

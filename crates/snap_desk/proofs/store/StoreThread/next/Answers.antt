@@ -36,8 +36,7 @@ returns-clause-stored g c =
     let came = c.store.result.outcome in
     let taken = c.in_ok-writer.ensures.taken in
     let P : Store _ → Type 0 = λ s. IsTaken s w in
-    let Q : Job → Type 0 = λ job. IsUpdated g.D.Disk.device g.D.Disk.failure_count
-    g.D.Disk.is_honest g.D.Disk.clock g.D.Disk.might_have_left w came.writer job.number job.value
+    let Q : Job → Type 0 = λ job. IsUpdated g.D.Disk w came.writer job.number job.value
     came.told in
     let updated = subst Q (sym c.store.ensures.job) c.store.ensures.updated in
     let same_queue : c.self-2.inside.queue ≡ c.wait.new.self =

@@ -1,12 +1,13 @@
 use Rattle.std.proofs.Common.{◌≡◌, ℕ, ◌+◌, ◌*◌, ◌<◌, subst, sym}
 use Rattle.snap_register.specs.Rule.{cell}
+use Rattle.snap_register.specs.Steps.{view_of}
 use Rattle.snap_register.proofs.Places.{cell_inside}
 use Rattle.snap_register.proofs.access.Access.cell.Goals as goal
 
 pub returns : goal.returns
 returns c =
     let me = c.args.self.now in
-    let p = me.seat.me.0.plan in
+    let p = (view_of me).plan in
     let q : ℕ = c.args.q in
     let is : me.segments + (me.segments * c.buffers-buffers.result
     + ((c.args.i * c.buffers-buffers.result + c.args.b) * c.width-width.result + q))

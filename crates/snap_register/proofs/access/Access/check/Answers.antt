@@ -7,6 +7,7 @@ use Rattle.snap_register.specs.declared.plan.Pool.{Pool}
 use Rattle.snap_register.specs.declared.plan.SeatView.{SeatView}
 use Rattle.snap_register.specs.Rule.{buffers, given, next_other}
 use Rattle.snap_register.specs.Setup.{IsSized, IsSeated}
+use Rattle.snap_register.specs.Steps.{view_of, pool_of}
 use Rattle.snap_register.proofs.Pools.{checks}
 use Rattle.snap_register.proofs.Later.{seated_pool}
 use Rattle.snap_register.proofs.access.Access.check.Goals as goal
@@ -18,9 +19,9 @@ load-found-requires c =
       own,
       subst (λ (t : TableId). c.given-at.result < t.words) own c.given-at.ensures.1,
       checks (Unit {0}) _ _ _ me.seat.me c.args.i _ me.seated.here c.requires.own.0 c.requires.own.1
-          (subst (λ (z : ℕ). z < buffers me.seat.me.0.plan) c.requires.buffer.0 c.requires.buffer.1)
+          (subst (λ (z : ℕ). z < buffers (view_of me).plan) c.requires.buffer.0 c.requires.buffer.1)
           (c.given-at.ensures.0 ∙ ap (λ (z : ℕ).
-          given me.seat.me.0.plan c.args.i z) c.requires.buffer.0),
+          given (view_of me).plan c.args.i z) c.requires.buffer.0),
     )
 
 pub invariant_of-self : goal.invariant_of-self
@@ -28,7 +29,7 @@ invariant_of-self c =
     let me = c.args.self.now in
     let step = c.load-found.ensures in
     let after = c.load-found.new.seat in
-    let mine : (d : Pool) → after.me ≡ (record me.seat.me.0 { pool = d }, me.seat.me.1)
+    let mine : (d : Pool) → after.me ≡ (record (view_of me) { pool = d }, me.seat.me.1)
     → IsSized me.segments me.scanners me.block_words me.words after.me.0.plan
     × IsSeated {S = Unit {0}} after.table_id.words me.pins me.left after.me = λ d is. (
       subst (λ (m : Me (Unit {0}) SeatView).
@@ -37,6 +38,6 @@ invariant_of-self c =
           (ap (λ (t : TableId). t.words) step.0) is me.seated,
     ) in
     let both = dite (ℕ_discrete c.load-found.result
-    (get_or me.seat.me.0.pool.counted (next_other me.seat.me.0.pool) 0)) (λ same.
+    (get_or (pool_of me).counted (next_other (pool_of me)) 0)) (λ same.
     mine _ (step.2.0 same)) (λ differs. mine _ (step.2.1 differs).0) in
     record { own = step.0 ∙ me.own; sized = both.0; seated = both.1 }

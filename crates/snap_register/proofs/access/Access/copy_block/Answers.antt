@@ -1,11 +1,12 @@
-use Rattle.std.proofs.Common.{◌≡◌, ℕ, ◌+◌, ◌<◌, ◌≤◌, ◌++◌, ◌∷◌, [], List, length, get_or, refl, ap, sym, subst, ◌∙◌, arith, append_assoc}
+use Rattle.std.proofs.Common.{◌≡◌, ℕ, ◌+◌, ◌<◌, ◌≤◌, ◌++◌, ◌∷◌, [], List, length, get_or, refl, ap, sym, subst, ◌∙◌, arith}
+use Rattle.std.proofs.Common.{append_assoc}
 use Rattle.atomic_table.specs.Table.{Me}
 use Rattle.snap_register.specs.declared.plan.SeatView.{SeatView}
 use Rattle.snap_register.specs.Held.{held}
 use Rattle.snap_register.specs.Words.{piece, size_at}
 use Rattle.snap_register.specs.Rule.{width}
 use Rattle.snap_register.proofs.Blocks.{piece_more, piece_length}
-use Rattle.snap_register.specs.Steps.{LiesAt, IsNext}
+use Rattle.snap_register.specs.Steps.{view_of, LiesAt, IsNext}
 use Rattle.snap_register.proofs.Drafts.{DraftedBy}
 use Rattle.snap_register.proofs.Spots.{lies_more, next_more}
 use Rattle.snap_register.proofs.access.Access.copy_block.Goals as goal
@@ -13,7 +14,7 @@ use Rattle.snap_register.proofs.access.Access.copy_block.Goals.{In-loop-q}
 
 -- where the next word of the block lies
 lies : (c : In-loop-q)
-    → LiesAt c.loop-q.self.seat.me.0 c.args.j (c.args.from + c.loop-q.q)
+    → LiesAt (view_of c.loop-q.self) c.args.j (c.args.from + c.loop-q.q)
     (c.place-source.result + c.loop-q.q)
 lies c =
     let a = c.args.self.now.seat.me in
@@ -32,7 +33,7 @@ lies c =
     (lies_more a.0 c.args.j from q (from + q) first (first + q) c.place-source.ensures.place lt'
     refl refl) in
     subst (λ (m : Me (Unit {0}) SeatView). LiesAt m.0 c.args.j (from + q) (first + q))
-    (sym c.loop-q.invariant.me)
+    (sym c.loop-q.invariant.same.3)
     (record { pinned = here.pinned; inside = here.inside; is = here.is })
 
 pub load-word-requires : goal.load-word-requires
@@ -49,7 +50,7 @@ draft-requires c =
     let a = c.args.self.now.seat.me in
     let q : ℕ = c.loop-q.q in
     let target : ℕ = c.cell-target.result in
-    let now = c.load-word.ensures.same.2 ∙ c.loop-q.invariant.me in
+    let now = c.load-word.ensures.same.2 ∙ c.loop-q.invariant.same.3 in
     let small = c.size_at-count.ensures.size.1 in
     let lt = c.loop-q-test.true in
     let wide : ℕ = width a.0.plan in
@@ -83,20 +84,22 @@ loop-q-preserved c =
     let x : ℕ = c.load-word.result in
     let step = c.draft.ensures in
     let same = c.load-word.ensures.same in
-    let now : DraftedBy (Unit {0}) a (d ++ p) c.load-word.new.self.seat.me = same.2 ∙ inv.me in
+    let now : DraftedBy (Unit {0}) a (d ++ p) c.load-word.new.self.seat.me = same.2 ∙ inv.same.3 in
     let word : x ≡ get_or w (c.args.from + q) 0 =
     c.load-word.ensures.word c.args.j (c.args.from + q)
     (lies (goal.at.loop-q-preserved c).In-loop-q)
     ∙ ap (λ (m : Me (Unit {0}) SeatView).
-    get_or (held m.0 c.args.j) (c.args.from + q) 0) inv.me in
+    get_or (held m.0 c.args.j) (c.args.from + q) 0) inv.same.3 in
     let more : (d ++ p) ++ x ∷ [] ≡ d ++ piece w c.args.from (q + 1) =
     append_assoc d p (x ∷ []) ∙ ap (λ (l : List ℕ). d ++ l) (ap (λ (z : ℕ). p ++ z ∷ []) word
     ∙ sym (piece_more w c.args.from q)) in
     record {
-      table = step.1 ∙ (same.0 ∙ inv.table);
-      id = step.2 ∙ (same.1 ∙ inv.id);
-      me = step.3 ∙ (ap (λ (m : Me (Unit {0}) SeatView).
-          (record m.0 { pool = record m.0.pool { draft = m.0.pool.draft ++ x ∷ [] } }, m.1)) now
-          ∙ ap (λ (l : List ℕ). (record a.0 { pool = record a.0.pool { draft = l } }, a.1)) more);
-      left = step.0 ∙ (same.3 ∙ inv.left);
+      same = (
+        step.0 ∙ (same.3 ∙ inv.same.0),
+        step.1 ∙ (same.0 ∙ inv.same.1),
+        step.2 ∙ (same.1 ∙ inv.same.2),
+        step.3 ∙ (ap (λ (m : Me (Unit {0}) SeatView).
+            (record m.0 { pool = record m.0.pool { draft = m.0.pool.draft ++ x ∷ [] } }, m.1)) now
+            ∙ ap (λ (l : List ℕ). (record a.0 { pool = record a.0.pool { draft = l } }, a.1)) more),
+      );
     }

@@ -1,47 +1,45 @@
-use Rattle.std.proofs.Common.{◌≡◌, ℕ, ◌+◌, ◌*◌, ◌^◌, ◌<◌, ◌≤◌, ◌++◌, List, length, get_or, ap, sym, subst, ◌∙◌, arith, length-append}
+use Rattle.std.proofs.Common.{◌≡◌, ℕ, ◌+◌, ◌^◌, ◌<◌, ◌≤◌, ◌++◌, List, length, ap, sym, subst, ◌∙◌, arith, length-append}
 use Rattle.atomic_table.specs.Table.{Me}
 use Rattle.snap_register.specs.declared.plan.SeatView.{SeatView}
 use Rattle.snap_register.specs.declared.view.View.TheVariants.{Borrowed}
-use Rattle.snap_register.specs.Rule.{segments, width}
+use Rattle.snap_register.specs.Rule.{segments}
 use Rattle.snap_register.specs.Held.{held, taken, view_in}
 use Rattle.snap_register.specs.Words.{IsWhole, AreBlocks, piece, size_at, block_at, behind}
+use Rattle.snap_register.specs.Steps.{view_of}
 use Rattle.snap_register.proofs.Blocks.{blocks_push, piece_length, behind_more}
 use Rattle.snap_register.proofs.Lines.{prefix_trans}
-use Rattle.snap_register.proofs.Views.{viewed, width_is}
+use Rattle.snap_register.proofs.Views.{view_whole, held_small}
 use Rattle.snap_register.proofs.Drafts.{drafted, drafted_then, draft_is, held_drafted}
 use Rattle.snap_register.proofs.access.Access.copy_borrowed.Goals as goal
 use Rattle.snap_register.proofs.access.Access.copy_borrowed.Goals.{In-loop}
 
 -- the words read are those of the record that the seat pins
-words_are : (c : In-loop) → held c.loop.self.seat.me.0 c.args.j
-    ≡ held c.args.self.now.seat.me.0 c.args.j
+words_are : (c : In-loop) → held (view_of c.loop.self) c.args.j
+    ≡ held (view_of c.args.self.now) c.args.j
 words_are c = held_drafted (Unit {0}) c.size_at-from.new.self.seat.me c.loop.self.seat.me c.args.j
-    c.loop.invariant.me ∙ ap (λ (m : Me (Unit {0}) SeatView).
+    c.loop.invariant.same.3 ∙ ap (λ (m : Me (Unit {0}) SeatView).
     held m.0 c.args.j) c.size_at-from.ensures.same.2
 
 from_is : (c : In-loop) → c.loop.from
-    ≡ behind (held c.args.self.now.seat.me.0 c.args.j)
-    (size_at (held c.args.self.now.seat.me.0 c.args.j) 0) c.loop.counter
+    ≡ behind (held (view_of c.args.self.now) c.args.j)
+    (size_at (held (view_of c.args.self.now) c.args.j) 0) c.loop.counter
 from_is c = c.loop.invariant.from
     ∙ ap (λ (m : Me (Unit {0}) SeatView).
     behind (held m.0 c.args.j) (size_at (held m.0 c.args.j) 0) c.loop.counter)
     c.size_at-from.ensures.same.2
 
-whole : (c : In-loop) → IsWhole (held c.loop.self.seat.me.0 c.args.j) c.loop.from
+whole : (c : In-loop) → IsWhole (held (view_of c.loop.self) c.args.j) c.loop.from
 whole c =
     let a = c.args.self.now in
     let can = c.requires.pinned in
-    let u = viewed a.seat.me.0.plan a.seat.me.0.seen c.args.j
-    (get_or a.seat.me.0.records c.args.j 0) c.size_at-from.ensures.legal can.2
-    (a.seated.records_are c.args.j can.0) in
     let init = c.size_at-from.new.self in
-    let lt : c.loop.counter < segments init.seat.me.0.plan =
+    let lt : c.loop.counter < segments (view_of init).plan =
     subst (λ (z : ℕ). c.loop.counter < z) init.sized.segments_are c.loop-test.true in
-    let lt' : c.loop.counter < segments a.seat.me.0.plan =
+    let lt' : c.loop.counter < segments (view_of a).plan =
     subst (λ (m : Me (Unit {0}) SeatView).
     c.loop.counter < segments m.0.plan) c.size_at-from.ensures.same.2 lt in
     subst (λ (x : List ℕ × ℕ). IsWhole x.0 x.1) (λ t. (sym (words_are c) t, sym (from_is c) t))
-    (u.view.each c.loop.counter lt').whole
+    (view_whole a c.args.j c.loop.counter c.size_at-from.ensures.legal can.2 can.0 lt')
 
 pub copy_block-count-requires-clause-block : goal.copy_block-count-requires-clause-block
 copy_block-count-requires-clause-block c =
@@ -49,19 +47,12 @@ copy_block-count-requires-clause-block c =
 
 pub overflow_add-from : goal.overflow_add-from
 overflow_add-from c =
-    let a = c.args.self.now in
-    let w = whole (goal.at.overflow_add-from c).In-loop in
-    let inside : c.loop.from + size_at (held c.loop.self.seat.me.0 c.args.j) c.loop.from
-    ≤ length (held c.loop.self.seat.me.0 c.args.j) = w.inside in
-    let same : length (held c.loop.self.seat.me.0 c.args.j) ≡ length (held a.seat.me.0 c.args.j) =
-    ap length (words_are (goal.at.overflow_add-from c).In-loop) in
-    let fits = (a.seated.readable c.args.j c.requires.pinned.0).fits in
-    let wide = width_is a.seat.me.0.plan a.sized.block_words_is in
-    let x : ℕ = width a.seat.me.0.plan in
-    let fits' : length (held a.seat.me.0 c.args.j) ≤ x = fits in
-    let wide' : x ≡ 512 + segments a.seat.me.0.plan * 512 = wide in
-    let few = a.sized.few in
-    let n = a.sized.segments_are in
+    let e = (goal.at.overflow_add-from c).In-loop in
+    let w : List ℕ = held (view_of c.loop.self) c.args.j in
+    let inside : c.loop.from + size_at w c.loop.from ≤ length w = (whole e).inside in
+    let same : length w ≡ length (held (view_of c.args.self.now) c.args.j) =
+    ap length (words_are e) in
+    let few = held_small c.args.self.now c.args.j c.requires.pinned.0 in
     let small = c.copy_block-count.ensures.size.1 in
     let small_sum : c.loop.from + c.copy_block-count.result < 2 ^ 64 = omega arith in
     omega (arith, small_sum)
@@ -80,9 +71,9 @@ loop-preserved c =
     let size : ℕ = c.copy_block-count.result in
     let p : List ℕ = piece (held m.0 j) from size in
     let step = c.copy_block-count.ensures.same in
-    let by = drafted_then (Unit {0}) a m n (d ++ p) inv.me step.3 in
+    let by = drafted_then (Unit {0}) a m n (d ++ p) inv.same.3 step.3 in
     let new : n.0.pool.draft ≡ d ++ p = draft_is (Unit {0}) a n (d ++ p) by in
-    let same : held m.0 j ≡ held a.0 j = held_drafted (Unit {0}) a m j inv.me in
+    let same : held m.0 j ≡ held a.0 j = held_drafted (Unit {0}) a m j inv.same.3 in
     let long : length n.0.pool.draft ≡ length d + length p = ap length new ∙ length-append d p in
     let lp : length p ≡ size = piece_length (held m.0 j) from size in
     let to = inv.to in
@@ -103,10 +94,12 @@ loop-preserved c =
     exact ∙ (λ t. size_at (same t) (inv.from t)) in
     let at = inv.from in
     record {
-      table = step.1 ∙ inv.table;
-      id = step.2 ∙ inv.id;
-      me = drafted (Unit {0}) a n (d ++ p) by;
-      left = step.0 ∙ inv.left;
+      same = (
+        step.0 ∙ inv.same.0,
+        step.1 ∙ inv.same.1,
+        step.2 ∙ inv.same.2,
+        drafted (Unit {0}) a n (d ++ p) by,
+      );
       to = omega arith;
       small = omega arith;
       prefix = prefix_trans a.0.pool.draft d n.0.pool.draft inv.prefix (p, sym new);

@@ -22,10 +22,10 @@ loop-k-preserved c =
     let size : ℕ = c.copy_block-to.result in
     let p : List ℕ = piece (held m.0 k) 0 size in
     let step = c.copy_block-to.ensures.same in
-    let by = drafted_then (Unit {0}) a m n (d ++ p) inv.me step.3 in
+    let by = drafted_then (Unit {0}) a m n (d ++ p) inv.same.3 step.3 in
     let new : n.0.pool.draft ≡ d ++ p = draft_is (Unit {0}) a n (d ++ p) by in
-    let same : held m.0 k ≡ held a.0 k = held_drafted (Unit {0}) a m k inv.me in
-    let plan = ap (λ (x : Me (Unit {0}) SeatView). x.0.plan) inv.me in
+    let same : held m.0 k ≡ held a.0 k = held_drafted (Unit {0}) a m k inv.same.3 in
+    let plan = ap (λ (x : Me (Unit {0}) SeatView). x.0.plan) inv.same.3 in
     let lk : k < segments a.0.plan =
     let count = c.args.self.now.sized.segments_are in let last = c.loop-k-test.true in omega arith
     in
@@ -42,10 +42,12 @@ loop-k-preserved c =
     (taken a.0 Collected) = blocks_push d (held m.0 k) c.args.at 0 k
     (taken a.0 Collected) inv.blocks read (ap (λ (l : List ℕ). block_at l 0) same) in
     record {
-      table = step.1 ∙ inv.table;
-      id = step.2 ∙ inv.id;
-      me = drafted (Unit {0}) a n (d ++ p) by;
-      left = step.0 ∙ inv.left;
+      same = (
+        step.0 ∙ inv.same.0,
+        step.1 ∙ inv.same.1,
+        step.2 ∙ inv.same.2,
+        drafted (Unit {0}) a n (d ++ p) by,
+      );
       to = omega arith;
       small = omega arith;
       prefix = prefix_trans a.0.pool.draft d n.0.pool.draft inv.prefix (p, sym new);

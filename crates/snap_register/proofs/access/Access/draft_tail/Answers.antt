@@ -5,16 +5,17 @@ use Rattle.std.specs.Int.{w64, to_le_bytes}
 use Rattle.atomic_table.specs.Table.{Me}
 use Rattle.snap_register.specs.declared.plan.SeatView.{SeatView}
 use Rattle.snap_register.specs.Words.{bytes_at, words_for}
+use Rattle.snap_register.specs.Steps.{draft_of}
 use Rattle.snap_register.proofs.Blocks.{tail_bytes}
 use Rattle.snap_register.proofs.access.Access.draft_tail.Goals as goal
 
 pub returns-then-from-value-clause-bytes : goal.returns-then-from-value-clause-bytes
 returns-then-from-value-clause-bytes c =
-    let d : List ℕ = c.args.self.now.seat.me.0.pool.draft in
+    let d : List ℕ = draft_of c.args.self.now in
     let value : List ℕ = c.args.value.now in
     let x : ℕ = c.tail_word.result in
     let tail : List ℕ = drop (8 * c.args.whole) value in
-    let new : c.draft.new.self.seat.me.0.pool.draft ≡ d ++ x ∷ [] =
+    let new : draft_of c.draft.new.self ≡ d ++ x ∷ [] =
     ap (λ (m : Me (Unit {0}) SeatView). m.0.pool.draft) c.draft.ensures.3 in
     let slice : List ℕ = take (length value - 8 * c.args.whole) tail in
     let all : slice ≡ tail = take_all (length value - 8 * c.args.whole) tail (omega (

@@ -16,7 +16,7 @@ loop-q-preserved c =
     let d : List ℕ = m.0.pool.draft in
     let x : ℕ = c.word_of.result in
     let step = c.draft-in-loop-q.ensures in
-    let by = drafted_then (Unit {0}) a m n (d ++ x ∷ []) inv.me step.3 in
+    let by = drafted_then (Unit {0}) a m n (d ++ x ∷ []) inv.same.3 step.3 in
     let new : n.0.pool.draft ≡ d ++ x ∷ [] = draft_is (Unit {0}) a n (d ++ x ∷ []) by in
     let long = inv.long in
     let more = length-append d (x ∷ []) in
@@ -24,10 +24,12 @@ loop-q-preserved c =
     let chunk : to_le_bytes w64 x ≡ take 8 (drop (8 * q) c.args.value.now) =
     c.word_of.ensures ∙ ap (λ (z : ℕ). take z (drop (8 * q) c.args.value.now)) eight in
     record {
-      table = step.1 ∙ inv.table;
-      id = step.2 ∙ inv.id;
-      me = drafted (Unit {0}) a n (d ++ x ∷ []) by;
-      left = step.0 ∙ inv.left;
+      same = (
+        step.0 ∙ inv.same.0,
+        step.1 ∙ inv.same.1,
+        step.2 ∙ inv.same.2,
+        drafted (Unit {0}) a n (d ++ x ∷ []) by,
+      );
       long = ap length new ∙ omega arith;
       number = ap (λ (l : List ℕ). get_or l 0 0) new
           ∙ (get_or_append_left d (x ∷ []) 0 0 (omega arith) ∙ inv.number);

@@ -3,6 +3,7 @@ use Rattle.atomic_table.specs.Seated.{TableId}
 use Rattle.atomic_table.specs.Table.{Me}
 use Rattle.snap_register.specs.declared.plan.SeatView.{SeatView}
 use Rattle.snap_register.specs.Setup.{IsSized}
+use Rattle.snap_register.specs.Steps.{view_of}
 use Rattle.snap_register.proofs.Keeps.{gives_back}
 use Rattle.snap_register.proofs.Later.{seated_bare}
 use Rattle.snap_register.proofs.access.Access.give_back.Goals as goal
@@ -24,10 +25,7 @@ fetch_add-requires c =
 
 is_bare : (c : After-fetch_add)
     → c.fetch_add.new.seat.me ≡ (
-      record c.args.self.now.seat.me.0 {
-        pins =
-            set c.args.self.now.seat.me.0.pins c.args.j 0;
-      },
+      record (view_of c.args.self.now) { pins = set (view_of c.args.self.now).pins c.args.j 0 },
       c.args.self.now.seat.me.1,
     )
 is_bare c =

@@ -7,6 +7,7 @@ use Rattle.snap_register.specs.declared.plan.Plan.{Plan}
 use Rattle.snap_register.specs.declared.plan.SeatView.{SeatView}
 use Rattle.snap_register.specs.Rule.{Learns, IsLegal, with_received}
 use Rattle.snap_register.specs.Setup.{IsSized}
+use Rattle.snap_register.specs.Steps.{view_of, pool_of}
 use Rattle.snap_register.proofs.Joins.{shares, tells, adopts}
 use Rattle.snap_register.proofs.Later.{seated_shown, some_words}
 use Rattle.snap_register.proofs.access.Access.meet.Goals as goal
@@ -79,22 +80,22 @@ join_seat-requires-2 c =
     )
 
 told_by : (c : After-split_seat-answer)
-    → Learns (with_received c.args.other.now.seat.me.0 c.split_seat-messenger.result.me.0)
+    → Learns (with_received (view_of c.args.other.now) c.split_seat-messenger.result.me.0)
     c.split_seat-answer.new.seat.me.0
 told_by c = subst (λ (m : Me (Unit {0}) SeatView).
-    Learns (with_received c.args.other.now.seat.me.0 c.split_seat-messenger.result.me.0) m.0)
+    Learns (with_received (view_of c.args.other.now) c.split_seat-messenger.result.me.0) m.0)
     (sym c.split_seat-answer.ensures.2)
     (subst (λ (m : Me (Unit {0}) SeatView).
     Learns m.0 c.hear.new.seat.me.0) c.join_seat.ensures.2 c.hear.ensures.2.0)
 
 other_is : (c : After-split_seat-answer)
-    → c.split_seat-answer.new.seat.me.0 ≡ record c.args.other.now.seat.me.0 {
+    → c.split_seat-answer.new.seat.me.0 ≡ record (view_of c.args.other.now) {
       seen =
           c.split_seat-answer.new.seat.me.0.seen;
     }
 other_is c =
     let them = c.args.other.now in
-    let v : SeatView = them.seat.me.0 in
+    let v : SeatView = view_of them in
     let s : List Entry = c.hear.new.seat.me.0.seen in
     let split = c.split_seat-answer.ensures.2 in
     let loaded : c.hear.new.seat.me.0 ≡ record v { seen = s } = c.hear.ensures.2.2
@@ -129,17 +130,14 @@ invariant_of-other c =
           IsSized them.segments them.scanners them.block_words them.words p)
           (sym (ap (λ (v : SeatView). v.plan) (other_is a))) them.sized;
       seated = seated_shown (Unit {0}) _ _ _ _ _ _ them.pins them.left them.seat.me
-          c.split_seat-answer.new.seat.me them.seat.me.0.pool _
+          c.split_seat-answer.new.seat.me (pool_of them) _
           (ap (λ (t : TableId). t.words) table) (other_is a) (other_alone a) (told_by a).later
           (told_by a).legal them.sized them.seated;
     }
 
 self_is : (c : After-join_seat-2)
     → c.join_seat-2.new.seat.me ≡ (
-      record c.args.self.now.seat.me.0 {
-        seen =
-            c.split_seat-answer.new.seat.me.0.seen;
-      },
+      record (view_of c.args.self.now) { seen = c.split_seat-answer.new.seat.me.0.seen },
       c.args.self.now.seat.me.1,
     )
 self_is c =
@@ -149,14 +147,14 @@ self_is c =
       m.1,
     )) c.split_seat-messenger.ensures.2
     ∙ ap (λ (l : List Entry). (
-      record c.args.self.now.seat.me.0 { seen = l },
+      record (view_of c.args.self.now) { seen = l },
       c.args.self.now.seat.me.1,
     ))
     (ap (λ (m : Me (Unit {0}) SeatView). m.0.seen) c.split_seat-answer.ensures.4
     ∙ sym (ap (λ (m : Me (Unit {0}) SeatView). m.0.seen) c.split_seat-answer.ensures.2)))
 
 self_later : (c : After-split_seat-answer)
-    → IsPrefix c.args.self.now.seat.me.0.seen c.split_seat-answer.new.seat.me.0.seen
+    → IsPrefix (view_of c.args.self.now).seen c.split_seat-answer.new.seat.me.0.seen
 self_later c = subst (λ (m : Me (Unit {0}) SeatView).
     IsPrefix m.0.seen c.split_seat-answer.new.seat.me.0.seen) c.split_seat-messenger.ensures.4
     (told_by c).received
@@ -173,7 +171,7 @@ invariant_of-self c =
       sized = subst (λ (m : Me (Unit {0}) SeatView).
           IsSized me.segments me.scanners me.block_words me.words m.0.plan) (sym is) me.sized;
       seated = seated_shown (Unit {0}) _ _ _ _ _ _ me.pins me.left me.seat.me
-          c.join_seat-2.new.seat.me me.seat.me.0.pool _ (ap (λ (t : TableId). t.words) table)
+          c.join_seat-2.new.seat.me (pool_of me) _ (ap (λ (t : TableId). t.words) table)
           (ap (λ (m : Me (Unit {0}) SeatView). m.0) is) (ap (λ (m : Me (Unit {0}) SeatView).
           m.1) is) (self_later a)
           (subst (λ (p : Plan). IsLegal p c.split_seat-answer.new.seat.me.0.seen) c.requires.1

@@ -3,6 +3,7 @@ use Rattle.atomic_table.specs.Seated.{TableId}
 use Rattle.snap_register.specs.declared.plan.Plan.{Plan}
 use Rattle.snap_register.specs.declared.plan.SeatView.{SeatView}
 use Rattle.snap_register.specs.Setup.{IsSized}
+use Rattle.snap_register.specs.Steps.{view_of}
 use Rattle.snap_register.proofs.Keeps.{pins}
 use Rattle.snap_register.proofs.Places.{word_inside}
 use Rattle.snap_register.proofs.Later.{seated_pinned}
@@ -21,7 +22,7 @@ fetch_add-found-requires c =
     let some = c.requires.2 in (
       own,
       subst (λ (z : ℕ). c.args.j < z) (sym seated.words_are
-          ∙ ap (λ (t : TableId). t.words) own) (word_inside me.seat.me.0.plan c.args.j lj),
+          ∙ ap (λ (t : TableId). t.words) own) (word_inside (view_of me).plan c.args.j lj),
       pins (Unit {0}) _ _ _ me.seat.me c.args.j seated.here lj c.requires.1 (omega arith)
           (omega arith) (omega arith) (omega arith),
     )

@@ -1,5 +1,6 @@
 use Rattle.std.proofs.Common.{◌<◌, arith, length}
 use Rattle.snap_register.specs.Held.{held}
+use Rattle.snap_register.specs.Steps.{view_of}
 use Rattle.snap_register.proofs.access.Access.place.Goals as goal
 
 pub cell-requires : goal.cell-requires
@@ -9,5 +10,5 @@ cell-requires c =
     let few = me.seated.pins_inside c.args.j c.requires.pinned.0 in
     let some = c.requires.pinned.1 in
     let fits = (me.seated.readable c.args.j c.requires.pinned.0).fits in
-    let lt : c.args.q < length (held me.seat.me.0 c.args.j) = c.requires.word in
+    let lt : c.args.q < length (held (view_of me) c.args.j) = c.requires.word in
     (c.requires.pinned.0, omega arith, omega arith)

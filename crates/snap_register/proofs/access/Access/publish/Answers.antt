@@ -10,6 +10,7 @@ use Rattle.snap_register.specs.History.{entry, count, start_at}
 use Rattle.snap_register.specs.Rule.{segments, IsLegal, IsBelow, Follows}
 use Rattle.snap_register.specs.Held.{taken}
 use Rattle.snap_register.specs.Words.{AreBlocks}
+use Rattle.snap_register.specs.Steps.{view_of, pool_of, draft_of}
 use Rattle.snap_register.proofs.Blocks.{block_stays}
 use Rattle.snap_register.proofs.Later.{publishes_count}
 use Rattle.snap_register.proofs.Updates.{follows_is}
@@ -26,60 +27,57 @@ abbrev WithPool : SeatView → Pool → SeatView
 WithPool v p = record v { pool = p }
 
 second_is : (c : After-copy_view)
-    → c.draft_value-filled.new.self.seat.me.0
-    ≡ WithPool c.args.self.now.seat.me.0 c.draft_value-filled.new.self.seat.me.0.pool
+    → view_of c.draft_value-filled.new.self
+    ≡ WithPool (view_of c.args.self.now) (pool_of c.draft_value-filled.new.self)
 second_is c =
-    let e : c.draft_value-filled.new.self.seat.me.0
-    ≡ WithPool c.args.self.now.seat.me.0 (record c.find_free-b.new.self.seat.me.0.pool {
+    let e : view_of c.draft_value-filled.new.self
+    ≡ WithPool (view_of c.args.self.now) (record (pool_of c.find_free-b.new.self) {
       draft =
-          c.draft_value-filled.new.self.seat.me.0.pool.draft;
+          draft_of c.draft_value-filled.new.self;
     })
     = ap (λ (m : Me (Unit {0}) SeatView). m.0) c.draft_value-filled.ensures.same.3
     ∙ ap (λ (m : Me (Unit {0}) SeatView).
-    WithPool m.0 (record c.find_free-b.new.self.seat.me.0.pool {
+    WithPool m.0 (record (pool_of c.find_free-b.new.self) {
       draft =
-          c.draft_value-filled.new.self.seat.me.0.pool.draft;
+          draft_of c.draft_value-filled.new.self;
     })) c.find_free-b.ensures.free.1 in
-    e ∙ ap (WithPool c.args.self.now.seat.me.0) (sym (ap (λ (v : SeatView). v.pool) e))
+    e ∙ ap (WithPool (view_of c.args.self.now)) (sym (ap (λ (v : SeatView). v.pool) e))
 
 third_is : (c : After-copy_view)
-    → c.copy_view.new.self.seat.me.0
-    ≡ WithPool c.args.self.now.seat.me.0 c.copy_view.new.self.seat.me.0.pool
+    → view_of c.copy_view.new.self
+    ≡ WithPool (view_of c.args.self.now) (pool_of c.copy_view.new.self)
 third_is c =
-    let e : c.copy_view.new.self.seat.me.0
-    ≡ WithPool c.args.self.now.seat.me.0
-    (record c.draft_value-filled.new.self.seat.me.0.pool {
-      draft =
-          c.copy_view.new.self.seat.me.0.pool.draft;
-    })
+    let e : view_of c.copy_view.new.self
+    ≡ WithPool (view_of c.args.self.now)
+    (record (pool_of c.draft_value-filled.new.self) { draft = draft_of c.copy_view.new.self })
     = ap (λ (m : Me (Unit {0}) SeatView). m.0) c.copy_view.ensures.same.3
     ∙ ap (λ (v : SeatView). WithPool v
-    (record c.draft_value-filled.new.self.seat.me.0.pool {
+    (record (pool_of c.draft_value-filled.new.self) {
       draft =
-          c.copy_view.new.self.seat.me.0.pool.draft;
+          draft_of c.copy_view.new.self;
     })) (second_is c) in
-    e ∙ ap (WithPool c.args.self.now.seat.me.0) (sym (ap (λ (v : SeatView). v.pool) e))
+    e ∙ ap (WithPool (view_of c.args.self.now)) (sym (ap (λ (v : SeatView). v.pool) e))
 
 may_follow : (c : After-copy_view)
-    → IsLegal c.args.self.now.seat.me.0.plan c.args.self.now.seat.me.0.seen
-    → Follows c.args.self.now.seat.me.0.plan c.args.self.now.seat.me.0.seen
-    (entry c.args.i c.copy_view.new.self.seat.me.0.pool.draft)
+    → IsLegal (view_of c.args.self.now).plan (view_of c.args.self.now).seen
+    → Follows (view_of c.args.self.now).plan (view_of c.args.self.now).seen
+    (entry c.args.i (draft_of c.copy_view.new.self))
 may_follow c legal =
-    let v : SeatView = c.args.self.now.seat.me.0 in
+    let v : SeatView = view_of c.args.self.now in
     let size = c.draft_value-filled.ensures.size in
-    let plan : c.draft_value-filled.new.self.seat.me.0.plan ≡ v.plan =
+    let plan : (view_of c.draft_value-filled.new.self).plan ≡ v.plan =
     ap (λ (u : SeatView). u.plan) (second_is c) in
-    let took : taken c.draft_value-filled.new.self.seat.me.0 c.args.view.now
+    let took : taken (view_of c.draft_value-filled.new.self) c.args.view.now
     ≡ taken v c.args.view.now = ap (λ (u : SeatView). taken u c.args.view.now) (second_is c)
-    ∙ taken_pool v c.draft_value-filled.new.self.seat.me.0.pool c.args.view.now in
-    let blocks : AreBlocks c.copy_view.new.self.seat.me.0.pool.draft
-    (length c.draft_value-filled.new.self.seat.me.0.pool.draft) (segments v.plan)
+    ∙ taken_pool v (pool_of c.draft_value-filled.new.self) c.args.view.now in
+    let blocks : AreBlocks (draft_of c.copy_view.new.self)
+    (length (draft_of c.draft_value-filled.new.self)) (segments v.plan)
     (taken v c.args.view.now)
     = subst (λ (x : ℕ × Plan × (ℕ → ℕ × List ℕ)).
-    AreBlocks c.copy_view.new.self.seat.me.0.pool.draft x.0 (segments x.1) x.2) (λ t.
+    AreBlocks (draft_of c.copy_view.new.self) x.0 (segments x.1) x.2) (λ t.
     (size.0 t, plan t, took t)) c.copy_view.ensures.blocks in
     follows_is v c.args.i c.args.next c.args.view.now c.args.value.now
-    c.draft_value-filled.new.self.seat.me.0.pool.draft c.copy_view.new.self.seat.me.0.pool.draft
+    (draft_of c.draft_value-filled.new.self) (draft_of c.copy_view.new.self)
     c.requires.view.0 c.requires.view.1 c.args.self.now.seated.records_are c.requires.next.0
     c.draft_value-filled.ensures.block (sym size.0 ∙ size.1) c.copy_view.ensures.prefix blocks legal
 
@@ -87,7 +85,7 @@ pub swap-pins-requires-clause-view : goal.swap-pins-requires-clause-view
 swap-pins-requires-clause-view c = λ legal.
     let a = (goal.at.swap-pins-requires-clause-view c).After-copy_view in
     let is = third_is a in
-    let e : Entry = entry c.args.i c.copy_view.new.self.seat.me.0.pool.draft in
+    let e : Entry = entry c.args.i (draft_of c.copy_view.new.self) in
     subst (λ (x : Plan × List Entry). Follows x.0 x.1 e) (λ t.
     (ap (λ (v : SeatView). v.plan) (sym is) t, ap (λ (v : SeatView). v.seen) (sym is) t))
     (may_follow a (subst (λ (v : SeatView). IsLegal v.plan v.seen) is legal))
@@ -96,9 +94,9 @@ pub returns-clause-shown : goal.returns-clause-shown
 returns-clause-shown c =
     let a = (goal.at.returns-clause-shown c).After-copy_view in
     let is = third_is a in
-    let v : SeatView = c.args.self.now.seat.me.0 in
-    let u : SeatView = c.copy_view.new.self.seat.me.0 in
-    let w : SeatView = c.swap-pins.new.self.seat.me.0 in
+    let v : SeatView = view_of c.args.self.now in
+    let u : SeatView = view_of c.copy_view.new.self in
+    let w : SeatView = view_of c.swap-pins.new.self in
     let shown = c.swap-pins.ensures.shown in
     let moved = ap (λ (x : SeatView). record x { seen = w.seen; pool = w.pool }) is in
     let first : w ≡ record u { seen = w.seen; pool = w.pool } =
@@ -108,7 +106,7 @@ returns-clause-shown c =
           q;
     }) (sym (ap (λ (x : SeatView). x.pool) shown.same)) in
     let same : w ≡ record v { seen = w.seen; pool = w.pool } = first ∙ moved in
-    let d : List ℕ = c.draft_value-filled.new.self.seat.me.0.pool.draft in
+    let d : List ℕ = draft_of c.draft_value-filled.new.self in
     let own = c.draft_value-filled.ensures.block in
     let stays = block_stays d u.pool.draft 0 c.copy_view.ensures.prefix own.whole in
     let more : count c.args.i w.seen ≡ count c.args.i u.seen + 1 =

@@ -4,21 +4,21 @@ use Rattle.atomic_table.specs.Table.{Me}
 use Rattle.snap_register.specs.declared.plan.SeatView.{SeatView}
 use Rattle.snap_register.specs.Held.{held}
 use Rattle.snap_register.specs.Words.{bytes_at, length_at, words_for}
-use Rattle.snap_register.specs.Steps.{LiesAt}
+use Rattle.snap_register.specs.Steps.{view_of, LiesAt}
 use Rattle.snap_register.proofs.access.Access.read_value.Goals as goal
 use Rattle.snap_register.proofs.access.Access.read_value.Goals.{After-read-length}
 
 -- where the block lies
-lies : (c : After-read-length) → LiesAt c.read-length.new.self.seat.me.0 c.args.j c.args.at
+lies : (c : After-read-length) → LiesAt (view_of c.read-length.new.self) c.args.j c.args.at
     c.place-place.result
 lies c = subst (λ (m : Me (Unit {0}) SeatView). LiesAt m.0 c.args.j c.args.at c.place-place.result)
     (sym c.read-length.ensures.same.2) c.place-place.ensures.place
 
 -- its value lies in the record
 fits : (c : After-read-length) → c.args.at + 2 + (c.read-length.result + 7) / 8
-    ≤ length (held c.read-length.new.self.seat.me.0 c.args.j)
+    ≤ length (held (view_of c.read-length.new.self) c.args.j)
 fits c =
-    let w : List ℕ = held c.args.self.now.seat.me.0 c.args.j in
+    let w : List ℕ = held (view_of c.args.self.now) c.args.j in
     let at : ℕ = c.args.at in
     let n : ℕ = c.read-length.result in
     let told : n ≡ length_at w at = c.read-length.ensures.word in
@@ -35,14 +35,15 @@ copy_value-requires c =
     let own : b.seat.table_id ≡ c.deref.result.now.shared.table_id = search rules in
     let e = (goal.at.copy_value-requires c).After-read-length in
     let inside = fits e in
-    let same : length (held b.seat.me.0 c.args.j) ≡ length (held c.args.self.now.seat.me.0 c.args.j) =
+    let same : length (held (view_of b) c.args.j)
+    ≡ length (held (view_of c.args.self.now) c.args.j) =
     ap (λ (m : Me (Unit {0}) SeatView). length (held m.0 c.args.j)) c.read-length.ensures.same.2 in
-    let small : c.place-place.result + length (held c.args.self.now.seat.me.0 c.args.j)
+    let small : c.place-place.result + length (held (view_of c.args.self.now) c.args.j)
     < 2 ^ 64 + c.args.at = c.place-place.ensures.fits in
-    let short : length_at (held c.args.self.now.seat.me.0 c.args.j) c.args.at ≤ 4080 =
+    let short : length_at (held (view_of c.args.self.now) c.args.j) c.args.at ≤ 4080 =
     c.requires.block.short in
     let told : c.read-length.result
-    ≡ length_at (held c.args.self.now.seat.me.0 c.args.j) c.args.at =
+    ≡ length_at (held (view_of c.args.self.now) c.args.j) c.args.at =
     c.read-length.ensures.word in
     let room = c.requires.room in
     record {
@@ -56,7 +57,7 @@ copy_value-requires c =
 pub returns-clause-value : goal.returns-clause-value
 returns-clause-value c =
     let e = (goal.at.returns-clause-value c).After-read-length in
-    let w : List ℕ = held c.args.self.now.seat.me.0 c.args.j in
+    let w : List ℕ = held (view_of c.args.self.now) c.args.j in
     let n : ℕ = c.read-length.result in
     let told : n ≡ length_at w c.args.at = c.read-length.ensures.word in
     let all : List ℕ = c.copy_value.new.out in

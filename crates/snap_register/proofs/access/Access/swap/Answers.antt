@@ -4,6 +4,7 @@ use Rattle.snap_register.specs.declared.plan.Plan.{Plan}
 use Rattle.snap_register.specs.declared.plan.SeatView.{SeatView}
 use Rattle.snap_register.specs.Rule.{buffers}
 use Rattle.snap_register.specs.Setup.{IsSized}
+use Rattle.snap_register.specs.Steps.{view_of}
 use Rattle.snap_register.proofs.Pools.{publishes}
 use Rattle.snap_register.proofs.Places.{word_inside}
 use Rattle.snap_register.proofs.Later.{seated_shown, publishes_later}
@@ -16,10 +17,10 @@ swap-found-requires c =
       own,
       subst (λ (z : ℕ). c.args.i < z) (sym me.seated.words_are
           ∙ ap (λ (t : TableId). t.words) own)
-          (word_inside me.seat.me.0.plan c.args.i c.requires.own.1),
+          (word_inside (view_of me).plan c.args.i c.requires.own.1),
       publishes (Unit {0}) _ _ _ me.seat.me c.args.i _ me.seated.here c.requires.own.0
           c.requires.own.1 (subst (λ (z : ℕ).
-          z < buffers me.seat.me.0.plan) c.requires.buffer.0 c.requires.buffer.1) c.requires.next
+          z < buffers (view_of me).plan) c.requires.buffer.0 c.requires.buffer.1) c.requires.next
           c.requires.view (ap (λ (z : ℕ). z * 2 ^ 56) c.requires.buffer.0),
     )
 
@@ -35,5 +36,5 @@ invariant_of-self c =
           (sym (ap (λ (v : SeatView). v.plan) shown.same)) me.sized;
       seated = seated_shown (Unit {0}) _ _ _ _ _ _ me.pins me.left me.seat.me after.me _ _
           (ap (λ (t : TableId). t.words) step.0) shown.same step.2.2
-          (publishes_later me.seat.me.0 after.me.0 c.args.i _ shown) shown.legal me.sized me.seated;
+          (publishes_later (view_of me) after.me.0 c.args.i _ shown) shown.legal me.sized me.seated;
     }

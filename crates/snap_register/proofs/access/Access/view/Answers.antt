@@ -1,43 +1,43 @@
-use Rattle.std.proofs.Common.{rules, ◌≡◌, ℕ, ◌+◌, ◌*◌, ◌^◌, ◌<◌, ◌≤◌, List, Some, slice_get, slice_set, length, get_or, ap, sym, subst}
+use Rattle.std.proofs.Common.{rules, ◌≡◌, ℕ, ◌+◌, ◌^◌, ◌<◌, ◌≤◌, List, Some, slice_get, slice_set, length, ap, sym, subst}
 use Rattle.std.proofs.Common.{◌∙◌, arith}
 use mathlib.Core.Logic.{dite}
 use native.Mathlib.Decide.{ℕ_discrete}
 use Rattle.atomic_table.specs.Table.{Me}
 use Rattle.snap_history.proofs.Lists.{get-set_same, get-set_other}
 use Rattle.snap_register.specs.declared.plan.SeatView.{SeatView}
-use Rattle.snap_register.specs.Rule.{segments, width}
+use Rattle.snap_register.specs.Rule.{segments}
 use Rattle.snap_register.specs.Held.{held, view_in}
 use Rattle.snap_register.specs.Words.{IsWhole, size_at, block_at, behind}
+use Rattle.snap_register.specs.Steps.{view_of}
 use Rattle.snap_register.proofs.Blocks.{behind_more}
-use Rattle.snap_register.proofs.Views.{viewed, width_is}
+use Rattle.snap_register.proofs.Views.{view_whole, held_small}
+use Rattle.snap_register.proofs.Updates.{update_found, view_shown}
 use Rattle.snap_register.proofs.access.Access.view.Goals as goal
 use Rattle.snap_register.proofs.access.Access.view.Goals.{In-loop-k}
 
 words_are : (c : In-loop-k)
-    → held c.loop-k.self.seat.me.0 c.args.j ≡ held c.args.self.now.seat.me.0 c.args.j
-words_are c = ap (λ (m : Me (Unit {0}) SeatView). held m.0 c.args.j) (c.loop-k.invariant.me
+    → held (view_of c.loop-k.self) c.args.j ≡ held (view_of c.args.self.now) c.args.j
+words_are c = ap (λ (m : Me (Unit {0}) SeatView). held m.0 c.args.j) (c.loop-k.invariant.same.2
     ∙ c.size_at-at.ensures.same.2)
 
 at_is : (c : In-loop-k) → c.loop-k.at
-    ≡ behind (held c.args.self.now.seat.me.0 c.args.j)
-    (size_at (held c.args.self.now.seat.me.0 c.args.j) 0) c.loop-k.k
+    ≡ behind (held (view_of c.args.self.now) c.args.j)
+    (size_at (held (view_of c.args.self.now) c.args.j) 0) c.loop-k.k
 at_is c = c.loop-k.invariant.at
     ∙ ap (λ (m : Me (Unit {0}) SeatView).
     behind (held m.0 c.args.j) (size_at (held m.0 c.args.j) 0) c.loop-k.k)
     c.size_at-at.ensures.same.2
 
-whole : (c : In-loop-k) → IsWhole (held c.loop-k.self.seat.me.0 c.args.j) c.loop-k.at
+whole : (c : In-loop-k) → IsWhole (held (view_of c.loop-k.self) c.args.j) c.loop-k.at
 whole c =
     let a = c.args.self.now in
-    let u = viewed a.seat.me.0.plan a.seat.me.0.seen c.args.j
-    (get_or a.seat.me.0.records c.args.j 0) c.size_at-at.ensures.legal c.requires.updated
-    (a.seated.records_are c.args.j c.requires.pinned.0) in
     let room = c.requires.room in
     let out = ap length c.out.view_is in
     let test = c.loop-k-test.true in
-    let lt : c.loop-k.k < segments a.seat.me.0.plan = omega arith in
+    let lt : c.loop-k.k < segments (view_of a).plan = omega arith in
+    let found = update_found a.seat.table_id (view_of a) c.args.j c.requires.updated in
     subst (λ (x : List ℕ × ℕ). IsWhole x.0 x.1) (λ t. (sym (words_are c) t, sym (at_is c) t))
-    (u.view.each c.loop-k.k lt).whole
+    (view_whole a c.args.j c.loop-k.k c.size_at-at.ensures.legal found.1 c.requires.segment lt)
 
 pub read_block-at-requires-clause-block : goal.read_block-at-requires-clause-block
 read_block-at-requires-clause-block c =
@@ -45,22 +45,13 @@ read_block-at-requires-clause-block c =
 
 pub overflow_add-at : goal.overflow_add-at
 overflow_add-at c =
-    let a = c.args.self.now in
-    let w = whole (goal.at.overflow_add-at c).In-loop-k in
-    let inside : c.loop-k.at + size_at (held c.loop-k.self.seat.me.0 c.args.j) c.loop-k.at
-    ≤ length (held c.loop-k.self.seat.me.0 c.args.j) = w.inside in
-    let same : length (held c.loop-k.self.seat.me.0 c.args.j) ≡ length (held a.seat.me.0 c.args.j) =
-    ap length (words_are (goal.at.overflow_add-at c).In-loop-k) in
-    let fits = (a.seated.readable c.args.j c.requires.pinned.0).fits in
-    let x : ℕ = width a.seat.me.0.plan in
-    let fits' : length (held a.seat.me.0 c.args.j) ≤ x = fits in
-    let wide' : x ≡ 512 + segments a.seat.me.0.plan * 512 =
-    width_is a.seat.me.0.plan a.sized.block_words_is in
-    let few = a.sized.few in
-    let n = a.sized.segments_are in
-    let size : c.read_block-at.result
-    ≡ size_at (held c.loop-k.self.seat.me.0 c.args.j) c.loop-k.at =
-    c.read_block-at.ensures.size in
+    let e = (goal.at.overflow_add-at c).In-loop-k in
+    let w : List ℕ = held (view_of c.loop-k.self) c.args.j in
+    let inside : c.loop-k.at + size_at w c.loop-k.at ≤ length w = (whole e).inside in
+    let same : length w ≡ length (held (view_of c.args.self.now) c.args.j) =
+    ap length (words_are e) in
+    let few = held_small c.args.self.now c.args.j c.requires.segment in
+    let size : c.read_block-at.result ≡ size_at w c.loop-k.at = c.read_block-at.ensures.size in
     let small_sum : c.loop-k.at + c.read_block-at.result < 2 ^ 64 = omega arith in
     omega (arith, small_sum)
 
@@ -71,9 +62,9 @@ loop-k-preserved c =
     let a = c.size_at-at.new.self.seat.me in
     let k : ℕ = c.loop-k.k in
     let w : List ℕ = held a.0 c.args.j in
-    let words : held c.loop-k.self.seat.me.0 c.args.j ≡ w =
-    ap (λ (m : Me (Unit {0}) SeatView). held m.0 c.args.j) inv.me in
-    let here : block_at (held c.loop-k.self.seat.me.0 c.args.j) c.loop-k.at ≡ view_in w k =
+    let words : held (view_of c.loop-k.self) c.args.j ≡ w =
+    ap (λ (m : Me (Unit {0}) SeatView). held m.0 c.args.j) inv.same.2 in
+    let here : block_at (held (view_of c.loop-k.self) c.args.j) c.loop-k.at ≡ view_in w k =
     λ t. block_at (words t) (inv.at t) in
     let size : c.read_block-at.result ≡ size_at w (behind w (size_at w 0) k) =
     c.read_block-at.ensures.size ∙ (λ t. size_at (words t) (inv.at t)) in
@@ -82,10 +73,12 @@ loop-k-preserved c =
     let test = c.loop-k-test.true in
     let long = inv.long in
     record {
-      table = same.0 ∙ inv.table;
-      id = same.1 ∙ inv.id;
-      me = same.2 ∙ inv.me;
-      left = same.3 ∙ inv.left;
+      same = (
+        same.0 ∙ inv.same.0,
+        same.1 ∙ inv.same.1,
+        same.2 ∙ inv.same.2,
+        same.3 ∙ inv.same.3,
+      );
       long = search rules;
       at = (λ t. at t + size t) ∙ sym (behind_more w (size_at w 0) k);
       view = λ i li. dite (ℕ_discrete i k)
@@ -95,3 +88,18 @@ loop-k-preserved c =
           ∙ ap (λ (z : ℕ). Some (view_in w z)) (sym e))))
           (λ ne. get-set_other items k i c.read_block-at.new.out ne ∙ inv.view i (omega arith));
     }
+
+pub returns-clause-view : goal.returns-clause-view
+returns-clause-view c =
+    let a = c.args.self.now in
+    let inv = c.loop-k.invariant in
+    let xs = c.loop-k.out-inside.segments.items in
+    let room = c.requires.room in
+    let out = ap length c.out.view_is in
+    let long = inv.long in
+    let test = c.loop-k-test.false in
+    let size : length xs ≡ segments (view_of a).plan = omega arith in
+    view_shown a.seat.table_id (view_of a) c.args.j xs c.size_at-at.ensures.legal
+    c.requires.updated (a.seated.records_are c.args.j c.requires.segment) size
+    (λ k lk. inv.view k (omega arith) ∙ ap (λ (m : Me (Unit {0}) SeatView).
+    Some (view_in (held m.0 c.args.j) k)) c.size_at-at.ensures.same.2)

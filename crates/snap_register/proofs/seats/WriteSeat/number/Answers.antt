@@ -1,13 +1,14 @@
 use Rattle.std.proofs.Common.{sym, ap, ◌∙◌, ℕ}
 use Rattle.snap_register.specs.Seat.{Known, number_in, own_of}
 use Rattle.snap_register.specs.History.{number}
+use Rattle.snap_register.specs.Steps.{view_of}
 use Rattle.snap_register.proofs.Updates.{number_is}
 use Rattle.snap_register.proofs.seats.WriteSeat.number.Goals as goal
 
 pub returns : goal.returns
 returns c =
     let s = c.self.inside in
-    let v = s.access.seat.me.0 in
+    let v = view_of s.access in
     let own = s.segment in
     record {
       number = c.self.invariant.number_is

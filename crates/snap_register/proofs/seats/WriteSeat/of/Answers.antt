@@ -4,11 +4,12 @@ use Rattle.snap_register.specs.declared.plan.Pool.{Pool}
 use Rattle.snap_register.specs.declared.plan.Entry.{Entry}
 use Rattle.snap_register.specs.History.{count}
 use Rattle.snap_register.specs.Rule.{buffers}
+use Rattle.snap_register.specs.Steps.{view_of}
 use Rattle.snap_register.proofs.seats.WriteSeat.of.Goals as goal
 
 pub invariant_of-result : goal.invariant_of-result
 invariant_of-result c =
-    let v = c.args.access.seat.me.0 in
+    let v = view_of c.args.access in
     let d = c.requires.pool in
     let sized = c.args.access.sized in
     let few : buffers v.plan ≤ 34 = let a = sized.few in let b = sized.few_scanners in let e =

@@ -11,13 +11,14 @@ use Rattle.std.proofs.lemmas.List.{length-set}
 use Rattle.snap_register.specs.declared.plan.Pool.{Pool}
 use Rattle.snap_register.specs.Rule.{buffers}
 use Rattle.snap_register.specs.Held.{MayTake, IsShown}
+use Rattle.snap_register.specs.Steps.{view_of}
 use Rattle.snap_register.proofs.Updates.{can_take, may_take, shown_is, below_is, number_is}
 use Rattle.snap_register.proofs.seats.WriteSeat.publish.Goals as goal
 use Rattle.snap_register.proofs.seats.WriteSeat.publish.Goals.{After-publish-current}
 
 pub overflow_add-next : goal.overflow_add-next
 overflow_add-next c =
-    let v : SeatView = c.self.inside.access.seat.me.0 in
+    let v : SeatView = view_of c.self.inside.access in
     let next : number_in (known c.self.inside.access.seat.table_id v)
     (known c.self.inside.access.seat.table_id v).seen v.low + 1 < 2 ^ 63 =
     subst (λ (a : Known). number_in a a.seen (own_of a) + 1 < 2 ^ 63)
@@ -31,7 +32,7 @@ overflow_add-next c =
 
 pub publish-current-requires-clause-next : goal.publish-current-requires-clause-next
 publish-current-requires-clause-next c =
-    let v : SeatView = c.self.inside.access.seat.me.0 in
+    let v : SeatView = view_of c.self.inside.access in
     let next : number_in (known c.self.inside.access.seat.table_id v)
     (known c.self.inside.access.seat.table_id v).seen v.low + 1 < 2 ^ 63 =
     subst (λ (a : Known). number_in a a.seen (own_of a) + 1 < 2 ^ 63)
@@ -57,8 +58,8 @@ invariant_of-self c =
     let inv = c.self.invariant in
     let l = c.publish-current.ensures in
     let s = l.shown in
-    let v : SeatView = c.self.inside.access.seat.me.0 in
-    let w : SeatView = c.publish-current.new.self.seat.me.0 in
+    let v : SeatView = view_of c.self.inside.access in
+    let w : SeatView = view_of c.publish-current.new.self in
     let pool = l.pool.1 in
     let at = inv.current_is in
     let la = inv.current_inside in
@@ -109,10 +110,10 @@ invariant_of-self c =
     }
 
 shown : (c : After-publish-current)
-    → IsShown c.self.inside.access.seat.me.0 c.publish-current.new.self.seat.me.0
-    c.self.inside.access.seat.me.0.low (c.self.inside.number + 1) c.args.value.now
+    → IsShown (view_of c.self.inside.access) (view_of c.publish-current.new.self)
+    (view_of c.self.inside.access).low (c.self.inside.number + 1) c.args.value.now
 shown c = subst (λ (i : ℕ).
-    IsShown c.self.inside.access.seat.me.0 c.publish-current.new.self.seat.me.0 i
+    IsShown (view_of c.self.inside.access) (view_of c.publish-current.new.self) i
     (c.self.inside.number + 1) c.args.value.now)
     (sym c.self.invariant.role.0) c.publish-current.ensures.shown
 
@@ -122,7 +123,7 @@ returns-clause-shown c =
     let n = c.publish-current.new.self.seat in
     subst (λ (a : Known). Shows a (known n.table_id n.me.0) c.args.value.now) c.self.view_is
     (shown_is s.table_id n.table_id s.me.0 n.me.0 (c.self.inside.number
-    + 1) c.args.value.now c.publish-current.ensures.same.0
+    + 1) c.args.value.now c.publish-current.ensures.same.0.0
     (shown (goal.at.returns-clause-shown c).After-publish-current))
 
 pub returns-clause-below : goal.returns-clause-below
@@ -132,7 +133,7 @@ returns-clause-below c =
 
 pub returns-clause-number : goal.returns-clause-number
 returns-clause-number c =
-    let w : SeatView = c.publish-current.new.self.seat.me.0 in
+    let w : SeatView = view_of c.publish-current.new.self in
     sym (number_is w.plan w.seen w.low
     ∙ (let low = ap (λ (u : SeatView). u.low) c.publish-current.ensures.shown.same
     ∙ c.self.invariant.role.0 in ap (λ (i : ℕ). number w.plan w.seen i) low

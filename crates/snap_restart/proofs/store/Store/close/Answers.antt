@@ -10,23 +10,23 @@ pub returns-clause-devices : goal.returns-clause-devices
 returns-clause-devices g c = c.release_all.ensures.devices
     ∙ sym (pairs_mapped HasMet (λ (w : WriterState g.row.D.Denot). w.segment.device)
     (λ a b m. ap (λ (s : SegmentState g.row.D.Denot). s.device) (sym m.segment_is))
-    c.args.self.writers.items c.gather.new.writers.items c.gather.ensures.met)
+    c.args.self.writers.items c.hear_everybody.new.writers.items c.hear_everybody.ensures.met)
 
 pub returns-clause-history : goal.returns-clause-history
 returns-clause-history g c =
-    let history = c.gather.ensures.history in (
+    let history = c.hear_everybody.ensures.history in (
       history.0,
       history.1,
-      holds_after g.D.Disk.device g.D.Disk.is_honest history.0 c.args.self.writers.items
-          c.gather.new.writers.items c.args.self.scanners.items c.requires.back history.1
-          c.gather.ensures.met c.release_all.ensures.rests,
+      holds_after g.D.Disk history.0 c.args.self.writers.items
+          c.hear_everybody.new.writers.items c.args.self.scanners.items c.requires.back history.1
+          c.hear_everybody.ensures.met c.release_all.ensures.rests,
     )
 
 pub returns-clause-crash : goal.returns-clause-crash
 returns-clause-crash g c =
-    let history = c.gather.ensures.history in (
+    let history = c.hear_everybody.ensures.history in (
       history.0,
       history.1,
-      any_cut g.D.Disk.device g.D.Disk.is_honest g.D.Disk.clock g.D.Disk.might_have_left history.0
+      any_cut g.D.Disk history.0
           c.args.self.writers.items c.args.self.scanners.items c.requires.back history.1,
     )

@@ -3,39 +3,33 @@ use mathlib.Core.Logic.{∥∥₁_map}
 use Rattle.slab.specs.Slab.{Slab, get, slab_len}
 use Rattle.snap_server.specs.declared.connection.Connection.{Connection}
 use Rattle.snap_server.proofs.SharedService.{added_are, same_are}
-use Rattle.snap_server.proofs.TurnList.{lists_added, lists_same, none_there}
+use Rattle.snap_server.proofs.TurnList.{lists_added, lists_same}
+use Rattle.snap_server.proofs.Step.{none_there}
 use Rattle.snap_server.proofs.sessions.Sessions.adopt.Goals.{then-is_err-via-then-is_err, then-is_err-via-else-is_err+then-is_err-2}
 use Rattle.snap_server.proofs.sessions.Sessions.adopt.Goals as goal
 
 pub invariant_of-self-then-is_err-2-clause-are : goal.invariant_of-self-then-is_err-2-clause-are
 invariant_of-self-then-is_err-2-clause-are g c = ∥∥₁_map c.args.self.now.are
-    (same_are g.S.Service.gives _ c.args.self.now.connections c.reserve-else-is_err.new.self
-    (λ key. ap (λ (s : Slab Connection). get s key) c.reserve-else-is_err.ensures.rest_kept))
+    (same_are g.S.Service.gives _ _ _ c.reserve-else-is_err.ensures.rest_kept)
 
 pub invariant_of-self-then-is_err-2-clause-lists : goal.invariant_of-self-then-is_err-2-clause-lists
 invariant_of-self-then-is_err-2-clause-lists g c = rw c.reserve.ensures.items
-    (∥∥₁_map c.args.self.now.lists
-    (lists_same _ c.args.self.now.connections c.reserve-else-is_err.new.self
-    (λ key. ap (λ (s : Slab Connection). get s key) c.reserve-else-is_err.ensures.rest_kept)))
+    (∥∥₁_map c.args.self.now.lists (lists_same _ _ _ c.reserve-else-is_err.ensures.rest_kept))
 
 pub invariant_of-self-then-is_err-3-clause-are : goal.invariant_of-self-then-is_err-3-clause-are
 invariant_of-self-then-is_err-3-clause-are g c = ∥∥₁_map c.args.self.now.are
-    (same_are g.S.Service.gives _ c.args.self.now.connections c.reserve-else-is_err.new.self
-    (λ key. ap (λ (s : Slab Connection). get s key) c.reserve-else-is_err.ensures.rest_kept))
+    (same_are g.S.Service.gives _ _ _ c.reserve-else-is_err.ensures.rest_kept)
 
 pub invariant_of-self-then-is_err-3-clause-lists : goal.invariant_of-self-then-is_err-3-clause-lists
 invariant_of-self-then-is_err-3-clause-lists g c = rw c.reserve.ensures.items
-    (∥∥₁_map c.args.self.now.lists
-    (lists_same _ c.args.self.now.connections c.reserve-else-is_err.new.self
-    (λ key. ap (λ (s : Slab Connection). get s key) c.reserve-else-is_err.ensures.rest_kept)))
+    (∥∥₁_map c.args.self.now.lists (lists_same _ _ _ c.reserve-else-is_err.ensures.rest_kept))
 
 pub invariant_of-self-2-clause-are : goal.invariant_of-self-2-clause-are
 invariant_of-self-2-clause-are g c = ∥∥₁_map c.args.self.now.are (λ are.
     added_are g.S.Service.gives _ c.reserve-else-is_err.new.self c.insert_reserved.new.self
     c.insert_reserved.result c.register.new.self c.insert_reserved.ensures.updates
     (c.register.ensures.session ∙ c.new-connection.ensures.session)
-    (same_are g.S.Service.gives _ c.args.self.now.connections c.reserve-else-is_err.new.self
-    (λ key. ap (λ (s : Slab Connection). get s key) c.reserve-else-is_err.ensures.rest_kept) are))
+    (same_are g.S.Service.gives _ _ _ c.reserve-else-is_err.ensures.rest_kept are))
 
 pub invariant_of-self-2-clause-lists : goal.invariant_of-self-2-clause-lists
 invariant_of-self-2-clause-lists g c = rw c.reserve.ensures.items
@@ -44,9 +38,7 @@ invariant_of-self-2-clause-lists g c = rw c.reserve.ensures.items
     c.insert_reserved.result c.register.new.self c.insert_reserved.ensures.was_vacant
     (c.register.ensures.stage ∙ c.new-connection.ensures.stage)
     c.insert_reserved.ensures.updates
-    (lists_same _ c.args.self.now.connections c.reserve-else-is_err.new.self
-    (λ key. ap (λ (s : Slab Connection). get s key) c.reserve-else-is_err.ensures.rest_kept)
-    lists)))
+    (lists_same _ _ _ c.reserve-else-is_err.ensures.rest_kept lists)))
 
 pub returns-in_default : goal.returns-in_default
 returns-in_default g c = record {

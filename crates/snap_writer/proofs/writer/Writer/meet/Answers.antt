@@ -11,7 +11,6 @@ invariant_of-self g c = let s = c.self.inside.segment in
     c.meet.ensures.writer.grows refl refl
 
 pub returns-clause-lived : goal.returns-clause-lived
-returns-clause-lived g c = met g.D.Disk.device g.D.Disk.is_honest g.D.Disk.clock
-    g.D.Disk.might_have_left c.args.self.now _ (search rules)
+returns-clause-lived g c = met g.D.Disk c.args.self.now _ (search rules)
     (subst (λ (w : WriterState _). Meets w.seat c.meet.new.writer) c.self.view_is
     c.meet.ensures.writer)

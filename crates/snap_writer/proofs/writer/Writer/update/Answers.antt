@@ -1,100 +1,104 @@
-use Rattle.std.proofs.Common.{rules, ◌≡◌, [], None, refl}
-use Rattle.snap_writer.proofs.Rest.{rests}
+use Rattle.std.proofs.Common.{rules, ◌≡◌, ℕ, ◌+◌, List, None, refl, sym, subst}
+use Rattle.std.specs.Prelude.{OnOk}
+use Rattle.snap_disk.specs.Device.{IsSettled, MayLeave}
+use Rattle.snap_slot.specs.Layout.{IsFileOf}
+use Rattle.snap_writer.specs.Judge.{IsAnswer}
+use Rattle.snap_writer.specs.Writer.{number_of}
+use Rattle.snap_writer.specs.declared.judgement.Judgement.{Judgement}
+use Rattle.snap_writer.specs.declared.judgement.Judgement.TheVariants.{TooLong, Stored, Conflict, OutOfStep, Exhausted, Fenced, Worn, Go}
+use Rattle.snap_writer.proofs.Judgements.{one_rule}
+use Rattle.snap_writer.proofs.Untouched.{untouched}
 use Rattle.snap_writer.proofs.Lives.{went_on, lived_first}
 use Rattle.snap_writer.proofs.writer.Writer.update.Goals as goal
 
-pub returns-in-TooLong-clause-any_time : goal.returns-in-TooLong-clause-any_time
-returns-in-TooLong-clause-any_time g c =
-    rests g.D.Disk.device g.D.Disk.is_honest g.D.Disk.clock g.D.Disk.might_have_left
-    g.met.D.Disk.only_now c.args.self.now.segment _ _ c.args.value.now c.judge.ensures.kept
+pub returns-in-TooLong : goal.returns-in-TooLong
+returns-in-TooLong g c =
+    record {
+      updated = untouched g.D.Disk g.met.D.Disk.only_now c.args.self.now c.args.number
+          c.args.value.now TooLong c.in-TooLong.ensures.rule (search rules) _ refl (search rules)
+          c.judge.ensures.kept;
+    }
 
-pub returns-in-Stored-clause-any_time : goal.returns-in-Stored-clause-any_time
-returns-in-Stored-clause-any_time g c =
-    rests g.D.Disk.device g.D.Disk.is_honest g.D.Disk.clock g.D.Disk.might_have_left
-    g.met.D.Disk.only_now c.args.self.now.segment _ _ c.args.value.now c.judge.ensures.kept
+pub returns-in-Stored : goal.returns-in-Stored
+returns-in-Stored g c =
+    record {
+      updated = untouched g.D.Disk g.met.D.Disk.only_now c.args.self.now c.args.number
+          c.args.value.now Stored c.in-Stored.ensures.rule (search rules) _ refl (search rules)
+          c.judge.ensures.kept;
+    }
 
-pub returns-in-Conflict-clause-any_time : goal.returns-in-Conflict-clause-any_time
-returns-in-Conflict-clause-any_time g c =
-    rests g.D.Disk.device g.D.Disk.is_honest g.D.Disk.clock g.D.Disk.might_have_left
-    g.met.D.Disk.only_now c.args.self.now.segment _ _ c.args.value.now c.judge.ensures.kept
+pub returns-in-Conflict : goal.returns-in-Conflict
+returns-in-Conflict g c =
+    record {
+      updated = untouched g.D.Disk g.met.D.Disk.only_now c.args.self.now c.args.number
+          c.args.value.now Conflict c.in-Conflict.ensures.rule (search rules) _ refl (search rules)
+          c.judge.ensures.kept;
+    }
 
-pub returns-in-OutOfStep-clause-any_time : goal.returns-in-OutOfStep-clause-any_time
-returns-in-OutOfStep-clause-any_time g c =
-    rests g.D.Disk.device g.D.Disk.is_honest g.D.Disk.clock g.D.Disk.might_have_left
-    g.met.D.Disk.only_now c.args.self.now.segment _ _ c.args.value.now c.judge.ensures.kept
+pub returns-in-OutOfStep : goal.returns-in-OutOfStep
+returns-in-OutOfStep g c =
+    record {
+      updated = untouched g.D.Disk g.met.D.Disk.only_now c.args.self.now c.args.number
+          c.args.value.now OutOfStep c.in-OutOfStep.ensures.rule (search rules) _ refl (search rules)
+          c.judge.ensures.kept;
+    }
 
-pub returns-in-Exhausted-clause-any_time : goal.returns-in-Exhausted-clause-any_time
-returns-in-Exhausted-clause-any_time g c =
-    rests g.D.Disk.device g.D.Disk.is_honest g.D.Disk.clock g.D.Disk.might_have_left
-    g.met.D.Disk.only_now c.args.self.now.segment _ _ c.args.value.now c.judge.ensures.kept
+pub returns-in-Exhausted : goal.returns-in-Exhausted
+returns-in-Exhausted g c =
+    record {
+      updated = untouched g.D.Disk g.met.D.Disk.only_now c.args.self.now c.args.number
+          c.args.value.now Exhausted c.in-Exhausted.ensures.rule (search rules) _ refl (search rules)
+          c.judge.ensures.kept;
+    }
 
-pub returns-in-Worn-clause-any_time : goal.returns-in-Worn-clause-any_time
-returns-in-Worn-clause-any_time g c =
-    rests g.D.Disk.device g.D.Disk.is_honest g.D.Disk.clock g.D.Disk.might_have_left
-    g.met.D.Disk.only_now c.args.self.now.segment _ _ c.args.value.now c.judge.ensures.kept
+pub returns-in-Fenced : goal.returns-in-Fenced
+returns-in-Fenced g c =
+    record {
+      updated = untouched g.D.Disk g.met.D.Disk.only_now c.args.self.now c.args.number
+          c.args.value.now Fenced c.in-Fenced.ensures.rule (search rules) _ refl (search rules)
+          c.judge.ensures.kept;
+    }
 
-pub returns-in-Go-clause-count : goal.returns-in-Go-clause-count
-returns-in-Go-clause-count g c = search rules
+pub returns-in-Worn : goal.returns-in-Worn
+returns-in-Worn g c =
+    record {
+      updated = untouched g.D.Disk g.met.D.Disk.only_now c.args.self.now c.args.number
+          c.args.value.now Worn c.in-Worn.ensures.rule (search rules) _ refl (search rules)
+          c.judge.ensures.kept;
+    }
 
-pub returns-in-Go-clause-fails : goal.returns-in-Go-clause-fails
-returns-in-Go-clause-fails g c = search rules
-
-pub returns-in-Go-clause-left : goal.returns-in-Go-clause-left
-returns-in-Go-clause-left g c = search rules
-
-pub returns-in-Go-clause-below : goal.returns-in-Go-clause-below
-returns-in-Go-clause-below g c = search rules
-
-pub returns-in-Go-clause-any_time : goal.returns-in-Go-clause-any_time
-returns-in-Go-clause-any_time g c = search rules
-
-pub returns-in-Go-clause-either : goal.returns-in-Go-clause-either
-returns-in-Go-clause-either g c = search rules
-
-pub returns-in-Go-clause-advances : goal.returns-in-Go-clause-advances
-returns-in-Go-clause-advances g c = search rules
-
-pub returns-in-Go-clause-judged : goal.returns-in-Go-clause-judged
-returns-in-Go-clause-judged g c = search rules
-
-pub returns-in-Go-clause-calls : goal.returns-in-Go-clause-calls
-returns-in-Go-clause-calls g c = search rules
-
-pub returns-in-Fenced-clause-judged : goal.returns-in-Fenced-clause-judged
-returns-in-Fenced-clause-judged g c = search rules
-
-pub returns-in-TooLong-clause-lived : goal.returns-in-TooLong-clause-lived
-returns-in-TooLong-clause-lived g c = ([], refl)
-
-pub returns-in-Stored-clause-lived : goal.returns-in-Stored-clause-lived
-returns-in-Stored-clause-lived g c = ([], refl)
-
-pub returns-in-Conflict-clause-lived : goal.returns-in-Conflict-clause-lived
-returns-in-Conflict-clause-lived g c = ([], refl)
-
-pub returns-in-OutOfStep-clause-lived : goal.returns-in-OutOfStep-clause-lived
-returns-in-OutOfStep-clause-lived g c = ([], refl)
-
-pub returns-in-Exhausted-clause-lived : goal.returns-in-Exhausted-clause-lived
-returns-in-Exhausted-clause-lived g c = ([], refl)
-
-pub returns-in-Fenced-clause-lived : goal.returns-in-Fenced-clause-lived
-returns-in-Fenced-clause-lived g c = ([], refl)
-
-pub returns-in-Worn-clause-lived : goal.returns-in-Worn-clause-lived
-returns-in-Worn-clause-lived g c = ([], refl)
-
-pub returns-in-Go-clause-stored_first : goal.returns-in-Go-clause-stored_first
-returns-in-Go-clause-stored_first g c = λ judged.
-    let unfenced : c.args.self.now.segment.begun ≡ None = search rules in
-    went_on g.D.Disk.device g.D.Disk.is_honest g.D.Disk.clock g.D.Disk.might_have_left _
-    c.args.value.now c.args.self.now c.advance.new.self c.advance.result c.judge.ensures.shown
-    unfenced refl c.advance.ensures.same_seat c.advance.ensures.advances c.advance.ensures.fails
-    c.advance.ensures.honest c.advance.ensures.any_time c.advance.ensures.last
-    c.advance.ensures.either
-
-pub returns-in-Go-clause-lived : goal.returns-in-Go-clause-lived
-returns-in-Go-clause-lived g c =
-    lived_first g.D.Disk.device g.D.Disk.is_honest g.D.Disk.clock g.D.Disk.might_have_left
-    c.args.value.now c.args.self.now c.advance.new.self
-    (returns-in-Go-clause-stored_first g c c.in-Go.ensures.rule)
+pub returns-in-Go : goal.returns-in-Go
+returns-in-Go g c =
+    let w = c.args.self.now in
+    let k = c.args.number in
+    let v = c.args.value.now in
+    let told = c.advance.result in
+    let judged = c.in-Go.ensures.rule in
+    let next : number_of w + 1 ≡ k = sym judged.0.1 in
+    let unfenced : w.segment.begun ≡ None = search rules in
+    let did = c.advance.ensures in
+    let first = went_on g.D.Disk _ v w c.advance.new.self told c.judge.ensures.shown unfenced refl
+    did.same_seat did.advances did.fails did.honest did.any_time did.last did.either in
+    record {
+      updated = record {
+        count = did.count;
+        honest_then = did.honest;
+        same_seat = did.same_seat;
+        judged = λ r is. subst (λ (x : Judgement). IsAnswer k x told) (one_rule w k v Go r judged is)
+            (subst (λ (n : ℕ). IsAnswer n Go told) next did.answer);
+        unchanged = λ r is other. absurd (other (one_rule w k v r Go is judged));
+        advances = λ go. did.advances;
+        fails = λ go. did.fails;
+        calls = λ go. did.calls;
+        left = λ go. did.left;
+        below = λ go. did.below;
+        lived = lived_first g.D.Disk v w c.advance.new.self first;
+        stored_first = λ go. first;
+        any_time = λ honest begun. did.any_time honest;
+        last = λ honest go. subst (λ (n : ℕ). OnOk told
+            (IsSettled (g.D.Disk.device c.advance.new.self.segment.device)
+            × ((b : List ℕ) → MayLeave (g.D.Disk.device c.advance.new.self.segment.device) b
+            → IsFileOf w.segment.index w.segment.count n v b))) next (did.last honest);
+        either = λ honest go. did.either honest;
+      };
+    }

@@ -1,0 +1,25 @@
+-- Which registers are meant, and what they are between two steps.
+use Rattle.std.specs.Prelude.{[]}
+use Rattle.atomic_table.specs.Seated.{TableId}
+use Rattle.atomic_table.specs.Table.{State}
+use Rattle.snap_register.specs.declared.plan.SeatView.{SeatView}
+
+-- the registers of one opening
+abbrev pub RegistersId : Type 0
+RegistersId = TableId
+
+-- what stands for registers where none were named
+abbrev pub no_registers : RegistersId
+no_registers = record {
+  words = 0;
+  slots = 0;
+  views_name = 0;
+  atom = 0;
+  block = 0;
+  offset = 0;
+  slot_names = [];
+}
+
+-- a moment of the registers, between two steps: their words, and what each seat knows
+abbrev pub Moment : Type 0
+Moment = State (Unit {0}) SeatView

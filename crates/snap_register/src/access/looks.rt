@@ -1,0 +1,217 @@
+//! Looks: a seat gives its old pin back, pins the current buffer, and reads what is pinned.
+ghost use Rattle.std.specs.Prelude.{◌≡◌, ℕ, ◌+◌, ◌^◌, ◌<◌, ◌≤◌, length, slice_index};
+ghost use Rattle.std.specs.Prelude.{◌*◌, ◌++◌, ◌∷◌, [], slice_set, take};
+ghost use Rattle.snap_history.specs.declared.limits.TheConstants.{MAX_VALUE_LEN};
+ghost use Rattle.snap_register.specs.declared.words.TheConstants.{BLOCK_WORDS};
+ghost use Rattle.snap_register.specs.Rule.{segments, Learns, IsLegal};
+ghost use Rattle.snap_register.specs.Words.{IsWhole, bytes_at, size_at, value_at};
+ghost use Rattle.snap_register.specs.Held.{held, IsPinned, HasLookedFrom};
+ghost use Rattle.snap_register.specs.Seat.{Grows, IsBelow, number_in, Looks, HasLooked, IsValue};
+ghost use Rattle.snap_register.specs.Seat.{HasFoundUpdate, IsView};
+ghost use Rattle.snap_register.specs.Steps.{view_of, known_of, HasPin, LiesAt, HasSeat, IsSame};
+
+use crate::access::{Access, PIN_RANGE};
+use crate::setup::{GiveBack, Pin, Read, TableSeat, WordTable};
+use crate::snapshot::{Held, SnapshotBuf};
+use crate::words::block_size;
+
+impl Access {
+    /// The published number of j, whose record is pinned from here on.
+    pub(crate) fn look(&mut self, j: usize) -> u64
+        requires { (j < segments (view_of self.old).plan) × (0 < self.old.left) }
+        ensures seen { Grows (known_of self.old) (known_of self.new) }
+        ensures below { IsBelow (known_of self.new) }
+        ensures number { result ≡ number_in (known_of self.new) (known_of self.new).seen j }
+        ensures looked { Looks (known_of self.old) (known_of self.new) j result }
+        ensures sights { (known_of self.new).sights ≡ (known_of self.old).sights
+            ++ (known_of self.new).seen ∷ [] }
+        ensures left { self.new.left + 1 ≡ self.old.left }
+        ensures same { (self.new.seat.table_id ≡ self.old.seat.table_id)
+            × (self.new.seat.id ≡ self.old.seat.id) × (self.new.seat.me.1 ≡ self.old.seat.me.1) }
+        ensures view { HasLookedFrom (view_of self.old) (view_of self.new) }
+        ensures learns { Learns (view_of self.old) (view_of self.new) }
+    {
+        self.give_back(j);
+        self.pin(j);
+        self.read(j, 0)
+    }
+
+    // Gives the pin on j back, if there is one.
+    fn give_back(&mut self, j: usize)
+        requires { j < segments (view_of self.old).plan }
+        ensures { (self.new.left ≡ self.old.left)
+            × (self.new.seat.table_id ≡ self.old.seat.table_id)
+            × (self.new.seat.id ≡ self.old.seat.id)
+            × (self.new.seat.me ≡ (
+              record (view_of self.old) { pins = slice_set (view_of self.old).pins j 0 },
+              self.old.seat.me.1,
+            )) }
+    {
+        if self.pins[j] > 0 {
+            let b = (self.pins[j] - 1) as usize;
+            let at = self.given(j, b);
+            self.table
+                .shared
+                .fetch_add::<GiveBack>(&mut self.seat, at, 1);
+            self.pins[j] = 0;
+        }
+    }
+
+    // Pins the current buffer of j.
+    fn pin(&mut self, j: usize)
+        requires { (j < segments (view_of self.old).plan)
+            × (slice_index (view_of self.old).pins j ≡ 0) × (0 < self.old.left) }
+        ensures learns { Learns (view_of self.old) (view_of self.new) }
+        ensures looks { IsPinned (view_of self.old) (view_of self.new) j }
+        ensures left { self.new.left + 1 ≡ self.old.left }
+        ensures same { (self.new.seat.table_id ≡ self.old.seat.table_id)
+            × (self.new.seat.id ≡ self.old.seat.id) × (self.new.seat.me.1 ≡ self.old.seat.me.1) }
+        ensures view { HasLookedFrom (view_of self.old) (view_of self.new) }
+    {
+        let found = self.table.shared.fetch_add::<Pin>(&mut self.seat, j, 1);
+        self.pins[j] = found / PIN_RANGE + 1;
+        self.left -= 1;
+    }
+
+    /// Where the word q of the pinned record of j lies. The words behind it lie behind it.
+    pub(crate) fn place(&self, j: usize, q: usize) -> usize
+        requires pinned { HasPin (view_of self.now) j }
+        requires word { q < length (held (view_of self.now) j) }
+        ensures place { LiesAt (view_of self.now) j q result }
+        ensures fits { result + length (held (view_of self.now) j) < 2 ^ 64 + q }
+    {
+        let _words = self.words;
+        let b = (self.pins[j] - 1) as usize;
+        self.cell(j, b, q)
+    }
+
+    /// The word at this place, which is of a pinned record.
+    pub(crate) fn load(&mut self, place: usize) -> u64
+        requires place { (j : ℕ) × (q : ℕ) × LiesAt (view_of self.old) j q place }
+        ensures word { (j q : ℕ) → LiesAt (view_of self.old) j q place
+            → result ≡ slice_index (held (view_of self.old) j) q }
+        ensures legal { IsLegal (view_of self.old).plan (view_of self.old).seen }
+        ensures same { IsSame self.old self.new }
+    {
+        load_word(&self.table, &mut self.seat, place)
+    }
+
+    /// The word q of the pinned record of j.
+    pub(crate) fn read(&mut self, j: usize, q: usize) -> u64
+        requires pinned { HasPin (view_of self.old) j }
+        requires place { q < length (held (view_of self.old) j) }
+        ensures word { result ≡ slice_index (held (view_of self.old) j) q }
+        ensures legal { IsLegal (view_of self.old).plan (view_of self.old).seen }
+        ensures same { IsSame self.old self.new }
+    {
+        let place = self.place(j, q);
+        self.load(place)
+    }
+
+    /// How many words the block at this place of the pinned record of j takes.
+    pub(crate) fn size_at(&mut self, j: usize, at: usize) -> usize
+        requires pinned { HasPin (view_of self.old) j }
+        requires block { IsWhole (held (view_of self.old) j) at }
+        ensures size { (result ≡ size_at (held (view_of self.old) j) at) × (result ≤ BLOCK_WORDS) }
+        ensures legal { IsLegal (view_of self.old).plan (view_of self.old).seen }
+        ensures same { IsSame self.old self.new }
+    {
+        let length = self.read(j, at + 1) as usize;
+        block_size(length)
+    }
+
+    /// The value of the pinned record of j. Answers its length.
+    pub(crate) fn value(&mut self, j: usize, out: &mut [u8]) -> usize
+        requires segment { j < segments (view_of self.old).plan }
+        requires looked { HasLooked (known_of self.old) j }
+        requires room { MAX_VALUE_LEN ≤ length out.old }
+        ensures value { IsValue (known_of self.old) j (take result out.new) }
+        ensures size { result ≤ MAX_VALUE_LEN }
+        ensures same { IsSame self.old self.new }
+    {
+        self.read_value(j, 0, out)
+    }
+
+    // The value of the block at this place of the pinned record of j. Answers its length.
+    fn read_value(&mut self, j: usize, at: usize, out: &mut [u8]) -> usize
+        requires pinned { HasPin (view_of self.old) j }
+        requires block { IsWhole (held (view_of self.old) j) at }
+        requires room { MAX_VALUE_LEN ≤ length out.old }
+        ensures value { take result out.new ≡ value_at (held (view_of self.old) j) at }
+        ensures size { (result ≡ slice_index (held (view_of self.old) j) (at + 1))
+            × (result ≤ MAX_VALUE_LEN) }
+        ensures same { IsSame self.old self.new }
+    {
+        let place = self.place(j, at);
+        let length = self.read(j, at + 1) as usize;
+        copy_value(&self.table, &mut self.seat, place, (length + 7) / 8, out);
+        length
+    }
+
+    /// The view of the pinned record of j, which is an update's.
+    pub(crate) fn view(&mut self, j: usize, out: &mut SnapshotBuf)
+        requires segment { j < segments (view_of self.old).plan }
+        requires updated { HasFoundUpdate (known_of self.old) j }
+        requires room { length out.old ≡ segments (view_of self.old).plan }
+        ensures view { IsView (known_of self.old) j out.new }
+        ensures same { IsSame self.old self.new }
+    {
+        let mut at = self.size_at(j, 0);
+        for k in 0..out.segments.len() {
+            at += self.read_block(j, at, &mut out.segments[k]);
+        }
+    }
+
+    // The number and the value of the block at this place. Answers how many words it takes.
+    fn read_block(&mut self, j: usize, at: usize, out: &mut Held) -> usize
+        requires pinned { HasPin (view_of self.old) j }
+        requires block { IsWhole (held (view_of self.old) j) at }
+        ensures block { out.new ≡ (
+          slice_index (held (view_of self.old) j) at,
+          value_at (held (view_of self.old) j) at,
+        ) }
+        ensures size { result ≡ size_at (held (view_of self.old) j) at }
+        ensures same { IsSame self.old self.new }
+    {
+        out.number = self.read(j, at);
+        out.length = self.read_value(j, at, &mut out.bytes);
+        block_size(out.length)
+    }
+}
+
+// Writes the value of the block at this place of a pinned record, which takes this many words, to
+// the front of `out`. The table comes by itself, so that no word needs a look-up of where it is.
+fn copy_value(table: &WordTable, seat: &mut TableSeat, place: usize, count: usize, out: &mut [u8])
+    requires own { seat.old.table_id ≡ table.now.shared.table_id }
+    requires seated { HasSeat seat.old }
+    requires block { (j : ℕ) × (at : ℕ) × LiesAt seat.old.me.0 j at place
+        × (at + 2 + count ≤ length (held seat.old.me.0 j)) }
+    requires fits { place + 2 + count < 2 ^ 64 }
+    requires room { 8 * count ≤ length out.old }
+    ensures size { length out.new ≡ length out.old }
+    ensures bytes { (j at : ℕ) → LiesAt seat.old.me.0 j at place
+        → at + 2 + count ≤ length (held seat.old.me.0 j)
+        → take (8 * count) out.new ≡ bytes_at (held seat.old.me.0 j) (at + 2) count }
+    ensures same { (seat.new.table_id ≡ seat.old.table_id) × (seat.new.id ≡ seat.old.id)
+        × (seat.new.me ≡ seat.old.me) }
+{
+    for q in 0..count {
+        let word = load_word(table, seat, place + 2 + q);
+        let to = 8 * q;
+        out[to..to + 8].copy_from_slice(&word.to_le_bytes());
+    }
+}
+
+// The word at this place of the table.
+fn load_word(table: &WordTable, seat: &mut TableSeat, place: usize) -> u64
+    requires own { seat.old.table_id ≡ table.now.shared.table_id }
+    requires seated { HasSeat seat.old }
+    requires place { (j : ℕ) × (q : ℕ) × LiesAt seat.old.me.0 j q place }
+    ensures word { (j q : ℕ) → LiesAt seat.old.me.0 j q place
+        → result ≡ slice_index (held seat.old.me.0 j) q }
+    ensures legal { IsLegal seat.old.me.0.plan seat.old.me.0.seen }
+    ensures same { (seat.new.table_id ≡ seat.old.table_id) × (seat.new.id ≡ seat.old.id)
+        × (seat.new.me ≡ seat.old.me) }
+{
+    table.shared.load::<Read>(seat, place)
+}
