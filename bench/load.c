@@ -3,10 +3,10 @@
  *     load PORT KIND SEGMENTS LENGTH WRITERS READERS MILLISECONDS [COMERS RATE]
  *
  * KIND is `snapd` or `redis`. Each writer updates its own segment, or key, by values of LENGTH bytes, and each reader scans all
- * of them. Each comer, of whom there are none by default, connects, asks nothing, leaves, and comes again, all of them RATE times
- * a second, or with RATE 0 as fast as they can. It prints three lines, `updates`, `scans` and `connections`, each with how many
- * there were a second, and the median and the 99th percentile of their times in nanoseconds. The first tenth of the time counts
- * for nothing.
+ * of them, or those that the environment's PART names, by four hexadecimal digits. Each comer, of whom there are none by default,
+ * connects, asks nothing, leaves, and comes again, all of them RATE times a second, or with RATE 0 as fast as they can. It prints
+ * three lines, `updates`, `scans` and `connections`, each with how many there were a second, and the median and the 99th
+ * percentile of their times in nanoseconds. The first tenth of the time counts for nothing.
  */
 #define _GNU_SOURCE
 #include <arpa/inet.h>
@@ -21,7 +21,7 @@
 
 enum { MOST_CONNECTIONS = 64, MOST_TIMES = 1 << 22, LONGEST = 1 << 17, KINDS = 3 };
 
-static int port, is_redis, segments, length, comers, rate;
+static int port, is_redis, segments, length, comers, rate, part;
 static long long begin, end;
 static atomic_llong counts[KINDS];
 static long long *times[KINDS];
@@ -145,17 +145,18 @@ static void *write_on(void *of) {
 static void *scan_on(void *of) {
     int stream = connected();
     unsigned char *request = malloc(LONGEST), *reply = malloc(LONGEST);
-    size_t count = is_redis ? redis_mget(request) : 5;
+    size_t count = is_redis ? redis_mget(request) : part ? 7 : 5;
     long long since;
     (void)of;
-    if (!is_redis) memcpy(request, "\0\0\0\1\2", 5);
+    if (!is_redis) memcpy(request, part ? "\0\0\0\3\4" : "\0\0\0\1\2", 5);
+    if (!is_redis && part) put_number(request + 5, part, 2);
     do {
         since = now();
         send_all(stream, request, count);
         if (is_redis)
             receive(stream, reply, redis_mget_reply());
         else
-            must(receive_frame(stream, reply) > 2 && reply[0] == 0x82, "snapshot");
+            must(receive_frame(stream, reply) > 2 && reply[0] == (part ? 0x84 : 0x82), "snapshot");
     } while (timed(1, since));
     close(stream);
     return NULL;
@@ -200,6 +201,7 @@ int main(int words, char **word) {
     must(words == 8 || words == 10, "load PORT KIND SEGMENTS LENGTH WRITERS READERS MILLISECONDS [COMERS RATE]");
     port = atoi(word[1]), is_redis = strcmp(word[2], "redis") == 0, segments = atoi(word[3]), length = atoi(word[4]);
     int writers = atoi(word[5]), readers = atoi(word[6]), all = 0;
+    if (getenv("PART")) part = strtol(getenv("PART"), NULL, 16);
     if (words == 10) comers = atoi(word[8]), rate = atoi(word[9]);
     must(writers <= segments && writers + readers + comers <= MOST_CONNECTIONS, "connections");
     long long span = atoll(word[7]) * 1000000LL, start = now();

@@ -2,14 +2,15 @@
 
     python3 bench/server.py [--folder FOLDER] [--rounds N] [--program bin/snapd] [--only PART]
 
-PART is one of `updates`, `scans`, `starts`, `told`, `comers`, `memory`, `held` and `redis`, by default all of them in this order.
+PART is one of `updates`, `scans`, `parts`, `starts`, `told`, `comers`, `memory`, `held` and `redis`, by default all of them in this order.
 Each figure is the median of the ratios of some rounds; in a round all that is compared runs in turn, for half a second each.
 The files lie in FOLDER, by default a fresh folder beside this repository's own files, so that they are on a disk and not in
 memory.
 
 An update is compared with its device calls alone (aim 1.1), and with the yardstick, which makes the same calls behind a socket
 (aim 1.3); updates a second of 1 and 16 writers with bare calls (aim 0.8); a scan with the yardstick's reply of the same size
-(aim 1.5), alone and beside 16 writers, and with a yardstick that copies what was stored last; the time to the line `listening` with
+(aim 1.5), alone and beside 16 writers, and with a yardstick that copies what was stored last; a scan of 1, 4 and 16 named segments of 16
+with a whole one of a server that has as many (aim 1.15); the time to the line `listening` with
 16 files, with their bare opening (aim 20 ms more), beside the time to write as much memory and to copy it, and the same by what
 docs/RECIPES.md gives the C library of a service.
 
@@ -41,7 +42,7 @@ from preload import library  # noqa: E402
 from program import Program  # noqa: E402
 from serving import SCAN, Server, entries_of, reply, segments  # noqa: E402
 
-PARTS = ("updates", "scans", "starts", "told", "comers", "memory", "held", "redis")
+PARTS = ("updates", "scans", "parts", "starts", "told", "comers", "memory", "held", "redis")
 SEGMENTS, SPAN = 16, 500
 # Connections a second that come and go, beside which a median update was once 4 ms.
 FLOOD = 12_600
@@ -92,11 +93,12 @@ class Bench:
         held = [(1, b"v" * length), (2, b"v" * length)]
         return segments(self.snapd, *[held] * count, folder=place)
 
-    def load(self, server, length, writers, readers, kind="snapd", count=SEGMENTS, comers=(0, 0)):
+    def load(self, server, length, writers, readers, kind="snapd", count=SEGMENTS, comers=(0, 0), part=0):
         """Updates a second, their median and 99th percentile in microseconds, and the same of scans, and of connections that come and
-        go: so many at once, and so many a second."""
+        go: so many at once, and so many a second. With a part the scans are of the segments that it names."""
         words = [self.client, server.place[1], kind, count, length, writers, readers, SPAN, *comers]
-        run = subprocess.run(list(map(str, words)), check=True, stdout=subprocess.PIPE, text=True)
+        env = {**os.environ, "PART": f"{part:04x}"} if part else None
+        run = subprocess.run(list(map(str, words)), check=True, stdout=subprocess.PIPE, text=True, env=env)
         lines = [line.split()[1:] for line in run.stdout.splitlines()]
         return [(float(rate), int(median) / 1e3, int(most) / 1e3) for rate, median, most in lines]
 
@@ -146,6 +148,23 @@ class Bench:
                     name = f"scan of 16 x {length:,} bytes" + (", beside 16 writers" if writers else "")
                     more = f"aim 1.5; with live values {beside_live:.3f}"
                     show(name, mine, bare, "us", f"{beside_echo:.3f}   ({more})")
+
+    def parts(self):
+        """A scan of some segments of 16 beside a whole one of a server with as many, alone and beside writers."""
+        length = 1_000
+        files = self.files("files", length)
+        for named in (1, 4, SEGMENTS):
+            few = self.files("few", length, named)
+            with Server(self.snapd, *files, scanners=4) as server, Server(self.snapd, *few, scanners=4) as small:
+                for writers in (0, SEGMENTS):
+                    found = []
+                    for _ in range(self.rounds):
+                        part = self.load(server, length, writers, 1, part=(1 << named) - 1)[1][1]
+                        whole = self.load(small, length, min(writers, named), 1, count=named)[1][1]
+                        found.append((part, whole))
+                    mine, whole = (statistics.median(each) for each in zip(*found))
+                    name = f"scan of {named} of 16, and of {named} of {named}" + (", beside writers" if writers else "")
+                    show(name, mine, whole, "us", f"{statistics.median(a / b for a, b in found):.3f}   (aim 1.15)")
 
     def comers(self):
         """An update of one writer beside connections that come and go."""

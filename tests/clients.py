@@ -143,7 +143,7 @@ def framed(text):
 def vectors():
     """The requests and replies of docs/FORMATS.md, one connection to a server of two segments, as frames."""
     text = (TOP / "docs" / "FORMATS.md").read_text()
-    table = text[text.index("| Request's frame | Reply's frame |"):].splitlines()[2:13]
+    table = text[text.index("| Request's frame | Reply's frame |"):].splitlines()[2:18]
     rows = []
     for line in table:
         request, reply = [cell.strip() for cell in line.strip("|").split("|")]
@@ -157,7 +157,7 @@ def vectors():
             assert "segment 1, number 1, with 4,081 bytes" in request
             frame += (1).to_bytes(8, "big") + b"v" * 4081
         rows.append((frame, bytes.fromhex(re.search(r"`([0-9A-F ]+)`", reply).group(1))))
-    assert len(rows) == 11
+    assert len(rows) == 16
     return rows
 
 

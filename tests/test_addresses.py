@@ -29,8 +29,8 @@ def test_an_address_that_lacks_a_part(snapd, _):
     for address in LACKS:
         # The file isn't there, which is said where it is opened first.
         snapd("serve", address, "missing").gave(1, errors=lacking(address))
-        for request in ("scan", "status"):
-            snapd("call", address, request, "--tries", 10).gave(1, errors=lacking(address))
+        for request in (("scan",), ("part", "0001"), ("status",)):
+            snapd("call", address, *request, "--tries", 10).gave(1, errors=lacking(address))
 
 
 def test_what_lacks_nothing_goes_to_the_system(snapd, _):
@@ -44,6 +44,7 @@ def test_words_are_judged_before_the_address(snapd, _):
     assert snapd("serve", ":0").status == 2
     assert snapd("serve", ":0", "F", "--scanners", 0).status == 2
     assert snapd("call", ":0", "frobnicate").status == 2
+    assert snapd("call", ":0", "part", "0000").status == 2
 
 
 def test_all_addresses_are_served(snapd, _):

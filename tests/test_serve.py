@@ -132,7 +132,8 @@ def file_faults(snapd):
         ("damaged", 3, ["refused 10 Damaged", remedy("10", "damaged", **place)]),
         ("unformatted", 3, ["refused 11 Unformatted", remedy("11", "unformatted", **place)]),
         ("empty", 3, ["refused 14 WrongFile", remedy("14, no byte", "empty", **place)]),
-        *[(name, 3, ["refused 14 WrongFile", remedy("14, any other file", name, **place)]) for name in ("short", "old", "another")],
+        ("old", 3, ["refused 14 WrongFile", remedy("14, 20,480 bytes", "old", **place)]),
+        *[(name, 3, ["refused 14 WrongFile", remedy("14, any other file", name, **place)]) for name in ("short", "another")],
     ]
 
 
@@ -143,10 +144,7 @@ def test_files_that_cannot_be_served(snapd, _):
         before = {name: snapd.file(name).read_bytes() for name in (first, last)}
         run = snapd("serve", "127.0.0.1:0", first, file, last)
         run.gave(status, errors="".join(f"snapd: {line}\n" for line in lines))
-        if file == "old":
-            # What the line says to look at knows the remedy.
-            snapd("check", file).refused(14, "WrongFile", layout.advice(file))
-        if file in ("unformatted", "empty"):
+        if file in ("unformatted", "empty", "old"):
             # A command on this file alone says the same.
             snapd("get", file, "--index", 1, "--count", 3).gave(status, errors=run.errors)
         if file == "empty":
@@ -159,7 +157,7 @@ def test_files_that_cannot_be_served(snapd, _):
 
 def test_each_remedy_is_documented(snapd, _):
     """The text of 13 is met by a start on a failing disk, the others by the files above."""
-    assert list(REMEDIES) == ["10", "11", "13", "14, no byte", "14, any other file"]
+    assert list(REMEDIES) == ["10", "11", "13", "14, no byte", "14, 20,480 bytes", "14, any other file"]
 
 
 def test_the_first_file_that_fails_is_named(snapd, _):

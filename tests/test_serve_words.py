@@ -1,4 +1,7 @@
-"""The words by which `serve` is told what to let in and to log: judged before any file is opened, each with its own text."""
+"""The words by which `serve` is told what to let in and to log, and the mask of `call ADDR part MASK`: judged before any file is
+opened and before any connection, each with its own text."""
+
+from serving import Server, fresh
 
 ADDRESS = "127.0.0.1:0"
 MISSING = "snapd: missing: No such file or directory (os error 2)\n"
@@ -35,3 +38,49 @@ def test_help_says_what_the_limits_are(snapd, _):
     shown = snapd("serve", "--help").output.decode()
     for text in ("--clients-max <N>", "1 to 1000000", "--idle <SECONDS>", "1 to 31536000", "--log <LEVEL>", "[default: info]"):
         assert text in shown, text
+
+
+# ---- some segments ----
+
+def lines_of(scan, *segments):
+    """The lines of these segments in what a scan of all printed."""
+    lines = scan.output.decode().splitlines(keepends=True)
+    return "".join(lines[segment] for segment in segments)
+
+
+def test_a_part_is_the_lines_of_its_segments(snapd, _):
+    """Of sixteen, in ascending order, each under its own index; all of them are what a scan prints."""
+    with Server(snapd, *fresh(snapd, 16)) as server:
+        for segment in range(0, 16, 3):
+            snapd("call", server.address, "update", segment, 1, f"{segment:02x}").gave(0, "stored 1\n")
+        snapd("call", server.address, "update", 3, 2, "6869").gave(0, "stored 2\n")
+        scan = snapd("call", server.address, "scan")
+        snapd("call", server.address, "part", "0009").gave(0, "segment 0 number 1 value 00\nsegment 3 number 2 value 6869\n")
+        snapd("call", server.address, "part", "8002").gave(0, "segment 1 number 0 value -\nsegment 15 number 1 value 0f\n")
+        for mask in ("aBc0", "ABC0", "abc0", "0001", "8000", "5555", "FFFF"):
+            named = [segment for segment in range(16) if int(mask, 16) >> segment & 1]
+            snapd("call", server.address, "part", mask).gave(0, lines_of(scan, *named))
+        snapd("call", server.address, "part", "ffff").gave(0, scan.output)
+
+
+def test_a_part_of_segments_that_are_not_there(snapd, _):
+    """The refusal's detail is how many there are."""
+    with Server(snapd, *fresh(snapd, 2)) as server:
+        snapd("call", server.address, "part", "0003").gave(0, "segment 0 number 0 value -\nsegment 1 number 0 value -\n")
+        for mask in ("0004", "0005", "8001", "ffff"):
+            snapd("call", server.address, "part", mask).gave(3, errors="snapd: refused 2 NoSegment 2\n")
+
+
+def test_masks_that_are_none(snapd, _):
+    """Nobody listens at that address, and the address lacks its host: the words come first."""
+    no_mask, no_segment = "the part's mask is not four hexadecimal digits", "the part's mask names no segment"
+    for mask, why in [
+        ("0000", no_segment), ("", no_mask), ("9", no_mask), ("001", no_mask), ("00001", no_mask), ("00000", no_mask),
+        ("+001", no_mask), ("+0001", no_mask), (" 001", no_mask), ("001 ", no_mask), ("0x01", no_mask), ("00g1", no_mask),
+        ("é01", no_mask),
+    ]:
+        for address in ("127.0.0.1:7", ":0"):
+            run = snapd("call", address, "part", mask).failed_with(2, why)
+            assert run.errors.startswith("snapd: error: ") and "try '--help'" in run.errors, run
+    for words in (("part",), ("part", "0001", "0002"), ("Part", "0001"), ("scan", "0001")):
+        snapd("call", ":0", *words).failed_with(2, "the request is not `update I NUMBER HEX`, `scan`, `part MASK`, `status` or `health`")

@@ -26,21 +26,22 @@ def count(folder, work, rounds):
 
 
 def refuse_each(folder, work, answer):
-    """Refuses each allocation of two rounds beyond those before them. Gives how many a round makes."""
-    before, after = (count(folder, work, rounds) for rounds in (0, 2))
+    """Refuses each allocation of two rounds beyond those before them. Gives how many each round makes."""
+    before, between, after = (count(folder, work, rounds) for rounds in (0, 1, 2))
     assert run(work, 2) == answer
     for number in range(before + 1, after + 1):
         # The round behind one that was refused is answered.
-        is_last = number > before + (after - before) // 2
         printed = run(work, 2, ALLOCATIONS_REFUSE=str(number))
-        assert printed == ("refused NoMemory 0\n" if is_last else answer), (work, number, printed)
-    return (after - before) // 2
+        assert printed == ("refused NoMemory 0\n" if number > between else answer), (work, number, printed)
+    return between - before, after - between
 
 
 def test_each_allocation_of_an_answer_is_refused(snapd, _):
-    # The list, and of each value its bytes and who shares them.
-    assert refuse_each(snapd.folder, "scan", f"snapshot of {SEGMENTS}\n") == 1 + 2 * SEGMENTS
-    assert refuse_each(snapd.folder, "status", f"status of {SEGMENTS}\n") == 1
+    # The list; and once the place of what is kept, and of each value its bytes and who shares them. What hasn't changed is shared.
+    assert refuse_each(snapd.folder, "scan", f"snapshot of {SEGMENTS}\n") == (2 + 2 * SEGMENTS, 1)
+    # The list of two, and that of what their segments are; and once as above, of two values.
+    assert refuse_each(snapd.folder, "part", "part of 2\n") == (3 + 2 * 2, 2)
+    assert refuse_each(snapd.folder, "status", f"status of {SEGMENTS}\n") == (1, 1)
 
 
 def test_updates_through_a_node_ask_for_no_memory(snapd, _):

@@ -53,9 +53,9 @@ typedef enum {
     SNAPD_REFUSED,      /* the server said no: refusal and detail of the client say why */
     SNAPD_NOT_ANSWERED, /* no try had an answer: error of the client is the last errno, or 0 where the server hung up */
     SNAPD_TIMED_OUT,    /* the last try had no whole answer within the timeout */
-    SNAPD_BAD_REPLY,    /* what came isn't an answer to the request, or says that another number was stored than was sent.
-                         * It isn't tried again: check the address, and scan */
-    SNAPD_BAD_CALL      /* a value or an address that no message or socket can say; nothing was sent */
+    SNAPD_BAD_REPLY,    /* what came isn't an answer to the request, or says that another number was stored than was sent, or
+                         * tells other segments than were named. It isn't tried again: check the address, and scan */
+    SNAPD_BAD_CALL      /* a value, a mask or an address that no message or socket can say; nothing was sent */
 } snapd_result;
 
 /* Why a request was refused. */
@@ -90,6 +90,12 @@ typedef struct {
     int count;
     snapd_entry entry[SNAPD_MAX_SEGMENTS];
 } snapd_snapshot;
+
+/* Some segments at one moment: entry[i] is of segment i where bit i of the mask is 1, and else nothing. */
+typedef struct {
+    unsigned mask;
+    snapd_entry entry[SNAPD_MAX_SEGMENTS];
+} snapd_part;
 
 typedef struct {
     uint64_t number;
@@ -421,6 +427,20 @@ static inline snapd_result snapd_ask_byte(snapd_client *client, unsigned char by
     return snapd_ask(client, &request, length);
 }
 
+/* The entry at this place of a payload: the place behind it, or 0 where there is none. */
+static inline size_t snapd_read_entry(const unsigned char *x, size_t length, size_t at, snapd_entry *entry)
+{
+    if (length - at < 12)
+        return 0;
+    entry->number = snapd_get(x + at, 8);
+    entry->length = (uint32_t)snapd_get(x + at + 8, 4);
+    entry->value = x + at + 12;
+    at += 12;
+    if (!snapd_is_number(entry->number) || entry->length > SNAPD_MAX_VALUE || length - at < entry->length)
+        return 0;
+    return at + entry->length;
+}
+
 /* The entries of a snapshot's payload; 0 where it isn't one. */
 static inline int snapd_read_snapshot(const unsigned char *x, size_t length, snapd_snapshot *snapshot)
 {
@@ -429,16 +449,9 @@ static inline int snapd_read_snapshot(const unsigned char *x, size_t length, sna
         return 0;
     snapshot->count = x[1];
     for (int i = 0; i < snapshot->count; i++) {
-        snapd_entry *entry = &snapshot->entry[i];
-        if (length - at < 12)
+        at = snapd_read_entry(x, length, at, &snapshot->entry[i]);
+        if (at == 0)
             return 0;
-        entry->number = snapd_get(x + at, 8);
-        entry->length = (uint32_t)snapd_get(x + at + 8, 4);
-        entry->value = x + at + 12;
-        at += 12;
-        if (!snapd_is_number(entry->number) || entry->length > SNAPD_MAX_VALUE || length - at < entry->length)
-            return 0;
-        at += entry->length;
     }
     return at == length;
 }
@@ -452,6 +465,56 @@ static inline snapd_result snapd_scan(snapd_client *client, snapd_snapshot *snap
     if (result != SNAPD_OK)
         return result;
     return snapd_read_snapshot(client->frame, length, snapshot) ? SNAPD_OK : snapd_other(client, length);
+}
+
+/* The entries of these segments, in ascending order; 0 where the payload isn't a scan of them. */
+static inline int snapd_read_part(const unsigned char *x, size_t length, unsigned mask, snapd_part *part)
+{
+    size_t at = 2;
+    unsigned left = mask;
+    if (length < 2 || x[0] != 0x84)
+        return 0;
+    for (int i = 0; i < x[1]; i++) {
+        unsigned segment;
+        if (at >= length || x[at] >= SNAPD_MAX_SEGMENTS)
+            return 0;
+        segment = x[at];
+        /* the lowest of those that are left */
+        if ((left & ((2U << segment) - 1)) != 1U << segment)
+            return 0;
+        left &= ~(1U << segment);
+        at = snapd_read_entry(x, length, at + 1, &part->entry[segment]);
+        if (at == 0)
+            return 0;
+    }
+    return left == 0 && at == length;
+}
+
+/* Number and value of some segments alone, all of one moment between the call and its return: bit i of the mask names
+ * segment i, so 1u << 0 | 1u << 3 names the first and the fourth. It names one or more, and none above segment 15: else
+ * SNAPD_BAD_CALL. A segment that the server hasn't is refused as SNAPD_NO_SEGMENT. part->mask is the mask after SNAPD_OK,
+ * and else 0. A reply of other segments is SNAPD_BAD_REPLY. */
+static inline snapd_result snapd_scan_some(snapd_client *client, unsigned mask, snapd_part *part)
+{
+    snapd_request request;
+    snapd_result result;
+    size_t length = 0;
+    part->mask = 0;
+    if (mask == 0 || mask >> SNAPD_MAX_SEGMENTS != 0)
+        return SNAPD_BAD_CALL;
+    snapd_put(request.head, 3, 4);
+    request.head[4] = 0x04;
+    snapd_put(request.head + 5, mask, 2);
+    request.head_length = 7;
+    request.value = NULL;
+    request.length = 0;
+    result = snapd_ask(client, &request, &length);
+    if (result != SNAPD_OK)
+        return result;
+    if (!snapd_read_part(client->frame, length, mask, part))
+        return snapd_other(client, length);
+    part->mask = mask;
+    return SNAPD_OK;
 }
 
 /* The entries of a status's payload; 0 where it isn't one. */

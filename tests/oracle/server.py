@@ -56,6 +56,8 @@ class Model:
                 return self.snapshot()
             if payload == b"\x03":
                 return self.standings()
+            if payload[:1] == b"\x04" and len(payload) == 3 and any(payload[1:]):
+                return self.part(int.from_bytes(payload[1:], "big"))
             if payload[:1] == b"\x01" and len(payload) >= 10:
                 return self.update(payload[1], int.from_bytes(payload[2:10], "big"), payload[10:])
             return refused(1)
@@ -67,6 +69,14 @@ class Model:
     def standings(self):
         entries = b"".join(struct.pack(">QB", s.number, s.fenced) for s in self.segments)
         return bytes([0x83, len(self.segments)]) + entries
+
+    def part(self, mask):
+        """The segments whose bits the mask has."""
+        if mask >> len(self.segments):
+            return refused(2, len(self.segments))
+        named = [(i, s) for i, s in enumerate(self.segments) if mask >> i & 1]
+        entries = b"".join(struct.pack(">BQI", i, s.number, len(s.value)) + s.value for i, s in named)
+        return bytes([0x84, len(named)]) + entries
 
     def update(self, index, number, value):
         if index >= len(self.segments):

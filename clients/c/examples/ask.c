@@ -1,8 +1,10 @@
 /* One request, from the shell.
  *
- *     cc -std=c99 -O2 -I .. -o ask ask.c && ./ask HOST PORT TIMEOUT TRIES update SEGMENT NUMBER TEXT | scan | status
+ *     cc -std=c99 -O2 -I .. -o ask ask.c
+ *     ./ask HOST PORT TIMEOUT TRIES update SEGMENT NUMBER TEXT | scan | part MASK | status
  *
- * It prints `stored NUMBER`, or a line for each segment. Status 0 done, 1 no answer, 2 the words, 3 refused.
+ * MASK is hexadecimal, and its bit i names segment i. It prints `stored NUMBER`, or a line for each segment. Status 0 done,
+ * 1 no answer, 2 the words, 3 refused.
  */
 #define _POSIX_C_SOURCE 200809L
 #include "snapd.h"
@@ -21,15 +23,29 @@ static void print_hex(const unsigned char *bytes, uint32_t length)
         printf("%02x", bytes[i]);
 }
 
+static void print_entry(int segment, const snapd_entry *entry)
+{
+    printf("segment %d number %" PRIu64 " value ", segment, entry->number);
+    print_hex(entry->value, entry->length);
+    printf("\n");
+}
+
 static snapd_result scan(void)
 {
     snapd_snapshot now;
     snapd_result result = snapd_scan(&client, &now);
-    for (int i = 0; result == SNAPD_OK && i < now.count; i++) {
-        printf("segment %d number %" PRIu64 " value ", i, now.entry[i].number);
-        print_hex(now.entry[i].value, now.entry[i].length);
-        printf("\n");
-    }
+    for (int i = 0; result == SNAPD_OK && i < now.count; i++)
+        print_entry(i, &now.entry[i]);
+    return result;
+}
+
+static snapd_result part(const char *mask)
+{
+    snapd_part now;
+    snapd_result result = snapd_scan_some(&client, (unsigned)strtoul(mask, NULL, 16), &now);
+    for (int i = 0; i < SNAPD_MAX_SEGMENTS; i++)
+        if (now.mask >> i & 1)
+            print_entry(i, &now.entry[i]);
     return result;
 }
 
@@ -68,15 +84,18 @@ static int status_of(snapd_result result)
 int main(int argc, char **argv)
 {
     if (argc < 6 || snapd_open(&client, argv[1], atoi(argv[2]), atoi(argv[3]), atoi(argv[4])) != SNAPD_OK) {
-        fprintf(stderr, "usage: %s HOST PORT TIMEOUT TRIES update SEGMENT NUMBER TEXT | scan | status\n", argv[0]);
+        fprintf(stderr, "usage: %s HOST PORT TIMEOUT TRIES update SEGMENT NUMBER TEXT | scan | part MASK | status\n",
+                argv[0]);
         return 2;
     }
     if (argc == 6 && strcmp(argv[5], "scan") == 0)
         return status_of(scan());
     if (argc == 6 && strcmp(argv[5], "status") == 0)
         return status_of(status());
+    if (argc == 7 && strcmp(argv[5], "part") == 0)
+        return status_of(part(argv[6]));
     if (argc == 9 && strcmp(argv[5], "update") == 0)
         return status_of(update(argv[6], argv[7], argv[8]));
-    fprintf(stderr, "%s: neither update SEGMENT NUMBER TEXT nor scan nor status\n", argv[5]);
+    fprintf(stderr, "%s: neither update SEGMENT NUMBER TEXT nor scan nor part MASK nor status\n", argv[5]);
     return 2;
 }

@@ -6,14 +6,14 @@ import threading
 import time
 import weakref
 from types import TracebackType
-from typing import Optional, Tuple, Type, TypeVar, Union
+from typing import Dict, Iterable, Optional, Tuple, Type, TypeVar, Union, overload
 
 from . import messages
 from .errors import BadReply, NotAnswered, Refused, TimedOut
-from .messages import Bytes, Entry, Snapshot, Standing, Standings, Stored
+from .messages import Bytes, Entry, Part, Snapshot, Standing, Standings, Stored
 
 Address = Union[str, Tuple[str, int]]
-Wanted = TypeVar("Wanted", Stored, Snapshot, Standings)
+Wanted = TypeVar("Wanted", Stored, Snapshot, Standings, Part)
 
 PIECE = 65_536
 MAX_PORT = 65_535
@@ -85,9 +85,23 @@ class Client:
         """
         return self._ask(messages.update(segment, number, value), Stored, number).number
 
-    def scan(self) -> Tuple[Entry, ...]:
-        """Number and value of every segment, all of one moment between the call and its return."""
-        return self._ask(messages.scan(), Snapshot).entries
+    @overload
+    def scan(self) -> Tuple[Entry, ...]: ...
+
+    @overload
+    def scan(self, segments: Iterable[int]) -> Dict[int, Entry]: ...
+
+    def scan(self, segments: Optional[Iterable[int]] = None) -> Union[Tuple[Entry, ...], Dict[int, Entry]]:
+        """Number and value of every segment, all of one moment between the call and its return.
+
+        With `segments`, as in `scan(segments=[0, 3])`, of these alone: a dict of the entries by segment, in ascending order.
+        One that is named twice counts once. `NoSegment` where the server hasn't one of them. Before a byte is sent comes
+        `TypeError` where a segment isn't an integer, and `ValueError` where it isn't 0 to 15 or none is named.
+        """
+        if segments is None:
+            return self._ask(messages.scan(), Snapshot).entries
+        names = messages.named(segments)
+        return self._ask(messages.scan_some(names), Part, segments=names).entries
 
     def status(self) -> Tuple[Standing, ...]:
         """Number and fence of every segment. It isn't a snapshot: each entry is of a moment of its own."""
@@ -114,7 +128,13 @@ class Client:
         self._lock = threading.Lock()
         self._drop()
 
-    def _ask(self, frame: bytes, wanted: Type[Wanted], number: Optional[int] = None) -> Wanted:
+    def _ask(
+        self,
+        frame: bytes,
+        wanted: Type[Wanted],
+        number: Optional[int] = None,
+        segments: Tuple[int, ...] = (),
+    ) -> Wanted:
         with self._lock:
             try:
                 message = messages.reply(self._exchange(frame))
@@ -122,6 +142,8 @@ class Client:
                     raise BadReply("the reply answers another request")
                 if isinstance(message, Stored) and message.number != number:
                     raise BadReply(f"the reply says that number {message.number} is stored, and asked was {number}")
+                if isinstance(message, Part) and tuple(message.entries) != segments:
+                    raise BadReply(f"the reply is of the segments {tuple(message.entries)}, and asked was {segments}")
             except BaseException:
                 # Whatever ended the call, an answer may still come: this connection isn't asked again.
                 self._drop()

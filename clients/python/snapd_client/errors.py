@@ -20,7 +20,8 @@ class TimedOut(NotAnswered):
 
 
 class BadReply(SnapdError):
-    """What came isn't an answer to the request, or says that another number was stored than was sent. It isn't tried again.
+    """What came isn't an answer to the request, or says that another number was stored than was sent, or tells other segments
+    than were named. It isn't tried again.
 
     Something else than a snapd may be at the other end. An update may have been stored all the same: check the address, and scan.
     """

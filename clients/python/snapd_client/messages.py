@@ -2,7 +2,7 @@
 
 import operator
 import struct
-from typing import List, NamedTuple, Tuple, Union
+from typing import Dict, Iterable, List, NamedTuple, Tuple, Union
 
 from .errors import BY_NUMBER, BadReply, Refused
 
@@ -12,12 +12,12 @@ MAX_VALUE = 4_080
 MAX_SEGMENTS = 16
 NUMBERS = 1 << 63
 
-UPDATE, SCAN, STATUS = 0x01, 0x02, 0x03
-STORED, SNAPSHOT, STANDINGS, REFUSED = 0x81, 0x82, 0x83, 0xE0
+UPDATE, SCAN, STATUS, SCAN_SOME = 0x01, 0x02, 0x03, 0x04
+STORED, SNAPSHOT, STANDINGS, PART, REFUSED = 0x81, 0x82, 0x83, 0x84, 0xE0
 
 
 class Entry(NamedTuple):
-    """One segment in a snapshot."""
+    """One segment in a snapshot, or in a scan of some segments."""
 
     number: int
     value: bytes
@@ -42,7 +42,11 @@ class Standings(NamedTuple):
     standings: Tuple[Standing, ...]
 
 
-Reply = Union[Stored, Snapshot, Standings, Refused]
+class Part(NamedTuple):
+    entries: Dict[int, Entry]
+
+
+Reply = Union[Stored, Snapshot, Standings, Part, Refused]
 Bytes = Union[bytes, bytearray, memoryview]
 
 
@@ -74,6 +78,23 @@ def update(segment: int, number: int, value: Bytes) -> bytes:
 def scan() -> bytes:
     """The frame that asks for a snapshot."""
     return frame(bytes([SCAN]))
+
+
+def named(segments: Iterable[int]) -> Tuple[int, ...]:
+    """The segments that a scan of some names, in ascending order; one that comes twice counts once. `TypeError` where one isn't
+    an integer, `ValueError` where it isn't 0 to 15, or there is none."""
+    names = sorted({operator.index(segment) for segment in segments})
+    if not names:
+        raise ValueError("a scan of some segments names one or more")
+    for segment in names:
+        if not 0 <= segment < MAX_SEGMENTS:
+            raise ValueError(f"a scan of some segments names 0 to {MAX_SEGMENTS - 1}, not {segment}")
+    return tuple(names)
+
+
+def scan_some(segments: Iterable[int]) -> bytes:
+    """The frame that asks for these segments alone. It takes and refuses what `named` does."""
+    return frame(struct.pack(">BH", SCAN_SOME, sum(1 << segment for segment in named(segments))))
 
 
 def status() -> bytes:
@@ -119,6 +140,18 @@ def _entry(rest: _Rest) -> Entry:
     return Entry(number, rest.take(length))
 
 
+def _part(rest: _Rest) -> Part:
+    entries: Dict[int, Entry] = {}
+    least = 0
+    for _ in range(rest.count()):
+        segment = rest.read(1)
+        if not least <= segment < MAX_SEGMENTS:
+            raise BadReply("the segments aren't 0 to 15 in ascending order")
+        entries[segment] = _entry(rest)
+        least = segment + 1
+    return Part(entries)
+
+
 def _standing(rest: _Rest) -> Standing:
     number = rest.number()
     fenced = rest.read(1)
@@ -142,6 +175,8 @@ def _message(rest: _Rest) -> Reply:
         return Snapshot(tuple(_entry(rest) for _ in range(rest.count())))
     if tag == STANDINGS:
         return Standings(tuple(_standing(rest) for _ in range(rest.count())))
+    if tag == PART:
+        return _part(rest)
     if tag == REFUSED:
         return _refusal(rest)
     raise BadReply("it begins like no reply")
@@ -179,4 +214,17 @@ class Frames:
         return payload
 
 
-__all__: List[str] = ["Bytes", "Entry", "Standing", "Frames", "Reply", "frame", "reply", "scan", "status", "update"]
+__all__: List[str] = [
+    "Bytes",
+    "Entry",
+    "Standing",
+    "Frames",
+    "Reply",
+    "frame",
+    "named",
+    "reply",
+    "scan",
+    "scan_some",
+    "status",
+    "update",
+]

@@ -1,3 +1,4 @@
 pub mod Asked
 pub mod Faulted
+pub mod Masks
 pub mod Requests

@@ -1,5 +1,5 @@
 -- The numbers among the words of a command, and what is wrong with them.
-use Rattle.std.specs.Prelude.{◌≡◌, ◌≢◌, ◌⊎◌, ℕ, ◌<◌, ◌≤◌, ◌^◌, Option, Some, None, codes}
+use Rattle.std.specs.Prelude.{◌≡◌, ◌≢◌, ◌⊎◌, ℕ, ◌<◌, ◌≤◌, ◌^◌, length, Option, Some, None, codes}
 use Rattle.std.specs.Str.Parse.{IsNumeral, digits_value, without_leading_plus}
 use Rattle.clap.specs.Words.{Text}
 use Rattle.snap_order.specs.Limits.{MAX_COUNT, MAX_SCANNERS, MAX_TRIES}
@@ -43,6 +43,10 @@ abbrev pub IsLargeNumberOf : Option Text → Option ℕ → Type 0
 IsLargeNumberOf None None = Unit {0}
 IsLargeNumberOf (Some word) (Some n) = IsNumberOf (Some word) n
 IsLargeNumberOf word n = ⊥
+
+-- the word is four hexadecimal digits of either case, without a sign, and this is their value
+abbrev pub IsMask : Text → ℕ → Type 0
+IsMask word bits = (length word ≡ 4) × IsNumeral 16 word × (digits_value 16 word ≡ bits)
 
 -- what is wrong with this word for a number
 abbrev pub IsNumberFault : Option Text → Text → WordFault → Type 0

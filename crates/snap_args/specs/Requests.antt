@@ -4,10 +4,10 @@ use Rattle.clap.specs.Words.{Text}
 use Rattle.snap_hex.specs.Text.{IsHex}
 use Rattle.snap_order.specs.Limits.{MAX_UPDATE_VALUE}
 use Rattle.snap_order.specs.request.Request.{Request}
-use Rattle.snap_order.specs.request.Request.TheVariants.{Update, Scan, Status}
+use Rattle.snap_order.specs.request.Request.TheVariants.{Update, Scan, Status, Part}
 use Rattle.snap_order.specs.declared.order.Question.{Question}
 use Rattle.snap_order.specs.declared.order.Question.TheVariants as question
-use Rattle.snap_args.specs.Numbers.{IsNoLargeNumber, IsNoNumber, IsNumberOf}
+use Rattle.snap_args.specs.Numbers.{IsMask, IsNoLargeNumber, IsNoNumber, IsNumberOf}
 use Rattle.snap_args.specs.declared.fault.RequestFault.{RequestFault}
 use Rattle.snap_args.specs.declared.fault.RequestFault.TheVariants as fault
 use Rattle.snap_args.specs.declared.fault.WordFault.{WordFault}
@@ -24,12 +24,22 @@ IsUpdateOf segment number value (Update i k bytes) =
     IsNumberOf (Some segment) i × IsNumberOf (Some number) k × IsHex value bytes
 IsUpdateOf segment number value request = ⊥
 
+-- the words are those of a scan of some segments, and this holds of its mask
+abbrev pub OfPart : List Text → (Text → Type 0) → Type 0
+OfPart words P = (mask : Text) × (words ≡ codes "part" ∷ mask ∷ []) × P mask
+
+-- the scan of the segments that the mask names
+abbrev pub IsPartOf : (mask : Text) → Request → Type 0
+IsPartOf mask (Part set) = IsMask mask set.bits
+IsPartOf mask request = ⊥
+
 -- the request that the words are
 abbrev pub IsRequestOf : List Text → Request → Type 0
 IsRequestOf words (Update i k bytes) =
     OfUpdate words (λ segment number value. IsUpdateOf segment number value (Update i k bytes))
 IsRequestOf words Scan = words ≡ codes "scan" ∷ []
 IsRequestOf words Status = words ≡ codes "status" ∷ []
+IsRequestOf words (Part set) = OfPart words (λ mask. IsPartOf mask (Part set))
 
 -- what the words ask of a server
 abbrev pub IsQuestionOf : List Text → Question → Type 0
@@ -43,12 +53,22 @@ IsNoUpdate segment number value fault.Number = IsNoLargeNumber (Some number)
 IsNoUpdate segment number value fault.Value = (bytes : List ℕ) → IsHex value bytes → ⊥
 IsNoUpdate segment number value (fault.TooLong len) =
     (bytes : List ℕ) × IsHex value bytes × (length bytes ≡ len) × (MAX_UPDATE_VALUE < len)
-IsNoUpdate segment number value fault.Form = ⊥
+IsNoUpdate segment number value why = ⊥
 
--- why the words are no request: they are of no form, or an update's that is wrong
+-- what is wrong with the mask of a scan of some segments: it is none, or it names no segment
+abbrev pub IsNoPart : (mask : Text) → RequestFault → Type 0
+IsNoPart mask fault.Mask = (bits : ℕ) → IsMask mask bits → ⊥
+IsNoPart mask fault.NoSegment = IsMask mask 0
+IsNoPart mask why = ⊥
+
+-- why the words are no request: they are of no form, or a scan's of some segments or an update's
+-- that is wrong
 abbrev pub IsNoRequest : List Text → RequestFault → Type 0
 IsNoRequest words fault.Form = (words ≢ codes "scan" ∷ []) × (words ≢ codes "status" ∷ [])
-    × (words ≢ codes "health" ∷ []) × ((i k v : Text) → words ≢ codes "update" ∷ i ∷ k ∷ v ∷ [])
+    × (words ≢ codes "health" ∷ []) × ((mask : Text) → words ≢ codes "part" ∷ mask ∷ [])
+    × ((i k v : Text) → words ≢ codes "update" ∷ i ∷ k ∷ v ∷ [])
+IsNoRequest words fault.Mask = OfPart words (λ mask. IsNoPart mask fault.Mask)
+IsNoRequest words fault.NoSegment = OfPart words (λ mask. IsNoPart mask fault.NoSegment)
 IsNoRequest words why = OfUpdate words (λ segment number value. IsNoUpdate segment number value why)
 
 -- the same, or memory was wanting
@@ -56,6 +76,10 @@ abbrev pub IsUpdateFault : (segment number value : Text) → WordFault → Type 
 IsUpdateFault segment number value (word_fault.Request why) = IsNoUpdate segment number value why
 IsUpdateFault segment number value word_fault.Memory = Unit {0}
 IsUpdateFault segment number value why = ⊥
+
+abbrev pub IsPartFault : (mask : Text) → WordFault → Type 0
+IsPartFault mask (word_fault.Request why) = IsNoPart mask why
+IsPartFault mask why = ⊥
 
 abbrev pub IsRequestFault : List Text → WordFault → Type 0
 IsRequestFault words (word_fault.Request why) = IsNoRequest words why

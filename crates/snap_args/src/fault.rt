@@ -10,8 +10,14 @@ const MORE: &str = "\n\nFor more information, try '--help'.";
 #[derive(Clone, Copy, Debug, PartialEq, Eq, Error)]
 pub enum RequestFault {
     /// They are of no request's form.
-    #[error("the request is not `update I NUMBER HEX`, `scan`, `status` or `health`")]
+    #[error("the request is not `update I NUMBER HEX`, `scan`, `part MASK`, `status` or `health`")]
     Form,
+    /// The mask of a scan of some segments is not four hexadecimal digits.
+    #[error("the part's mask is not four hexadecimal digits")]
+    Mask,
+    /// The mask of a scan of some segments names none.
+    #[error("the part's mask names no segment")]
+    NoSegment,
     /// An update's segment is no number from 0 to 255.
     #[error("the update's segment is not a number from 0 to 255")]
     Segment,

@@ -121,7 +121,7 @@ fn call_command<'a>(alloc: Global) -> Result<Command<'a>, AllocError>
 {
     let about = "Ask a server, and print its reply";
     let command = addressed_command(alloc, "call", about, CALL_HELP);
-    let help = "The request: update I NUMBER HEX, scan, status or health";
+    let help = "The request: update I NUMBER HEX, scan, part MASK, status or health";
     let command = with_arg(command, required_words(alloc, "request", "WORD", help));
     let help = "The most connections that are made, 1 to 10";
     with_arg(command, number_option(alloc, "tries", "1", "T", help))

@@ -87,11 +87,14 @@ pub(crate) const CALL_HELP: &str = "\
 Requests:
   update I NUMBER HEX  store HEX as value NUMBER of segment I; prints `stored NUMBER`
   scan                 all values at one moment; prints `segment I number K value HEX` for each
+  part MASK            the same of the segments that MASK names, and of no other one
   status               prints `segment I number K fenced 0`, or `fenced 1`, for each segment
   health               prints `healthy`; or `fenced I` for each fenced segment, with status 3
 
 I is 0 to 255. NUMBER is one more than the segment's number, or that number and its value again:
 a repeat is answered as stored. HEX is two hexadecimal digits for each byte, and `-` for no byte.
+MASK is four hexadecimal digits of a number whose bit I, worth 2 to the power I, names segment I:
+0009 names segments 0 and 3, and 8000 names segment 15. It names one segment at least.
 A fenced segment takes no update until its server is started again, since a store of it failed.
 
 A connection that fails is tried again up to T times in all, with the same request. That is safe:
@@ -107,6 +110,7 @@ Exit status:
 Examples:
   snapd call 127.0.0.1:7070 update 0 1 6869
   snapd call 127.0.0.1:7070 scan --tries 3
+  snapd call 127.0.0.1:7070 part 0009
   snapd call 127.0.0.1:7070 health";
 
 pub(crate) const SCRIPT_HELP: &str = "\
@@ -124,8 +128,10 @@ may not come. It is printed before more is read, so a script can be typed, and n
   show W           shown             writer W's update is visible from now on
   ack W            stored K          writer W's update is acknowledged, as number K
   scan S           scanning          scanner S begins a scan
+  pick S MASK      scanning          scanner S begins a scan of the segments that MASK names
   look sS          number K          scanner S looks at the next segment: number K
-  answer S         memory HEX ..     scanner S answers the value of each segment, in order
+  answer S         memory HEX ..     scanner S answers the value of each segment, in order;
+                   part I=HEX ..     of a pick, of each that was named
   crash FILL ..    crashed           every device crashes, with one fill each
   restart          restarting        the node starts again
   recall           called KIND       the next device call of the restart succeeds
@@ -133,6 +139,7 @@ may not come. It is printed before more is read, so a script can be typed, and n
   serve            memory HEX ..     the restart ends with the recovered memory
 
 W is a segment and S a scanner, both counted from 0. HEX is two hexadecimal digits for each byte.
+MASK is four hexadecimal digits of a number whose bit I names segment I.
 KIND is close, body, open, sync or read. FILL says what touched bytes get: `keep` what they had,
 two hexadecimal digits that byte, `at:OFFSET:HEX` these bytes from that place on.
 

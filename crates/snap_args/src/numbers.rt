@@ -1,11 +1,11 @@
 //! The numbers among the words of a command, within their limits.
-ghost use Rattle.std.specs.Prelude.{◌≤◌, IfErr, IfOk, IfSome, MatchOption, Some, codes};
+ghost use Rattle.std.specs.Prelude.{◌≤◌, ℕ, IfErr, IfOk, IfSome, MatchOption, Some, codes};
 ghost use Rattle.clap.specs.Words.{first_value, found_of};
 ghost use Rattle.snap_order.specs.Limits.{MAX_SCANNERS, MAX_TRIES};
 ghost use Rattle.snap_order.specs.Order.{IsOneTo, IsPlace};
 ghost use Rattle.snap_order.specs.declared.order.TheConstants.{MAX_CLIENTS, MAX_IDLE};
 ghost use Rattle.snap_args.specs.Numbers.{IsClientsFault, IsConnectionsFault, IsIdleFault};
-ghost use Rattle.snap_args.specs.Numbers.{IsLargeNumberOf, IsNoNumberTo, IsNumberFault};
+ghost use Rattle.snap_args.specs.Numbers.{IsLargeNumberOf, IsMask, IsNoNumberTo, IsNumberFault};
 ghost use Rattle.snap_args.specs.Numbers.{IsNumberOf, IsPlaceFault, IsScannersFault};
 ghost use Rattle.snap_args.specs.Numbers.{IsTriesFault};
 
@@ -140,5 +140,21 @@ fn number_to(word: &str, most: u32) -> Option<u32>
     match word.parse::<u32>() {
         Ok(number) if 1 <= number && number <= most => Some(number),
         _ => None,
+    }
+}
+
+/// How many digits a mask has.
+const MASK_LEN: usize = 4;
+
+/// The number that four hexadecimal digits of either case write. No sign stands before them.
+pub(crate) fn mask_of(word: &str) -> Option<u16>
+    ensures { MatchOption result ((bits : ℕ) → IsMask word.now bits → ⊥) (IsMask word.now) }
+{
+    if word.len() != MASK_LEN || word.starts_with('+') {
+        return None;
+    }
+    match u16::from_str_radix(word, 16) {
+        Ok(bits) => Some(bits),
+        Err(_) => None,
     }
 }

@@ -62,6 +62,7 @@ Prints how text ended out out' errs errs' = PrintsInPlace how text ended out out
 -- the reply to a read: nothing was done that it tells of
 abbrev pub IsRead : Reply → Type 0
 IsRead (reply.Snapshot values) = Unit {0}
+IsRead (reply.Part values) = Unit {0}
 IsRead (reply.Status statuses) = Unit {0}
 IsRead reply = ⊥
 

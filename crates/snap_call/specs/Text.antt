@@ -1,11 +1,12 @@
 -- What is printed of a reply (docs/FORMATS.md).
-use Rattle.std.specs.Prelude.{ℕ, ◌+◌, Bool, true, false, List, [], ◌∷◌, ◌++◌, codes, if◌then◌else◌}
+use Rattle.std.specs.Prelude.{ℕ, ◌+◌, Bool, true, false, List, [], ◌∷◌, ◌++◌, codes, flat_map, if◌then◌else◌}
 use Rattle.std.specs.List.{list_any}
 use Rattle.std.specs.Fmt.{decimal}
 use Rattle.snap_frame.specs.declared.reply.Reply.{Reply}
-use Rattle.snap_frame.specs.declared.reply.Reply.TheVariants.{Stored, Snapshot, Status, Refused}
-use Rattle.snap_frame.specs.declared.entries.SegmentValue.{SegmentValue}
+use Rattle.snap_frame.specs.declared.reply.Reply.TheVariants.{Stored, Snapshot, Part, Status, Refused}
+use Rattle.snap_frame.specs.segment_value.SegmentValue.{SegmentValue}
 use Rattle.snap_frame.specs.declared.entries.SegmentStatus.{SegmentStatus}
+use Rattle.snap_frame.specs.declared.named.NamedValue.{NamedValue}
 use Rattle.snap_hex.specs.Text.{hex_text}
 use Rattle.snap_order.specs.declared.order.Question.{Question}
 use Rattle.snap_order.specs.declared.order.Question.TheVariants.{Health}
@@ -29,8 +30,16 @@ abbrev pub segment_text : ℕ → ℕ → List ℕ
 segment_text i k = codes "segment " ++ (decimal i ++ (codes " number " ++ decimal k))
 
 -- the number and the value of segment i
+abbrev pub value_text : (i k : ℕ) → List ℕ → List ℕ
+value_text i k bytes = line (segment_text i k ++ (codes " value " ++ hex_text bytes))
+
+-- of the entry at place i of a snapshot, which is segment i's
 abbrev pub value_line : ℕ → SegmentValue → List ℕ
-value_line i v = line (segment_text i v.number ++ (codes " value " ++ hex_text v.value))
+value_line i v = value_text i v.number v.value
+
+-- of an entry that names its segment
+abbrev pub named_line : NamedValue → List ℕ
+named_line v = value_text v.segment v.number v.value
 
 abbrev pub fence_text : Bool → List ℕ
 fence_text true = codes "1"
@@ -56,6 +65,7 @@ health_text statuses =
 abbrev pub reply_text : Reply → List ℕ
 reply_text (Stored number) = stored_line number
 reply_text (Snapshot values) = lines_from value_line 0 values.items
+reply_text (Part values) = flat_map named_line values.items
 reply_text (Status statuses) = lines_from status_line 0 statuses.items
 reply_text (Refused why detail) = []
 

@@ -1,12 +1,12 @@
 //! The text of the replies to reads.
-ghost use Rattle.std.specs.Prelude.{◌≡◌, ◌++◌, IfOk, OnOk};
+ghost use Rattle.std.specs.Prelude.{◌≡◌, ◌++◌, IfOk, OnOk, flat_map};
 ghost use Rattle.snap_call.specs.Ends.{IsRead};
 ghost use Rattle.snap_call.specs.Text.{answer_text, fence_line, health_text, is_any_fenced};
-ghost use Rattle.snap_call.specs.Text.{lines_from, reply_text, segment_text, status_line};
-ghost use Rattle.snap_call.specs.Text.{value_line};
+ghost use Rattle.snap_call.specs.Text.{lines_from, named_line, reply_text, segment_text};
+ghost use Rattle.snap_call.specs.Text.{status_line, value_line, value_text};
 
 use itoa::Buffer;
-use snap_frame::{Reply, SegmentStatus, SegmentValue};
+use snap_frame::{NamedValue, Reply, SegmentStatus, SegmentValue};
 use snap_hex::put_hex;
 use snap_order::Question;
 use std::alloc::{AllocError, Global};
@@ -54,6 +54,7 @@ fn text_of(alloc: Global, reply: &Reply) -> Result<Vec<u8>, AllocError>
     let mut out = Vec::new(alloc);
     match reply {
         Reply::Snapshot(values) => put_values(&mut out, values)?,
+        Reply::Part(values) => put_part(&mut out, values)?,
         Reply::Status(statuses) => put_statuses(&mut out, statuses)?,
         Reply::Stored(_) | Reply::Refused { .. } => unreachable!(),
     }
@@ -66,7 +67,18 @@ fn put_values(out: &mut Vec<u8>, values: &[SegmentValue]) -> Result<(), AllocErr
         ≡ out.old.items ++ lines_from value_line 0 values.now) }
 {
     for (index, value) in values.iter().enumerate() {
-        put_value(out, index, value)?;
+        put_value(out, index, value.number, value.value.as_slice())?;
+    }
+    Ok(())
+}
+
+/// Appends a line for each value, under the index of the segment that it names.
+fn put_part(out: &mut Vec<u8>, values: &[NamedValue]) -> Result<(), AllocError>
+    ensures { OnOk result (out.new.items ≡ out.old.items ++ flat_map named_line values.now) }
+{
+    for value in values {
+        let index = usize::from(value.segment);
+        put_value(out, index, value.number, value.value.as_slice())?;
     }
     Ok(())
 }
@@ -107,12 +119,13 @@ fn put_fence(out: &mut Vec<u8>, index: usize, status: &SegmentStatus) -> Result<
 }
 
 /// Appends the line of one segment's value.
-fn put_value(out: &mut Vec<u8>, index: usize, value: &SegmentValue) -> Result<(), AllocError>
-    ensures { OnOk result (out.new.items ≡ out.old.items ++ value_line index value.now) }
+fn put_value(out: &mut Vec<u8>, index: usize, number: u64, value: &[u8]) -> Result<(), AllocError>
+    ensures { OnOk result (out.new.items
+        ≡ out.old.items ++ value_text index number value.now) }
 {
-    put_segment(out, index, value.number)?;
+    put_segment(out, index, number)?;
     out.extend_from_slice(b" value ")?;
-    put_hex(out, value.value.as_slice())?;
+    put_hex(out, value)?;
     out.extend_from_slice(b"\n")
 }
 

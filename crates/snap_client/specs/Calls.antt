@@ -2,7 +2,7 @@
 use Rattle.std.specs.Prelude.{◌≡◌, ℕ, ◌<◌, ◌⊎◌, List, [], ◌++◌, length, take, Option, Some, None, Result, Ok, Err}
 use Rattle.std.specs.Io.KnownBytes.{Appends, Consumes, IsAtEnd}
 use Rattle.snap_frame.specs.declared.request.Request.{Request}
-use Rattle.snap_frame.specs.declared.request.Request.TheVariants.{Update, Scan, Status}
+use Rattle.snap_frame.specs.declared.request.Request.TheVariants.{Update, Scan, Status, Part}
 use Rattle.snap_frame.specs.declared.reply.Reply.{Reply}
 use Rattle.snap_frame.specs.declared.reply.Reply.TheVariants as replies
 use Rattle.snap_frame.specs.Messages.{payload, frame, Says, SaysNothing}
@@ -37,6 +37,7 @@ Answers q (replies.Refused why detail) = Unit {0}
 Answers (Update segment number value) (replies.Stored stored) = Unit {0}
 Answers Scan (replies.Snapshot values) = Unit {0}
 Answers Status (replies.Status statuses) = Unit {0}
+Answers (Part set) (replies.Part values) = Unit {0}
 Answers q r = ⊥
 
 -- the payload is no reply, or one of another kind

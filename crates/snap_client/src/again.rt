@@ -1,6 +1,6 @@
 //! The same request on one connection after another.
 ghost use Rattle.std.specs.Prelude.{◌≤◌, length};
-ghost use Rattle.snap_frame.specs.Messages.{max_payload, payload};
+ghost use Rattle.snap_frame.specs.Messages.{max_payload, payload, IsAskable};
 ghost use Rattle.snap_client.specs.declared.again.TheConstants.{MAX_TRIES};
 ghost use Rattle.snap_client.specs.Again.{Tries, TriesUpTo};
 
@@ -20,6 +20,7 @@ fn try_once<R: Read + Drop, W: Write + Drop, F: FnMut() -> Option<(R, W)>>(
     request: &Request,
 ) -> Result<Reply, ClientFault>
     requires fits { length (payload request.now) ≤ max_payload }
+    requires askable { IsAskable request.now }
     requires callable { F.IsAlwaysCallable connect.old }
     ensures { Tries F.step R.remaining W.contents request.now connect.old result connect.new }
 {
@@ -35,7 +36,8 @@ fn try_once<R: Read + Drop, W: Write + Drop, F: FnMut() -> Option<(R, W)>>(
 ///
 /// `connect` gives a reader and a writer, or `None` where no connection can be made. At most
 /// `tries` connections are asked for, which is 1 to [`MAX_TRIES`]; each is given up before the next
-/// one is. The answer is that of the last one. A refusal is an answer, and isn't tried again.
+/// one is. The answer is that of the last one. A refusal is an answer, and isn't tried again. The
+/// request is one that [`Client::call`] takes.
 pub fn call_again<R: Read + Drop, W: Write + Drop, F: FnMut() -> Option<(R, W)>>(
     alloc: Global,
     connect: &mut F,
@@ -43,6 +45,7 @@ pub fn call_again<R: Read + Drop, W: Write + Drop, F: FnMut() -> Option<(R, W)>>
     tries: u8,
 ) -> Result<Reply, ClientFault>
     requires fits { length (payload request.now) ≤ max_payload }
+    requires askable { IsAskable request.now }
     requires some { 1 ≤ tries }
     requires few { tries ≤ MAX_TRIES }
     requires callable { F.IsAlwaysCallable connect.old }

@@ -1,14 +1,14 @@
 //! One connection to a server, request by request.
-ghost use Rattle.std.specs.Prelude.{◌≡◌, ◌≤◌, length};
+ghost use Rattle.std.specs.Prelude.{◌≡◌, ◌<◌, ◌≤◌, length};
 ghost use Rattle.snap_frame.specs.declared.request.Request.TheVariants as requests;
 ghost use Rattle.snap_frame.specs.declared.request.TheConstants.{MAX_UPDATE_VALUE};
-ghost use Rattle.snap_frame.specs.Messages.{max_payload, payload};
+ghost use Rattle.snap_frame.specs.Messages.{max_payload, payload, IsAskable};
 ghost use Rattle.snap_client.specs.Calls.{Calls, fresh};
 
 use crate::exchange::exchange;
 use crate::fault::ClientFault;
 use bytes::{Bytes, BytesMut};
-use snap_frame::{Reply, ReplyFeed, Request};
+use snap_frame::{Reply, ReplyFeed, Request, SegmentSet};
 use std::alloc::Global;
 use std::io::{Read, Write};
 use std::marker::Model;
@@ -98,6 +98,15 @@ impl<R: Read, W: Write> Client<R, W> {
         self.call(&Request::Scan)
     }
 
+    /// These segments at one moment: [`Reply::Part`], or [`Reply::Refused`]. The set isn't empty.
+    /// That the reply names the segments that were asked for is for the caller to see.
+    pub fn scan_some(&mut self, set: SegmentSet) -> Result<Reply, ClientFault>
+        requires { 0 < set.bits }
+        ensures { Calls R.remaining W.contents (requests.Part set) self.old result self.new }
+    {
+        self.call(&Request::Part(set))
+    }
+
     /// The numbers and fences of all segments: [`Reply::Status`], or [`Reply::Refused`].
     pub fn status(&mut self) -> Result<Reply, ClientFault>
         ensures { Calls R.remaining W.contents requests.Status self.old result self.new }
@@ -105,9 +114,11 @@ impl<R: Read, W: Write> Client<R, W> {
         self.call(&Request::Status)
     }
 
-    /// Sends a request and gives its answer. Its payload fits a frame.
+    /// Sends a request and gives its answer. Its payload fits a frame, and a scan of some segments
+    /// names one or more.
     pub fn call(&mut self, request: &Request) -> Result<Reply, ClientFault>
-        requires { length (payload request.now) ≤ max_payload }
+        requires fits { length (payload request.now) ≤ max_payload }
+        requires askable { IsAskable request.now }
         ensures { Calls R.remaining W.contents request.now self.old result self.new }
     {
         if let Some(fault) = self.fault {

@@ -1,6 +1,6 @@
 //! The two halves of an exchange: a frame is written whole, and a reply is read.
 ghost use Rattle.std.specs.Prelude.{◌≡◌, ◌≤◌, ◌↔◌, IsTrue, length, None, OnOk};
-ghost use Rattle.snap_frame.specs.Messages.{max_payload, payload};
+ghost use Rattle.snap_frame.specs.Messages.{max_payload, payload, IsAskable};
 ghost use Rattle.snap_frame.specs.Stream.{empty, IsBytes};
 ghost use Rattle.snap_client.specs.Calls.{Answers, Reaches, talking};
 ghost use Rattle.snap_client.specs.Exchange.{Sends, Hears};
@@ -74,6 +74,7 @@ fn answers(request: &Request, reply: &Reply) -> bool
         (Request::Update { .. }, Reply::Stored(_)) => true,
         (Request::Scan, Reply::Snapshot(_)) => true,
         (Request::Status, Reply::Status(_)) => true,
+        (Request::Part(_), Reply::Part(_)) => true,
         _ => false,
     }
 }
@@ -88,6 +89,7 @@ pub(crate) fn exchange<R: Read, W: Write>(
     request: &Request,
 ) -> Result<Reply, ClientFault>
     requires fits { length (payload request.now) ≤ max_payload }
+    requires askable { IsAskable request.now }
     requires going { feed.old.failure ≡ None }
     ensures reaches { Reaches R.remaining W.contents request.now
         (talking reader.old writer.old feed.old.bytes) result

@@ -24,4 +24,5 @@ TellsUpdate came i k v reply = i < segments came.writer.seat.plan → IsOutcomeO
 abbrev pub Tells : {D : Type 0} → Came D → Request → Reply → Type 0
 Tells came (request.Update segment k v) reply = TellsUpdate came segment k v reply
 Tells came request.Scan reply = Unit {0}
+Tells came (request.Part set) reply = Unit {0}
 Tells came request.Status reply = Unit {0}

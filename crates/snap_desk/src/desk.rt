@@ -1,5 +1,5 @@
 //! One worker's half of the service, which waits for no store.
-ghost use Rattle.std.specs.Prelude.{◌≡◌, ℕ, IfSome, IfNone, length};
+ghost use Rattle.std.specs.Prelude.{◌≡◌, ℕ, ◌<◌, IfSome, IfNone, length};
 ghost use Rattle.snap_memory.specs.Rule.{segments};
 ghost use Rattle.snap_frame.specs.Messages.{IsInLimits};
 ghost use Rattle.snap_service.specs.Memory.{IsOf};
@@ -10,6 +10,7 @@ ghost use Rattle.snap_service.specs.Answers.{
   Answers,
   AnswersUpdate,
   AnswersScan,
+  AnswersPart,
   AnswersStatus,
 };
 
@@ -18,9 +19,9 @@ use crate::lent::Outcome;
 use crate::outbox::{Handed, Outbox, Window};
 use bytes::Bytes;
 use snap_disk::{Disk, Refusal};
-use snap_frame::{Reply, Request};
-use snap_memory::{Scanner, Snapshot};
-use snap_service::{Memory, answer_by_look, answer_scan, refuse_place};
+use snap_frame::{Reply, Request, SegmentSet};
+use snap_memory::Scanner;
+use snap_service::{Memory, answer_by_look, answer_part, answer_scan, refuse_place};
 use snap_session::Service;
 use std::alloc::{AllocError, Global};
 use std::marker::{Brand, Model, PhantomData};
@@ -108,24 +109,22 @@ fn ask<R: Wait + Copy + Clock, J: Asked>(
 }
 
 impl<R: Wait + Copy + Clock, M: Memory, D: Disk + Drop> Desk<R, M, D> {
-    /// The desk of this worker, with a window for each segment and room for a snapshot.
+    /// The desk of this worker, with a window for each segment.
     pub fn new(
         rt: R,
         alloc: Global,
         worker: usize,
         windows: Vec<Window>,
         scanner: Scanner,
-        snapshot: Snapshot,
     ) -> Desk<R, M, D>
         requires memory { IsOf M.table M.plan scanner }
         requires windows { length windows.items ≡ segments M.plan }
-        requires room { length snapshot ≡ segments M.plan }
         ensures { result ≡ scanner }
     {
         Desk {
             alloc,
             outbox: Outbox::new(rt, alloc, worker, windows),
-            scanner: scanner.with_room(snapshot),
+            scanner,
             of: PhantomData,
         }
     }
@@ -187,6 +186,14 @@ impl<R: Wait + Copy + Clock, M: Memory, D: Disk + Drop> Desk<R, M, D> {
         answer_scan(self.alloc, &mut self.scanner)
     }
 
+    fn part(&mut self, set: SegmentSet) -> Reply
+        requires some { 0 < set.bits }
+        ensures answer { AnswersPart self.old set.bits result self.new }
+        ensures limits { IsInLimits result }
+    {
+        answer_part(self.alloc, &mut self.scanner, set)
+    }
+
     /// Its scanner, as it is: so a store can be closed once all its scanners and writers have come back.
     pub fn into_scanner(self) -> Scanner
         ensures scanner { result ≡ self }
@@ -219,6 +226,7 @@ impl<R: Wait + Copy + Clock, M: Memory, D: Disk + Drop> Service for Desk<R, M, D
             } => self.update(usize::from(*segment), *number, value, key),
             Request::Scan => Some(self.scan()),
             Request::Status => Some(self.status()),
+            Request::Part(set) => Some(self.part(*set)),
         }
     }
 
@@ -231,6 +239,7 @@ impl<R: Wait + Copy + Clock, M: Memory, D: Disk + Drop> Service for Desk<R, M, D
             } => self.finish_update(usize::from(*segment), *number, value.as_slice(), outcome),
             Request::Scan => self.scan(),
             Request::Status => self.status(),
+            Request::Part(set) => self.part(*set),
         }
     }
 }

@@ -1,8 +1,5 @@
 -- What is said of a file that was refused: what is wrong with it, and what to do. Each text stands
--- behind the name of its file.
---
--- `snapd format` ends what a file may still hold. So it is advised behind the words `keep a copy
--- first`, or where the file has no byte.
+-- behind the name of its file. What the server says alike stands in `snap_order`.
 use Rattle.std.specs.Prelude.{◌==◌, ℕ, List, ◌++◌, Option, Some, None, codes, if◌then◌else◌}
 use Rattle.std.specs.Fmt.{decimal}
 use Rattle.snap_disk.specs.declared.refusal.Refusal.{Refusal}
@@ -10,23 +7,13 @@ use Rattle.snap_disk.specs.declared.refusal.Refusal.TheVariants as refusal
 use Rattle.snap_slot.specs.declared.layout.TheConstants.{FILE_LEN}
 use Rattle.snap_segment.specs.layout.TheConstants.{OLD_FILE_LEN}
 use Rattle.snap_order.specs.Order.{file_of}
+use Rattle.snap_order.specs.Remedy as remedy
+use Rattle.snap_order.specs.Remedy.{check_command, format_command, old_text}
 use Rattle.snap_order.specs.declared.order.FileOrder.{FileOrder}
 use Rattle.snap_order.specs.declared.order.FileOrder.TheVariants.{Format, Put, Get, Check}
 use Rattle.snap_order.specs.declared.order.Migration.{Migration}
 
--- ---- the commands that are advised
-
-abbrev pub check_command : (file : List ℕ) → List ℕ
-check_command file = codes "snapd check " ++ file
-
-abbrev pub migrate_command : (file : List ℕ) → List ℕ
-migrate_command file = codes "snapd migrate " ++ (file ++ codes " NEW")
-
-abbrev pub format_command : (file index count : List ℕ) → List ℕ
-format_command file index count = codes "snapd format "
-    ++ (file ++ (codes " --index " ++ (index ++ (codes " --count " ++ count))))
-
--- the one that formats the order's file, with letters where the order names no place
+-- the command that formats the order's file, with letters where the order names no place
 abbrev pub format_command_of : FileOrder → List ℕ
 format_command_of (Format file i n) = format_command file.now (decimal i) (decimal n)
 format_command_of (Put file i n) = format_command file.now (decimal i) (decimal n)
@@ -48,20 +35,11 @@ formatted_text file = codes "it is formatted already: see " ++ check_command fil
 abbrev pub damaged_text : (file : List ℕ) → List ℕ
 damaged_text file = codes "its slots give no answer: see " ++ check_command file
 
--- the header's gate is closed, and the slots may hold something all the same
 abbrev pub unformatted_text : FileOrder → List ℕ
-unformatted_text order =
-    codes "it was never formatted, or its header is gone: keep a copy first, then "
-    ++ format_command_of order
+unformatted_text order = remedy.unformatted_text (format_command_of order)
 
--- a file with no byte has nothing to lose
 abbrev pub empty_text : FileOrder → List ℕ
-empty_text order =
-    codes "it has no byte: a format that was cut off: go on with " ++ format_command_of order
-
-abbrev pub old_text : (file : List ℕ) → List ℕ
-old_text file = codes "it has the length of the old format: carry it over with "
-    ++ migrate_command file
+empty_text order = remedy.empty_text (format_command_of order)
 
 abbrev pub another_text : (file : List ℕ) (i n : ℕ) → List ℕ
 another_text file i n = codes "it isn't the file of segment "

@@ -1,14 +1,16 @@
 //! What is wrong with a file that was refused, and what to do, in words.
 //!
-//! `specs/Remedy.antt` has the texts.
+//! `specs/Remedy.antt` has the texts; those that the server says too are `snap_order`'s.
 ghost use Rattle.std.specs.Prelude.{◌≡◌, IfOk, string_bytes};
 ghost use Rattle.snap_file_commands.specs.Remedy.{another_text, damaged_text, empty_text};
 ghost use Rattle.snap_file_commands.specs.Remedy.{format_command_of, formatted_text, length_text};
-ghost use Rattle.snap_file_commands.specs.Remedy.{new_file_text, old_file_text, old_text};
+ghost use Rattle.snap_file_commands.specs.Remedy.{new_file_text, old_file_text};
 ghost use Rattle.snap_file_commands.specs.Remedy.{unformatted_text, whole_text, wrong_text};
 
 use snap_disk::Refusal;
-use snap_order::{FileOrder, Migration};
+use snap_order::{
+    FileOrder, Migration, empty_remedy, format_command, old_format_remedy, unformatted_remedy,
+};
 use snap_segment::OLD_FILE_LEN;
 use snap_slot::FILE_LEN;
 use std::alloc::{AllocError, Global};
@@ -19,7 +21,7 @@ pub(crate) fn of_wrong(alloc: Global, order: &FileOrder<'_>, len: u64) -> Result
 {
     match len {
         0 => of_empty(alloc, order),
-        OLD_FILE_LEN => of_old_format(alloc, order.file()),
+        OLD_FILE_LEN => old_format_remedy(alloc, order.file()),
         FILE_LEN => of_whole(alloc, order),
         _ => of_length(alloc, len),
     }
@@ -30,16 +32,7 @@ fn of_empty(alloc: Global, order: &FileOrder<'_>) -> Result<String, AllocError>
     ensures { IfOk result (λ text. string_bytes text ≡ empty_text order.now) }
 {
     let words = words_of_format(alloc, order)?;
-    format!(in alloc; "it has no byte: a format that was cut off: go on with {words}")
-}
-
-/// Of a file that has the length of the old format.
-fn of_old_format(alloc: Global, file: &str) -> Result<String, AllocError>
-    ensures { IfOk result (λ text. string_bytes text ≡ old_text file.now) }
-{
-    format!(in alloc;
-        "it has the length of the old format: carry it over with snapd migrate {file} NEW"
-    )
+    empty_remedy(alloc, words.as_str())
 }
 
 /// Of a file that has the length of a segment's: it is that of another segment.
@@ -74,9 +67,7 @@ pub(crate) fn of_unformatted(alloc: Global, order: &FileOrder<'_>) -> Result<Str
     ensures { IfOk result (λ text. string_bytes text ≡ unformatted_text order.now) }
 {
     let words = words_of_format(alloc, order)?;
-    format!(in alloc;
-        "it was never formatted, or its header is gone: keep a copy first, then {words}"
-    )
+    unformatted_remedy(alloc, words.as_str())
 }
 
 /// Of a file whose slots have no answer.
@@ -137,7 +128,7 @@ fn words_of_format(alloc: Global, order: &FileOrder<'_>) -> Result<String, Alloc
         FileOrder::Format { file, index, count }
         | FileOrder::Put { file, index, count }
         | FileOrder::Get { file, index, count } => {
-            format!(in alloc; "snapd format {file} --index {index} --count {count}")
+            format_command(alloc, file, index.into(), count.into())
         }
         FileOrder::Check { file } => {
             format!(in alloc; "snapd format {file} --index I --count N")

@@ -4,9 +4,10 @@ use Rattle.std.proofs.Common.{◌∙◌, ap, ap₂, arith, append_assoc, append-
 use Rattle.std.specs.Int.{w32, to_be_bytes}
 use Rattle.std.proofs.lemmas.List.Elements.{All-nil, All-cons, All-tail, All-append}
 use Rattle.std.proofs.lemmas.List.Concat.{flat_map-append}
-use Rattle.snap_frame.specs.declared.entries.SegmentValue.{SegmentValue}
+use Rattle.snap_scan.specs.declared.segment_value.SegmentValue.{SegmentValue}
 use Rattle.snap_frame.specs.declared.entries.SegmentStatus.{SegmentStatus}
-use Rattle.snap_frame.specs.Messages.{value_bytes, status_bytes, fence_byte, IsValue, IsStatus}
+use Rattle.snap_frame.specs.declared.named.NamedValue.{NamedValue}
+use Rattle.snap_frame.specs.Messages.{value_bytes, named_bytes, status_bytes, fence_byte, IsValue, IsNamedValue, IsStatus}
 use Rattle.snap_frame.proofs.BigEndian.{same_number, same_length}
 use Rattle.snap_frame.proofs.Exact.{append_split}
 
@@ -77,6 +78,19 @@ no_rest {E} bytes MayStand es fs rest apart read any same e =
       | d ∷ more ↦ λ count is. absurd (omega (arith, count, same))
     ] left.count left.is
 
+-- so many entries have no bytes of others
+pub same_entries : {E : Type 0} (bytes : E → List ℕ) (MayStand : E
+    → Type 0) (es fs : List E) → Separate bytes MayStand → All MayStand es → All MayStand fs
+    → length es ≡ length fs → flat_map bytes es ≡ flat_map bytes fs → es ≡ fs
+same_entries bytes MayStand [] [] apart read any same e = refl
+same_entries bytes MayStand [] (f ∷ fs) apart read any same e = absurd (omega (arith, same))
+same_entries bytes MayStand (d ∷ es) [] apart read any same e = absurd (omega (arith, same))
+same_entries bytes MayStand (d ∷ es) (f ∷ fs) apart read any same e =
+    let both = apart d f (flat_map bytes es) (flat_map bytes fs) (read 0 d (omega arith))
+    (any 0 f (omega arith)) e in
+    ap₂ (λ g gs. g ∷ gs) both.0 (same_entries bytes MayStand es fs apart
+    (All-tail MayStand d es read) (All-tail MayStand f fs any) (omega (arith, same)) both.1)
+
 abbrev value_of : ℕ → List ℕ → SegmentValue
 value_of n v = record { number = n; value = v }
 
@@ -92,6 +106,19 @@ values_apart d e a b fits_d fits_e same =
     ++ b) (omega (arith, fits_d.1)) (omega (arith, fits_e.1)) numbers.1 in
     let values = append_split d.value e.value a b lengths.0 lengths.1 in
     (ap₂ value_of numbers.0 values.0, values.1)
+
+abbrev pub entry_of : NamedValue → SegmentValue
+entry_of v = value_of v.number v.value
+
+abbrev named_of : ℕ → SegmentValue → NamedValue
+named_of s v = record { segment = s; number = v.number; value = v.value }
+
+pub named_apart : Separate named_bytes IsNamedValue
+named_apart d e a b fits_d fits_e same =
+    let segments : d.segment ≡ e.segment = cc in
+    let rest = values_apart (entry_of d) (entry_of e) a b (fits_d.1, fits_d.2)
+    (fits_e.1, fits_e.2) (ap (drop 1) same) in
+    (ap₂ named_of segments rest.0, rest.1)
 
 same_fence : (x y : Bool) → fence_byte x ≡ fence_byte y → x ≡ y
 same_fence true true e = refl

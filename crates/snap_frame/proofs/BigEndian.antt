@@ -1,9 +1,10 @@
 -- Numbers at the front of bytes, and their bytes again.
 use Rattle.std.proofs.Common.{◌≡◌, ℕ, ◌<◌, ◌≤◌, ◌^◌, List, ◌++◌, length, take, drop, inl, inr, sym, ◌∙◌, ap, arith, length-take}
-use Rattle.std.specs.Int.{w32, w64, to_be_bytes, from_be_bytes}
+use Rattle.std.specs.Int.{w16, w32, w64, to_be_bytes, from_be_bytes}
 use Rattle.std.proofs.lemmas.List.{get_or-take, get_or_past, take-append-drop}
 use Rattle.std.proofs.lemmas.Bool.{cases_lt}
-use Rattle.std.proofs.lemmas.Nat.{be_bytes_4, be_bytes_8, from_be_bytes-to_be_bytes_4, from_be_bytes-to_be_bytes_8}
+use Rattle.std.proofs.lemmas.Nat.{be_bytes_2, be_bytes_4, be_bytes_8, from_be_bytes-to_be_bytes_2, from_be_bytes-to_be_bytes_4}
+use Rattle.std.proofs.lemmas.Nat.{from_be_bytes-to_be_bytes_8}
 use Rattle.snap_frame.specs.Stream.{IsBytes}
 use Rattle.byteorder.specs.Endian.{big_number}
 
@@ -46,6 +47,14 @@ four_again xs bytes long =
       same 3 (omega arith),
     ))
 
+pub two_again : (xs : List ℕ) → IsBytes xs → 2 ≤ length xs
+    → to_be_bytes w16 (big_number 2 xs) ≡ take 2 xs
+two_again xs bytes long =
+    let same = λ (i : ℕ) (below : i < 2). get_or-take 2 xs i 0 below in
+    be_bytes_2 (take 2 xs) (big_number 2 xs) (omega (arith, length-take 2 xs))
+    (bytes-take 2 xs bytes)
+    (omega (arith, same 0 (omega arith), same 1 (omega arith)))
+
 -- the first n bytes are those of a number, and the rest stands behind them
 pub front_is : (n : ℕ) (xs number : List ℕ) → number ≡ take n xs → xs ≡ number ++ drop n xs
 front_is n xs number is = sym (take-append-drop n xs) ∙ ap (λ zs. zs ++ drop n xs) (sym is)
@@ -69,3 +78,9 @@ same_length m n xs ys m_fits n_fits e =
           ∙ from_be_bytes-to_be_bytes_4 n n_fits,
       ap (drop 4) e,
     )
+
+-- two bytes stand for one set
+pub same_set : (m n : ℕ) → m < 2 ^ 16 → n < 2 ^ 16 → to_be_bytes w16 m ≡ to_be_bytes w16 n → m ≡ n
+same_set m n m_fits n_fits e =
+    sym (from_be_bytes-to_be_bytes_2 m m_fits) ∙ ap (from_be_bytes w16) e
+    ∙ from_be_bytes-to_be_bytes_2 n n_fits

@@ -21,6 +21,7 @@ ghost use Rattle.std.specs.Prelude.{
 };
 ghost use Rattle.std.specs.Int.{w32, w64, to_be_bytes};
 ghost use Rattle.snap_history.specs.declared.limits.TheConstants.{MAX_COUNT};
+ghost use Rattle.snap_scan.specs.declared.segment_value.SegmentValue.{SegmentValue};
 ghost use Rattle.snap_frame.specs.Messages.{
   max_payload,
   value_bytes,
@@ -32,16 +33,8 @@ ghost use Rattle.snap_frame.specs.Messages.{
 use crate::numbers::{first_u32, first_u64};
 use bytes::{Bytes, BytesMut};
 use snap_history::{LAST_NUMBER, MAX_VALUE_LEN};
+use snap_scan::SegmentValue;
 use std::alloc::{AllocError, Global};
-
-/// A segment's number and value.
-#[derive(Debug, PartialEq, Eq, Drop)]
-pub struct SegmentValue {
-    /// At most [`LAST_NUMBER`].
-    pub number: u64,
-    /// At most [`MAX_VALUE_LEN`] bytes.
-    pub value: Bytes,
-}
 
 /// A segment's number, and whether it takes no new update until the next restart.
 #[derive(Clone, Copy, Debug, PartialEq, Eq, Drop)]
@@ -52,7 +45,7 @@ pub struct SegmentStatus {
 }
 
 /// The bytes of a value's entry before the value: its number and its length.
-const VALUE_HEAD_LEN: usize = 12;
+pub(crate) const VALUE_HEAD_LEN: usize = 12;
 
 /// The bytes of a status's entry: the number and the fence.
 const STATUS_LEN: usize = 9;
@@ -67,7 +60,7 @@ fn value_head(bytes: &[u8]) -> (u64, u32)
 }
 
 /// Takes the first entry of a snapshot off, or answers `None` where none stands first.
-fn take_value(rest: &mut Bytes) -> Result<Option<SegmentValue>, AllocError>
+pub(crate) fn take_value(rest: &mut Bytes) -> Result<Option<SegmentValue>, AllocError>
     ensures some { IfOk result (λ o. IfSome o (λ v. IsValue v
         × (rest.old ≡ value_bytes v ++ rest.new))) }
     ensures none { IfOk result (λ o. IfNone o ((v : SegmentValue) → (tail : List ℕ)
@@ -194,19 +187,21 @@ pub(crate) fn put_values(values: &[SegmentValue], out: &mut BytesMut)
     ensures { out.new.items ≡ out.old.items ++ flat_map value_bytes values.now }
 {
     for entry in values {
-        put_value(entry, out);
+        put_value(entry.number, &entry.value, out);
     }
 }
 
-fn put_value(entry: &SegmentValue, out: &mut BytesMut)
-    requires fits { length entry.now.value < 2 ^ 32 }
-    requires room { length (value_bytes entry.now) ≤ out.old.spare }
-    ensures items { out.new.items ≡ out.old.items ++ value_bytes entry.now }
-    ensures room { out.new.spare + length (value_bytes entry.now) ≡ out.old.spare }
+/// Writes a value's number, its length and its bytes. There is room for them.
+pub(crate) fn put_value(number: u64, value: &Bytes, out: &mut BytesMut)
+    requires fits { length value.now < 2 ^ 32 }
+    requires room { 12 + length value.now ≤ out.old.spare }
+    ensures items { out.new.items ≡ out.old.items
+        ++ (to_be_bytes w64 number ++ (to_be_bytes w32 (length value.now) ++ value.now)) }
+    ensures room { out.new.spare + (12 + length value.now) ≡ out.old.spare }
 {
-    out.extend_reserved(&entry.number.to_be_bytes());
-    out.extend_reserved(&(entry.value.len() as u32).to_be_bytes());
-    out.extend_reserved(entry.value.as_slice());
+    out.extend_reserved(&number.to_be_bytes());
+    out.extend_reserved(&(value.len() as u32).to_be_bytes());
+    out.extend_reserved(value.as_slice());
 }
 
 /// Writes the entries of a status. There is room for them.

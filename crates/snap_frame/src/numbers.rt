@@ -1,6 +1,6 @@
 //! Numbers at the front of bytes, the highest byte first.
 ghost use Rattle.std.specs.Prelude.{◌≡◌, ◌≤◌, ◌++◌, length, drop};
-ghost use Rattle.std.specs.Int.{w32, w64, to_be_bytes};
+ghost use Rattle.std.specs.Int.{w16, w32, w64, to_be_bytes};
 
 use byteorder::{BigEndian, ByteOrder};
 
@@ -16,4 +16,11 @@ pub(crate) fn first_u32(bytes: &[u8]) -> u32
     ensures { bytes.now ≡ to_be_bytes w32 result ++ drop 4 bytes.now }
 {
     BigEndian::read_u32(bytes)
+}
+
+pub(crate) fn first_u16(bytes: &[u8]) -> u16
+    requires { 2 ≤ length bytes.now }
+    ensures { bytes.now ≡ to_be_bytes w16 result ++ drop 2 bytes.now }
+{
+    BigEndian::read_u16(bytes)
 }

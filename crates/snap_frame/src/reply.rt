@@ -31,14 +31,15 @@ ghost use Rattle.snap_frame.specs.Messages.{
 };
 
 use crate::entries::{
-    SegmentStatus, SegmentValue, put_statuses, put_values, read_statuses, read_values,
-    statuses_len, values_len,
+    SegmentStatus, put_statuses, put_values, read_statuses, read_values, statuses_len, values_len,
 };
 use crate::frame::start_frame;
+use crate::named::{NamedValue, named_len, put_named, read_named};
 use crate::numbers::first_u64;
 use bytes::{Bytes, BytesMut};
 use snap_disk::Refusal;
 use snap_history::{LAST_NUMBER, MAX_COUNT};
+use snap_scan::SegmentValue;
 use std::alloc::AllocError;
 
 /// What the server answers to a request (docs/FORMATS.md, "Frames and messages").
@@ -52,6 +53,9 @@ pub enum Reply {
     /// All segments, each as it was when the server looked, in order, 1 to [`MAX_COUNT`] of
     /// them.
     Status(Vec<SegmentStatus>),
+    /// The segments that were asked for, at one moment, in ascending order, 1 to [`MAX_COUNT`] of
+    /// them.
+    Part(Vec<NamedValue>),
     /// Refused, with the number that the refusal has to tell.
     Refused { why: Refusal, detail: u64 },
 }
@@ -61,6 +65,8 @@ const STORED: u8 = 0x81;
 const SNAPSHOT: u8 = 0x82;
 
 const STATUS: u8 = 0x83;
+
+const PART: u8 = 0x84;
 
 const REFUSED: u8 = 0xE0;
 
@@ -171,6 +177,21 @@ fn read_status(payload: BytesMut) -> Result<Option<Reply>, AllocError>
     }
 }
 
+fn read_part(payload: BytesMut) -> Result<Option<Reply>, AllocError>
+    requires { slice_index payload.items 0 ≡ 0x84 }
+    ensures reply { IfOk result (λ r. IfSome r (Says payload.items)) }
+    ensures nothing { IfOk result (λ r. IfNone r (SaysNothing payload.items)) }
+{
+    let alloc = *payload.allocator();
+    let Some((count, entries)) = split_list(payload)? else {
+        return Ok(None);
+    };
+    match read_named(alloc, count, entries)? {
+        Some(values) => Ok(Some(Reply::Part(values))),
+        None => Ok(None),
+    }
+}
+
 /// The reply of a payload, or `None` where no reply has it.
 pub(crate) fn read_reply(payload: BytesMut) -> Result<Option<Reply>, AllocError>
     ensures reply { IfOk result (λ r. IfSome r (Says payload.items)) }
@@ -185,6 +206,7 @@ pub(crate) fn read_reply(payload: BytesMut) -> Result<Option<Reply>, AllocError>
         REFUSED => Ok(read_refused(bytes)),
         SNAPSHOT => read_snapshot(payload),
         STATUS => read_status(payload),
+        PART => read_part(payload),
         _ => Ok(None),
     }
 }
@@ -230,6 +252,11 @@ fn append_reply(reply: &Reply, out: &mut BytesMut) -> Result<(), AllocError>
             start_frame(LIST_HEAD_LEN + statuses_len(statuses), out)?;
             out.extend_reserved(&[STATUS, statuses.len() as u8]);
             put_statuses(statuses, out);
+        }
+        Reply::Part(values) => {
+            start_frame(LIST_HEAD_LEN + named_len(values), out)?;
+            out.extend_reserved(&[PART, values.len() as u8]);
+            put_named(values, out);
         }
         Reply::Refused { why, detail } => {
             start_frame(REFUSED_LEN, out)?;

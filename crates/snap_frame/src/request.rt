@@ -18,13 +18,15 @@ ghost use Rattle.std.specs.Prelude.{
   IfSome,
   IfNone,
 };
-ghost use Rattle.std.specs.Int.{w64, to_be_bytes};
-ghost use Rattle.snap_frame.specs.Messages.{max_payload, Asks, Malformed, payload, frame};
+ghost use Rattle.std.specs.Int.{w16, w64, to_be_bytes};
+ghost use Rattle.snap_frame.specs.Messages.{max_payload, Asks, IsAskable, Malformed, payload};
+ghost use Rattle.snap_frame.specs.Messages.{frame};
 
 use crate::frame::{MAX_PAYLOAD, start_frame};
-use crate::numbers::first_u64;
+use crate::numbers::{first_u16, first_u64};
 use bytes::{Bytes, BytesMut};
 use snap_disk::Refusal;
+use snap_scan::SegmentSet;
 use std::alloc::AllocError;
 
 /// What a client asks of the server (docs/FORMATS.md, "Frames and messages").
@@ -42,6 +44,8 @@ pub enum Request {
     Scan,
     /// The numbers and fences of all segments, one after the other.
     Status,
+    /// The numbers and values of these segments at one moment. It names one or more.
+    Part(SegmentSet),
 }
 
 const UPDATE: u8 = 1;
@@ -50,8 +54,13 @@ const SCAN: u8 = 2;
 
 const STATUS: u8 = 3;
 
+const PART: u8 = 4;
+
 /// The bytes of an update's payload before its value: its kind, the segment and the number.
 const UPDATE_HEAD_LEN: usize = 10;
+
+/// The bytes of a payload that asks a scan of some segments: its kind and the set.
+const PART_LEN: usize = 3;
 
 /// The most bytes of a value that fits into an update's frame.
 pub const MAX_UPDATE_VALUE: usize = MAX_PAYLOAD - UPDATE_HEAD_LEN;
@@ -65,6 +74,22 @@ fn update_head(payload: &[u8]) -> (u8, u64)
     (payload[1], first_u64(&payload[2..]))
 }
 
+/// The scan of some segments that a payload of this kind asks, or `None` where it names none.
+fn read_part(payload: &[u8]) -> Option<Request>
+    requires long { length payload.now ≡ 3 }
+    requires part { slice_index payload.now 0 ≡ 4 }
+    ensures request { IfSome result (Asks payload.now) }
+    ensures malformed { IfNone result (Malformed payload.now) }
+{
+    let set = SegmentSet {
+        bits: first_u16(&payload[1..]),
+    };
+    if set.is_empty() {
+        return None;
+    }
+    Some(Request::Part(set))
+}
+
 /// The request of a payload, or `None` where no request has it.
 pub(crate) fn read_request(mut payload: BytesMut) -> Result<Option<Request>, AllocError>
     ensures request { IfOk result (λ r. IfSome r (Asks payload.items)) }
@@ -75,6 +100,7 @@ pub(crate) fn read_request(mut payload: BytesMut) -> Result<Option<Request>, All
         0 => Ok(None),
         1 if bytes[0] == SCAN => Ok(Some(Request::Scan)),
         1 if bytes[0] == STATUS => Ok(Some(Request::Status)),
+        PART_LEN if bytes[0] == PART => Ok(read_part(bytes)),
         len if len >= UPDATE_HEAD_LEN && bytes[0] == UPDATE => {
             let (segment, number) = update_head(bytes);
             payload.advance(UPDATE_HEAD_LEN);
@@ -94,10 +120,12 @@ pub(crate) fn read_request(mut payload: BytesMut) -> Result<Option<Request>, All
 /// Writes the frame of a request behind what the buffer holds.
 ///
 /// The payload has at most [`MAX_PAYLOAD`] bytes, so an update's value at most
-/// [`MAX_UPDATE_VALUE`]. The only refusal is [`Refusal::NoMemory`], and the buffer's bytes are then
-/// as they were. It doesn't come where the buffer has room for the frame.
+/// [`MAX_UPDATE_VALUE`], and a scan of some segments names one or more. The only refusal is
+/// [`Refusal::NoMemory`], and the buffer's bytes are then as they were. It doesn't come where the
+/// buffer has room for the frame.
 pub fn write_request(request: &Request, out: &mut BytesMut) -> Result<(), Refusal>
-    requires { length (payload request.now) ≤ max_payload }
+    requires fits { length (payload request.now) ≤ max_payload }
+    requires askable { IsAskable request.now }
     ensures ok { OnOk result (out.new.items ≡ out.old.items ++ frame (payload request.now)) }
     ensures err { OnErr result (out.new.items ≡ out.old.items) }
     ensures room { length (frame (payload request.now)) ≤ out.old.spare → IsOk result }
@@ -133,6 +161,11 @@ fn append_request(request: &Request, out: &mut BytesMut) -> Result<(), AllocErro
         Request::Status => {
             start_frame(1, out)?;
             out.extend_reserved(&[STATUS]);
+        }
+        Request::Part(set) => {
+            start_frame(PART_LEN, out)?;
+            out.extend_reserved(&[PART]);
+            out.extend_reserved(&set.bits.to_be_bytes());
         }
     }
     Ok(())

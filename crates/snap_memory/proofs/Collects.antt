@@ -1,5 +1,5 @@
 -- What the looks of a scan say of what its seat has seen. A moment is a length of that list.
-use Rattle.std.proofs.Common.{◌≡◌, ℕ, ◌+◌, ◌-◌, ◌*◌, ◌<◌, ◌≤◌, inl, inr, List, [], ◌∷◌, ◌++◌, length, take, drop, replicate, Some}
+use Rattle.std.proofs.Common.{◌≡◌, ℕ, ◌+◌, ◌-◌, ◌*◌, ◌^◌, ◌<◌, ◌≤◌, inl, inr, List, [], ◌∷◌, ◌++◌, length, take, drop, replicate, Some}
 use Rattle.std.proofs.Common.{slice_index, slice_get, slice_set, refl, ap, sym, ◌∙◌, subst, arith, append_assoc}
 use Rattle.std.proofs.Math.Seq.{take-append-add, take-append_seam, take-length}
 use Rattle.std.proofs.lemmas.Bool.{cases_eq, cases_lt}
@@ -12,14 +12,16 @@ use Rattle.snap_history.proofs.Lists.{get-set_same, get-set_other, get-replicate
 use Rattle.snap_history.proofs.Moments.{number-le}
 use Rattle.std.proofs.Math.Nat.{mul-le-mul_left}
 use Rattle.snap_scan.specs.Looks.{most_looks, IsClean, IsBorrow, IsTurn, IsNoFall}
-use Rattle.snap_scan.specs.Course.{Course}
+use Rattle.snap_scan.specs.Course.{Course, HasTurn, Borrows}
+use Rattle.snap_scan.specs.Sets.{Names, named, size, IsAt}
+use Rattle.snap_scan.proofs.Sets.{at_named, named_at, at_once, at_within, at_is, at_below, names_below}
 use Rattle.snap_scan.specs.Collects.{Numbers, Entries, IsRising, Collects, IsMoment, IsThen}
 use Rattle.snap_scan.proofs.Collects.{Collects-none, Collects-same, Collects-push, no_fall, clean_moment}
 use Rattle.snap_register.specs.declared.plan.Plan.{Plan}
 use Rattle.snap_register.specs.History.{starts}
 use Rattle.snap_register.specs.Rule.{segments}
 use Rattle.snap_register.specs.Seat.{Known, looked, number_in, Grows, IsBelow, Looks}
-use Rattle.snap_memory.specs.Scans.{BeginsFresh, IsCleanScan, IsBorrowedScan, TakesLooks}
+use Rattle.snap_memory.specs.Scans.{BeginsFresh, IsCleanScan, IsBorrowedScan, TakesLooksOf}
 
 -- a list and its moments
 
@@ -84,21 +86,21 @@ collects_from n number entry f f' e told latest late c = record {
   entries = c.entries;
 }
 
--- the number of each segment at each moment, alone and as what a look gives
-abbrev pub number_at : Start → List Update → Numbers
-number_at start h t i = number_after start (take t h) i
+-- the number of the segment at each place of a set at each moment, alone and as what a look gives
+abbrev pub number_at : ℕ → Start → List Update → Numbers
+number_at set start h t p = number_after start (take t h) (slice_index (named set) p)
 
-abbrev pub entry_at : Start → List Update → Entries (List ℕ)
-entry_at start h t i = number_at start h t i ∷ []
+abbrev pub entry_at : ℕ → Start → List Update → Entries (List ℕ)
+entry_at set start h t p = number_at set start h t p ∷ []
 
-rising : (start : Start) (h : List Update) → IsRising (number_at start h)
-rising start h i s t l = number-le start h i s t l
+rising : (set : ℕ) (start : Start) (h : List Update) → IsRising (number_at set start h)
+rising set start h p s t l = number-le start h (slice_index (named set) p) s t l
 
 -- a scan under way, begun when the seat knew a, which knows b now
 pub record Gathers (a b : Known) (s : Course) (numbers : List ℕ) : Type 0 where
-  pub segments_are : s.segments ≡ segments a.plan
-  pub some : 0 < s.segments
-  pub few : s.segments ≤ 16
+  pub among : s.set < 2 ^ segments a.plan
+  pub short : s.set < 2 ^ 16
+  pub some : 0 < size s.set
   pub wide : length numbers ≡ 16
   pub grows : Grows a b
   pub sights : List (List Update)
@@ -107,14 +109,14 @@ pub record Gathers (a b : Known) (s : Course) (numbers : List ℕ) : Type 0 wher
   pub opens : IsBeginning a.seen (first_of a.seen sights)
   pub within : IsBeginning (first_of a.seen sights) b.seen
   pub latest : List (List ℕ)
-  pub size : length latest ≡ s.segments
-  pub collects : Collects (List ℕ) s.segments (number_at (starts a.plan) b.seen)
-      (entry_at (starts a.plan) b.seen) (length (first_of a.seen sights)) (length b.seen) s.told
-      latest
-  pub last_looks : (i k : ℕ) → slice_get latest i ≡ Some (k ∷ []) → (looked b i ≡ Some k)
-      × (slice_index numbers i ≡ k)
+  pub long : length latest ≡ size s.set
+  pub collects : Collects (List ℕ) (size s.set) (number_at s.set (starts a.plan) b.seen)
+      (entry_at s.set (starts a.plan) b.seen) (length (first_of a.seen sights)) (length b.seen)
+      s.told latest
+  pub last_looks : (p j k : ℕ) → IsAt s.set p j → slice_get latest p ≡ Some (k ∷ [])
+      → (looked b j ≡ Some k) × (slice_index numbers j ≡ k)
   pub left : b.left + length s.told ≡ a.left
-  pub bound : length s.told ≤ most_looks s.segments
+  pub bound : length s.told ≤ most_looks (size s.set)
   pub below : 0 < length s.told → IsBelow b
 
 pub grows_self : (a : Known) → Grows a a
@@ -144,15 +146,15 @@ grows_more a b c f g = record {
       sym (same c.seen) ∙ x ∙ same b.seen ∙ f.own i l h);
 }
 
-pub Gathers-none : (a : Known) (s : Course) (numbers : List ℕ) → s.segments ≡ segments a.plan
-    → 0 < s.segments → s.segments ≤ 16 → length numbers ≡ 16 → s.told ≡ [] → Gathers a a s numbers
-Gathers-none a s numbers segments_are some few wide told =
-    let n : ℕ = s.segments in
+pub Gathers-none : (a : Known) (s : Course) (numbers : List ℕ) → s.set < 2 ^ segments a.plan
+    → s.set < 2 ^ 16 → 0 < size s.set → length numbers ≡ 16 → s.told ≡ [] → Gathers a a s numbers
+Gathers-none a s numbers among short some wide told =
+    let n : ℕ = size s.set in
     let start : Start = starts a.plan in
     record {
-      segments_are = segments_are;
+      among = among;
+      short = short;
       some = some;
-      few = few;
       wide = wide;
       grows = grows_self a;
       sights = [];
@@ -161,12 +163,12 @@ Gathers-none a s numbers segments_are some few wide told =
       opens = beginning-self a.seen;
       within = beginning-self a.seen;
       latest = replicate n [];
-      size = length-replicate n [];
-      collects = subst (λ L. Collects (List ℕ) n (number_at start a.seen) (entry_at start a.seen)
-          (length a.seen) (length a.seen) L (replicate n [])) (sym told)
-          (Collects-none (List ℕ) n (number_at start a.seen) (entry_at start a.seen) (length a.seen)
-          (length a.seen) (replicate n []));
-      last_looks = λ i k e. (let none : [] ≡ k ∷ [] = get-replicate n i [] (k ∷ []) e in
+      long = length-replicate n [];
+      collects = subst (λ L. Collects (List ℕ) n (number_at s.set start a.seen)
+          (entry_at s.set start a.seen) (length a.seen) (length a.seen) L (replicate n [])) (sym told)
+          (Collects-none (List ℕ) n (number_at s.set start a.seen) (entry_at s.set start a.seen)
+          (length a.seen) (length a.seen) (replicate n []));
+      last_looks = λ p j k at e. (let none : [] ≡ k ∷ [] = get-replicate n p [] (k ∷ []) e in
           absurd (cc none));
       left = (let x : length s.told ≡ 0 = ap length told in omega arith);
       bound = (let x : length s.told ≡ 0 = ap length told in omega arith);
@@ -175,7 +177,16 @@ Gathers-none a s numbers segments_are some few wide told =
 
 -- one look more
 module _ (a b c : Known) (s : Course) (numbers : List ℕ) (j k : ℕ) (g : Gathers a b s numbers)
-    (turn : IsTurn s.segments s.told j) (later : Grows b c) (found : k ≡ number_in c c.seen j) where
+    (has_turn : HasTurn s.set s.told j) (later : Grows b c) (found : k ≡ number_in c c.seen j) where
+  abbrev place : ℕ
+  place = has_turn.0
+
+  at : IsAt s.set place j
+  at = has_turn.1
+
+  turn : IsTurn (size s.set) s.told place
+  turn = has_turn.2
+
   abbrev sights : List (List Update)
   sights = g.sights ++ c.seen ∷ []
 
@@ -183,7 +194,7 @@ module _ (a b c : Known) (s : Course) (numbers : List ℕ) (j k : ℕ) (g : Gath
   first = first_of a.seen sights
 
   abbrev n : ℕ
-  n = s.segments
+  n = size s.set
 
   abbrev start : Start
   start = starts a.plan
@@ -208,70 +219,81 @@ module _ (a b c : Known) (s : Course) (numbers : List ℕ) (j k : ℕ) (g : Gath
       let x : length first ≡ length (first_of a.seen g.sights) =
       ap length (first_stays a.seen c.seen g.sights (omega arith)) in omega arith)
 
-  number_same : (t i : ℕ) → t ≤ length b.seen
-      → number_at start c.seen t i ≡ number_at start b.seen t i
-  number_same t i l = ap (λ h. number_after start h i)
+  number_same : (t p : ℕ) → t ≤ length b.seen
+      → number_at s.set start c.seen t p ≡ number_at s.set start b.seen t p
+  number_same t p l = ap (λ h. number_after start h (slice_index (named s.set) p))
       (take-beginning b.seen c.seen t later.later l)
 
   -- the number told is that of the moment of the look
-  now : k ≡ number_at start c.seen (length c.seen) j
+  now : k ≡ number_at s.set start c.seen (length c.seen) place
   now = found ∙ ap (λ (p : Plan). number_after (starts p) c.seen j) plan_is
       ∙ ap (λ h. number_after start h j) (sym (take-length c.seen))
+      ∙ ap (number_after start (take (length c.seen) c.seen)) (sym (at_is s.set place j at))
 
-  grown : Collects (List ℕ) n (number_at start c.seen) (entry_at start c.seen) (length first)
-      (length b.seen) s.told g.latest
-  grown = Collects-same (List ℕ) n (number_at start b.seen) (entry_at start b.seen) (length first)
-      (length b.seen) s.told g.latest
-      (collects_from n (number_at start b.seen) (entry_at start b.seen)
+  grown : Collects (List ℕ) n (number_at s.set start c.seen) (entry_at s.set start c.seen)
+      (length first) (length b.seen) s.told g.latest
+  grown = Collects-same (List ℕ) n (number_at s.set start b.seen) (entry_at s.set start b.seen)
+      (length first) (length b.seen) s.told g.latest
+      (collects_from n (number_at s.set start b.seen) (entry_at s.set start b.seen)
       (length (first_of a.seen g.sights)) (length first) (length b.seen) s.told g.latest late
       g.collects)
-      (number_at start c.seen) (entry_at start c.seen) number_same (λ t i l.
-      ap (λ v. v ∷ []) (number_same t i l))
+      (number_at s.set start c.seen) (entry_at s.set start c.seen) number_same (λ t p l.
+      ap (λ v. v ∷ []) (number_same t p l))
 
-  more : Collects (List ℕ) n (number_at start c.seen) (entry_at start c.seen) (length first)
-      (length c.seen) (s.told ++ k ∷ []) (slice_set g.latest j (k ∷ []))
-  more = subst (λ v. Collects (List ℕ) n (number_at start c.seen) (entry_at start c.seen)
-      (length first) (length c.seen) (s.told ++ v ∷ []) (slice_set g.latest j (v ∷ []))) (sym now)
-      (Collects-push (List ℕ) n (number_at start c.seen) (entry_at start c.seen) (length first)
-      (length b.seen) s.told g.latest grown (length c.seen) j end turn begin g.size)
+  more : Collects (List ℕ) n (number_at s.set start c.seen) (entry_at s.set start c.seen)
+      (length first) (length c.seen) (s.told ++ k ∷ []) (slice_set g.latest place (k ∷ []))
+  more = subst (λ v. Collects (List ℕ) n (number_at s.set start c.seen)
+      (entry_at s.set start c.seen) (length first) (length c.seen) (s.told ++ v ∷ [])
+      (slice_set g.latest place (v ∷ []))) (sym now)
+      (Collects-push (List ℕ) n (number_at s.set start c.seen) (entry_at s.set start c.seen)
+      (length first) (length b.seen) s.told g.latest grown (length c.seen) place end turn begin
+      g.long)
 
   -- so it isn't below the last one told
-  pub told_fits : IsNoFall s.segments s.told j k
-  told_fits = subst (IsNoFall n s.told j) (sym now)
-      (no_fall (List ℕ) n (number_at start c.seen) (entry_at start c.seen) (length first)
-      (length b.seen) s.told g.latest grown (rising start c.seen) (length c.seen) j end turn.0)
+  pub told_fits : (p : ℕ) → IsAt s.set p j → IsNoFall (size s.set) s.told p k
+  told_fits p other = subst (λ q. IsNoFall n s.told q k) (at_once s.set place p j at other)
+      (subst (IsNoFall n s.told place) (sym now)
+      (no_fall (List ℕ) n (number_at s.set start c.seen) (entry_at s.set start c.seen)
+      (length first) (length b.seen) s.told g.latest grown (rising s.set start c.seen)
+      (length c.seen) place end turn.0))
 
-  module _ (s' : Course) (segments_same : s'.segments ≡ s.segments) (told : s'.told ≡ s.told
-      ++ k ∷ []) (bound : length s.told < most_looks s.segments) (looks : Looks b c j k)
-      (sighted : c.sights ≡ b.sights ++ c.seen ∷ []) (left : c.left + 1 ≡ b.left) (below : IsBelow c) where
-    last_looks : (i v : ℕ) → slice_get (slice_set g.latest j (k ∷ [])) i ≡ Some (v ∷ [])
+  module _ (s' : Course) (set_same : s'.set ≡ s.set) (told : s'.told ≡ s.told ++ k ∷ [])
+      (bound : length s.told < most_looks (size s.set)) (looks : Looks b c j k)
+      (sighted : c.sights ≡ b.sights ++ c.seen ∷ []) (left : c.left + 1 ≡ b.left)
+      (below : IsBelow c) where
+    last_looks : (q i v : ℕ) → IsAt s.set q i
+        → slice_get (slice_set g.latest place (k ∷ [])) q ≡ Some (v ∷ [])
         → (looked c i ≡ Some v) × (slice_index (slice_set numbers j k) i ≡ v)
-    last_looks i v e = elim (cases_eq i j) [
+    last_looks q i v here e = elim (cases_eq q place) [
       | inl same ↦ (
-          let size : length g.latest ≡ n = g.size in
-          let within : j < n = turn.0 in
-          let few : n ≤ 16 = g.few in
+          let is_j : i ≡ j = same_Some i j (sym here ∙ ap (slice_get (named s.set)) same ∙ at) in
+          let inside : place < n = turn.0 in
+          let long : length g.latest ≡ n = g.long in
           let wide : length numbers ≡ 16 = g.wide in
-          let here : slice_get (slice_set g.latest j (k ∷ [])) j ≡ Some (k ∷ []) =
-          get-set_same g.latest j (k ∷ []) (omega arith) in
+          let low : j < 16 = (at_named s.set place j at).0 in
+          let last : slice_get (slice_set g.latest place (k ∷ [])) place ≡ Some (k ∷ []) =
+          get-set_same g.latest place (k ∷ []) (omega arith) in
           let one : k ∷ [] ≡ v ∷ [] =
-          same_Some (k ∷ []) (v ∷ []) (sym here
-          ∙ ap (slice_get (slice_set g.latest j (k ∷ []))) (sym same) ∙ e) in
+          same_Some (k ∷ []) (v ∷ []) (sym last
+          ∙ ap (slice_get (slice_set g.latest place (k ∷ []))) (sym same) ∙ e) in
           let is : k ≡ v = cc one in (
-            ap (looked c) same ∙ looks.here ∙ ap (λ z. Some z) is,
-            ap (slice_index (slice_set numbers j k)) same
+            ap (looked c) is_j ∙ looks.here ∙ ap (λ z. Some z) is,
+            ap (slice_index (slice_set numbers j k)) is_j
                 ∙ get_or-set_same numbers j k 0 (omega arith) ∙ is,
           ))
       | inr other ↦ (
-          let old = g.last_looks i v (sym (get-set_other g.latest j i (k ∷ []) other) ∙ e) in
-          (looks.others i other ∙ old.0, get_or-set_other numbers j i k 0 other ∙ old.1))
+          let apart : i ≡ j → ⊥ = λ same. other (at_once s.set q place j
+          (here ∙ ap (λ z. Some z) same) at) in
+          let old = g.last_looks q i v here
+          (sym (get-set_other g.latest place q (k ∷ []) other) ∙ e) in
+          (looks.others i apart ∙ old.0, get_or-set_other numbers j i k 0 apart ∙ old.1))
     ]
 
     pub Gathers-look : Gathers a c s' (slice_set numbers j k)
     Gathers-look = record {
-      segments_are = segments_same ∙ g.segments_are;
-      some = subst (λ m. 0 < m) (sym segments_same) g.some;
-      few = subst (λ m. m ≤ 16) (sym segments_same) g.few;
+      among = subst (λ v. v < 2 ^ segments a.plan) (sym set_same) g.among;
+      short = subst (λ v. v < 2 ^ 16) (sym set_same) g.short;
+      some = subst (λ v. 0 < size v) (sym set_same) g.some;
       wide = length-set numbers j k ∙ g.wide;
       grows = grows_more a b c g.grows later;
       sights = sights;
@@ -286,15 +308,18 @@ module _ (a b c : Known) (s : Course) (numbers : List ℕ) (j k : ℕ) (g : Gath
       opens = first_opens a.seen c.seen g.sights g.opens
           (beginning-trans a.seen b.seen c.seen g.grows.later later.later);
       within = seen_within;
-      latest = slice_set g.latest j (k ∷ []);
-      size = length-set g.latest j (k ∷ []) ∙ g.size ∙ sym segments_same;
-      collects = subst (λ L. Collects (List ℕ) s'.segments (number_at start c.seen)
-          (entry_at start c.seen) (length first) (length c.seen) L (slice_set g.latest j (k ∷ [])))
-          (sym told)
-          (subst (λ m. Collects (List ℕ) m (number_at start c.seen) (entry_at start c.seen)
-          (length first) (length c.seen) (s.told ++ k ∷ []) (slice_set g.latest j (k ∷ [])))
-          (sym segments_same) more);
-      last_looks = last_looks;
+      latest = slice_set g.latest place (k ∷ []);
+      long = length-set g.latest place (k ∷ []) ∙ g.long ∙ sym (ap size set_same);
+      collects = subst (λ L. Collects (List ℕ) (size s'.set) (number_at s'.set start c.seen)
+          (entry_at s'.set start c.seen) (length first) (length c.seen) L
+          (slice_set g.latest place (k ∷ []))) (sym told)
+          (subst (λ v. Collects (List ℕ) (size v) (number_at v start c.seen)
+          (entry_at v start c.seen) (length first) (length c.seen) (s.told ++ k ∷ [])
+          (slice_set g.latest place (k ∷ []))) (sym set_same) more);
+      last_looks = subst (λ v. (q i k' : ℕ) → IsAt v q i
+          → slice_get (slice_set g.latest place (k ∷ [])) q ≡ Some (k' ∷ [])
+          → (looked c i ≡ Some k') × (slice_index (slice_set numbers j k) i ≡ k')) (sym set_same)
+          last_looks;
       left = (
           let x : length s'.told ≡ length (s.told ++ k ∷ []) = ap length told in
           let y : length (s.told ++ k ∷ []) ≡ length s.told + 1 = length_push s.told k in
@@ -303,7 +328,7 @@ module _ (a b c : Known) (s : Course) (numbers : List ℕ) (j k : ℕ) (g : Gath
       bound = (
           let x : length s'.told ≡ length (s.told ++ k ∷ []) = ap length told in
           let y : length (s.told ++ k ∷ []) ≡ length s.told + 1 = length_push s.told k in
-          subst (λ m. length s'.told ≤ most_looks m) (sym segments_same) (omega arith));
+          subst (λ v. length s'.told ≤ most_looks (size v)) (sym set_same) (omega arith));
       below = λ _. below;
     }
 
@@ -321,102 +346,124 @@ module _ (a b : Known) (s : Course) (numbers : List ℕ) (g : Gathers a b s numb
       (let e : length g.sights ≡ length s.told = g.all_told in omega arith) g.sights_are begins
 
   -- so it took some looks off, and no more than a scan might
-  pub takes_looks : 0 < length s.told → TakesLooks a b
+  pub takes_looks : 0 < length s.told → TakesLooksOf (size s.set) a b
   takes_looks l = (
       let x : b.left + length s.told ≡ a.left = g.left in
-      let y : length s.told ≤ most_looks (segments a.plan) =
-      subst (λ m. length s.told ≤ most_looks m) g.segments_are g.bound in
+      let y : length s.told ≤ most_looks (size s.set) = g.bound in
       record { some = omega arith; few = omega arith })
 
-  pub clean_some : IsClean s.segments s.told → 0 < length s.told
+  pub clean_some : IsClean (size s.set) s.told → 0 < length s.told
   clean_some clean = (
-      let pos : 0 < s.segments = g.some in
-      let long : length s.told ≡ (clean.rounds.0 + 2) * s.segments = clean.rounds.1 in
-      let more : s.segments * 1 ≤ s.segments * (clean.rounds.0 + 2) =
-      mul-le-mul_left s.segments (omega arith) in
+      let pos : 0 < size s.set = g.some in
+      let long : length s.told ≡ (clean.rounds.0 + 2) * size s.set = clean.rounds.1 in
+      let more : size s.set * 1 ≤ size s.set * (clean.rounds.0 + 2) =
+      mul-le-mul_left (size s.set) (omega arith) in
       omega arith)
 
-  pub borrow_some : (j : ℕ) → IsBorrow s.segments s.told j → 0 < length s.told
-  borrow_some j borrowed = (let x : length s.told ≡ borrowed.last.0 * s.segments + j + 1 =
+  pub borrow_some : (j : ℕ) → IsBorrow (size s.set) s.told j → 0 < length s.told
+  borrow_some j borrowed = (let x : length s.told ≡ borrowed.last.0 * size s.set + j + 1 =
       borrowed.last.1 in omega arith)
 
   from_start : (h : List Update) (i : ℕ) → number_in b h i ≡ number_after (starts a.plan) h i
   from_start h i = ap (λ (p : Plan). number_after (starts p) h i) g.grows.plan
 
-  sizes : segments b.plan ≡ s.segments
-  sizes = ap segments g.grows.plan ∙ sym g.segments_are
-
-  module _ (clean : IsClean s.segments s.told) (not_borrow : (j : ℕ) → IsBorrow s.segments s.told j
+  module _ (clean : IsClean (size s.set) s.told) (not_borrow : (j : ℕ) → IsBorrow (size s.set) s.told j
       → ⊥) where
-    moment : (p : ℕ) × IsMoment s.segments (number_at (starts a.plan) b.seen) (length first_seen)
+    moment : (p : ℕ) × IsMoment (size s.set) (number_at s.set (starts a.plan) b.seen) (length first_seen)
         (length b.seen) s.told p
-        × IsThen (List ℕ) s.segments (entry_at (starts a.plan) b.seen) p g.latest
-    moment = clean_moment (List ℕ) s.segments (number_at (starts a.plan) b.seen)
-        (entry_at (starts a.plan) b.seen) (length first_seen) (length b.seen) s.told g.latest
+        × IsThen (List ℕ) (size s.set) (entry_at s.set (starts a.plan) b.seen) p g.latest
+    moment = clean_moment (List ℕ) (size s.set) (number_at s.set (starts a.plan) b.seen)
+        (entry_at s.set (starts a.plan) b.seen) (length first_seen) (length b.seen) s.told g.latest
         g.collects
-        (rising (starts a.plan) b.seen) (λ i t u l e. ap (λ v. v ∷ []) e) g.some clean not_borrow
+        (rising s.set (starts a.plan) b.seen) (λ i t u l e. ap (λ v. v ∷ []) e) g.some clean not_borrow
 
     begins_first : IsBeginning first_seen (take moment.0 b.seen)
     begins_first = take-begins first_seen b.seen moment.0 g.within moment.1.after
 
-    pub clean_scan : IsCleanScan a b
+    -- the last look at a named segment told its number then
+    last_at : (i : ℕ) → i < segments b.plan → Names s.set i
+        → (looked b i ≡ Some (number_in b (take moment.0 b.seen) i))
+        × (slice_index numbers i ≡ number_in b (take moment.0 b.seen) i)
+    last_at i l named =
+        let few : i < 16 = names_below s.set 16 (omega arith) g.short i named in
+        let place = named_at s.set i few named in
+        let last = g.last_looks place.0 i _ place.1
+        (moment.2 place.0 (at_within s.set place.0 i place.1)) in
+        let is : number_at s.set (starts a.plan) b.seen moment.0 place.0
+        ≡ number_in b (take moment.0 b.seen) i =
+        ap (number_after (starts a.plan) (take moment.0 b.seen)) (at_is s.set place.0 i place.1)
+        ∙ sym (from_start (take moment.0 b.seen) i) in
+        (last.0 ∙ ap (λ z. Some z) is, last.1 ∙ is)
+
+    pub clean_scan : IsCleanScan s.set a b
     clean_scan = record {
       part = take moment.0 b.seen;
       begins = begins_all (take moment.0 b.seen) begins_first;
       fresh = is_fresh (take moment.0 b.seen) (clean_some clean) begins_first;
       within = take-within b.seen moment.0;
-      each = λ i l. (
-          let lt : i < s.segments = (let z : segments b.plan ≡ s.segments = sizes in omega arith) in
-          (g.last_looks i _ (moment.2 i lt)).0
-          ∙ ap (λ z. Some z) (sym (from_start (take moment.0 b.seen) i)));
+      each = λ i l named. (last_at i l named).0;
     }
 
-    pub numbers_are : (i : ℕ) → i < segments b.plan → looked b i ≡ Some (slice_index numbers i)
-    numbers_are i l =
-        let lt : i < s.segments = (let z : segments b.plan ≡ s.segments = sizes in omega arith) in
-        let last = g.last_looks i _ (moment.2 i lt) in
+    pub numbers_are : (i : ℕ) → i < segments b.plan → Names s.set i
+        → looked b i ≡ Some (slice_index numbers i)
+    numbers_are i l named =
+        let last = last_at i l named in
         last.0 ∙ ap (λ z. Some z) (sym last.1)
 
-  module _ (j : ℕ) (borrowed : IsBorrow s.segments s.told j) where
+  module _ (j : ℕ) (from : Borrows s.set s.told j) where
+    abbrev place_of : ℕ
+    place_of = from.0
+
+    borrowed : IsBorrow (size s.set) s.told place_of
+    borrowed = from.2
+
     abbrev m : ℕ
     m = borrowed.last.0
 
     abbrev number : Numbers
-    number = number_at (starts a.plan) b.seen
+    number = number_at s.set (starts a.plan) b.seen
 
     abbrev last : ℕ
     last = slice_index s.told (length s.told - 1)
 
-    place : m * s.segments + j ≡ length s.told - 1
-    place = (let x : length s.told ≡ borrowed.last.0 * s.segments + j + 1 = borrowed.last.1 in
-        omega arith)
+    -- the number at the place is that of the segment
+    of_segment : (t : ℕ) → number t place_of ≡ number_after (starts a.plan) (take t b.seen) j
+    of_segment t = ap (number_after (starts a.plan) (take t b.seen)) (at_is s.set place_of j from.1)
 
-    told_last : last ≡ number (g.collects.moment (m * s.segments + j)) j
+    turn_last : m * size s.set + place_of ≡ length s.told - 1
+    turn_last = (let x : length s.told ≡ borrowed.last.0 * size s.set + place_of + 1 =
+        borrowed.last.1 in omega arith)
+
+    told_last : last ≡ number (g.collects.moment (m * size s.set + place_of)) place_of
     told_last =
-        let x : length s.told ≡ borrowed.last.0 * s.segments + j + 1 = borrowed.last.1 in
-        ap (slice_index s.told) (sym place) ∙ g.collects.numbers m j borrowed.segment (omega arith)
+        let x : length s.told ≡ borrowed.last.0 * size s.set + place_of + 1 = borrowed.last.1 in
+        ap (slice_index s.told) (sym turn_last)
+        ∙ g.collects.numbers m place_of borrowed.segment (omega arith)
 
     looked_last : looked b j ≡ Some last
     looked_last =
-        let x : length s.told ≡ borrowed.last.0 * s.segments + j + 1 = borrowed.last.1 in
-        let pos : 0 < s.segments = g.some in
-        (g.last_looks j _ (g.collects.entries m j borrowed.segment (omega arith) (omega arith))).0
+        let x : length s.told ≡ borrowed.last.0 * size s.set + place_of + 1 = borrowed.last.1 in
+        let pos : 0 < size s.set = g.some in
+        (g.last_looks place_of j _ from.1
+        (g.collects.entries m place_of borrowed.segment (omega arith) (omega arith))).0
         ∙ ap (λ z. Some z) (sym told_last)
 
     -- the segment rose by two since the scan's first look
-    rose : number (length first_seen) j + 2 ≤ last
+    rose : number (length first_seen) place_of + 2 ≤ last
     rose =
-        let x : length s.told ≡ borrowed.last.0 * s.segments + j + 1 = borrowed.last.1 in
-        let at : 0 * s.segments + j ≡ j = omega arith in
-        let seen : slice_index s.told (0 * s.segments + j)
-        ≡ number (g.collects.moment (0 * s.segments + j)) j =
-        g.collects.numbers 0 j borrowed.segment (omega arith) in
-        let first : slice_index s.told j ≡ slice_index s.told (0 * s.segments + j) =
-        ap (slice_index s.told) (sym at) in
-        let low : number (length first_seen) j ≤ number (g.collects.moment (0 * s.segments + j)) j =
-        rising (starts a.plan) b.seen j (length first_seen) (g.collects.moment (0 * s.segments + j))
-        (g.collects.after (0 * s.segments + j) (omega arith)) in
-        let moved : slice_index s.told j + 2 ≤ slice_index s.told (length s.told - 1) =
+        let x : length s.told ≡ borrowed.last.0 * size s.set + place_of + 1 = borrowed.last.1 in
+        let first_is : 0 * size s.set + place_of ≡ place_of = omega arith in
+        let seen : slice_index s.told (0 * size s.set + place_of)
+        ≡ number (g.collects.moment (0 * size s.set + place_of)) place_of =
+        g.collects.numbers 0 place_of borrowed.segment (omega arith) in
+        let first : slice_index s.told place_of ≡ slice_index s.told (0 * size s.set + place_of) =
+        ap (slice_index s.told) (sym first_is) in
+        let low : number (length first_seen) place_of
+        ≤ number (g.collects.moment (0 * size s.set + place_of)) place_of =
+        rising s.set (starts a.plan) b.seen place_of (length first_seen)
+        (g.collects.moment (0 * size s.set + place_of))
+        (g.collects.after (0 * size s.set + place_of) (omega arith)) in
+        let moved : slice_index s.told place_of + 2 ≤ slice_index s.told (length s.told - 1) =
         borrowed.moved in
         omega arith
 
@@ -426,14 +473,15 @@ module _ (a b : Known) (s : Course) (numbers : List ℕ) (g : Gathers a b s numb
     inside part within before =
         let e : last ≡ number_in b part j + 1 =
         same_Some last (number_in b part j + 1) (sym looked_last ∙ before) in
-        let f : number_in b part j ≡ number (length part) j =
+        let f : number_in b part j ≡ number (length part) place_of =
         from_start part j ∙ ap (λ h. number_after (starts a.plan) h j)
-        (sym (beginning-take part b.seen within)) in
-        let high : number (length first_seen) j + 2 ≤ last = rose in
+        (sym (beginning-take part b.seen within)) ∙ sym (of_segment (length part)) in
+        let high : number (length first_seen) place_of + 2 ≤ last = rose in
         elim (cases_lt (length part) (length first_seen)) [
           | inl lt ↦ (
-              let down : number (length part) j ≤ number (length first_seen) j =
-              rising (starts a.plan) b.seen j (length part) (length first_seen) (omega arith) in
+              let down : number (length part) place_of ≤ number (length first_seen) place_of =
+              rising s.set (starts a.plan) b.seen place_of (length part) (length first_seen)
+              (omega arith) in
               absurd (omega arith))
           | inr ge ↦ ge
         ]
@@ -446,18 +494,19 @@ module _ (a b : Known) (s : Course) (numbers : List ℕ) (g : Gathers a b s numb
 
     pub borrowed_scan : IsBorrowedScan a b j
     borrowed_scan = record {
-      inside = (let z : segments b.plan ≡ s.segments = sizes in let w : j < s.segments =
-          borrowed.segment in omega arith);
+      inside = subst (λ (p : Plan). j < segments p) (sym g.grows.plan)
+          (at_below s.set (segments a.plan) place_of j g.among from.1);
       found = record {
         told = last;
         is = looked_last;
         above = (
-            let high : number (length first_seen) j + 2 ≤ last = rose in
+            let high : number (length first_seen) place_of + 2 ≤ last = rose in
+            let same = of_segment (length first_seen) in
             let f : (starts b.plan j).0 ≡ (starts a.plan j).0 =
             ap (λ (p : Plan). (starts p j).0) g.grows.plan in
             omega arith);
       };
       begins = λ part within before. begins_all part (begins_last part within before);
-      fresh = λ part within before. is_fresh part (borrow_some j borrowed)
+      fresh = λ part within before. is_fresh part (borrow_some place_of borrowed)
           (begins_last part within before);
     }

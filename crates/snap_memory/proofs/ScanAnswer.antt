@@ -1,15 +1,28 @@
 -- The memory that a scan answers.
-use Rattle.std.proofs.Common.{◌≡◌, ℕ, inl, inr, ◌+◌, ◌≤◌, List, length, Some, ap, sym, ◌∙◌, arith}
-use Rattle.std.proofs.lemmas.Option.{same_Some}
+use Rattle.std.proofs.Common.{◌≡◌, ℕ, inl, inr, ◌+◌, ◌-◌, ◌^◌, ◌<◌, ◌≤◌, List, [], length, map, All, Some, slice_get, get_or, ap, sym, subst, ◌∙◌, arith}
+use Rattle.std.proofs.lemmas.Option.{same_Some, slice_get-get_or, slice_get-map}
+use Rattle.std.proofs.lemmas.List.{length-map}
+use Rattle.std.specs.Option.{option_map}
+use Rattle.std.proofs.lemmas.Nat.{pow_below}
 use Rattle.snap_history.specs.History.{Update, Start, IsBeginning, number_after, value_after}
 use Rattle.snap_history.proofs.Beginnings.{number-beginning}
+use Rattle.snap_register.specs.declared.plan.Plan.{Plan}
 use Rattle.snap_register.specs.declared.view.View.{View}
 use Rattle.snap_register.specs.declared.view.View.TheVariants.{Collected, Borrowed}
 use Rattle.snap_register.specs.History.{starts}
 use Rattle.snap_register.specs.Seat.{Known, looked, own_of, number_in, value_in, Grows, IsValue, IsView, MayPublish}
-use Rattle.snap_memory.specs.Scans.{IsCleanScan, IsBorrowedScan, IsScan, IsSnapshot, AreLooked}
+use Rattle.snap_register.specs.Rule.{segments}
+use Rattle.snap_scan.specs.Sets.{Names, named, size, IsAt}
+use Rattle.snap_scan.proofs.Sets.{at_named, at_some, at_below, all_at, all_size}
+use Rattle.snap_memory.specs.Scans.{IsCleanScan, IsBorrowedScan, IsScan, IsSnapshot, IsPart, HasPart, AreLooked, IsSetOf, all_of}
+use Rattle.snap_history.specs.Limits.{IsShort}
+use Rattle.snap_scan.specs.Values.{pair_of}
+use Rattle.snap_scan.specs.declared.segment_value.SegmentValue.{SegmentValue}
+use Rattle.snap_memory.specs.Rooms.{WasSeen, number_of, AreEntries}
+use Rattle.snap_memory.specs.declared.room.Found.{Found}
 use Rattle.snap_memory.proofs.Collects.{beginning-take}
 use Rattle.snap_history.proofs.Moments.{value_same}
+use Rattle.std.proofs.Common.{Result, Ok, Err, OnOk, IfOk}
 use Rattle.std.proofs.lemmas.Bool.{cases_lt}
 
 -- of two beginnings of one list with the same number of a segment, the values are the same
@@ -42,37 +55,196 @@ value_told b i k value part v told within is =
     let e : number_in b v.part i ≡ k = same_Some _ k (sym v.number ∙ told) in
     v.value_is ∙ same_value (starts b.plan) b.seen v.part part i v.beginning within (e ∙ is)
 
-pub snapshot_clean : (a b : Known) (memory : List (ℕ × List ℕ)) → IsCleanScan a b
-    → AreLooked b memory → IsSnapshot a b memory
-snapshot_clean a b memory s l = record {
-  part = s.part;
-  begins = s.begins;
-  fresh = s.fresh;
-  within = s.within;
-  is_memory = record {
-    size = l.size;
-    each = λ i li. (
-        let x = l.each i li in
-        let number : x.0.0 ≡ number_in b s.part i = same_Some x.0.0 _ (sym x.2 ∙ s.each i li) in
-        let value : x.0.1 ≡ value_in b s.part i =
-        value_told b i x.0.0 x.0.1 s.part x.3 x.2 s.within number in
-        x.1 ∙ ap (λ (z : ℕ × List ℕ). Some z) (λ t. (number t, value t)));
-  };
+-- of a number and a value that were seen together, the value is that of each beginning of what was
+-- seen in which the segment has the number
+pub seen_value : (b : Known) (i : ℕ) (x : ℕ × List ℕ) (part : List Update) → WasSeen b i x
+    → IsBeginning part b.seen → x.0 ≡ number_in b part i → x.1 ≡ value_in b part i
+seen_value b i x part was within is =
+    was.value_is ∙ same_value (starts b.plan) b.seen was.part part i was.within within
+    (sym was.number_is ∙ is)
+
+-- what the last look at a segment found was seen
+pub value_seen : (b : Known) (i k : ℕ) (value : List ℕ) → IsValue b i value → looked b i ≡ Some k
+    → WasSeen b i (k, value)
+value_seen b i k value v told = record {
+  part = v.part;
+  within = v.beginning;
+  number_is = same_Some k _ (sym told ∙ v.number);
+  value_is = v.value_is;
 }
 
-pub snapshot_borrowed : (a b : Known) (j : ℕ) (memory : List (ℕ × List ℕ)) → IsBorrowedScan a b j
-    → IsView b j memory → IsSnapshot a b memory
-snapshot_borrowed a b j memory s v = record {
-  part = v.part;
-  begins = s.begins v.part v.beginning v.before;
-  fresh = s.fresh v.part v.beginning v.before;
-  within = v.beginning;
-  is_memory = v.memory;
-}
+-- what a view has of a named segment was seen
+pub view_seen : (b : Known) (j set : ℕ) (xs : List (ℕ × List ℕ)) (i : ℕ) → IsView b j set xs
+    → i < segments b.plan → Names set i → WasSeen b i (get_or xs i (0, []))
+view_seen b j set xs i v l named =
+    let size = v.memory.size in
+    let e : get_or xs i (0, []) ≡ (number_in b v.part i, value_in b v.part i) =
+    same_Some _ _ (sym (slice_get-get_or xs i (0, []) (omega arith)) ∙ v.memory.each i l named) in
+    record {
+      part = v.part;
+      within = v.beginning;
+      number_is = ap (λ (x : ℕ × List ℕ). x.0) e;
+      value_is = ap (λ (x : ℕ × List ℕ). x.1) e;
+    }
+
+module _ (set : ℕ) (a b : Known) where
+  pub part_clean : (memory : List (ℕ × List ℕ)) → IsCleanScan set a b → AreLooked set b memory
+      → HasPart set a b memory
+  part_clean memory s l = record {
+    part = s.part;
+    begins = s.begins;
+    fresh = s.fresh;
+    within = s.within;
+    is_memory = record {
+      size = l.size;
+      each = λ i li named. (
+          let x = l.each i li named in
+          let number : x.0.0 ≡ number_in b s.part i =
+          same_Some x.0.0 _ (sym x.2 ∙ s.each i li named) in
+          let value : x.0.1 ≡ value_in b s.part i =
+          value_told b i x.0.0 x.0.1 s.part x.3 x.2 s.within number in
+          x.1 ∙ ap (λ (z : ℕ × List ℕ). Some z) (λ t. (number t, value t)));
+    };
+  }
+
+  pub part_borrowed : (j : ℕ) (memory : List (ℕ × List ℕ)) → IsBorrowedScan a b j
+      → IsView b j set memory → HasPart set a b memory
+  part_borrowed j memory s v = record {
+    part = v.part;
+    begins = s.begins v.part v.beginning v.before;
+    fresh = s.fresh v.part v.beginning v.before;
+    within = v.beginning;
+    is_memory = v.memory;
+  }
+
+  -- the entries found have the numbers of such a list, so its values too
+  entries_are : (found : Found) (values : List (ℕ × List ℕ)) (part : List Update)
+      → set < 2 ^ segments b.plan → AreEntries (named set) b found values → IsBeginning part b.seen
+      → ((i : ℕ) → i < segments b.plan → Names set i → number_of found i ≡ number_in b part i)
+      → (p i : ℕ) → IsAt set p i → slice_get values p ≡ Some (number_in b part i, value_in b part i)
+  entries_are found values part among e within numbers p i at =
+      let x = e.each p i at in
+      let low : i < segments b.plan = at_below set (segments b.plan) p i among at in
+      let number : x.0.0 ≡ number_in b part i =
+      x.2.0 ∙ numbers i low (at_named set p i at).1 in
+      let value : x.0.1 ≡ value_in b part i = seen_value b i x.0 part x.2.1.0 within number in
+      x.1 ∙ ap (λ (z : ℕ × List ℕ). Some z) (λ t. (number t, value t))
+
+  -- and can be answered
+  pub entries_short : (found : Found) (values : List SegmentValue)
+      → AreEntries (named set) b found (map pair_of values) → All (λ v. IsShort v.value) values
+  entries_short found values e k d l =
+      let count : length (map pair_of values) ≡ size set = e.count in
+      let long : length (map pair_of values) ≡ length values = length-map values pair_of in
+      let x = e.each k _ (at_some set k (omega arith)) in
+      let v = get_or values k d in
+      let at : slice_get (map pair_of values) k ≡ Some (pair_of v) =
+      slice_get-map pair_of values k
+      ∙ ap (option_map pair_of) (slice_get-get_or values k d l) in
+      let same : x.0 ≡ pair_of v = same_Some x.0 (pair_of v) (sym x.1 ∙ at) in
+      subst (λ (y : ℕ × List ℕ). IsShort y.1) same x.2.1.1
+
+  pub list_clean : (found : Found) (values : List (ℕ × List ℕ)) → set < 2 ^ segments b.plan
+      → IsCleanScan set a b → AreEntries (named set) b found values
+      → ((i : ℕ) → i < segments b.plan → Names set i → looked b i ≡ Some (number_of found i))
+      → IsPart set a b values
+  list_clean found values among s e told = record {
+    part = s.part;
+    begins = s.begins;
+    fresh = s.fresh;
+    within = s.within;
+    size = e.count;
+    each = entries_are found values s.part among e s.within (λ i l named.
+        same_Some (number_of found i) _ (sym (told i l named) ∙ s.each i l named));
+  }
+
+  pub list_borrowed : (j : ℕ) (view : List (ℕ × List ℕ)) (found : Found)
+      (values : List (ℕ × List ℕ)) → set < 2 ^ segments b.plan
+      → IsBorrowedScan a b j → IsView b j set view → AreEntries (named set) b found values
+      → ((i : ℕ) → number_of found i ≡ (get_or view i (0, [])).0) → IsPart set a b values
+  list_borrowed j view found values among s v e are = record {
+    part = v.part;
+    begins = s.begins v.part v.beginning v.before;
+    fresh = s.fresh v.part v.beginning v.before;
+    within = v.beginning;
+    size = e.count;
+    each = entries_are found values v.part among e v.beginning (λ i l named. (
+        let size = v.memory.size in
+        let x : get_or view i (0, []) ≡ (number_in b v.part i, value_in b v.part i) =
+        same_Some _ _ (sym (slice_get-get_or view i (0, []) (omega arith))
+        ∙ v.memory.each i l named) in
+        are i ∙ ap (λ (x : ℕ × List ℕ). x.0) x));
+  }
+
+-- what follows from two facts about a call that went well holds of it
+pub both_ok : {T E : Type 0} (r : Result T E) (P Q R : Type 0) → (P → Q → R) → OnOk r P → OnOk r Q
+    → OnOk r R
+both_ok (Ok x) P Q R f p q = f p q
+both_ok (Err e) P Q R f p q = p
+
+-- what follows from a fact about what a call gave
+pub map_ok : {T E : Type 0} (r : Result T E) (P Q : T → Type 0) → ((x : T) → P x → Q x) → IfOk r P
+    → IfOk r Q
+map_ok (Ok x) P Q f p = f x p
+map_ok (Err e) P Q f p = p
+
+-- the set of all segments of a seat's registers, n of them
+module _ (a : Known) (n set : ℕ) (count : n ≡ segments a.plan) (is : set ≡ 2 ^ n - 1) where
+  pub all_is : set ≡ all_of a
+  all_is = is ∙ ap (λ v. 2 ^ v - 1) count
+
+  pub all_set : 0 < n → IsSetOf a set
+  all_set some = record {
+    some = (let more : 2 ^ 0 < 2 ^ n = pow_below 0 n some in omega arith);
+    among = subst (λ v. set < 2 ^ v) count (let more : 2 ^ 0 < 2 ^ n = pow_below 0 n some in omega arith);
+  }
+
+  pub all_count : n ≤ 16 → size set ≡ segments a.plan
+  all_count few = ap size is ∙ all_size n few ∙ count
+
+-- they stay while the seat sees more
+module _ (a b : Known) (g : Grows a b) where
+  pub all_same : all_of a ≡ all_of b
+  all_same = ap (λ (p : Plan). 2 ^ segments p - 1) (sym g.plan)
+
+  pub all_grown : (n : ℕ) → n ≡ segments a.plan → n ≤ 16 → segments b.plan ≤ 16
+  all_grown n count few = subst (λ (p : Plan). segments p ≤ 16) (sym g.plan) (subst (λ v. v ≤ 16) count few)
+
+-- a scan of all segments
+module _ (a b : Known) (few : segments b.plan ≤ 16) where
+  all_names : (i : ℕ) → i < segments b.plan → Names (all_of b) i
+  all_names i l = (at_named (all_of b) i i (all_at (segments b.plan) few i l)).1
+
+  pub snapshot_all : (memory : List (ℕ × List ℕ)) → HasPart (all_of b) a b memory
+      → IsSnapshot a b memory
+  snapshot_all memory s = record {
+    part = s.part;
+    begins = s.begins;
+    fresh = s.fresh;
+    within = s.within;
+    is_memory = record {
+      size = s.is_memory.size;
+      each = λ i l. s.is_memory.each i l (all_names i l);
+    };
+  }
+
+  pub snapshot_listed : (values : List (ℕ × List ℕ)) → IsPart (all_of b) a b values
+      → IsSnapshot a b values
+  snapshot_listed values s = record {
+    part = s.part;
+    begins = s.begins;
+    fresh = s.fresh;
+    within = s.within;
+    is_memory = record {
+      size = s.size ∙ all_size (segments b.plan) few;
+      each = λ i l. s.each i i (all_at (segments b.plan) few i l);
+    };
+  }
 
 -- a writer's own segment has no further update than those it had seen, so the answer of its scan
 -- has them all
-module _ (a b : Known) (g : Grows a b) (alone : a.high ≡ a.low + 1) where
+module _ (a b : Known) (g : Grows a b) (alone : a.high ≡ a.low + 1)
+    (few : segments b.plan ≤ 16) where
   has_all : (part : List Update) → IsBeginning a.seen part → IsBeginning part b.seen
       → number_in b part (own_of b) ≡ number_in b b.seen (own_of b)
   has_all part begins within =
@@ -89,13 +261,13 @@ module _ (a b : Known) (g : Grows a b) (alone : a.high ≡ a.low + 1) where
       let v : number_in b b.seen b.low ≡ number_in a b.seen a.low = same b.seen in
       omega arith
 
-  pub may_publish : (view : View) → IsScan a b view → MayPublish b view
+  pub may_publish : (view : View) → IsScan (all_of b) a b view → MayPublish b view
   may_publish Collected s = record {
     part = s.part;
     beginning = s.within;
     whole =
         has_all s.part s.begins s.within;
-    each = s.each;
+    each = λ i l. s.each i l (all_names a b few i l);
   }
   may_publish (Borrowed j) s = record {
     inside = s.inside;

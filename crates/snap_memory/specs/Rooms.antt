@@ -1,13 +1,70 @@
--- What a scanner's room holds.
-use Rattle.std.specs.Prelude.{◌≡◌, length}
+-- What a scanner keeps from scan to scan.
+use Rattle.std.specs.Prelude.{◌≡◌, ℕ, ◌<◌, List, [], length, Some, Option, slice_get, slice_index, get_or}
+use Rattle.snap_history.specs.History.{Update, IsBeginning}
+use Rattle.snap_history.specs.Limits.{IsShort}
 use Rattle.snap_register.specs.Rule.{segments}
-use Rattle.snap_register.specs.Seat.{Known}
-use Rattle.snap_memory.specs.Scans.{IsKept}
+use Rattle.snap_register.specs.Seat.{Known, looked, number_in, value_in}
+use Rattle.snap_scan.specs.Sets.{Names}
+use Rattle.snap_scan.specs.Values.{pair_of}
+use Rattle.snap_scan.specs.declared.limits.TheConstants.{MAX_SEGMENTS}
+use Rattle.snap_scan.specs.declared.segment_value.SegmentValue.{SegmentValue}
 use Rattle.snap_memory.specs.declared.room.Room.{Room}
-use Rattle.snap_memory.specs.declared.room.Room.TheVariants.{Absent, Blank, Kept}
+use Rattle.snap_memory.specs.declared.room.Room.TheVariants.{Absent, Kept}
+use Rattle.snap_memory.specs.declared.room.Found.{Found}
+use Rattle.snap_memory.specs.declared.room.Found.TheVariants.{Looked, Viewed}
 
--- it is of the seat's size, and what is kept in it was seen
+-- the number and the value of the segment i after a beginning of what the seat has seen
+pub record WasSeen (seat : Known) (i : ℕ) (x : ℕ × List ℕ) : Type 0 where
+  pub part : List Update
+  pub within : IsBeginning part seat.seen
+  pub number_is : x.0 ≡ number_in seat part i
+  pub value_is : x.1 ≡ value_in seat part i
+
+-- a number and a value that can be answered: they were seen, and the value is within the limit
+abbrev pub IsAnswerable : Known → ℕ → ℕ × List ℕ → Type 0
+IsAnswerable seat i x = WasSeen seat i x × IsShort x.1
+
+-- what is kept of each segment can be answered
+abbrev pub AreKept : Known → List (Option SegmentValue) → Type 0
+AreKept seat room = (i : ℕ) (x : SegmentValue) → slice_get room i ≡ Some (Some x)
+    → IsAnswerable seat i (pair_of x)
+
+-- the room is of the seat's size, and what is kept in it was seen
 abbrev pub Fits : Known → Room → Type 0
 Fits seat Absent = Unit {0}
-Fits seat (Blank memory) = length memory ≡ segments seat.plan
-Fits seat (Kept memory) = IsKept seat memory
+Fits seat (Kept room) = (length room.items ≡ segments seat.plan) × AreKept seat room.items
+
+-- the number that was found of the segment i
+abbrev pub number_of : Found → ℕ → ℕ
+number_of (Looked numbers) i = slice_index numbers.now i
+number_of (Viewed view) i = (get_or view.now i (0, [])).0
+
+-- it has a place for the segment i
+abbrev pub HasPlace : Found → ℕ → Type 0
+HasPlace (Looked numbers) i = i < MAX_SEGMENTS
+HasPlace (Viewed view) i = i < length view.now
+
+-- the last look at the segment i told its number, or its entry in the view was seen
+abbrev pub IsFoundAt : Known → Found → ℕ → Type 0
+IsFoundAt seat (Looked numbers) i = looked seat i ≡ Some (slice_index numbers.now i)
+IsFoundAt seat (Viewed view) i = WasSeen seat i (get_or view.now i (0, []))
+
+-- what was found of the named segments
+abbrev pub IsFound : ℕ → Known → Found → Type 0
+IsFound set seat found = (i : ℕ) → i < segments seat.plan → Names set i
+    → HasPlace found i × IsFoundAt seat found i
+
+-- what is kept of the segment i can be answered
+abbrev pub IsKeptOf : Known → ℕ → Option SegmentValue → Type 0
+IsKeptOf seat i kept = (x : SegmentValue) → kept ≡ Some x → IsAnswerable seat i (pair_of x)
+
+-- an entry has the number that was found of the segment i, and can be answered
+abbrev pub IsEntry : Known → Found → ℕ → ℕ × List ℕ → Type 0
+IsEntry seat found i x = (x.0 ≡ number_of found i) × IsAnswerable seat i x
+
+-- the list has such an entry for each of these segments, in order
+pub record AreEntries (named : List ℕ) (seat : Known) (found : Found)
+    (values : List (ℕ × List ℕ)) : Type 0 where
+  pub count : length values ≡ length named
+  pub each : (p i : ℕ) → slice_get named p ≡ Some i
+      → (x : ℕ × List ℕ) × (slice_get values p ≡ Some x) × IsEntry seat found i x

@@ -1,8 +1,11 @@
 -- What a scan answers, of what its seat had seen before and has seen after.
-use Rattle.std.specs.Prelude.{◌≡◌, ℕ, ◌+◌, ◌<◌, ◌≤◌, List, ◌∷◌, ◌++◌, length, Some, slice_get}
+use Rattle.std.specs.Prelude.{◌≡◌, ℕ, ◌+◌, ◌-◌, ◌^◌, ◌<◌, ◌≤◌, ◌⊎◌, List, ◌∷◌, ◌++◌, length, Some, slice_get}
 use Rattle.snap_history.specs.History.{Update, IsBeginning}
 use Rattle.snap_register.specs.Rule.{segments}
-use Rattle.snap_register.specs.Seat.{Known, looked, number_in, value_in, HasFoundUpdate, IsMemory, IsValue}
+use Rattle.snap_disk.specs.declared.refusal.Refusal.{Refusal}
+use Rattle.snap_disk.specs.declared.refusal.Refusal.TheVariants.{NoMemory, Worn}
+use Rattle.snap_register.specs.Seat.{Known, Grows, looked, number_in, value_in, HasFoundUpdate, IsMemory, IsMemoryOf, IsValue}
+use Rattle.snap_scan.specs.Sets.{Names, IsAt, size}
 use Rattle.snap_register.specs.declared.view.View.{View}
 use Rattle.snap_register.specs.declared.view.View.TheVariants.{Collected, Borrowed}
 use Rattle.snap_scan.specs.Looks.{most_looks}
@@ -14,14 +17,19 @@ pub record BeginsFresh (before after : Known) (part : List Update) : Type 0 wher
   pub looks : after.sights ≡ before.sights ++ first ∷ later
   pub begins : IsBeginning first part
 
--- the last looks told the numbers after a list that begins with what the seat had seen before, and
--- at the scan's first look, and is a beginning of what it has seen after
-pub record IsCleanScan (before after : Known) : Type 0 where
+-- the set of all segments
+abbrev pub all_of : Known → ℕ
+all_of seat = 2 ^ segments seat.plan - 1
+
+-- the last looks at the named segments told the numbers after a list that begins with what the seat
+-- had seen before, and at the scan's first look, and is a beginning of what it has seen after
+pub record IsCleanScan (set : ℕ) (before after : Known) : Type 0 where
   pub part : List Update
   pub begins : IsBeginning before.seen part
   pub fresh : BeginsFresh before after part
   pub within : IsBeginning part after.seen
-  pub each : (i : ℕ) → i < segments after.plan → looked after i ≡ Some (number_in after part i)
+  pub each : (i : ℕ) → i < segments after.plan → Names set i
+      → looked after i ≡ Some (number_in after part i)
 
 -- the last look at j found an update, and each beginning of what the seat has seen after that lacks
 -- just that update of j begins with what the seat had seen before, and at the scan's first look
@@ -33,10 +41,10 @@ pub record IsBorrowedScan (before after : Known) (j : ℕ) : Type 0 where
   pub fresh : (part : List Update) → IsBeginning part after.seen
       → looked after j ≡ Some (number_in after part j + 1) → BeginsFresh before after part
 
--- the view is the answer of a scan
-abbrev pub IsScan : Known → Known → View → Type 0
-IsScan before after Collected = IsCleanScan before after
-IsScan before after (Borrowed j) = IsBorrowedScan before after j
+-- the view is the answer of a scan of the named segments
+abbrev pub IsScan : ℕ → Known → Known → View → Type 0
+IsScan set before after Collected = IsCleanScan set before after
+IsScan set before after (Borrowed j) = IsBorrowedScan before after j
 
 -- the numbers and values of the memory after a list that begins with what the seat had seen before,
 -- and at the scan's first look, and is a beginning of what it has seen after
@@ -47,20 +55,64 @@ pub record IsSnapshot (before after : Known) (memory : List (ℕ × List ℕ)) :
   pub within : IsBeginning part after.seen
   pub is_memory : IsMemory after part memory
 
--- the seat has looks left for a scan
+-- the numbers and values of the named segments, in ascending order, after such a list
+pub record IsPart (set : ℕ) (before after : Known) (values : List (ℕ × List ℕ)) : Type 0 where
+  pub part : List Update
+  pub begins : IsBeginning before.seen part
+  pub fresh : BeginsFresh before after part
+  pub within : IsBeginning part after.seen
+  pub size : length values ≡ size set
+  pub each : (p i : ℕ) → IsAt set p i
+      → slice_get values p ≡ Some (number_in after part i, value_in after part i)
+
+-- room for all segments has the numbers and values of the named ones after such a list
+pub record HasPart (set : ℕ) (before after : Known) (memory : List (ℕ × List ℕ)) : Type 0 where
+  pub part : List Update
+  pub begins : IsBeginning before.seen part
+  pub fresh : BeginsFresh before after part
+  pub within : IsBeginning part after.seen
+  pub is_memory : IsMemoryOf after set part memory
+
+-- what the room had of segments that aren't named stays
+abbrev pub KeepsOthers : ℕ → List (ℕ × List ℕ) → List (ℕ × List ℕ) → Type 0
+KeepsOthers set before after = (i : ℕ) → (Names set i → ⊥) → slice_get after i ≡ slice_get before i
+
+-- the set names some segments, all of them of the seat's registers
+pub record IsSetOf (seat : Known) (set : ℕ) : Type 0 where
+  pub some : 0 < set
+  pub among : set < 2 ^ segments seat.plan
+
+-- the seat has looks left for a scan of so many segments
+abbrev pub HasLooks : ℕ → Known → Type 0
+HasLooks count seat = most_looks count ≤ seat.left
+
+-- and for one of all
 abbrev pub CanScan : Known → Type 0
-CanScan seat = most_looks (segments seat.plan) ≤ seat.left
+CanScan seat = HasLooks (segments seat.plan) seat
 
--- the scan took looks off, and no more than a scan might
-pub record TakesLooks (before after : Known) : Type 0 where
+-- the scan took looks off, and no more than one of so many segments might
+pub record TakesLooksOf (count : ℕ) (before after : Known) : Type 0 where
   pub some : after.left < before.left
-  pub few : before.left ≤ after.left + most_looks (segments before.plan)
+  pub few : before.left ≤ after.left + most_looks count
 
--- the list has the number that the last look at each segment told, and the value of its record
-pub record AreLooked (seat : Known) (memory : List (ℕ × List ℕ)) : Type 0 where
+-- and than one of all might
+abbrev pub TakesLooks : Known → Known → Type 0
+TakesLooks before after = TakesLooksOf (segments before.plan) before after
+
+-- a scan of so many segments may be refused so: no memory was left, before its first look or after
+-- its last, or too few looks were left, and nothing changed
+abbrev pub MayRefuse : ℕ → Known → Refusal → Known → Type 0
+MayRefuse count before why after =
+    ((why ≡ NoMemory) × ((after ≡ before) ⊎ (Grows before after × TakesLooksOf count before after)))
+    ⊎ ((why ≡ Worn) × (before.left < most_looks count) × (after ≡ before))
+
+-- the list has the number that the last look at each named segment told, and the value of its
+-- record
+pub record AreLooked (set : ℕ) (seat : Known) (memory : List (ℕ × List ℕ)) : Type 0 where
   pub size : length memory ≡ segments seat.plan
-  pub each : (i : ℕ) → i < segments seat.plan → (x : ℕ × List ℕ) × (slice_get memory i ≡ Some x)
-      × (looked seat i ≡ Some x.0) × IsValue seat i x.1
+  pub each : (i : ℕ) → i < segments seat.plan → Names set i
+      → (x : ℕ × List ℕ) × (slice_get memory i ≡ Some x) × (looked seat i ≡ Some x.0)
+      × IsValue seat i x.1
 
 -- the number and the value of the segment i after a beginning of what the seat has seen
 pub record WasSeen (seat : Known) (i : ℕ) (x : ℕ × List ℕ) : Type 0 where
@@ -68,9 +120,3 @@ pub record WasSeen (seat : Known) (i : ℕ) (x : ℕ × List ℕ) : Type 0 where
   pub within : IsBeginning part seat.seen
   pub number_is : x.0 ≡ number_in seat part i
   pub value_is : x.1 ≡ value_in seat part i
-
--- the list has for each segment a number and a value that the seat has seen
-pub record IsKept (seat : Known) (memory : List (ℕ × List ℕ)) : Type 0 where
-  pub size : length memory ≡ segments seat.plan
-  pub each : (i : ℕ) (x : ℕ × List ℕ) → i < segments seat.plan → slice_get memory i ≡ Some x
-      → WasSeen seat i x

@@ -2,30 +2,30 @@
 ghost use Rattle.std.specs.Prelude.{◌≡◌, ℕ, ◌<◌, ◌≤◌, length, slice_index, Some};
 ghost use Rattle.snap_register.specs.Rule.{segments};
 ghost use Rattle.snap_register.specs.Seat.{Grows, IsBelow, looked};
-ghost use Rattle.snap_memory.specs.Scans.{
-  IsScan,
-  IsSnapshot,
-  CanScan,
-  TakesLooks,
-  AreLooked,
-  IsKept,
-};
+ghost use Rattle.snap_scan.specs.Sets.{Names, size};
+ghost use Rattle.snap_memory.specs.Scans.{IsScan, IsSnapshot, HasPart, KeepsOthers, IsSetOf, HasLooks, CanScan, AreLooked};
+ghost use Rattle.snap_memory.specs.Scans.{TakesLooks, TakesLooksOf};
 
 use snap_register::{Looker, SnapshotBuf, View};
-use snap_scan::{MAX_SEGMENTS, Next, Scan};
+use snap_scan::{MAX_SEGMENTS, Next, Scan, SegmentSet};
 
-/// Looks until the numbers told decide the scan, and answers where its memory stands. The numbers
-/// are those of the last looks.
-pub(crate) fn gather<L: Looker>(seat: &mut L, numbers: &mut [u64; MAX_SEGMENTS]) -> View
-    requires left { CanScan (L.known seat.old) }
+/// Looks at these segments until the numbers told decide the scan, and answers where its memory
+/// stands. The numbers are those of the last looks.
+pub(crate) fn gather<L: Looker>(
+    seat: &mut L,
+    set: SegmentSet,
+    numbers: &mut [u64; MAX_SEGMENTS],
+) -> View
+    requires set { IsSetOf (L.known seat.old) set.bits }
+    requires left { HasLooks (size set.bits) (L.known seat.old) }
     ensures seen { Grows (L.known seat.old) (L.known seat.new) }
     ensures below { IsBelow (L.known seat.new) }
-    ensures scan { IsScan (L.known seat.old) (L.known seat.new) result }
-    ensures left { TakesLooks (L.known seat.old) (L.known seat.new) }
+    ensures scan { IsScan set.bits (L.known seat.old) (L.known seat.new) result }
+    ensures left { TakesLooksOf (size set.bits) (L.known seat.old) (L.known seat.new) }
     ensures numbers { result ≡ View.Collected → (i : ℕ) → i < segments (L.known seat.new).plan
-        → looked (L.known seat.new) i ≡ Some (slice_index numbers.new i) }
+        → Names set.bits i → looked (L.known seat.new) i ≡ Some (slice_index numbers.new i) }
 {
-    let mut scan = Scan::new(seat.segments());
+    let mut scan = Scan::of(set);
     'looks: loop {
         match scan.next() {
             Next::Look(segment) => {
@@ -54,56 +54,46 @@ pub fn scan<L: Looker>(seat: &mut L, out: &mut SnapshotBuf)
     ensures snapshot { IsSnapshot (L.known seat.old) (L.known seat.new) out.new }
     ensures left { TakesLooks (L.known seat.old) (L.known seat.new) }
 {
-    let mut numbers = [0; MAX_SEGMENTS];
-    match gather(seat, &mut numbers) {
-        View::Collected => read_all(seat, &numbers, out),
-        View::Borrowed(segment) => seat.view(segment, out),
-    }
+    scan_some(seat, SegmentSet::all(seat.segments()), out);
 }
 
-/// Fills `out` with the values of the last looks, one at each segment, which told these numbers.
-fn read_all<L: Looker>(seat: &mut L, numbers: &[u64; MAX_SEGMENTS], out: &mut SnapshotBuf)
+/// Writes into `out` the number and value of each segment that the set names, all of one moment, by
+/// the looks of any kind of seat, as [`scan`] does for all.
+pub(crate) fn scan_some<L: Looker>(seat: &mut L, set: SegmentSet, out: &mut SnapshotBuf)
+    requires set { IsSetOf (L.known seat.old) set.bits }
+    requires left { HasLooks (size set.bits) (L.known seat.old) }
     requires room { length out.old ≡ segments (L.known seat.old).plan }
-    requires looked { (i : ℕ) → i < segments (L.known seat.old).plan
-        → looked (L.known seat.old) i ≡ Some (slice_index numbers.now i) }
-    ensures values { AreLooked (L.known seat.old) out.new }
-    ensures same { L.known seat.new ≡ L.known seat.old }
-{
-    for i in 0..seat.segments() {
-        out.read(seat, i, numbers[i]);
-    }
-}
-
-/// Fills `out` with the memory of one moment, as [`scan`] does, where it holds what the seat has seen
-/// before: the value of a segment that still has the number held isn't read again. The memory has all
-/// updates that stood in the history at the first look of this call, whatever `out` held.
-pub(crate) fn scan_again<L: Looker>(seat: &mut L, out: &mut SnapshotBuf)
-    requires left { CanScan (L.known seat.old) }
-    requires kept { IsKept (L.known seat.old) out.old }
     ensures seen { Grows (L.known seat.old) (L.known seat.new) }
     ensures below { IsBelow (L.known seat.new) }
-    ensures snapshot { IsSnapshot (L.known seat.old) (L.known seat.new) out.new }
-    ensures left { TakesLooks (L.known seat.old) (L.known seat.new) }
+    ensures part { HasPart set.bits (L.known seat.old) (L.known seat.new) out.new }
+    ensures others { KeepsOthers set.bits out.old out.new }
+    ensures left { TakesLooksOf (size set.bits) (L.known seat.old) (L.known seat.new) }
 {
     let mut numbers = [0; MAX_SEGMENTS];
-    match gather(seat, &mut numbers) {
-        View::Collected => read_changed(seat, &numbers, out),
-        View::Borrowed(segment) => seat.view(segment, out),
+    match gather(seat, set, &mut numbers) {
+        View::Collected => read_named(seat, set, &numbers, out),
+        View::Borrowed(segment) => seat.view(segment, set, out),
     }
 }
 
-/// Fills `out` as [`read_all`] does, where it holds what the seat has seen before.
-fn read_changed<L: Looker>(seat: &mut L, numbers: &[u64; MAX_SEGMENTS], out: &mut SnapshotBuf)
-    requires kept { IsKept (L.known seat.old) out.old }
-    requires looked { (i : ℕ) → i < segments (L.known seat.old).plan
+/// Writes into `out` the values of the last looks, one at each named segment, which told these
+/// numbers.
+fn read_named<L: Looker>(
+    seat: &mut L,
+    set: SegmentSet,
+    numbers: &[u64; MAX_SEGMENTS],
+    out: &mut SnapshotBuf,
+)
+    requires room { length out.old ≡ segments (L.known seat.old).plan }
+    requires looked { (i : ℕ) → i < segments (L.known seat.old).plan → Names set.bits i
         → looked (L.known seat.old) i ≡ Some (slice_index numbers.now i) }
-    ensures values { AreLooked (L.known seat.old) out.new }
+    ensures values { AreLooked set.bits (L.known seat.old) out.new }
+    ensures others { KeepsOthers set.bits out.old out.new }
     ensures same { L.known seat.new ≡ L.known seat.old }
 {
     for i in 0..seat.segments() {
-        let number = numbers[i];
-        if out.number(i) != number {
-            out.read(seat, i, number);
+        if set.has(i) {
+            out.read(seat, i, numbers[i]);
         }
     }
 }

@@ -1,13 +1,180 @@
-//! Where a scanner's scans go.
-use crate::snapshot::Snapshot;
+//! What a scanner keeps from scan to scan: a value whose number hasn't changed isn't read again.
+ghost use Rattle.std.specs.Prelude.{◌≡◌, ℕ, ◌<◌, ◌^◌, length, map, Some, All, IfOk, IfSome};
+ghost use Rattle.snap_history.specs.Limits.{IsShort};
+ghost use Rattle.snap_register.specs.Rule.{segments};
+ghost use Rattle.snap_register.specs.Seat.{Grows, IsBelow, Known};
+ghost use Rattle.snap_scan.specs.Sets.{named, size};
+ghost use Rattle.snap_scan.specs.Values.{pair_of};
+ghost use Rattle.snap_scan.specs.declared.segment_value.SegmentValue.{SegmentValue};
+ghost use Rattle.snap_memory.specs.Scans.{IsPart, IsSetOf, HasLooks, TakesLooksOf};
+ghost use Rattle.snap_memory.specs.Rooms.{number_of, HasPlace, IsFoundAt, IsFound};
+ghost use Rattle.snap_memory.specs.Rooms.{WasSeen, IsKeptOf, AreKept, IsEntry, AreEntries};
+
+use crate::looks::gather;
+use bytes::Bytes;
+use snap_register::{Looker, SnapshotBuf, View};
+use snap_scan::{MAX_SEGMENTS, SegmentSet, SegmentValue};
+use std::alloc::{AllocError, Global};
 
 /// The room of a scanner.
 #[derive(Drop)]
 pub(crate) enum Room {
-    /// It has none.
+    /// It kept nothing yet, and has taken no memory.
     Absent,
-    /// Nothing was scanned into it.
-    Blank(Snapshot),
-    /// What a scan of this scanner found.
-    Kept(Snapshot),
+    /// For each segment the number and value that a scan of this scanner read last, where one did.
+    Kept(Vec<Option<SegmentValue>>),
+}
+
+/// Room for what is kept of this many segments.
+pub(crate) fn empty_room(
+    alloc: Global,
+    segments: usize,
+) -> Result<Vec<Option<SegmentValue>>, AllocError>
+    ensures size { IfOk result (λ r. length r.items ≡ segments) }
+    ensures none { IfOk result (λ r. (seat : Known) → AreKept seat r.items) }
+{
+    let mut room = Vec::with_capacity(alloc, segments)?;
+    for i in 0..segments {
+        room.push(None)?;
+    }
+    Ok(room)
+}
+
+/// The numbers and values of the segments that the set names, in ascending order and all of one
+/// moment. Where memory runs out, looks may have been taken.
+pub(crate) fn scan_kept<L: Looker>(
+    alloc: Global,
+    seat: &mut L,
+    set: SegmentSet,
+    room: &mut Vec<Option<SegmentValue>>,
+) -> Result<Vec<SegmentValue>, AllocError>
+    requires set { IsSetOf (L.known seat.old) set.bits }
+    requires left { HasLooks (size set.bits) (L.known seat.old) }
+    requires room { length room.old.items ≡ segments (L.known seat.old).plan }
+    requires kept { AreKept (L.known seat.old) room.old.items }
+    ensures seen { Grows (L.known seat.old) (L.known seat.new) }
+    ensures below { IsBelow (L.known seat.new) }
+    ensures part { IfOk result (λ values. IsPart set.bits (L.known seat.old) (L.known seat.new)
+        (map pair_of values.items)) }
+    ensures short { IfOk result (λ values. All (λ v. IsShort v.value) values.items) }
+    ensures left { TakesLooksOf (size set.bits) (L.known seat.old) (L.known seat.new) }
+    ensures room { length room.new.items ≡ length room.old.items }
+    ensures kept { AreKept (L.known seat.new) room.new.items }
+{
+    let mut numbers = [0; MAX_SEGMENTS];
+    match gather(seat, set, &mut numbers) {
+        View::Collected => list(alloc, seat, set, Found::Looked(&numbers), room),
+        View::Borrowed(segment) => {
+            let mut view = SnapshotBuf::new(alloc, seat.segments())?;
+            seat.view(segment, set, &mut view);
+            list(alloc, seat, set, Found::Viewed(&view), room)
+        }
+    }
+}
+
+/// Where a scan found its answer.
+#[derive(Clone, Copy)]
+pub(crate) enum Found<'a> {
+    /// In the records of the last looks, which told these numbers.
+    Looked(&'a [u64; MAX_SEGMENTS]),
+    /// In the view of one record, which has these entries.
+    Viewed(&'a SnapshotBuf),
+}
+
+impl<'a> Found<'a> {
+    ghost use Rattle.snap_memory.specs.Rooms.{number_of, HasPlace, IsFoundAt, IsAnswerable};
+
+    /// The number that was found of the segment `i`.
+    fn number(self, i: usize) -> u64
+        requires place { HasPlace self i }
+        ensures { result ≡ number_of self.entry i }
+    {
+        match self {
+            Found::Looked(numbers) => numbers[i],
+            Found::Viewed(view) => view.number(i),
+        }
+    }
+
+    /// The value that was found of the segment `i`, in memory of its own.
+    fn read<L: Looker>(self, alloc: Global, seat: &mut L, i: usize) -> Result<Bytes, AllocError>
+        requires segment { i < segments (L.known seat.old).plan }
+        requires place { HasPlace self i }
+        requires found { IsFoundAt (L.known seat.old) self i }
+        ensures value { IfOk result (λ v.
+            IsAnswerable (L.known seat.old) i (number_of self.entry i, v)) }
+        ensures same { L.known seat.new ≡ L.known seat.old }
+    {
+        match self {
+            Found::Looked(_) => seat.value_bytes(alloc, i),
+            Found::Viewed(view) => Bytes::copy_from_slice(alloc, view.value(i)),
+        }
+    }
+}
+
+/// What is kept, where it has this number.
+fn kept_value(kept: &Option<SegmentValue>, number: u64) -> Result<Option<Bytes>, AllocError>
+    ensures { IfOk result (λ found. IfSome found (λ v. (x : SegmentValue) × (kept.now ≡ Some x)
+        × (x.number ≡ number) × (x.value ≡ v))) }
+{
+    match kept {
+        Some(entry) if entry.number == number => Ok(Some(entry.value.clone()?)),
+        _ => Ok(None),
+    }
+}
+
+/// What was found of the segment `i`: what is kept of it, where that has its number, else what is
+/// read, which is kept then.
+fn take_entry<L: Looker>(
+    alloc: Global,
+    seat: &mut L,
+    i: usize,
+    found: Found,
+    kept: &mut Option<SegmentValue>,
+) -> Result<SegmentValue, AllocError>
+    requires segment { i < segments (L.known seat.old).plan }
+    requires found { HasPlace found i × IsFoundAt (L.known seat.old) found i }
+    requires kept { IsKeptOf (L.known seat.old) i kept.old }
+    ensures entry { IfOk result (λ e. IsEntry (L.known seat.old) found.entry i (pair_of e)) }
+    ensures kept { IsKeptOf (L.known seat.old) i kept.new }
+    ensures same { L.known seat.new ≡ L.known seat.old }
+{
+    let number = found.number(i);
+    if let Some(value) = kept_value(kept, number)? {
+        return Ok(SegmentValue { number, value });
+    }
+    let value = found.read(alloc, seat, i)?;
+    *kept = Some(SegmentValue {
+        number,
+        value: value.clone()?,
+    });
+    Ok(SegmentValue { number, value })
+}
+
+/// What was found of the named segments. What has the number that is kept comes out of the room, and
+/// the rest is read, and kept.
+fn list<L: Looker>(
+    alloc: Global,
+    seat: &mut L,
+    set: SegmentSet,
+    found: Found,
+    room: &mut Vec<Option<SegmentValue>>,
+) -> Result<Vec<SegmentValue>, AllocError>
+    requires set { set.bits < 2 ^ segments (L.known seat.old).plan }
+    requires found { IsFound set.bits (L.known seat.old) found }
+    requires room { length room.old.items ≡ segments (L.known seat.old).plan }
+    requires kept { AreKept (L.known seat.old) room.old.items }
+    ensures entries { IfOk result (λ values. AreEntries (named set.bits) (L.known seat.old) found.entry
+        (map pair_of values.items)) }
+    ensures room { length room.new.items ≡ length room.old.items }
+    ensures kept { AreKept (L.known seat.old) room.new.items }
+    ensures same { L.known seat.new ≡ L.known seat.old }
+{
+    let mut values = Vec::with_capacity(alloc, set.len())?;
+    for i in 0..seat.segments() {
+        if set.has(i) {
+            let entry = take_entry(alloc, seat, i, found, &mut room[i])?;
+            values.push(entry)?;
+        }
+    }
+    Ok(values)
 }

@@ -1,20 +1,24 @@
 //! The scanners.
-ghost use Rattle.std.specs.Prelude.{◌≡◌, ℕ, ◌+◌, ◌<◌, ◌≤◌, ◌⊎◌, [], ◌∷◌, ◌++◌, length, take};
-ghost use Rattle.std.specs.Prelude.{OnOk, OnErr, IfOk, IfErr, IsTrue, ◌↔◌};
+ghost use Rattle.std.specs.Prelude.{◌≡◌, ℕ, ◌+◌, ◌<◌, ◌≤◌, ◌⊎◌, [], ◌∷◌, ◌++◌, length, map, take};
+ghost use Rattle.std.specs.Prelude.{OnOk, OnErr, IfOk, IfErr, IsTrue, ◌↔◌, All};
+ghost use Rattle.snap_history.specs.Limits.{IsShort};
 ghost use Rattle.snap_history.specs.declared.limits.TheConstants.{MAX_COUNT, MAX_VALUE_LEN};
 ghost use Rattle.snap_register.specs.Rule.{segments};
 ghost use Rattle.snap_register.specs.Seat.{Grows, Meets, IsBelow, AreTogether, number_in, value_in};
 ghost use Rattle.snap_scan.specs.Looks.{most_looks};
-ghost use Rattle.snap_memory.specs.Scans.{IsSnapshot, CanScan, TakesLooks, IsKept};
+ghost use Rattle.snap_scan.specs.Sets.{size};
+ghost use Rattle.snap_scan.specs.Values.{pair_of};
+ghost use Rattle.snap_memory.specs.Scans.{IsSnapshot, IsPart, HasPart, KeepsOthers, IsSetOf, HasLooks, CanScan, TakesLooks};
+ghost use Rattle.snap_memory.specs.Scans.{TakesLooksOf, MayRefuse};
 ghost use Rattle.snap_disk.specs.declared.refusal.Refusal.{Refusal};
 
-use crate::looks::{scan, scan_again};
-use crate::room::Room;
+use crate::looks::scan_some;
+use crate::room::{Room, empty_room, scan_kept};
 use crate::snapshot::Snapshot;
 use snap_disk::Refusal;
 use snap_history::MAX_VALUE_LEN;
 use snap_register::{Looker, ReadSeat, WriteSeat};
-use snap_scan::most_looks;
+use snap_scan::{MAX_SEGMENTS, SegmentSet, SegmentValue, most_looks};
 use std::alloc::{AllocError, Global};
 use std::marker::Model;
 use std::mem;
@@ -48,17 +52,6 @@ impl Scanner {
         }
     }
 
-    /// The same scanner with this room for its scans, whatever it holds.
-    pub fn with_room(self, room: Snapshot) -> Scanner
-        requires room { length room ≡ segments self.plan }
-        ensures { result ≡ self }
-    {
-        Scanner {
-            seat: self.seat,
-            room: Room::Blank(room),
-        }
-    }
-
     /// How many segments there are, 1 to 16.
     pub fn segments(&self) -> usize
         ensures count { result ≡ segments self.now.plan }
@@ -74,11 +67,12 @@ impl Scanner {
         self.seat.looks_left()
     }
 
-    /// Whether fewer looks are left than a scan might take.
-    fn is_worn(&self) -> bool
-        ensures { IsTrue result ↔ (self.now.left < most_looks (segments self.now.plan)) }
+    /// Whether fewer looks are left than a scan of this many segments might take.
+    fn is_worn(&self, count: usize) -> bool
+        requires { count ≤ MAX_SEGMENTS }
+        ensures { IsTrue result ↔ (self.now.left < most_looks count) }
     {
-        self.seat.looks_left() < most_looks(self.seat.segments()) as u64
+        self.seat.looks_left() < most_looks(count) as u64
     }
 
     /// Fills `out` with the number and the value of each segment, all of one moment: the memory
@@ -100,54 +94,71 @@ impl Scanner {
         ensures kept { OnErr result (out.new ≡ out.old) }
         ensures unchanged { OnErr result (self.new ≡ self.old) }
     {
-        if self.is_worn() {
+        self.scan_some(SegmentSet::all(self.segments()), out)
+    }
+
+    /// Writes into `out` the number and the value of each segment that the set names, all of one
+    /// moment, as [`Scanner::scan_into`] does for all. What `out` has of the others stays.
+    ///
+    /// The set names one segment at least, and none that isn't there. Where fewer looks are left
+    /// than such a scan might take ([`most_looks`]) it answers `Worn`, and nothing changes.
+    pub fn scan_some(&mut self, set: SegmentSet, out: &mut Snapshot) -> Result<(), Refusal>
+        requires set { IsSetOf self.old set.bits }
+        requires room { length out.old ≡ segments self.old.plan }
+        ensures enough { OnOk result (HasLooks (size set.bits) self.old) }
+        ensures worn { IfErr result (λ why. (why ≡ Refusal.Worn)
+            × (self.old.left < most_looks (size set.bits))) }
+        ensures part { OnOk result (HasPart set.bits self.old self.new out.new) }
+        ensures others { KeepsOthers set.bits out.old out.new }
+        ensures seen { OnOk result (Grows self.old self.new) }
+        ensures below { OnOk result (IsBelow self.new) }
+        ensures left { OnOk result (TakesLooksOf (size set.bits) self.old self.new) }
+        ensures kept { OnErr result (out.new ≡ out.old) }
+        ensures unchanged { OnErr result (self.new ≡ self.old) }
+    {
+        if self.is_worn(set.len()) {
             return Err(Refusal::Worn);
         }
-        scan(&mut self.seat, &mut out.buf);
+        scan_some(&mut self.seat, set, &mut out.buf);
         Ok(())
     }
 
-    /// The number and the value of each segment, all of one moment, as [`Scanner::scan_into`] gives
-    /// them, in the scanner's room. Of what was kept there ([`Scanner::keep`]) the value of a segment
-    /// that still has the same number isn't read again: a number has one value. But the looks are
-    /// taken anew, so the answer has all that stood in the history at the first look of this call.
+    /// The number and the value of each segment that the set names, in ascending order, all of one
+    /// moment, as [`Scanner::scan_some`] gives them, in memory of their own. What a scan of this kind
+    /// has read is kept, and shared with its answer, so the value of a segment that still has the
+    /// same number isn't read again: a number has one value. But the looks are taken anew, so the
+    /// answer has all that stood in the history at the first look of this call.
     ///
-    /// Where fewer looks are left than a scan might take it answers `Worn`. Where it has no room it
-    /// takes memory for one, and answers `NoMemory` where that is refused. Both change nothing.
-    pub fn scan(&mut self, alloc: Global) -> Result<Snapshot, Refusal>
-        ensures enough { OnOk result (CanScan self.old) }
-        ensures refused { IfErr result (λ why. (why ≡ Refusal.NoMemory) ⊎ ((why ≡ Refusal.Worn)
-            × (self.old.left < most_looks (segments self.old.plan)))) }
-        ensures snapshot { IfOk result (IsSnapshot self.old self.new) }
+    /// The set names one segment at least, and none that isn't there. Where fewer looks are left
+    /// than such a scan might take it answers `Worn`, and nothing changes. `NoMemory` where memory is
+    /// refused: before the first look, or after the last.
+    pub fn scan(&mut self, alloc: Global, set: SegmentSet) -> Result<Vec<SegmentValue>, Refusal>
+        requires set { IsSetOf self.old set.bits }
+        ensures enough { OnOk result (HasLooks (size set.bits) self.old) }
+        ensures refused { IfErr result (λ why. MayRefuse (size set.bits) self.old why self.new) }
+        ensures part { IfOk result (λ values.
+            IsPart set.bits self.old self.new (map pair_of values.items)) }
+        ensures short { IfOk result (λ values. All (λ v. IsShort v.value) values.items) }
         ensures seen { OnOk result (Grows self.old self.new) }
         ensures below { OnOk result (IsBelow self.new) }
-        ensures left { OnOk result (TakesLooks self.old self.new) }
-        ensures unchanged { OnErr result (self.new ≡ self.old) }
+        ensures left { OnOk result (TakesLooksOf (size set.bits) self.old self.new) }
     {
-        if self.is_worn() {
+        if self.is_worn(set.len()) {
             return Err(Refusal::Worn);
         }
-        let mut blank = match mem::replace(&mut self.room, Room::Absent) {
-            Room::Kept(mut kept) => {
-                scan_again(&mut self.seat, &mut kept.buf);
-                return Ok(kept);
-            }
-            Room::Blank(blank) => blank,
-            Room::Absent => match Snapshot::new(alloc, self.seat.segments()) {
-                Ok(blank) => blank,
+        let mut room = match mem::replace(&mut self.room, Room::Absent) {
+            Room::Kept(room) => room,
+            Room::Absent => match empty_room(alloc, self.seat.segments()) {
+                Ok(room) => room,
                 Err(AllocError) => return Err(Refusal::NoMemory),
             },
         };
-        scan(&mut self.seat, &mut blank.buf);
-        Ok(blank)
-    }
-
-    /// Keeps what a scan of this scanner found, for the next one.
-    pub fn keep(&mut self, snapshot: Snapshot)
-        requires kept { IsKept self.old snapshot }
-        ensures same { self.new ≡ self.old }
-    {
-        self.room = Room::Kept(snapshot);
+        let values = scan_kept(alloc, &mut self.seat, set, &mut room);
+        self.room = Room::Kept(room);
+        match values {
+            Ok(values) => Ok(values),
+            Err(AllocError) => Err(Refusal::NoMemory),
+        }
     }
 
     /// One look at the segment `j`: its number, and its value at the front of `value`, with the

@@ -2,11 +2,11 @@
 ghost use Rattle.std.specs.Prelude.{◌≡◌, ℕ, ◌+◌, ◌^◌, ◌<◌, ◌≤◌, length};
 ghost use Rattle.snap_history.specs.Limits.{IsNumber, IsShort};
 ghost use Rattle.snap_register.specs.Seat.{Grows, IsBelow, MayPublish, Shows, number_in, own_of};
-ghost use Rattle.snap_memory.specs.Scans.{IsScan, CanScan, TakesLooks};
+ghost use Rattle.snap_memory.specs.Scans.{IsScan, CanScan, TakesLooks, all_of};
 
 use crate::looks::gather;
-use snap_register::{View, WriteSeat};
-use snap_scan::MAX_SEGMENTS;
+use snap_register::{Looker, View, WriteSeat};
+use snap_scan::{MAX_SEGMENTS, SegmentSet};
 
 /// The scan inside an update: where the memory stands that the update is to take along. It has all
 /// that stood in the history at the first look of this call. The seat may show an update with it as
@@ -18,7 +18,7 @@ pub fn prepare(seat: &mut WriteSeat) -> View
     requires left { CanScan seat.old }
     ensures seen { Grows seat.old seat.new }
     ensures below { IsBelow seat.new }
-    ensures scan { IsScan seat.old seat.new result }
+    ensures scan { IsScan (all_of seat.old) seat.old seat.new result }
     ensures view { MayPublish seat.new result }
     ensures left { TakesLooks seat.old seat.new }
 {
@@ -26,7 +26,7 @@ pub fn prepare(seat: &mut WriteSeat) -> View
     // updates of its own are all that it may not miss
     let _own = seat.segment();
     let mut numbers = [0; MAX_SEGMENTS];
-    gather(seat, &mut numbers)
+    gather(seat, SegmentSet::all(seat.segments()), &mut numbers)
 }
 
 /// Shows an update of the seat's segment to this value, with the view that [`prepare`] gave, and

@@ -1,6 +1,6 @@
 -- What holds of an order.
 use Rattle.std.specs.Prelude.{ℕ, ◌<◌, ◌≤◌, List, length, IfSome}
-use Rattle.snap_frame.specs.Messages.{max_payload, payload}
+use Rattle.snap_frame.specs.Messages.{max_payload, payload, IsAskable}
 use Rattle.snap_frame.specs.declared.request.Request.{Request}
 use Rattle.snap_frame.specs.declared.request.Request.TheVariants as request
 use Rattle.snap_order.specs.Limits.{MAX_COUNT, MAX_SCANNERS, MAX_TRIES}
@@ -44,9 +44,10 @@ abbrev pub request_of : Question → Request
 request_of (question.Request r) = r
 request_of question.Health = request.Status
 
--- its request fits a frame, and it is tried once or more
+-- its request fits a frame and is one that may be asked, and it is tried once or more
 pub record IsCallable (c : Calling) : Type 0 where
   pub fits : length (payload (request_of c.question)) ≤ max_payload
+  pub askable : IsAskable (request_of c.question)
   pub tries : 1 ≤ c.tries
   pub few_tries : c.tries ≤ MAX_TRIES
 

@@ -99,7 +99,7 @@ pub struct Calling<'a> {
 #[derive(Debug, PartialEq, Eq, Drop)]
 pub enum Question {
     /// This request, whose reply is printed. It fits a frame: an update's value has at most
-    /// [`snap_frame::MAX_UPDATE_VALUE`] bytes.
+    /// [`snap_frame::MAX_UPDATE_VALUE`] bytes. A scan of some segments names one or more.
     Request(Request),
     /// Whether a segment is fenced, by a request for the status. The answer is the exit status too.
     Health,

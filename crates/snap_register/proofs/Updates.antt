@@ -21,6 +21,7 @@ use Rattle.snap_register.specs.Words.{value_at, size_at, IsBlock, AreBlocks, IsR
 use Rattle.snap_register.specs.Held.{held, view_in, taken, Readable, CanTake, MayTake, IsPinned, IsShown}
 use Rattle.snap_register.specs.Seat.{known, looked, IsBelow, Grows, Looks, HasLooked, HasFoundUpdate, IsValue, IsView, MayPublish}
 use Rattle.snap_register.specs.Seat.{Meets, Shows}
+use Rattle.snap_scan.specs.Sets.{Names}
 use Rattle.snap_register.proofs.Lines.{find, prefix_trans, count_push_same, record_prefix}
 use Rattle.snap_register.proofs.Blocks.{record_of}
 use Rattle.snap_register.proofs.Views.{viewed}
@@ -208,12 +209,12 @@ memory_is : (p : Plan) (h : List Entry) (i : ℕ)
     → memory p h i ≡ (number_after (starts p) (updates h) i, value_after (starts p) (updates h) i)
 memory_is p h i = let n = sym (number_is p h i) in let v = sym (value_is p h i) in λ t. (n t, v t)
 
-pub view_shown : (z : TableId) (v : SeatView) (j : ℕ) (xs : List (ℕ × List ℕ))
+pub view_shown : (z : TableId) (v : SeatView) (j set : ℕ) (xs : List (ℕ × List ℕ))
     → IsLegal v.plan v.seen → HasFoundUpdate (known z v) j → get_or v.records j 0 ≤ count j v.seen
     → length xs ≡ segments v.plan
-    → ((k : ℕ) → k < segments v.plan → slice_get xs k ≡ Some (view_in (held v j) k))
-    → IsView (known z v) j xs
-view_shown z v j xs legal found le size each =
+    → ((k : ℕ) → k < segments v.plan → Names set k → slice_get xs k ≡ Some (view_in (held v j) k))
+    → IsView (known z v) j set xs
+view_shown z v j set xs legal found le size each =
     let t = last_look_is z v j found.told found.is in
     let above = found.above in
     let u = viewed v.plan v.seen j (get_or v.records j 0) legal (let e = t.1 in omega arith) le in
@@ -228,7 +229,7 @@ view_shown z v j xs legal found le size each =
       memory = record {
         size = size;
         each =
-            λ k lk. each k lk ∙ ap (λ (x : ℕ × List ℕ). Some x) ((u.view.each k lk).is
+            λ k lk named. each k lk named ∙ ap (λ (x : ℕ × List ℕ). Some x) ((u.view.each k lk).is
             ∙ memory_is v.plan u.part k);
       };
     }

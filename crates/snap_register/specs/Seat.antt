@@ -4,6 +4,7 @@ use Rattle.std.specs.Prelude.{slice_get}
 use Rattle.snap_register.specs.Registers.{RegistersId}
 use Rattle.snap_history.specs.History.{Update, IsBeginning, number_after, value_after, updates_of}
 use Rattle.snap_history.specs.Limits.{IsNumber}
+use Rattle.snap_scan.specs.Sets.{Names}
 use Rattle.snap_register.specs.declared.plan.Plan.{Plan}
 use Rattle.snap_register.specs.declared.plan.SeatView.{SeatView}
 use Rattle.snap_register.specs.declared.view.View.{View}
@@ -108,13 +109,19 @@ pub record IsMemory (a : Known) (part : List Update) (xs : List (ℕ × List ℕ
   pub each : (i : ℕ) → i < segments a.plan
       → slice_get xs i ≡ Some (number_in a part i, value_in a part i)
 
--- the list has the memory after a beginning of what was seen, in which j has the number below the
--- one last looked at
-pub record IsView (a : Known) (j : ℕ) (xs : List (ℕ × List ℕ)) : Type 0 where
+-- the list has the number and value of each segment that the set names after these updates
+pub record IsMemoryOf (a : Known) (set : ℕ) (part : List Update) (xs : List (ℕ × List ℕ)) : Type 0 where
+  pub size : length xs ≡ segments a.plan
+  pub each : (i : ℕ) → i < segments a.plan → Names set i
+      → slice_get xs i ≡ Some (number_in a part i, value_in a part i)
+
+-- the list has the memory of the named segments after a beginning of what was seen, in which j has
+-- the number below the one last looked at
+pub record IsView (a : Known) (j set : ℕ) (xs : List (ℕ × List ℕ)) : Type 0 where
   pub part : List Update
   pub beginning : IsBeginning part a.seen
   pub before : looked a j ≡ Some (number_in a part j + 1)
-  pub memory : IsMemory a part xs
+  pub memory : IsMemoryOf a set part xs
 
 -- all last looks told the numbers after a beginning of what was seen, which has all updates of the
 -- own segment

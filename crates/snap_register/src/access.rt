@@ -10,8 +10,8 @@ mod looks;
 mod meetings;
 mod publications;
 
-use crate::plan::MAX_SEGMENTS;
 use crate::setup::{TableSeat, WordTable};
+use snap_scan::MAX_SEGMENTS;
 use std::alloc::Global;
 use std::sync::Arc;
 

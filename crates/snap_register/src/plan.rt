@@ -1,9 +1,7 @@
 //! What the rule of the pins speaks of: the table's plan, updates, and what each seat knows.
 
-use snap_history::{MAX_COUNT, MAX_SCANNERS};
-
-/// The most segments, as there are in a file's header.
-pub(crate) const MAX_SEGMENTS: usize = MAX_COUNT as usize;
+use snap_history::MAX_SCANNERS;
+use snap_scan::MAX_SEGMENTS;
 
 /// The most buffers of a register: one for each seat's pin, the current one and a free one.
 pub(crate) const MAX_BUFFERS: usize = MAX_SEGMENTS + MAX_SCANNERS + 2;

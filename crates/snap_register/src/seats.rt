@@ -1,7 +1,8 @@
 //! The two kinds of seat.
 ghost use Rattle.std.specs.Prelude.{◌≡◌, ℕ, ◌+◌, ◌*◌, ◌^◌, ◌<◌, ◌≤◌, ◌++◌, ◌∷◌, length, take, []};
-ghost use Rattle.std.specs.Prelude.{IsTrue, ◌↔◌};
+ghost use Rattle.std.specs.Prelude.{IsTrue, IfOk, ◌↔◌, slice_get};
 ghost use Rattle.snap_history.specs.Limits.{IsNumber, IsShort};
+ghost use Rattle.snap_scan.specs.Sets.{Names};
 ghost use Rattle.snap_history.specs.declared.limits.TheConstants.{MAX_COUNT, MAX_VALUE_LEN};
 ghost use Rattle.snap_register.specs.History.{start_at};
 ghost use Rattle.snap_register.specs.Rule.{segments};
@@ -15,6 +16,9 @@ use crate::access::Access;
 use crate::plan::MAX_BUFFERS;
 use crate::snapshot::SnapshotBuf;
 use crate::view::View;
+use bytes::Bytes;
+use snap_scan::SegmentSet;
+use std::alloc::{AllocError, Global};
 use std::marker::Model;
 
 /// What both kinds of seat can do. A seat has a list of the updates that it has seen. The lists of
@@ -62,13 +66,26 @@ pub trait Looker {
         ensures size { result ≤ MAX_VALUE_LEN }
         ensures same { known self.new ≡ known self.old };
 
-    /// Fills `out` with the view of the record of the last look at `j`: the memory that the scan
-    /// inside that update answered.
-    fn view(&mut self, j: usize, out: &mut SnapshotBuf)
+    /// The value of the record of the last look at `j`, in memory of its own.
+    ///
+    /// Where memory runs out it answers the `AllocError`.
+    fn value_bytes(&mut self, alloc: Global, j: usize) -> Result<Bytes, AllocError>
+        requires segment { j < segments (known self.old).plan }
+        requires looked { HasLooked (known self.old) j }
+        ensures value { IfOk result (λ v. IsValue (known self.old) j v) }
+        ensures size { IfOk result (λ v. IsShort v) }
+        ensures same { known self.new ≡ known self.old };
+
+    /// Writes into `out` what the view of the record of the last look at `j` has of the segments
+    /// that the set names: of the memory that the scan inside that update answered. What `out` has
+    /// of others stays.
+    fn view(&mut self, j: usize, set: SegmentSet, out: &mut SnapshotBuf)
         requires segment { j < segments (known self.old).plan }
         requires updated { HasFoundUpdate (known self.old) j }
         requires room { length out.old ≡ segments (known self.old).plan }
-        ensures view { IsView (known self.old) j out.new }
+        ensures view { IsView (known self.old) j set.bits out.new }
+        ensures others { (i : ℕ) → (Names set.bits i → ⊥)
+            → slice_get out.new i ≡ slice_get out.old i }
         ensures same { known self.new ≡ known self.old };
 }
 
@@ -112,8 +129,12 @@ impl Looker for ReadSeat {
         self.access.value(j, out)
     }
 
-    fn view(&mut self, j: usize, out: &mut SnapshotBuf) {
-        self.access.view(j, out);
+    fn value_bytes(&mut self, alloc: Global, j: usize) -> Result<Bytes, AllocError> {
+        self.access.value_bytes(alloc, j)
+    }
+
+    fn view(&mut self, j: usize, set: SegmentSet, out: &mut SnapshotBuf) {
+        self.access.view(j, set, out);
     }
 }
 
@@ -184,8 +205,12 @@ impl Looker for WriteSeat {
         self.access.value(j, out)
     }
 
-    fn view(&mut self, j: usize, out: &mut SnapshotBuf) {
-        self.access.view(j, out);
+    fn value_bytes(&mut self, alloc: Global, j: usize) -> Result<Bytes, AllocError> {
+        self.access.value_bytes(alloc, j)
+    }
+
+    fn view(&mut self, j: usize, set: SegmentSet, out: &mut SnapshotBuf) {
+        self.access.view(j, set, out);
     }
 }
 

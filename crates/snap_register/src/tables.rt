@@ -20,10 +20,11 @@ ghost use Rattle.snap_register.specs.Setup.{
 ghost use Rattle.snap_register.specs.Setup.{IsSized, IsFirst, IsFresh};
 
 use crate::access::Access;
-use crate::plan::{MAX_SEGMENTS, Opening};
+use crate::plan::Opening;
 use crate::seats::{ReadSeat, WriteSeat};
 use crate::setup::{Setup, SplitReader, SplitWriter, TableSeat, WordTable};
 use atomic_table::Table;
+use snap_scan::MAX_SEGMENTS;
 use std::alloc::{AllocError, Global};
 use std::snapshot::Snapshot;
 use std::sync::Arc;

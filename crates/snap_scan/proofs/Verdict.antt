@@ -1,15 +1,17 @@
 -- What a list of looks says, and that its verdicts exclude each other.
-use Rattle.std.proofs.Common.{◌≡◌, ◌≢◌, ℕ, zero, suc, ◌+◌, ◌-◌, ◌*◌, ◌<◌, ◌≤◌, inl, inr, List, length, take, slice_index, refl, ap, sym}
+use Rattle.std.proofs.Common.{◌≡◌, ◌≢◌, ℕ, zero, suc, ◌+◌, ◌-◌, ◌*◌, ◌<◌, ◌≤◌, inl, inr, List, length, take, Some, slice_get, slice_index, refl, ap, sym}
 use Rattle.std.proofs.Common.{◌∙◌, subst, arith}
 use Rattle.std.proofs.Math.Nat.{mul-le-mul_left}
 use Rattle.std.proofs.lemmas.List.{length-take-le, get_or-take}
-use Rattle.snap_scan.specs.Looks.{IsClean, IsBorrow, IsDecided}
+use Rattle.snap_scan.specs.Looks.{most_looks, IsTurn, IsClean, IsBorrow, IsDecided}
+use Rattle.snap_scan.specs.Sets.{named, size, IsAt}
 use Rattle.snap_scan.specs.Course.{IsNext}
-use Rattle.snap_scan.specs.Stands.{StandsFor, Says, IsLooking, IsUndecided, IsRising, IsFirst, AllLow, Same}
+use Rattle.snap_scan.specs.Stands.{next_at, StandsFor, Says, IsLooking, IsUndecided, IsRising, IsFirst, AllLow, Same}
 use Rattle.snap_scan.specs.declared.machine.Machine.{Machine}
 use Rattle.snap_scan.specs.declared.next.Next.{Next}
 use Rattle.snap_scan.specs.declared.next.Next.TheVariants.{Look, Clean, Borrow}
 use Rattle.snap_scan.proofs.Places.{same_segment}
+use Rattle.snap_scan.proofs.Sets.{at_some, at_is}
 use Rattle.snap_scan.proofs.Sums.{sum_below, sum_le, sum_lt, sum_cap, same_or}
 
 -- the last two collects of a clean list
@@ -203,12 +205,79 @@ none_before s L (Look j) h k l =
 none_before s L Clean h k l = first_of s.segments L h.2 k l
 none_before s L (Borrow j) h k l = first_of s.segments L h.1 k l
 
--- what comes next in a machine is what the list says
-pub says_next : (s : Machine) (L : List ℕ) → StandsFor s L → IsNext s.segments L s.next
-says_next s L st = record {
-  clean = (IsClean-next s L s.next st.says, next-clean s L s.next st.least st.says);
-  borrow = λ j. (IsBorrow-next s L s.next j st.says, next-borrow s L s.next j st.says);
-  look = λ j e. (let k = look-next s L s.next j st.says e in (k.within, (k.m, k.place)));
-  bound = λ j e. looks-lt s L j (look-next s L s.next j st.says e);
-  first = none_before s L s.next st.says;
+-- a machine's next place, as that of its set
+pub at_look : (set j : ℕ) (v : Next) → next_at set v ≡ Look j
+    → (p : ℕ) × (v ≡ Look p) × (slice_index (named set) p ≡ j)
+at_look set j (Look p) e = (p, refl, (let same : slice_index (named set) p ≡ j = cc in same))
+at_look set j Clean e = cc
+at_look set j (Borrow p) e = cc
+
+at_borrow : (set j : ℕ) (v : Next) → next_at set v ≡ Borrow j
+    → (p : ℕ) × (v ≡ Borrow p) × (slice_index (named set) p ≡ j)
+at_borrow set j (Look p) e = cc
+at_borrow set j Clean e = cc
+at_borrow set j (Borrow p) e = (p, refl, (let same : slice_index (named set) p ≡ j = cc in same))
+
+at_clean : (set : ℕ) (v : Next) → next_at set v ≡ Clean → v ≡ Clean
+at_clean set (Look p) e = cc
+at_clean set Clean e = refl
+at_clean set (Borrow p) e = cc
+
+-- and a place of a set's list as its segment
+listed : (set : ℕ) (list : List ℕ) (p j : ℕ) → list ≡ named set → slice_get list p ≡ Some j
+    → slice_index (named set) p ≡ j
+listed set list p j is at = at_is set p j (ap (λ l. slice_get l p) (sym is) ∙ at)
+
+pub look_of : (set : ℕ) (list : List ℕ) (v : Next) (p j : ℕ) → list ≡ named set → v ≡ Look p
+    → slice_get list p ≡ Some j → next_at set v ≡ Look j
+look_of set list v p j is next at =
+    ap (next_at set) next ∙ ap (λ k. Look k) (listed set list p j is at)
+
+pub borrow_of : (set : ℕ) (list : List ℕ) (v : Next) (p j : ℕ) → list ≡ named set → v ≡ Borrow p
+    → slice_get list p ≡ Some j → next_at set v ≡ Borrow j
+borrow_of set list v p j is next at =
+    ap (next_at set) next ∙ ap (λ k. Borrow k) (listed set list p j is at)
+
+-- the place whose turn it is has a segment
+pub turn_at : (set : ℕ) (s : Machine) (L : List ℕ) (p j : ℕ) → s.segments ≡ size set
+    → s.next ≡ Look p → slice_index (named set) p ≡ j → StandsFor s L → IsAt set p j
+turn_at set s L p j count is at st =
+    let k = look-next s L s.next p st.says is in
+    let inside : p < size set = (let l = k.within in omega arith) in
+    at_some set p inside ∙ ap (λ v. Some v) at
+
+-- what comes next in a machine is what the list says of its set
+pub says_next : (set : ℕ) (s : Machine) (L : List ℕ) → s.segments ≡ size set → StandsFor s L
+    → IsNext set L (next_at set s.next)
+says_next set s L count st = record {
+  clean = (
+    λ e. subst (λ n. IsClean n L) count (IsClean-next s L s.next st.says (at_clean set s.next e)),
+    λ is. ap (next_at set) (next-clean s L s.next st.least st.says
+        (subst (λ n. IsClean n L) (sym count) is)),
+  );
+  borrow = λ j. (
+    (λ e. (
+        let at = at_borrow set j s.next e in
+        let borrow : IsBorrow s.segments L at.0 = IsBorrow-next s L s.next at.0 st.says at.1 in
+        let inside : at.0 < size set = (let l = borrow.segment in omega arith) in (
+          at.0,
+          at_some set at.0 inside ∙ ap (λ v. Some v) at.2,
+          subst (λ n. IsBorrow n L at.0) count borrow,
+        ))),
+    (λ b. ap (next_at set) (next-borrow s L s.next b.0 st.says
+        (subst (λ n. IsBorrow n L b.0) (sym count) b.2))
+        ∙ ap (λ v. Borrow v) (at_is set b.0 j b.1)),
+  );
+  look = λ j e. (
+      let at = at_look set j s.next e in
+      let k = look-next s L s.next at.0 st.says at.1 in (
+        at.0,
+        turn_at set s L at.0 j count at.1 at.2 st,
+        subst (λ n. IsTurn n L at.0) count (k.within, (k.m, k.place)),
+      ));
+  bound = λ j e. (
+      let at = at_look set j s.next e in
+      subst (λ n. length L < most_looks n) count (looks-lt s L at.0 (look-next s L s.next at.0 st.says at.1)));
+  first = subst (λ n. (k : ℕ) → k < length L → IsDecided n (take k L) → ⊥) count
+      (none_before s L s.next st.says);
 }

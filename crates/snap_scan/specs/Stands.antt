@@ -1,8 +1,11 @@
 -- Which numbers a scan's machine was told. It keeps only the first looks and the latest ones.
-use Rattle.std.specs.Prelude.{◌≡◌, ℕ, ◌+◌, ◌*◌, ◌<◌, ◌≤◌, List, length, slice_index, Bool, true, false}
+use Rattle.std.specs.Prelude.{◌≡◌, ℕ, ◌+◌, ◌*◌, ◌<◌, ◌≤◌, List, length, slice_index, take, Bool, true, false}
 use Rattle.snap_scan.specs.Looks.{IsClean, IsBorrow, IsNoFall}
 use Rattle.snap_scan.specs.declared.limits.TheConstants.{MAX_SEGMENTS}
+use Rattle.snap_scan.specs.Sets.{named, size}
 use Rattle.snap_scan.specs.declared.machine.Machine.{Machine}
+use Rattle.snap_scan.specs.declared.segments.Segments.{Segments}
+use Rattle.snap_scan.specs.declared.set.SegmentSet.{SegmentSet}
 use Rattle.snap_scan.specs.declared.next.Next.{Next}
 use Rattle.snap_scan.specs.declared.next.Next.TheVariants.{Look, Clean, Borrow}
 
@@ -67,3 +70,14 @@ pub record StandsFor (s : Machine) (L : List ℕ) : Type 0 where
 abbrev pub MayTell : Machine → ℕ → ℕ → Type 0
 MayTell s segment number =
     ∥ ((L : List ℕ) × StandsFor s L × IsNoFall s.segments L segment number) ∥₁
+
+-- what comes next where the machine's places are those of a set
+abbrev pub next_at : ℕ → Next → Next
+next_at set (Look p) = Look (slice_index (named set) p)
+next_at set Clean = Clean
+next_at set (Borrow p) = Borrow (slice_index (named set) p)
+
+-- these are the segments of the set, and the machine has a place for each
+pub record IsOf (segments : Segments) (machine : Machine) (set : SegmentSet) : Type 0 where
+  pub list : take segments.count segments.list ≡ named set.bits
+  pub count : machine.segments ≡ size set.bits

@@ -15,9 +15,14 @@
 //! segments. Hence a scan ends within one collect, n more that fail, and one that does not:
 //! [`most_looks`], that is n(n + 2), and there are scans that need them all.
 //!
+//! A scan may be of some segments, those that a [`SegmentSet`] names. Where it names m of them, the scan is
+//! one of m segments: it looks at these alone, in ascending order, by the same rules with m for n, and
+//! all other segments may change as they like. The machine counts the places of the set, and [`Scan`] says
+//! which segment stands at each.
+//!
 //! The rule stands in this crate alone. specs/Looks.antt says what a list of told numbers decides,
-//! and specs/Course.antt what callers see of a scan: how many segments, the numbers told, what
-//! comes next, and how the last follows from the others. A scan keeps only its first looks and its
+//! and specs/Course.antt what callers see of a scan: which segments, the numbers told, what comes
+//! next, and how the last follows from the others. A scan keeps only its first looks and its
 //! latest ones; the list stands in proofs alone, and takes no memory.
 //!
 //! Why the answer is the memory of one moment is a law here, [`collect_laws`]. A scan looks at one
@@ -35,9 +40,14 @@ mod limits;
 mod machine;
 mod next;
 mod scan;
+mod segment_value;
+mod segments;
+mod set;
 mod told;
 
 pub use laws::collect_laws;
 pub use limits::{MAX_SEGMENTS, most_looks};
 pub use next::Next;
 pub use scan::Scan;
+pub use segment_value::SegmentValue;
+pub use set::SegmentSet;

@@ -2,8 +2,10 @@
 ghost use Rattle.std.specs.Prelude.{◌≡◌, ◌≤◌};
 ghost use Rattle.snap_scan.specs.Looks.{most_looks};
 
+use snap_history::MAX_COUNT;
+
 /// The most segments that a scan looks at.
-pub const MAX_SEGMENTS: usize = 16;
+pub const MAX_SEGMENTS: usize = MAX_COUNT as usize;
 
 /// The most looks that a scan of this many segments makes: n(n + 2).
 pub const fn most_looks(segments: usize) -> usize

@@ -79,6 +79,16 @@ impl Machine {
         self.looks
     }
 
+    /// The place whose turn it is, where one has it.
+    pub(crate) fn place(&self) -> usize
+        ensures { (p : ℕ) → self.now.next ≡ Next.Look p → result ≡ p }
+    {
+        match self.next {
+            Next::Look(place) => place,
+            Next::Clean | Next::Borrow(_) => 0,
+        }
+    }
+
     /// The look at this segment, whose turn it was, gave this number.
     pub(crate) fn told(&mut self, segment: usize, number: u64)
         requires turn { self.old.next ≡ Next.Look segment }

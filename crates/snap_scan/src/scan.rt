@@ -1,21 +1,27 @@
 //! One scan, from its beginning to its answer.
-ghost use Rattle.std.specs.Prelude.{◌≡◌, ◌<◌, ◌≤◌, [], ◌∷◌, ◌++◌, length};
+ghost use Rattle.std.specs.Prelude.{◌≡◌, ℕ, ◌-◌, ◌^◌, ◌<◌, ◌≤◌, [], ◌∷◌, ◌++◌, length};
 ghost use Rattle.snap_scan.specs.Looks.{IsNoFall};
+ghost use Rattle.snap_scan.specs.Sets.{size, IsAt};
 ghost use Rattle.snap_scan.specs.Course.{IsNext};
 
 use crate::limits::MAX_SEGMENTS;
 use crate::machine::Machine;
 use crate::next::Next;
+use crate::segments::Segments;
+use crate::set::SegmentSet;
 use crate::told::Told;
 use std::marker::Model;
 
-/// One scan of 1 to [`MAX_SEGMENTS`] segments, from its beginning to its answer.
+/// One scan of some segments, from its beginning to its answer.
 ///
 /// Look where [`Scan::next`] says, tell the number by [`Scan::told`], and go on until `next` is
-/// `Clean` or `Borrow`. It takes no memory. Its contracts see the number of segments, the list of
-/// all numbers told, in order, and what comes next; look t is at segment t mod n.
+/// `Clean` or `Borrow`. It takes no memory. Its contracts see the set of its segments, the list of
+/// all numbers told, in order, and what comes next. Look t is at the segment at place t mod m of
+/// the set, which names m segments.
 #[derive(Debug, Drop)]
 pub struct Scan {
+    set: SegmentSet,
+    segments: Segments,
     machine: Machine,
     told: Told,
 }
@@ -25,41 +31,57 @@ impl Model for Scan {
 
     ghost Value = { Course };
 
-    ghost use Rattle.snap_scan.specs.Stands.{StandsFor};
+    ghost use Rattle.snap_scan.specs.Stands.{StandsFor, IsOf, next_at};
 
     ghost view = { λ s. record {
-      segments = s.machine.segments;
+      set = s.set.bits;
       told = s.told.numbers;
-      next = s.machine.next;
+      next = next_at s.set.bits s.machine.next;
     } };
 
-    ghost invariant = { λ s. StandsFor s.machine s.told.numbers };
+    ghost invariant = { λ s. StandsFor s.machine s.told.numbers × IsOf s.segments s.machine s.set };
 }
 
 impl Scan {
-    /// A scan of this many segments, 1 to [`MAX_SEGMENTS`], that was told nothing. Its first look
-    /// is at segment 0.
+    /// A scan of these segments, at least one, that was told nothing. Its first look is at the
+    /// lowest of them.
+    pub fn of(set: SegmentSet) -> Scan
+        requires some { 0 < set.bits }
+        ensures set { result.set ≡ set.bits }
+        ensures told { result.told ≡ [] }
+        ensures next { IsNext result.set result.told result.next }
+    {
+        let segments = Segments::of(set);
+        Scan {
+            set,
+            machine: Machine::new(segments.count),
+            segments,
+            told: Told::none(),
+        }
+    }
+
+    /// A scan of all of this many segments, 1 to [`MAX_SEGMENTS`], that was told nothing.
     pub fn new(segments: usize) -> Scan
         requires least { 0 < segments }
         requires most { segments ≤ MAX_SEGMENTS }
-        ensures segments { result.segments ≡ segments }
+        ensures set { result.set ≡ 2 ^ segments - 1 }
         ensures told { result.told ≡ [] }
-        ensures first { result.next ≡ Next.Look 0 }
-        ensures next { IsNext result.segments result.told result.next }
+        ensures next { IsNext result.set result.told result.next }
     {
-        Scan {
-            machine: Machine::new(segments),
-            told: Told::none(),
-        }
+        Scan::of(SegmentSet::all(segments))
     }
 
     /// What comes next: an answer exactly where the told numbers decide one, else the next look,
     /// and that only below [`most_looks`](crate::most_looks).
     pub fn next(&self) -> Next
         ensures same { result ≡ self.now.next }
-        ensures decides { IsNext self.now.segments self.now.told result }
+        ensures decides { IsNext self.now.set self.now.told result }
     {
-        self.machine.next()
+        match self.machine.next() {
+            Next::Look(place) => Next::Look(self.segments.at(place)),
+            Next::Clean => Next::Clean,
+            Next::Borrow(place) => Next::Borrow(self.segments.at(place)),
+        }
     }
 
     /// How many numbers the scan was told.
@@ -73,12 +95,14 @@ impl Scan {
     /// falls.
     pub fn told(&mut self, segment: usize, number: u64)
         requires turn { self.old.next ≡ Next.Look segment }
-        requires rising { IsNoFall self.old.segments self.old.told segment number }
-        ensures segments { self.new.segments ≡ self.old.segments }
+        requires rising { (p : ℕ) → IsAt self.old.set p segment
+            → IsNoFall (size self.old.set) self.old.told p number }
+        ensures set { self.new.set ≡ self.old.set }
         ensures told { self.new.told ≡ self.old.told ++ number ∷ [] }
-        ensures next { IsNext self.new.segments self.new.told self.new.next }
+        ensures next { IsNext self.new.set self.new.told self.new.next }
     {
-        self.machine.told(segment, number);
+        let _segment = segment;
+        self.machine.told(self.machine.place(), number);
         self.told = self.told.then(&number);
     }
 }

@@ -1,6 +1,6 @@
 -- What stands in a word, and what doesn't.
-use Rattle.std.proofs.Common.{◌≡◌, ◌≢◌, ℕ, ◌+◌, ◌*◌, ◌^◌, ◌<◌, ◌≤◌, Option, Some, None, Result, Ok}
-use Rattle.std.proofs.Common.{Err, List, [], ◌∷◌, length, codes, refl, sym, ap, ◌∙◌, arith}
+use Rattle.std.proofs.Common.{◌≡◌, ◌≢◌, ℕ, ◌+◌, ◌*◌, ◌^◌, ◌<◌, ◌≤◌, Option, Some, None, Result, Ok, Err, List, [], ◌∷◌, length, codes}
+use Rattle.std.proofs.Common.{refl, sym, ap, ◌∙◌, arith}
 use Rattle.std.specs.Prelude.{MatchOption, IfOk}
 use Rattle.std.proofs.Math.Nat.{pow-le-pow_right}
 use Rattle.hex.specs.Hex.{decode_of, decode_sized, decode_pairs}
@@ -17,12 +17,13 @@ digits_fit v d i h l e =
     18} (omega arith) in
     omega (arith, p)
 
--- two digits decode into room for one byte
-pub sized_one : (s : List ℕ) (b : ℕ) → decode_of s ≡ Ok (b ∷ []) → decode_sized s 1 ≡ Ok (b ∷ [])
-sized_one s b h =
-    let ok = decode_of-ok s (b ∷ []) h in
-    let len : length s ≡ 2 = ok.2 in
-    let pairs : decode_sized s 1 ≡ decode_pairs 0 s = grind arith in
+-- two digits for each byte decode into room for that many bytes
+pub sized : (s bytes : List ℕ) (n : ℕ) → length bytes ≡ n → decode_of s ≡ Ok bytes
+    → decode_sized s n ≡ Ok bytes
+sized s bytes n few h =
+    let ok = decode_of-ok s bytes h in
+    let len : length s ≡ 2 * length bytes = ok.2 in
+    let pairs : decode_sized s n ≡ decode_pairs 0 s = grind arith in
     pairs ∙ sym (decode_of-even s (omega arith)) ∙ h
 
 -- a word behind `at:` is no other fill

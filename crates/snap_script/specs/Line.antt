@@ -5,9 +5,10 @@ use Rattle.std.specs.declared.alloc.Global.{Global}
 use Rattle.snap_disk.specs.declared.fill.Fill.{Fill}
 use Rattle.snap_history.specs.declared.limits.TheConstants.{MAX_COUNT}
 use Rattle.snap_hex.specs.Text.{IsHex}
-use Rattle.snap_script.specs.Words.{words_of, IsNumber, IsFill}
+use Rattle.snap_script.specs.Words.{words_of, IsNumber, IsFill, IsMask}
 use Rattle.snap_script.specs.declared.verb.Verb.{Verb}
 use Rattle.snap_script.specs.declared.verb.Verb.TheVariants as verb
+use Rattle.snap_world.specs.set.SegmentSet.{SegmentSet}
 use Rattle.snap_world.specs.declared.event.Actor.{Actor}
 use Rattle.snap_world.specs.declared.event.Actor.TheVariants as actor
 use Rattle.snap_world.specs.declared.event.Event.{Event}
@@ -28,6 +29,7 @@ name_of verb.Fail = codes "fail"
 name_of verb.Show = codes "show"
 name_of verb.Acknowledge = codes "ack"
 name_of verb.Scan = codes "scan"
+name_of verb.Pick = codes "pick"
 name_of verb.Answer = codes "answer"
 name_of verb.Crash = codes "crash"
 name_of verb.Restart = codes "restart"
@@ -74,6 +76,9 @@ HasForm verb.Fail words e =
 HasForm verb.Show words e = (i : ℕ) × (e ≡ event.Show i) × IsOneNumber words i
 HasForm verb.Acknowledge words e = (i : ℕ) × (e ≡ event.Acknowledge i) × IsOneNumber words i
 HasForm verb.Scan words e = (i : ℕ) × (e ≡ event.Scan i) × IsOneNumber words i
+HasForm verb.Pick words e =
+    (s mask : List ℕ) × (i : ℕ) × (set : SegmentSet)
+    × (e ≡ event.Pick i set) × (words ≡ s ∷ mask ∷ []) × IsNumber s i × IsMask mask set
 HasForm verb.Answer words e = (i : ℕ) × (e ≡ event.Answer i) × IsOneNumber words i
 HasForm verb.Crash words e =
     (fills : Vec Fill Global) × (e ≡ event.Crash fills)

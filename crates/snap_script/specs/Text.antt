@@ -2,12 +2,13 @@
 use Rattle.std.specs.Prelude.{ℕ, List, [], ◌∷◌, ◌++◌, map, codes}
 use Rattle.std.specs.Fmt.{decimal}
 use Rattle.snap_hex.specs.Text.{hex_text}
+use Rattle.snap_world.specs.declared.event.PartEntry.{PartEntry}
 use Rattle.snap_world.specs.declared.event.Kind.{Kind}
 use Rattle.snap_world.specs.declared.event.Kind.TheVariants.{Write, Sync, Read}
 use Rattle.snap_world.specs.persist.Write.TheVariants as write
 use Rattle.snap_world.specs.declared.event.Reply.{Reply}
 use Rattle.snap_world.specs.declared.event.Reply.TheVariants.{Begun, Number, Called, DeviceFailed, Shown, Stored, ScanBegun, Memory}
-use Rattle.snap_world.specs.declared.event.Reply.TheVariants.{Crashed, Restarting, NotNow}
+use Rattle.snap_world.specs.declared.event.Reply.TheVariants.{Part, Crashed, Restarting, NotNow}
 
 -- the name of a device call
 abbrev pub kind_text : Kind → List ℕ
@@ -17,10 +18,14 @@ kind_text (Write write.Open) = codes "open"
 kind_text Sync = codes "sync"
 kind_text Read = codes "read"
 
--- each value after a space
-abbrev pub values_text : List (List ℕ) → List ℕ
-values_text [] = []
-values_text (value ∷ values) = codes " " ++ hex_text value ++ values_text values
+-- each text after a space
+abbrev pub spaced : List (List ℕ) → List ℕ
+spaced [] = []
+spaced (text ∷ texts) = codes " " ++ text ++ spaced texts
+
+-- a segment and its value
+abbrev pub entry_text : PartEntry → List ℕ
+entry_text e = decimal e.segment ++ codes "=" ++ hex_text e.value.items
 
 -- what a reply is printed as
 abbrev pub reply_text : Reply → List ℕ
@@ -31,7 +36,8 @@ reply_text DeviceFailed = codes "device failed"
 reply_text Shown = codes "shown"
 reply_text (Stored k) = codes "stored " ++ decimal k
 reply_text ScanBegun = codes "scanning"
-reply_text (Memory values) = codes "memory" ++ values_text (map (λ v. v.items) values.items)
+reply_text (Memory values) = codes "memory" ++ spaced (map (λ v. hex_text v.items) values.items)
+reply_text (Part entries) = codes "part" ++ spaced (map entry_text entries.items)
 reply_text Crashed = codes "crashed"
 reply_text Restarting = codes "restarting"
 reply_text NotNow = codes "not now"

@@ -1,12 +1,12 @@
 -- The lines of a script, the words of a line, and what stands in a word.
-use Rattle.std.specs.Prelude.{◌≡◌, ℕ, ◌≤◌, ◌==◌, List, [], ◌∷◌, length, codes, Option, Some, None}
-use Rattle.std.specs.Prelude.{Ok}
+use Rattle.std.specs.Prelude.{◌≡◌, ℕ, ◌+◌, ◌*◌, ◌≤◌, ◌==◌, List, [], ◌∷◌, length, codes, Option, Some, None, Ok}
 use Rattle.std.specs.List.{slice_split}
 use Rattle.std.specs.Str.Parse.{IsNumeral, digits_value}
 use Rattle.hex.specs.Hex.{decode_of}
 use Rattle.snap_hex.specs.Text.{IsHex}
 use Rattle.snap_disk.specs.declared.fill.Fill.{Fill}
 use Rattle.snap_disk.specs.declared.fill.Fill.TheVariants.{Keep, All, At}
+use Rattle.snap_world.specs.set.SegmentSet.{SegmentSet}
 
 -- what was found, of which the fact holds, or that it holds of nothing
 abbrev pub Finds : {A : Type 0} → Option A → (A → Type 0) → Type 0
@@ -43,3 +43,8 @@ IsFill word Keep = word ≡ codes "keep"
 IsFill word (All byte) = decode_of word ≡ Ok (byte ∷ [])
 IsFill word (At offset bytes) =
     (o h : List ℕ) × (parts_at 58 word ≡ codes "at" ∷ o ∷ h ∷ []) × IsFillAt o h (At offset bytes)
+
+-- four hexadecimal digits, which write the bits of the set
+abbrev pub IsMask : List ℕ → SegmentSet → Type 0
+IsMask word set =
+    (high low : ℕ) × (decode_of word ≡ Ok (high ∷ low ∷ [])) × (set.bits ≡ high * 256 + low)

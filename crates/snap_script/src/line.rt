@@ -5,7 +5,7 @@ ghost use Rattle.snap_script.specs.Words.{Finds, words_of, IsNumber};
 ghost use Rattle.snap_script.specs.Line.{IsWorldLine, IsEventLine, IsActor, TakesNumber, HasForm};
 
 use crate::verb::Verb;
-use crate::words::{cut, fill, is, number, one_part, two_parts};
+use crate::words::{cut, fill, is, mask, number, one_part, two_parts};
 use snap_hex::read_hex;
 use snap_history::MAX_COUNT;
 use snap_world::{Actor, Event};
@@ -73,6 +73,7 @@ fn event_of(alloc: Global, verb: Verb, operands: &[u8]) -> Result<Option<Event>,
         Verb::Crash => crash(alloc, operands),
         Verb::RestartFail => restart_fail(alloc, operands),
         Verb::Look => Ok(look(operands)),
+        Verb::Pick => Ok(pick(operands)),
         Verb::Call | Verb::Show | Verb::Acknowledge | Verb::Scan | Verb::Answer => {
             Ok(event_at(verb, operands))
         }
@@ -162,6 +163,15 @@ fn actor(word: &[u8]) -> Option<Actor>
         b's' => Some(Actor::Scanner(place as usize)),
         _ => None,
     }
+}
+
+/// `pick S MASK`
+fn pick(operands: &[u8]) -> Option<Event>
+    ensures { Finds result (HasForm Verb.Pick (words_of operands.now)) }
+{
+    let (scanner, digits) = two_parts(operands, b' ')?;
+    let scanner = number(scanner)? as usize;
+    Some(Event::Pick(scanner, mask(digits)?))
 }
 
 /// `call W`, `show W`, `ack W`, `scan S` or `answer S`

@@ -2,11 +2,12 @@
 ghost use Rattle.std.specs.Prelude.{◌≡◌, ◌++◌, map, codes, OnOk};
 ghost use Rattle.std.specs.Fmt.{decimal};
 ghost use Rattle.snap_script.specs.Text.{kind_text, line_text, reply_text};
-ghost use Rattle.snap_script.specs.Text.{values_text, world_text};
+ghost use Rattle.snap_hex.specs.Text.{hex_text};
+ghost use Rattle.snap_script.specs.Text.{entry_text, spaced, world_text};
 
 use itoa::Buffer;
 use snap_hex::put_hex;
-use snap_world::{Kind, Reply, Write};
+use snap_world::{Kind, PartEntry, Reply, Write};
 use std::alloc::AllocError;
 
 /// Appends the line that a reply is printed as.
@@ -22,6 +23,7 @@ pub(crate) fn print_reply(out: &mut Vec<u8>, reply: &Reply) -> Result<(), AllocE
         Reply::Stored(number) => put_number(out, b"stored ", *number),
         Reply::ScanBegun => put(out, b"scanning\n"),
         Reply::Memory(values) => put_memory(out, values),
+        Reply::Part(entries) => put_part(out, entries),
         Reply::Crashed => put(out, b"crashed\n"),
         Reply::Restarting => put(out, b"restarting\n"),
         Reply::NotNow => put(out, b"not now\n"),
@@ -80,7 +82,7 @@ fn put_kind(out: &mut Vec<u8>, kind: Kind) -> Result<(), AllocError>
 /// Appends the line of a memory.
 fn put_memory(out: &mut Vec<u8>, values: &[Vec<u8>]) -> Result<(), AllocError>
     ensures { OnOk result (out.new.items ≡ out.old.items
-        ++ line_text (codes "memory" ++ values_text (map (λ v. v.items) values.now))) }
+        ++ line_text (codes "memory" ++ spaced (map (λ v. hex_text v.items) values.now))) }
 {
     put(out, b"memory")?;
     for value in values {
@@ -88,4 +90,27 @@ fn put_memory(out: &mut Vec<u8>, values: &[Vec<u8>]) -> Result<(), AllocError>
         put_hex(out, value)?;
     }
     put(out, b"\n")
+}
+
+/// Appends the line of some segments with their values.
+fn put_part(out: &mut Vec<u8>, entries: &[PartEntry]) -> Result<(), AllocError>
+    ensures { OnOk result (out.new.items ≡ out.old.items
+        ++ line_text (codes "part" ++ spaced (map entry_text entries.now))) }
+{
+    put(out, b"part")?;
+    for entry in entries {
+        put(out, b" ")?;
+        put_entry(out, entry)?;
+    }
+    put(out, b"\n")
+}
+
+/// Appends a segment and its value.
+fn put_entry(out: &mut Vec<u8>, entry: &PartEntry) -> Result<(), AllocError>
+    ensures { OnOk result (out.new.items ≡ out.old.items ++ entry_text entry.now) }
+{
+    let mut digits = Buffer::new();
+    put(out, digits.format(entry.segment).as_bytes())?;
+    put(out, b"=")?;
+    put_hex(out, &entry.value)
 }

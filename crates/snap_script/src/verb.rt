@@ -20,6 +20,8 @@ pub enum Verb {
     Acknowledge,
     /// `scan S`
     Scan,
+    /// `pick S MASK`
+    Pick,
     /// `answer S`
     Answer,
     /// `crash FILL ..`
@@ -52,6 +54,8 @@ impl Verb {
             Verb::Acknowledge
         } else if is(word, "scan") {
             Verb::Scan
+        } else if is(word, "pick") {
+            Verb::Pick
         } else if is(word, "answer") {
             Verb::Answer
         } else if is(word, "call") {
@@ -84,6 +88,7 @@ impl Verb {
             Verb::Show => "show W",
             Verb::Acknowledge => "ack W",
             Verb::Scan => "scan S",
+            Verb::Pick => "pick S MASK",
             Verb::Answer => "answer S",
             Verb::Crash => "crash FILL ..",
             Verb::Restart => "restart",

@@ -3,12 +3,13 @@ ghost use Rattle.std.specs.Prelude.{◌≡◌, ◌≢◌, ◌==◌, ◌+◌, ◌
 ghost use Rattle.std.specs.Prelude.{List, ℕ, IsTrue, MatchOption, IfOk};
 ghost use Rattle.std.specs.List.{position_from};
 ghost use Rattle.snap_hex.specs.Text.{IsHex};
-ghost use Rattle.snap_script.specs.Words.{Finds, parts_at, IsNumber, IsFill, IsFillAt};
+ghost use Rattle.snap_script.specs.Words.{Finds, parts_at, IsNumber, IsFill, IsFillAt, IsMask};
 ghost use Rattle.hex.specs.Hex.{decode_of};
 ghost use Rattle.snap_disk.specs.declared.fill.Fill.{Fill};
 
 use snap_disk::Fill;
 use snap_hex::read_hex;
+use snap_world::SegmentSet;
 use std::alloc::{AllocError, Global};
 
 /// Whether the word is this name.
@@ -120,5 +121,18 @@ fn fill_at(alloc: Global, text: &[u8]) -> Result<Option<Fill>, AllocError>
     match read_hex(alloc, digits)? {
         Some(bytes) => Ok(Some(Fill::At(offset, bytes))),
         None => Ok(None),
+    }
+}
+
+/// The set that four hexadecimal digits stand for.
+pub(crate) fn mask(word: &[u8]) -> Option<SegmentSet>
+    ensures { Finds result (IsMask word.now) }
+{
+    let mut bytes = [0; 2];
+    match hex::decode_to_slice(word, &mut bytes) {
+        Ok(()) => Some(SegmentSet {
+            bits: u16::from_be_bytes(bytes),
+        }),
+        Err(_) => None,
     }
 }

@@ -1,9 +1,9 @@
 -- All bytes of a file that was made.
-use Rattle.std.proofs.Common.{◌≡◌, inl, inr, ℕ, List, [], ◌∷◌, ◌++◌, length, take, drop, slice_index, length-drop, refl, sym, ◌∙◌, ap, arith}
+use Rattle.std.proofs.Common.{◌≡◌, inl, inr, ℕ, List, [], ◌∷◌, ◌++◌, length, take, drop, slice_index, length-drop, sym, ◌∙◌, ap, arith}
 use Rattle.std.proofs.lemmas.List.{take-append-drop, take_all}
 use Rattle.snap_disk.specs.Device.{Device, part, IsWritten}
 use Rattle.snap_disk.specs.Laws.{part_kept, index-part, part-cons}
-use Rattle.snap_slot.specs.Layout.{header_front, slots_of, fresh_file}
+use Rattle.snap_slot.specs.Layout.{header_front, slots_of}
 use Rattle.snap_slot.specs.States.{IsPrepared}
 use Rattle.snap_segment.specs.Creation.{new_file}
 
@@ -29,12 +29,4 @@ made_bytes i n k v d d2 is done =
     ∙ ap (λ (l : List ℕ). slice_index l 0) done.stands in
     let behind : part 4096 24576 b ≡ slots_of k v =
     part_kept 4096 24576 4095 1 d.bytes b done.elsewhere (inr (omega arith)) ∙ is.slots in
-    in_three b (done.elsewhere.size ∙ is.size)
-    ∙ ap (λ (l : List ℕ). l ++ (slice_index b 4095 ∷ part 4096 24576 b)) front
-    ∙ ap (λ (g : ℕ). header_front i n ++ (g ∷ part 4096 24576 b)) gate
-    ∙ ap (λ (l : List ℕ). header_front i n ++ (0xA5 ∷ l)) behind
-
--- what formatting makes
-pub fresh_bytes : (i n : ℕ) → new_file i n 0 [] ≡ fresh_file i n
-unfolding fresh_file
-fresh_bytes i n = refl
+    let whole = in_three b (done.elsewhere.size ∙ is.size) in cc

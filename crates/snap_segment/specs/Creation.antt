@@ -1,7 +1,10 @@
 -- A file that is being made.
-use Rattle.std.specs.Prelude.{◌⊎◌, ℕ, List, [], ◌∷◌, ◌++◌}
-use Rattle.snap_disk.specs.Device.{Device, MayLeave}
-use Rattle.snap_slot.specs.Layout.{header_front, slots_of, IsUnformatted, IsFileOf}
+use Rattle.std.specs.Prelude.{◌≡◌, ◌⊎◌, ℕ, ◌+◌, List, [], ◌∷◌, ◌++◌, Result, IsErrOf, OnOk}
+use Rattle.snap_disk.specs.Device.{Device, IsSynced, MayLeave}
+use Rattle.snap_disk.specs.declared.disk.Disk as Disk
+use Rattle.snap_disk.specs.declared.refusal.Refusal.{Refusal}
+use Rattle.snap_disk.specs.declared.refusal.Refusal.TheVariants.{AlreadyFormatted}
+use Rattle.snap_slot.specs.Layout.{header_front, slots_of, IsFormatted, IsUnformatted, IsFileOf}
 use Rattle.snap_slot.specs.declared.layout.TheConstants.{OPEN_GATE}
 
 -- all bytes of a file of segment i of n that is made with number k and value v: its header with the
@@ -17,3 +20,12 @@ IsMadeOrLeft i n k v old b = MayLeave old b ⊎ (IsUnformatted b ⊎ IsFileOf i 
 -- the same of formatting, which makes number 0 and the empty value
 abbrev pub IsFresh : (i n : ℕ) (old : Device) → List ℕ → Type 0
 IsFresh i n old b = IsMadeOrLeft i n 0 [] old b
+
+-- an answer tells how the header's gate was found: `AlreadyFormatted` that it was open, by a sync
+-- and a read, and Ok that it was closed
+pub record TellsGate {D T : Type 0} (disk : Disk.Ghosts D) (result : Result T Refusal) (old new : D)
+    : Type 0 where
+  pub taken_calls : IsErrOf result AlreadyFormatted → disk.clock new ≡ disk.clock old + 2
+  pub taken : disk.is_honest new → IsErrOf result AlreadyFormatted
+      → IsFormatted (disk.device old).bytes × IsSynced (disk.device old) (disk.device new)
+  pub unformatted : disk.is_honest new → OnOk result (IsUnformatted (disk.device old).bytes)

@@ -1,42 +1,12 @@
 //! Makes the file of a new segment.
-ghost use Rattle.std.specs.Prelude.{
-  ◌≡◌,
-  ◌≢◌,
-  ◌⊎◌,
-  ◌+◌,
-  ◌-◌,
-  ◌^◌,
-  ◌<◌,
-  ◌≤◌,
-  ℕ,
-  List,
-  [],
-  false,
-  length,
-  slice_index,
-  OnOk,
-  IfOk,
-  IfErr,
-  IsErrOf,
-  IsTrue,
-  ◌↔◌,
-};
-ghost use Rattle.snap_disk.specs.Device.{
-  Device,
-  part,
-  IsSettled,
-  IsSynced,
-  MayLeave,
-  CountsFailure,
-  CountsCalls,
-};
-ghost use Rattle.snap_disk.specs.Time.{LeavesOnly};
+ghost use Rattle.std.specs.Prelude.{◌≡◌, ◌≢◌, ◌-◌, ◌^◌, ◌<◌, ◌≤◌, [], false, length, OnOk, IfErr, IsErrOf, ◌↔◌};
+ghost use Rattle.snap_disk.specs.Device.{Device};
 ghost use Rattle.snap_history.specs.declared.limits.TheConstants.{MAX_COUNT};
-ghost use Rattle.snap_slot.specs.Layout.{fresh_file, header_front, IsUnformatted, IsFormatted};
-ghost use Rattle.snap_slot.specs.States.{IsAtRest, IsPrepared};
+ghost use Rattle.snap_slot.specs.Layout.{fresh_file, IsFormatted};
+ghost use Rattle.snap_slot.specs.States.{IsAtRest};
 ghost use Rattle.snap_segment.specs.Refusals.{IsFormatRefusal};
-ghost use Rattle.snap_segment.specs.Segment.{CountsRefusal};
-ghost use Rattle.snap_segment.specs.Creation.{IsFresh};
+ghost use Rattle.snap_segment.specs.Calls.{Counts, Leaves, LeavesAsBefore};
+ghost use Rattle.snap_segment.specs.Creation.{IsFresh, TellsGate};
 
 use crate::creation::make_file;
 use snap_disk::{Disk, Refusal};
@@ -50,41 +20,25 @@ use snap_slot::FILE_LEN;
 /// is written; `DeviceFailed` where a device call failed. The header's gate is opened last, behind
 /// a sync, so a crash at any time leaves what was there, an unformatted file or the whole new one;
 /// and of a formatted file only what was there.
+#[tactic(auto, unfolding(snap_slot::specs::Layout::fresh_file))]
 pub fn format<D: Disk>(device: &mut D, index: u8, count: u8) -> Result<(), Refusal>
     requires below { index < count }
     requires few { count ≤ MAX_COUNT }
     requires headroom { D.failure_count device.old < 2 ^ 64 - 1 }
-    ensures count { CountsRefusal result (D.failure_count device.old) (D.failure_count device.new) }
-    ensures size { length (D.device device.new).bytes ≡ length (D.device device.old).bytes }
-    ensures calls { CountsCalls result 7 (D.clock device.old) (D.clock device.new) }
-    ensures taken_calls { IsErrOf result Refusal.AlreadyFormatted
-        → D.clock device.new ≡ D.clock device.old + 2 }
-    ensures honest { D.is_honest device.new → D.is_honest device.old }
+    ensures counts { Counts D.Disk result 7 device.old device.new }
     ensures refusals { IfErr result IsFormatRefusal }
     ensures wrong_file { IsErrOf result Refusal.WrongFile
         ↔ (length (D.device device.old).bytes ≢ FILE_LEN) }
     ensures wrong_file_same { IsErrOf result Refusal.WrongFile → device.new ≡ device.old }
-    ensures taken { D.is_honest device.new → IsErrOf result Refusal.AlreadyFormatted
-        → IsFormatted (D.device device.old).bytes }
-    ensures taken_same { D.is_honest device.new → IsErrOf result Refusal.AlreadyFormatted
-        → IsSynced (D.device device.old) (D.device device.new) }
-    ensures unformatted { D.is_honest device.new
-        → OnOk result (IsUnformatted (D.device device.old).bytes) }
+    ensures gate { TellsGate D.Disk result device.old device.new }
 
-    // Of a formatted file, whatever is answered, a crash at any time during the call leaves what
-    // one before it could leave, and so does one after it.
+    // Of a formatted file, whatever is answered, a crash leaves what one before could leave.
     ensures kept { D.is_honest device.new → IsFormatted (D.device device.old).bytes
-        → LeavesOnly D.Disk device.old device.new
-        (MayLeave (D.device device.old)) }
-    ensures kept_now { D.is_honest device.new → IsFormatted (D.device device.old).bytes
-        → (b : List ℕ) → MayLeave (D.device device.new) b → MayLeave (D.device device.old) b }
+        → LeavesAsBefore D.Disk device.old device.new }
 
-    // A crash at any time during the call, and one after it.
-    ensures any_time { D.is_honest device.new
-        → LeavesOnly D.Disk device.old device.new
+    // Of any file it leaves that, an unformatted file or the whole new one.
+    ensures leaves { D.is_honest device.new → Leaves D.Disk device.old device.new
         (IsFresh index count (D.device device.old)) }
-    ensures now { D.is_honest device.new → (b : List ℕ) → MayLeave (D.device device.new) b
-        → IsFresh index count (D.device device.old) b }
 
     // Once it has answered Ok, a crash leaves the new file.
     ensures last { D.is_honest device.new

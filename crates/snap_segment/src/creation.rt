@@ -1,39 +1,14 @@
 //! Makes the file of a segment: the calls that formatting and migration share.
-ghost use Rattle.std.specs.Prelude.{
-  ◌≡◌,
-  ◌+◌,
-  ◌-◌,
-  ◌^◌,
-  ◌<◌,
-  ◌≤◌,
-  ℕ,
-  List,
-  false,
-  length,
-  OnOk,
-  IfOk,
-  IfErr,
-  IsErrOf,
-  IsTrue,
-  ◌↔◌,
-};
+ghost use Rattle.std.specs.Prelude.{◌≡◌, ◌-◌, ◌^◌, ◌<◌, ◌≤◌, false, length, OnOk, IfOk, IfErr, IsTrue, ◌↔◌};
 ghost use Rattle.snap_slot.specs.declared.layout.TheConstants.{FILE_LEN};
-ghost use Rattle.snap_disk.specs.Device.{
-  Device,
-  IsSettled,
-  IsSynced,
-  MayLeave,
-  CountsFailure,
-  CountsCalls,
-};
-ghost use Rattle.snap_disk.specs.Time.{LeavesOnly};
+ghost use Rattle.snap_disk.specs.Device.{Device, IsSettled, IsSynced, CountsFailure, CountsCalls};
 ghost use Rattle.snap_history.specs.declared.limits.TheConstants.{MAX_COUNT};
 ghost use Rattle.snap_history.specs.Limits.{IsNumber, IsShort};
 ghost use Rattle.snap_slot.specs.Layout.{IsUnformatted, IsFormatted};
 ghost use Rattle.snap_slot.specs.States.{IsAtRest, IsPrepared};
 ghost use Rattle.snap_segment.specs.Refusals.{IsMakeRefusal};
-ghost use Rattle.snap_segment.specs.Segment.{CountsRefusal};
-ghost use Rattle.snap_segment.specs.Creation.{IsMadeOrLeft, new_file};
+ghost use Rattle.snap_segment.specs.Calls.{Counts, Leaves, LeavesAsBefore};
+ghost use Rattle.snap_segment.specs.Creation.{IsMadeOrLeft, TellsGate, new_file};
 
 use snap_disk::{DeviceFault, Disk, Refusal, write_synced};
 use snap_slot::{
@@ -61,40 +36,15 @@ pub(crate) fn make_file<D: Disk>(
     requires fits { IsShort value.now }
     requires length { length (D.device device.old).bytes ≡ FILE_LEN }
     requires headroom { D.failure_count device.old < 2 ^ 64 - 1 }
-    ensures count { CountsRefusal result (D.failure_count device.old) (D.failure_count device.new) }
-    ensures size { length (D.device device.new).bytes ≡ length (D.device device.old).bytes }
-    ensures calls { CountsCalls result 7 (D.clock device.old) (D.clock device.new) }
-    ensures taken_calls { IsErrOf result Refusal.AlreadyFormatted
-        → D.clock device.new ≡ D.clock device.old + 2 }
-    ensures honest { D.is_honest device.new → D.is_honest device.old }
+    ensures counts { Counts D.Disk result 7 device.old device.new }
     ensures refusals { IfErr result IsMakeRefusal }
-    ensures taken { D.is_honest device.new → IsErrOf result Refusal.AlreadyFormatted
-        → IsFormatted (D.device device.old).bytes }
-    ensures taken_same { D.is_honest device.new → IsErrOf result Refusal.AlreadyFormatted
-        → IsSynced (D.device device.old) (D.device device.new) }
-    ensures unformatted { D.is_honest device.new
-        → OnOk result (IsUnformatted (D.device device.old).bytes) }
-
-    // Of a formatted file, whatever is answered, a crash at any time during the call leaves what
-    // one before it could leave, and so does one after it.
+    ensures gate { TellsGate D.Disk result device.old device.new }
     ensures kept { D.is_honest device.new → IsFormatted (D.device device.old).bytes
-        → LeavesOnly D.Disk device.old device.new
-        (MayLeave (D.device device.old)) }
-    ensures kept_now { D.is_honest device.new → IsFormatted (D.device device.old).bytes
-        → (b : List ℕ) → MayLeave (D.device device.new) b → MayLeave (D.device device.old) b }
-
-    // A crash at any time during the call, and one after it.
-    ensures any_time { D.is_honest device.new
-        → LeavesOnly D.Disk device.old device.new
+        → LeavesAsBefore D.Disk device.old device.new }
+    ensures leaves { D.is_honest device.new → Leaves D.Disk device.old device.new
         (IsMadeOrLeft index count number value.now (D.device device.old)) }
-    ensures now { D.is_honest device.new → (b : List ℕ) → MayLeave (D.device device.new) b
-        → IsMadeOrLeft index count number value.now (D.device device.old) b }
-
-    // Once it has answered Ok, a crash leaves the new file.
     ensures last { D.is_honest device.new
         → OnOk result (IsAtRest index count number value.now false (D.device device.new)) }
-
-    // Then these are all its bytes, whatever it held before.
     ensures bytes { D.is_honest device.new
         → OnOk result ((D.device device.new).bytes ≡ new_file index count number value.now) }
 {
@@ -118,11 +68,7 @@ fn is_unformatted<D: Disk>(device: &mut D) -> Result<bool, DeviceFault>
     ensures size { length (D.device device.new).bytes ≡ length (D.device device.old).bytes }
     ensures calls { CountsCalls result 2 (D.clock device.old) (D.clock device.new) }
     ensures honest { D.is_honest device.new → D.is_honest device.old }
-    ensures any_time { D.is_honest device.new
-        → LeavesOnly D.Disk device.old device.new
-        (MayLeave (D.device device.old)) }
-    ensures now { D.is_honest device.new → (b : List ℕ) → MayLeave (D.device device.new) b
-        → MayLeave (D.device device.old) b }
+    ensures kept { D.is_honest device.new → LeavesAsBefore D.Disk device.old device.new }
     ensures settled { D.is_honest device.new
         → OnOk result (IsSynced (D.device device.old) (D.device device.new)) }
     ensures unformatted { D.is_honest device.new
@@ -153,12 +99,9 @@ fn write_front<D: Disk>(
     ensures size { length (D.device device.new).bytes ≡ length (D.device device.old).bytes }
     ensures calls { CountsCalls result 3 (D.clock device.old) (D.clock device.new) }
     ensures honest { D.is_honest device.new → D.is_honest device.old }
-    ensures any_time { D.is_honest device.new → IsSettled (D.device device.old)
+    ensures leaves { D.is_honest device.new → IsSettled (D.device device.old)
         → IsUnformatted (D.device device.old).bytes
-        → LeavesOnly D.Disk device.old device.new IsUnformatted }
-    ensures now { D.is_honest device.new → IsSettled (D.device device.old)
-        → IsUnformatted (D.device device.old).bytes → (b : List ℕ)
-        → MayLeave (D.device device.new) b → IsUnformatted b }
+        → Leaves D.Disk device.old device.new IsUnformatted }
     ensures prepared { D.is_honest device.new
         → OnOk result (IsPrepared index count number value.now (D.device device.new)) }
 {

@@ -1,22 +1,5 @@
 //! Carries the file of a segment over from the old format.
-ghost use Rattle.std.specs.Prelude.{
-  ◌≡◌,
-  ◌≢◌,
-  ◌+◌,
-  ◌-◌,
-  ◌^◌,
-  ◌<◌,
-  ◌≤◌,
-  ◌↔◌,
-  ℕ,
-  List,
-  false,
-  length,
-  OnOk,
-  IfOk,
-  IfErr,
-  IsErrOf,
-};
+ghost use Rattle.std.specs.Prelude.{◌≡◌, ◌≢◌, ◌+◌, ◌-◌, ◌^◌, ◌<◌, ◌≤◌, ◌↔◌, ℕ, List, false, length, OnOk, IfOk, IfErr, IsErrOf};
 ghost use Rattle.snap_slot.specs.declared.layout.TheConstants.{FILE_LEN};
 ghost use Rattle.snap_disk.specs.Device.{Device, IsSynced, MayLeave, CountsCalls};
 ghost use Rattle.snap_disk.specs.Time.{LeavesOnly};
@@ -27,12 +10,12 @@ ghost use Rattle.snap_old_slot.specs.declared.layout.TheConstants.{OLD_FILE_LEN}
 ghost use Rattle.snap_old_slot.specs.Old.{OldHead, OldHolds};
 ghost use Rattle.snap_old_slot.specs.Found.{IsOldFound, IsNoOldOpening};
 ghost use Rattle.snap_segment.specs.Refusals.{IsMigrationRefusal};
-ghost use Rattle.snap_segment.specs.Segment.{CountsRefusal};
+ghost use Rattle.snap_segment.specs.Calls.{Counts, LeavesAsBefore};
 ghost use Rattle.snap_segment.specs.Creation.{IsMadeOrLeft, new_file};
-ghost use Rattle.snap_segment.specs.Migration.{CountsFault, IsRead};
+ghost use Rattle.snap_segment.specs.Migration.{CountsFault, IsRead, OfHeld};
 
+use crate::contents::read_all;
 use crate::creation::make_file;
-use crate::recovery::read_all;
 use snap_disk::{Disk, Refusal};
 use snap_old_slot::{OLD_FILE_LEN, OldFound, recover_old};
 use snap_slot::FILE_LEN;
@@ -122,25 +105,22 @@ pub fn migrate<O: Disk, N: Disk>(
         → (b : List ℕ) → MayLeave (N.device new.new) b → MayLeave (N.device new.old) b }
 
     // A crash of the new file at any time during the call, and one after it.
-    ensures any_time { O.is_honest old.new → N.is_honest new.new → (k : ℕ) (v : List ℕ)
-        → OldHolds (O.device old.old).bytes k v
-        → LeavesOnly N.Disk new.old new.new
-        (IsMadeOrLeft index count k v (N.device new.old)) }
-    ensures now { O.is_honest old.new → N.is_honest new.new → (k : ℕ) (v : List ℕ)
-        → OldHolds (O.device old.old).bytes k v
-        → (b : List ℕ) → MayLeave (N.device new.new) b
-        → IsMadeOrLeft index count k v (N.device new.old) b }
+    ensures any_time { O.is_honest old.new → N.is_honest new.new
+        → OfHeld (O.device old.old).bytes (λ k v. LeavesOnly N.Disk new.old new.new
+        (IsMadeOrLeft index count k v (N.device new.old))) }
+    ensures now { O.is_honest old.new → N.is_honest new.new
+        → OfHeld (O.device old.old).bytes (λ k v. (b : List ℕ) → MayLeave (N.device new.new) b
+        → IsMadeOrLeft index count k v (N.device new.old) b) }
 
     // Once it has answered Ok, a crash leaves in the new file what the old one holds.
-    ensures last { O.is_honest old.new → N.is_honest new.new → (k : ℕ) (v : List ℕ)
-        → OldHolds (O.device old.old).bytes k v
-        → IfOk result (λ number. (number ≡ k)
-        × IsAtRest index count k v false (N.device new.new)) }
+    ensures last { O.is_honest old.new → N.is_honest new.new
+        → OfHeld (O.device old.old).bytes (λ k v. IfOk result (λ number. (number ≡ k)
+        × IsAtRest index count k v false (N.device new.new))) }
 
     // Then these are all the bytes of the new file, whatever it held before.
-    ensures bytes { O.is_honest old.new → N.is_honest new.new → (k : ℕ) (v : List ℕ)
-        → OldHolds (O.device old.old).bytes k v
-        → OnOk result ((N.device new.new).bytes ≡ new_file index count k v) }
+    ensures bytes { O.is_honest old.new → N.is_honest new.new
+        → OfHeld (O.device old.old).bytes
+        (λ k v. OnOk result ((N.device new.new).bytes ≡ new_file index count k v)) }
 {
     if old.len() != OLD_FILE_LEN {
         return Err((Which::Old, Refusal::WrongFile));
@@ -170,15 +150,8 @@ fn read_old<D: Disk>(
     requires length { length (D.device device.old).bytes ≡ OLD_FILE_LEN }
     requires whole { length file.old ≡ OLD_FILE_LEN }
     requires headroom { D.failure_count device.old < 2 ^ 64 - 1 }
-    ensures count { CountsRefusal result (D.failure_count device.old) (D.failure_count device.new) }
-    ensures size { length (D.device device.new).bytes ≡ length (D.device device.old).bytes }
-    ensures calls { CountsCalls result 2 (D.clock device.old) (D.clock device.new) }
-    ensures honest { D.is_honest device.new → D.is_honest device.old }
-    ensures any_time { D.is_honest device.new
-        → LeavesOnly D.Disk device.old device.new
-        (MayLeave (D.device device.old)) }
-    ensures now { D.is_honest device.new → (b : List ℕ) → MayLeave (D.device device.new) b
-        → MayLeave (D.device device.old) b }
+    ensures counts { Counts D.Disk result 2 device.old device.new }
+    ensures kept { D.is_honest device.new → LeavesAsBefore D.Disk device.old device.new }
     ensures same { D.is_honest device.new → (IsErrOf result Refusal.DeviceFailed → ⊥)
         → (D.device device.new).bytes ≡ (D.device device.old).bytes }
     ensures given { D.is_honest device.new → OnOk result (file.new ≡ (D.device device.old).bytes) }

@@ -1,13 +1,17 @@
 //! Why a server did not serve.
-ghost use Rattle.std.specs.Prelude.{◌≡◌, IfSome, string_bytes};
-ghost use Rattle.snap_serve.specs.Serve.{IsRemedy, SaysFailure, cut_off_text, status_of};
+ghost use Rattle.std.specs.Prelude.{◌≡◌, IfOk, IfSome, string_bytes};
+ghost use Rattle.snap_order.specs.Remedy.{empty_text, unformatted_text};
+ghost use Rattle.snap_serve.specs.Serve.{IsAdvice, IsRemedy, SaysFailure, another_text, format_command_of, status_of, wrong_text};
 ghost use Rattle.snap_stream.specs.Streams.{file_line};
 
 use snap_disk::Refusal;
-use snap_order::{Exit, Serving, Status};
+use snap_order::{
+    Exit, OLD_FILE_LEN, Serving, Status, empty_remedy, format_command, old_format_remedy,
+    unformatted_remedy,
+};
 use snap_server::ServerFault;
 use snap_stream::{Cause, complain, complain_of_refusal, complain_twice};
-use std::alloc::Global;
+use std::alloc::{AllocError, Global};
 use std::io::{self, Write};
 
 /// Why a server ended early.
@@ -103,18 +107,11 @@ fn remedy_line<C: Cause>(
     };
     match why {
         Refusal::NoMemory => Some(String::new(alloc)),
-        Refusal::WrongFile if len == 0 => cut_off_line(alloc, *file, segment, files.len()),
-        _ => {
-            let cause = cause_of(alloc, causes, segment);
-            let remedy = remedy_of(alloc, *file, segment, files.len(), why, cause)?;
-            line_of(alloc, *file, &remedy)
-        }
+        _ => match remedy_of(alloc, *file, segment, files.len(), causes, why, len) {
+            Ok(remedy) => line_of(alloc, *file, &remedy),
+            Err(_) => None,
+        },
     }
-}
-
-/// What the system said of this segment's device.
-fn cause_of<C: Cause>(alloc: Global, causes: &[C], segment: usize) -> Option<String> {
-    causes.get(segment)?.text(alloc)
 }
 
 /// A line that names a file.
@@ -128,45 +125,97 @@ fn line_of(alloc: Global, file: &str, text: &String) -> Option<String>
     }
 }
 
-/// The line of a file without a byte, which is what a `format` leaves that was cut off.
-fn cut_off_line(alloc: Global, file: &str, segment: usize, count: usize) -> Option<String>
-    ensures { IfSome result (λ line.
-        string_bytes line ≡ file_line file.now (cut_off_text file.now segment count)) }
-{
-    match format!(in alloc;
-        "it has no byte: a format that was cut off: go on with snapd format {file} --index {segment} --count {count}"
-    ) {
-        Ok(text) => line_of(alloc, file, &text),
-        Err(_) => None,
-    }
-}
-
-/// What to do about any other file that was refused.
-fn remedy_of(
+/// What to do about a file of so many bytes that was refused.
+fn remedy_of<C: Cause>(
     alloc: Global,
     file: &str,
     segment: usize,
     count: usize,
+    causes: &[C],
     why: Refusal,
-    cause: Option<String>,
-) -> Option<String> {
-    let text = match (why, cause) {
-        (Refusal::Unformatted, _) => format!(in alloc;
-            "it was never formatted, or its header is gone: keep a copy first, then snapd format {file} --index {segment} --count {count}"
-        ),
-        (Refusal::WrongFile, _) => format!(in alloc;
-            "it isn't the file of segment {segment} of {count}, or has the old format: see snapd check {file}"
-        ),
-        (Refusal::DeviceFailed, Some(cause)) => format!(in alloc;
-            "{cause}: look after its disk, and start again"
-        ),
-        (Refusal::DeviceFailed, None) => format!(in alloc;
+    len: u64,
+) -> Result<String, AllocError>
+    ensures { IfOk result (λ text. IsAdvice file.now segment count why len (string_bytes text)) }
+{
+    match why {
+        Refusal::WrongFile => of_wrong(alloc, file, segment, count, len),
+        Refusal::Unformatted => of_unformatted(alloc, file, segment, count),
+        Refusal::DeviceFailed => of_failed(alloc, cause_of(alloc, causes, segment)),
+        _ => format!(in alloc; "it doesn't hold a segment's number: see snapd check {file}"),
+    }
+}
+
+/// Of a file that isn't this segment's, by its length.
+fn of_wrong(
+    alloc: Global,
+    file: &str,
+    segment: usize,
+    count: usize,
+    len: u64,
+) -> Result<String, AllocError>
+    ensures { IfOk result (λ text. string_bytes text ≡ wrong_text file.now segment count len) }
+{
+    match len {
+        0 => of_empty(alloc, file, segment, count),
+        OLD_FILE_LEN => old_format_remedy(alloc, file),
+        _ => of_another(alloc, file, segment, count),
+    }
+}
+
+/// Of a file without a byte, which is what a `format` leaves that was cut off.
+fn of_empty(alloc: Global, file: &str, segment: usize, count: usize) -> Result<String, AllocError>
+    ensures { IfOk result (λ text.
+        string_bytes text ≡ empty_text (format_command_of file.now segment count)) }
+{
+    let command = words_of_format(alloc, file, segment, count)?;
+    empty_remedy(alloc, command.as_str())
+}
+
+/// Of a file that is another segment's, or none.
+fn of_another(alloc: Global, file: &str, segment: usize, count: usize) -> Result<String, AllocError>
+    ensures { IfOk result (λ text. string_bytes text ≡ another_text file.now segment count) }
+{
+    format!(in alloc; "it isn't the file of segment {segment} of {count}: see snapd check {file}")
+}
+
+/// Of a file whose header's gate is closed.
+fn of_unformatted(
+    alloc: Global,
+    file: &str,
+    segment: usize,
+    count: usize,
+) -> Result<String, AllocError>
+    ensures { IfOk result (λ text.
+        string_bytes text ≡ unformatted_text (format_command_of file.now segment count)) }
+{
+    let command = words_of_format(alloc, file, segment, count)?;
+    unformatted_remedy(alloc, command.as_str())
+}
+
+/// The words that format a file as this segment's.
+fn words_of_format(
+    alloc: Global,
+    file: &str,
+    segment: usize,
+    count: usize,
+) -> Result<String, AllocError>
+    ensures { IfOk result (λ text.
+        string_bytes text ≡ format_command_of file.now segment count) }
+{
+    format_command(alloc, file, segment as u64, count as u64)
+}
+
+/// Of a file whose device failed, with what the system said of that.
+fn of_failed(alloc: Global, cause: Option<String>) -> Result<String, AllocError> {
+    match cause {
+        Some(cause) => format!(in alloc; "{cause}: look after its disk, and start again"),
+        None => format!(in alloc;
             "a call of its device failed: look after its disk, and start again"
         ),
-        _ => format!(in alloc; "it doesn't hold a segment's number: see snapd check {file}"),
-    };
-    match text {
-        Ok(text) => Some(text),
-        Err(_) => None,
     }
+}
+
+/// What the system said of this segment's device.
+fn cause_of<C: Cause>(alloc: Global, causes: &[C], segment: usize) -> Option<String> {
+    causes.get(segment)?.text(alloc)
 }

@@ -10,7 +10,7 @@ ghost use Rattle.snap_server.specs.Deals.{GivesSoMany};
 use crate::watch::Watch;
 use snap_desk::{Desk, Outcome, StoreThread, Window};
 use snap_disk::{Disk, Refusal};
-use snap_memory::{Scanner, Snapshot};
+use snap_memory::Scanner;
 use snap_restart::Store;
 use snap_server::{Announce, Gate, Limits, Listen, Note, RunFault, ServerFault, run};
 use snap_service::{Memory, WriterOf};
@@ -115,9 +115,7 @@ fn open_desk<R: Wait + Copy + Clock, M: Memory, D: Disk + Drop>(
     requires windows { length windows.now.items ≡ segments M.plan }
     requires memory { IsOf M.table M.plan scanner }
 {
-    let snapshot = Snapshot::new(alloc, windows.len())?;
-    let own = windows.clone()?;
-    Ok(Desk::new(rt, alloc, worker, own, scanner, snapshot))
+    Ok(Desk::new(rt, alloc, worker, windows.clone()?, scanner))
 }
 
 /// The desks and stores of a server over the memory of these writers and scanners.

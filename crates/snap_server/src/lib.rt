@@ -1,9 +1,11 @@
 //! The server: any number of connections on few threads.
 //!
-//! [`run`] has one thread that accepts, one [worker](run) for each service, and one for each
-//! [`Background`](snap_session::Background) that works on what the services hand over. A worker owns its service, its
-//! connections and one buffer for reading. It waits until the system reports some of them, and
-//! gives each of these a turn of its session; an idle connection costs no thread and no buffer.
+//! [`run`] accepts connections on the thread that calls it, and deals them in turn to its *workers*:
+//! threads of their own, one for each service. A worker owns its service, the connections that were
+//! dealt to it and one buffer for reading. It waits until the system reports some of them, and gives
+//! each of these a turn of its session; an idle connection costs no thread and no buffer. What a
+//! service hands over, as an update that waits for a disk, a
+//! [`Background`](snap_session::Background) works on, in a thread of its own too.
 #![tactic(auto)]
 
 mod acceptor;

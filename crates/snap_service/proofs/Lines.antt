@@ -1,69 +1,128 @@
 -- Lists of entries.
-use Rattle.std.proofs.Common.{◌≡◌, ℕ, zero, suc, ◌+◌, ◌<◌, ◌≤◌, All, List, [], ◌∷◌, ◌++◌, length, map, take, slice_get, slice_index_or}
-use Rattle.std.proofs.Common.{Some, refl, ap, sym, subst, ◌∙◌, arith}
-use Rattle.std.proofs.lemmas.List.{length-map}
+use Rattle.std.proofs.Common.{◌≡◌, ℕ, zero, suc, ◌+◌, ◌-◌, ◌^◌, ◌<◌, ◌≤◌, All, List, [], ◌∷◌, ◌++◌, length, map, slice_get, get_or}
+use Rattle.std.proofs.Common.{Some, ap, sym, subst, ◌∙◌, arith}
+use Rattle.std.specs.Option.{option_map}
+use Rattle.std.proofs.lemmas.List.{length-map, length_push}
 use Rattle.std.proofs.lemmas.List.Elements.{All-push}
-use Rattle.std.proofs.lemmas.Option.{slice_get-get_or, same_Some}
+use Rattle.std.proofs.lemmas.Option.{slice_get-get_or, slice_get-map, same_Some}
 use Rattle.snap_history.specs.Limits.{IsNumber, IsShort}
-use Rattle.snap_history.specs.declared.limits.TheConstants.{MAX_COUNT}
 use Rattle.snap_history.proofs.Beginnings.{number-beginning}
 use Rattle.snap_register.specs.History.{starts}
 use Rattle.snap_register.specs.Rule.{segments}
 use Rattle.snap_register.specs.Seat.{Known, IsBelow, number_in, value_in}
-use Rattle.snap_register.proofs.Pairs.{take_next}
-use Rattle.snap_memory.specs.Scans.{IsSnapshot}
-use Rattle.snap_frame.specs.declared.entries.SegmentValue.{SegmentValue}
-use Rattle.snap_frame.specs.Messages.{IsValue, AreEntries}
-use Rattle.snap_service.specs.Answers.{pair_of}
-
-map_push : (values : List SegmentValue) (s : SegmentValue)
-    → map pair_of (values ++ s ∷ []) ≡ map pair_of values ++ pair_of s ∷ []
-map_push [] s = refl
-map_push (x ∷ values) s = ap (λ l. pair_of x ∷ l) (map_push values s)
-
--- the list so far and one more
-pub list_more : (memory : List (ℕ × List ℕ)) (i : ℕ) (values : List SegmentValue)
-    (s : SegmentValue) (x : ℕ × List ℕ) → map pair_of values ≡ take i memory
-    → slice_get memory i ≡ Some x → s.number ≡ x.0 → s.value ≡ x.1
-    → map pair_of (values ++ s ∷ []) ≡ take (i + 1) memory
-list_more memory i values s x e at number value =
-    map_push values s ∙ ap (λ l. l ++ pair_of s ∷ []) e
-    ∙ ap (λ (y : ℕ × List ℕ). take i memory ++ y ∷ []) (λ j. (number j, value j))
-    ∙ sym (take_next i memory x at)
+use Rattle.snap_scan.specs.Sets.{Names, named, named_below, size, IsAt}
+use Rattle.snap_scan.specs.Values.{pair_of}
+use Rattle.snap_scan.specs.declared.segment_value.SegmentValue.{SegmentValue}
+use Rattle.snap_scan.proofs.Sets.{few, at_named, at_below, ascends, some_among, with, more}
+use Rattle.snap_memory.specs.Scans.{IsPart}
+use Rattle.snap_frame.specs.declared.named.NamedValue.{NamedValue}
+use Rattle.snap_frame.specs.Messages.{IsValue, IsNamedValue, Ascend, AreEntries}
+use Rattle.snap_service.specs.Answers.{segment_of, named_pair}
 
 -- what holds of all of a list, and of one more
 pub all_more : {A : Type 0} (P : A → Type 0) (xs ys : List A) (x : A) → ys ≡ xs ++ x ∷ [] → All P xs
     → P x → All P ys
 all_more P xs ys x e all one = subst (λ l. All P l) (sym e) (All-push P xs x all one)
 
-get_pair : (values : List SegmentValue) (k : ℕ) (s : SegmentValue) → slice_get values k ≡ Some s
-    → slice_get (map pair_of values) k ≡ Some (pair_of s)
-get_pair [] k s e = absurd cc
-get_pair (x ∷ values) zero s e = ap (λ y. Some (pair_of y)) (same_Some x s e)
-get_pair (x ∷ values) (suc k) s e = get_pair values k s e
+-- an element of a list, as what stands for it in another
+get_as : {A B : Type 0} (f : A → B) (xs : List A) (k : ℕ) (d : A) → k < length xs
+    → slice_get (map f xs) k ≡ Some (f (get_or xs k d))
+get_as f xs k d l = slice_get-map f xs k ∙ ap (option_map f) (slice_get-get_or xs k d l)
 
--- what a scan lists can be said
-pub listed : (a b : Known) (memory : List (ℕ × List ℕ)) (values : List SegmentValue)
-    → IsSnapshot a b memory → map pair_of values ≡ memory → All (λ s. IsShort s.value) values
-    → IsBelow b → 1 ≤ segments b.plan → segments b.plan ≤ MAX_COUNT → AreEntries IsValue values
-listed a b memory values snap list short below one few =
-    let size : length values ≡ segments b.plan =
-    sym (length-map values pair_of) ∙ ap length list ∙ snap.is_memory.size in
-    record {
-      one = omega arith;
-      few = omega arith;
-      each = λ k d h.
-          let s = slice_index_or values k d in
-          let at : slice_get values k ≡ Some s = slice_get-get_or values k d h in
-          let inside : k < segments b.plan = omega arith in
-          let there : slice_get memory k ≡ Some (pair_of s) =
-          subst (λ (l : List (ℕ × List ℕ)). slice_get l k ≡ Some (pair_of s)) list
-          (get_pair values k s at) in
-          let is : pair_of s ≡ (number_in b snap.part k, value_in b snap.part k) =
-          same_Some _ _ (sym there ∙ snap.is_memory.each k inside) in
-          let number : s.number ≡ number_in b snap.part k = ap (λ (x : ℕ × List ℕ). x.0) is in
-          let less : number_in b snap.part k ≤ number_in b b.seen k =
-          number-beginning (starts b.plan) snap.part b.seen k snap.within in
-          let top : IsNumber (number_in b b.seen k) = below k inside in
-          (omega arith, short k d h);
-    }
+-- the numbers that a scan told are within the limit
+module _ (set : ℕ) (a b : Known) (among : set < 2 ^ segments b.plan) (below : IsBelow b) where
+  number_fits : (values : List (ℕ × List ℕ)) (k : ℕ) (x : ℕ × List ℕ) → IsPart set a b values
+      → slice_get values k ≡ Some x → k < size set → IsNumber x.0
+  number_fits values k x part at l =
+      let i : ℕ = get_or (named set) k 0 in
+      let here : IsAt set k i = slice_get-get_or (named set) k 0 l in
+      let inside : i < segments b.plan = at_below set (segments b.plan) k i among here in
+      let is : x ≡ (number_in b part.part i, value_in b part.part i) =
+      same_Some _ _ (sym at ∙ part.each k i here) in
+      let number : x.0 ≡ number_in b part.part i = ap (λ (y : ℕ × List ℕ). y.0) is in
+      let less : number_in b part.part i ≤ number_in b b.seen i =
+      number-beginning (starts b.plan) part.part b.seen i part.within in
+      let top : IsNumber (number_in b b.seen i) = below i inside in
+      omega arith
+
+  -- so what a scan lists can be said
+  pub listed : (values : List SegmentValue) → segments b.plan ≤ 16 → 0 < set
+      → IsPart set a b (map pair_of values) → All (λ s. IsShort s.value) values
+      → AreEntries IsValue values
+  listed values most some part short =
+      let long : length (map pair_of values) ≡ length values = length-map values pair_of in
+      let count : length (map pair_of values) ≡ size set = part.size in
+      let few = few set in
+      let one = some_among set (segments b.plan) most among some in
+      record {
+        one = omega arith;
+        few = omega arith;
+        each = λ k d h. (
+          number_fits (map pair_of values) k (pair_of (get_or values k d)) part
+              (get_as pair_of values k d h) (omega arith),
+          short k d h,
+        );
+      }
+
+  pub named_listed : (list : List NamedValue) → segments b.plan ≤ 16 → 0 < set
+      → IsPart set a b (map named_pair list) → map segment_of list ≡ named set
+      → All (λ v. IsShort v.value) list → AreEntries IsNamedValue list × Ascend list
+  named_listed list most some part names short =
+      let long : length (map named_pair list) ≡ length list = length-map list named_pair in
+      let count : length (map named_pair list) ≡ size set = part.size in
+      let few = few set in
+      let one = some_among set (segments b.plan) most among some in (
+        record {
+          one = omega arith;
+          few = omega arith;
+          each = λ k d h. (
+            (at_named set k _ (ap (λ l. slice_get l k) (sym names)
+                ∙ get_as segment_of list k d h)).0,
+            number_fits (map named_pair list) k (named_pair (get_or list k d)) part
+                (get_as named_pair list k d h) (omega arith),
+            short k d h,
+          );
+        },
+        λ p x y first second. ascends set 16 p (p + 1) x.segment y.segment
+            (ap (λ l. slice_get l p) (sym names) ∙ slice_get-map segment_of list p
+            ∙ ap (option_map segment_of) first)
+            (ap (λ l. slice_get l (p + 1)) (sym names) ∙ slice_get-map segment_of list (p + 1)
+            ∙ ap (option_map segment_of) second) (omega arith),
+      )
+
+-- the values of two lists with the same numbers and values
+pub short_as : (list : List NamedValue) (values : List SegmentValue)
+    → map named_pair list ≡ map pair_of values → All (λ s. IsShort s.value) values
+    → All (λ v. IsShort v.value) list
+short_as list values same short k d h =
+    let e = ap length same in
+    let m = length-map list named_pair in
+    let n = length-map values pair_of in
+    let inside : k < length values = omega arith in
+    let x : SegmentValue = get_or values k (record { number = 0; value = [] }) in
+    let is : named_pair (get_or list k d) ≡ pair_of x =
+    same_Some _ _ (sym (get_as named_pair list k d h) ∙ ap (λ l. slice_get l k) same
+    ∙ get_as pair_of values k (record { number = 0; value = [] }) inside) in
+    subst (λ (y : ℕ × List ℕ). IsShort y.1) (sym is) (short k _ inside)
+
+-- a set has no more segments below one place than below a later one
+pub count_le : (set k d : ℕ) → length (named_below set k) ≤ length (named_below set (k + d))
+count_le set k zero = (let same : k + zero ≡ k = omega arith in
+    let e = ap (λ v. length (named_below set v)) same in omega arith)
+count_le set k (suc d) =
+    let old = count_le set k d in
+    let up : k + suc d ≡ suc (k + d) = omega arith in
+    subst (λ v. length (named_below set k) ≤ length (named_below set v)) (sym up)
+    (more set (k + d) (λ l. length (named_below set k) ≤ length l)
+    (λ is. (let long = length_push (named_below set (k + d)) (k + d) in omega arith)) (λ un. old))
+
+-- and one that it names counts
+pub counts : (set k : ℕ) → k < 16 → Names set k → length (named_below set k) < size set
+counts set k l is =
+    let e = ap length (with set k is) in
+    let long = length_push (named_below set k) k in
+    let later : length (named_below set (suc k)) ≤ length (named_below set (suc k + (15 - k))) =
+    count_le set (suc k) (15 - k) in
+    let all : suc k + (15 - k) ≡ 16 = omega arith in
+    let f = ap (λ v. length (named_below set v)) all in
+    omega arith

@@ -1,18 +1,19 @@
 -- What the service answers, from what its scanner had seen before to what it has seen after.
-use Rattle.std.specs.Prelude.{◌≡◌, ℕ, ◌<◌, ◌≤◌, ◌⊎◌, List, length, map}
+use Rattle.std.specs.Prelude.{◌≡◌, ℕ, ◌^◌, ◌<◌, ◌≤◌, ◌⊎◌, List, length, map}
 use Rattle.snap_disk.specs.declared.refusal.Refusal.{Refusal}
 use Rattle.snap_disk.specs.declared.refusal.Refusal.TheVariants.{NoSegment, TooLong, NoMemory, Worn}
 use Rattle.snap_history.specs.declared.limits.TheConstants.{MAX_VALUE_LEN}
 use Rattle.snap_history.specs.Limits.{IsShort}
-use Rattle.snap_memory.specs.Looks.{most_looks}
 use Rattle.snap_memory.specs.Rule.{segments}
 use Rattle.snap_memory.specs.Seat.{Known, Grows}
-use Rattle.snap_memory.specs.Scans.{IsSnapshot, TakesLooks}
+use Rattle.snap_memory.specs.Scans.{IsSnapshot, IsPart, TakesLooks, TakesLooksOf, MayRefuse}
+use Rattle.snap_memory.specs.Sets.{named, size}
+use Rattle.snap_memory.specs.Values.{pair_of}
 use Rattle.snap_frame.specs.declared.request.Request.{Request}
 use Rattle.snap_frame.specs.declared.request.Request.TheVariants as request
 use Rattle.snap_frame.specs.declared.reply.Reply.{Reply}
-use Rattle.snap_frame.specs.declared.reply.Reply.TheVariants.{Stored, Snapshot, Status, Refused}
-use Rattle.snap_frame.specs.declared.entries.SegmentValue.{SegmentValue}
+use Rattle.snap_frame.specs.declared.reply.Reply.TheVariants.{Stored, Snapshot, Status, Part, Refused}
+use Rattle.snap_frame.specs.declared.named.NamedValue.{NamedValue}
 use Rattle.snap_service.specs.Settled.{IsSettledAt}
 
 -- the reply to an update of segment i to number k and value v
@@ -30,27 +31,47 @@ pub data AnswersUpdate (a : Known) (i k : ℕ) (v : List ℕ) (reply : Reply) (b
   Settled : i < segments a.plan → IsShort v → IsSettledAt b i k v reply → Grows a b
       → AnswersUpdate a i k v reply b
 
--- the number and the value of an entry
-abbrev pub pair_of : SegmentValue → ℕ × List ℕ
-pair_of s = (s.number, s.value)
+-- the segment of an entry, and its number and its value
+abbrev pub segment_of : NamedValue → ℕ
+segment_of v = v.segment
+
+abbrev pub named_pair : NamedValue → ℕ × List ℕ
+named_pair v = (v.number, v.value)
 
 -- the scanner has seen more, by one scan's looks
 abbrev pub HasScanned : Known → Known → Type 0
 HasScanned a b = Grows a b × TakesLooks a b
 
--- A scan may be refused so: no memory was left for it or for the list, or the scanner has too few
--- looks left.
-abbrev pub MayRefuseScan : Known → Refusal → Known → Type 0
-MayRefuseScan a why b = ((why ≡ NoMemory) × ((b ≡ a) ⊎ HasScanned a b))
-    ⊎ ((why ≡ Worn) × (a.left < most_looks (segments a.plan)) × (b ≡ a))
-
 -- the reply to a scan: the numbers and the values of all segments at one moment of what was seen,
 -- which has all that had been seen before, and all that was seen at the first look of the scan
 abbrev pub AnswersScan : Known → Reply → Known → Type 0
 AnswersScan a (Snapshot values) b = IsSnapshot a b (map pair_of values.items) × HasScanned a b
-AnswersScan a (Refused why detail) b = (detail ≡ 0) × MayRefuseScan a why b
+AnswersScan a (Refused why detail) b = (detail ≡ 0) × MayRefuse (segments a.plan) a why b
 AnswersScan a (Stored number) b = ⊥
 AnswersScan a (Status statuses) b = ⊥
+AnswersScan a (Part values) b = ⊥
+
+-- the reply to a scan of the named segments, which are all there: in ascending order each with its
+-- number and its value, at one moment as of a scan
+pub record IsPartOf (a : Known) (set : ℕ) (list : List NamedValue) (b : Known) : Type 0 where
+  pub among : set < 2 ^ segments a.plan
+  pub names : map segment_of list ≡ named set
+  pub values : IsPart set a b (map named_pair list)
+  pub seen : Grows a b
+  pub looks : TakesLooksOf (size set) a b
+
+-- refused it may be as a scan is; and where a segment is named that isn't there, it is refused so
+abbrev pub MayRefusePart : Known → ℕ → Refusal → ℕ → Known → Type 0
+MayRefusePart a set why detail b =
+    ((2 ^ segments a.plan ≤ set) × (why ≡ NoSegment) × (detail ≡ segments a.plan) × (b ≡ a))
+    ⊎ ((set < 2 ^ segments a.plan) × (detail ≡ 0) × MayRefuse (size set) a why b)
+
+abbrev pub AnswersPart : Known → ℕ → Reply → Known → Type 0
+AnswersPart a set (Part values) b = IsPartOf a set values.items b
+AnswersPart a set (Refused why detail) b = MayRefusePart a set why detail b
+AnswersPart a set (Stored number) b = ⊥
+AnswersPart a set (Snapshot values) b = ⊥
+AnswersPart a set (Status statuses) b = ⊥
 
 -- the reply to a status: an entry for each segment, unless no memory was left for them
 abbrev pub AnswersStatus : Known → Reply → Known → Type 0
@@ -58,6 +79,7 @@ AnswersStatus a (Status statuses) b = (length statuses.items ≡ segments a.plan
 AnswersStatus a (Refused why detail) b = (why ≡ NoMemory) × (detail ≡ 0) × (b ≡ a)
 AnswersStatus a (Stored number) b = ⊥
 AnswersStatus a (Snapshot values) b = ⊥
+AnswersStatus a (Part values) b = ⊥
 
 -- The service's relation: from what was seen before, the request may get this reply and leave what
 -- is seen after.
@@ -65,3 +87,4 @@ abbrev pub Answers : Known → Request → Reply → Known → Type 0
 Answers a (request.Update segment k v) reply b = AnswersUpdate a segment k v reply b
 Answers a request.Scan reply b = AnswersScan a reply b
 Answers a request.Status reply b = AnswersStatus a reply b
+Answers a (request.Part set) reply b = AnswersPart a set.bits reply b

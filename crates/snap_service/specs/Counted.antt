@@ -48,9 +48,11 @@ abbrev pub Counts : NodeState → Request → NodeState → Type 0
 Counts old (request.Update segment k v) new = CountsUpdate old segment v new
 Counts old request.Scan new = CountsNothing old new
 Counts old request.Status new = new.updates ≡ old.updates
+Counts old (request.Part set) new = CountsNothing old new
 
 -- an update takes one look at most, also where its writer isn't asked
 abbrev pub TakesFewLooks : Known → Request → Known → Type 0
 TakesFewLooks a (request.Update segment k v) b = LooksOnce a b
 TakesFewLooks a request.Scan b = Unit {0}
 TakesFewLooks a request.Status b = Unit {0}
+TakesFewLooks a (request.Part set) b = Unit {0}

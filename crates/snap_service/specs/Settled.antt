@@ -6,7 +6,7 @@ use Rattle.snap_history.specs.declared.limits.TheConstants.{LAST_NUMBER}
 use Rattle.snap_history.specs.Limits.{IsNumber}
 use Rattle.snap_memory.specs.Seat.{Known, number_in, value_in}
 use Rattle.snap_frame.specs.declared.reply.Reply.{Reply}
-use Rattle.snap_frame.specs.declared.reply.Reply.TheVariants.{Stored, Snapshot, Status, Refused}
+use Rattle.snap_frame.specs.declared.reply.Reply.TheVariants.{Stored, Snapshot, Status, Part, Refused}
 use Rattle.snap_writer.specs.Writer.{WriterState, number_of, value_of}
 
 -- of a segment at number c with value u, an update to number k and value v may be refused so
@@ -35,6 +35,7 @@ IsSettled c u k v (Stored number) = (number ≡ k) × (k ≡ c) × (v ≡ u)
 IsSettled c u k v (Refused why detail) = (detail ≡ c) × MayRefuse c u k v why
 IsSettled c u k v (Snapshot values) = ⊥
 IsSettled c u k v (Status statuses) = ⊥
+IsSettled c u k v (Part values) = ⊥
 
 -- so it does with the number and the value of segment i after all that the seat has seen
 abbrev pub IsSettledAt : Known → ℕ → ℕ → List ℕ → Reply → Type 0

@@ -1,20 +1,8 @@
 -- What an update does to its writer, and what a meeting does behind it.
-use Rattle.std.specs.Prelude.{◌≡◌, ◌≢◌, ℕ, List, length, Result, None, OnOk, OnErr}
+use Rattle.std.specs.Prelude.{◌≡◌, ℕ, List, Result}
 use Rattle.snap_disk.specs.declared.refusal.Refusal.{Refusal}
-use Rattle.snap_disk.specs.Device.{IsSettled, CountsCalls, MayLeave}
-use Rattle.snap_disk.specs.Time.{LeavesOnly}
-use Rattle.snap_writer.specs.Layout.{IsFileOf}
-use Rattle.snap_writer.specs.States.{IsEither}
-use Rattle.snap_writer.specs.Stage.{store_calls}
-use Rattle.snap_writer.specs.Segment.{CountsRefusal}
-use Rattle.snap_memory.specs.Seat.{Meets, IsBelow}
-use Rattle.snap_memory.specs.Scans.{TakesLooks}
-use Rattle.snap_writer.specs.Writer.{WriterState, number_of, value_of}
-use Rattle.snap_writer.specs.Judge.{IsJudged, IsAnswer}
-use Rattle.snap_writer.specs.declared.judgement.Judgement.{Judgement}
-use Rattle.snap_writer.specs.declared.judgement.Judgement.TheVariants.{Go}
-use Rattle.snap_writer.specs.Update.{IsSameSeat, Advances, Fails}
-use Rattle.snap_writer.specs.Life.{HasLived, StoresFirst}
+use Rattle.snap_memory.specs.Seat.{Meets}
+use Rattle.snap_writer.specs.Writer.{WriterState, number_of}
 use Rattle.snap_frame.specs.declared.reply.Reply.{Reply}
 use Rattle.snap_service.specs.Settled.{reply_of}
 pub use Rattle.snap_writer.specs.Updated.{IsUpdated}

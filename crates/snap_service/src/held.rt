@@ -6,15 +6,15 @@ ghost use Rattle.snap_memory.specs.Seat.{own_of};
 ghost use Rattle.snap_frame.specs.Messages.{IsInLimits, IsStatus};
 ghost use Rattle.snap_writer.specs.Writer.{number_of};
 ghost use Rattle.snap_service.specs.Memory.{IsOf};
-ghost use Rattle.snap_service.specs.Answers.{AnswersUpdate, AnswersScan};
+ghost use Rattle.snap_service.specs.Answers.{AnswersUpdate, AnswersScan, AnswersPart};
 ghost use Rattle.snap_service.specs.Updated.{IsUpdatedAndTold};
 ghost use Rattle.snap_service.specs.Counted.{next_count, CountsNothing, LooksOnce};
 
 use crate::memory::{Memory, WriterOf};
-use crate::scans::answer_scan;
+use crate::scans::{answer_part, answer_scan};
 use crate::verdict::answer_by_look;
 use snap_disk::Disk;
-use snap_frame::{Reply, SegmentStatus};
+use snap_frame::{Reply, SegmentSet, SegmentStatus};
 use snap_memory::Scanner;
 use std::alloc::Global;
 use std::marker::Model;
@@ -73,6 +73,18 @@ impl Pen {
         ensures counts { CountsNothing self.old self.new }
     {
         answer_scan(alloc, &mut self.scanner)
+    }
+
+    /// The reply to a scan of some segments, likewise, as [`answer_part`](crate::answer_part) gives it.
+    pub(crate) fn part(&mut self, alloc: Global, set: SegmentSet) -> Reply
+        requires some { 0 < set.bits }
+        ensures answer { AnswersPart self.old.scanner set.bits result self.new.scanner }
+        ensures limits { IsInLimits result }
+        ensures table { self.new.scanner.table ≡ self.old.scanner.table }
+        ensures plan { self.new.scanner.plan ≡ self.old.scanner.plan }
+        ensures counts { CountsNothing self.old self.new }
+    {
+        answer_part(alloc, &mut self.scanner, set)
     }
 
     /// One more lock is taken by it.

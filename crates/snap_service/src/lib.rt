@@ -20,7 +20,7 @@ mod verdict;
 
 pub use memory::{Memory, WriterOf};
 pub use node::Node;
-pub use scans::answer_scan;
+pub use scans::{answer_part, answer_scan};
 pub use settlement::{reply_told, settle, update};
 pub use shared::Shared;
 pub use verdict::{answer_by_look, refuse_place};

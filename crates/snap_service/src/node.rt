@@ -1,13 +1,13 @@
 //! A service over writers that stand under locks.
-ghost use Rattle.std.specs.Prelude.{◌≡◌, length};
-ghost use Rattle.snap_memory.specs.Rule.{segments};
-ghost use Rattle.snap_frame.specs.Messages.{IsInLimits};
+ghost use Rattle.std.specs.Prelude.{◌≡◌, ◌<◌};
+ghost use Rattle.snap_frame.specs.Messages.{IsInLimits, IsAskable};
 ghost use Rattle.snap_service.specs.Memory.{IsOf};
 ghost use Rattle.snap_service.specs.Counted.{Counts, CountsNothing, CountsUpdate};
 ghost use Rattle.snap_service.specs.Answers.{
   Answers,
   AnswersUpdate,
   AnswersScan,
+  AnswersPart,
   AnswersStatus,
 };
 
@@ -16,8 +16,8 @@ use crate::memory::Memory;
 use crate::shared::Shared;
 use crate::verdict::refuse_place;
 use snap_disk::{Disk, Refusal};
-use snap_frame::{Reply, Request};
-use snap_memory::{Scanner, Snapshot};
+use snap_frame::{Reply, Request, SegmentSet};
+use snap_memory::Scanner;
 use snap_session::Service;
 use std::alloc::{AllocError, Global};
 use std::marker::Model;
@@ -48,23 +48,21 @@ impl<'a, R: Wait, M: Memory, D: Disk + Drop> Model for Node<'a, R, M, D> {
 }
 
 impl<'a, R: Wait, M: Memory, D: Disk + Drop> Node<'a, R, M, D> {
-    /// A node with this scanner, of the memory of the writers, and with this room for its scans.
+    /// A node with this scanner, of the memory of the writers.
     pub fn new(
         rt: &'a R,
         alloc: Global,
         shared: &'a Shared<M, D>,
         scanner: Scanner,
-        snapshot: Snapshot,
     ) -> Node<'a, R, M, D>
         requires memory { IsOf M.table M.plan scanner }
-        requires room { length snapshot ≡ segments M.plan }
         ensures { result ≡ record { scanner = scanner; locks = 0; updates = 0 } }
     {
         Node {
             rt,
             alloc,
             shared,
-            pen: Pen::of(scanner.with_room(snapshot)),
+            pen: Pen::of(scanner),
         }
     }
 
@@ -109,8 +107,19 @@ impl<'a, R: Wait, M: Memory, D: Disk + Drop> Node<'a, R, M, D> {
         self.pen.scan(self.alloc)
     }
 
+    /// A scan of some segments, likewise.
+    fn part(&mut self, set: SegmentSet) -> Reply
+        requires some { 0 < set.bits }
+        ensures answer { AnswersPart self.old.scanner set.bits result self.new.scanner }
+        ensures limits { IsInLimits result }
+        ensures counts { CountsNothing self.old self.new }
+    {
+        self.pen.part(self.alloc, set)
+    }
+
     /// The reply to any request.
     fn reply(&mut self, request: &Request) -> Reply
+        requires askable { IsAskable request.now }
         ensures answer { Answers self.old.scanner request.now result self.new.scanner }
         ensures limits { IsInLimits result }
         ensures counts { Counts self.old request.now self.new }
@@ -123,6 +132,7 @@ impl<'a, R: Wait, M: Memory, D: Disk + Drop> Node<'a, R, M, D> {
             } => self.update(usize::from(*segment), *number, value.as_slice()),
             Request::Scan => self.scan(),
             Request::Status => self.status(),
+            Request::Part(set) => self.part(*set),
         }
     }
 

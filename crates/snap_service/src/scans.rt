@@ -1,58 +1,90 @@
 //! Scans as replies.
-ghost use Rattle.std.specs.Prelude.{◌≡◌, map, All, IfOk};
+ghost use Rattle.std.specs.Prelude.{◌≡◌, ◌<◌, ◌≤◌, length, map, All, IfOk};
 ghost use Rattle.snap_history.specs.Limits.{IsShort};
+ghost use Rattle.snap_memory.specs.Sets.{named, size};
+ghost use Rattle.snap_memory.specs.Values.{pair_of};
 ghost use Rattle.snap_frame.specs.Messages.{IsInLimits};
-ghost use Rattle.snap_service.specs.Answers.{AnswersScan, pair_of};
+ghost use Rattle.snap_service.specs.Answers.{AnswersScan, AnswersPart, segment_of, named_pair};
 
-use bytes::Bytes;
 use snap_disk::Refusal;
-use snap_frame::{Reply, SegmentValue};
-use snap_memory::{Scanner, Snapshot};
+use snap_frame::{NamedValue, Reply, SegmentSet, SegmentValue};
+use snap_history::MAX_COUNT;
+use snap_memory::Scanner;
 use std::alloc::{AllocError, Global};
-
-/// The snapshot's numbers and values as a list of their own.
-fn list_of(alloc: Global, snapshot: &Snapshot) -> Result<Vec<SegmentValue>, AllocError>
-    ensures values { IfOk result (λ values. map pair_of values.items ≡ snapshot.now) }
-    ensures short { IfOk result (λ values. All (λ s. IsShort s.value) values.items) }
-{
-    let mut values = Vec::with_capacity(alloc, snapshot.len())?;
-    for i in 0..snapshot.len() {
-        let value = Bytes::copy_from_slice(alloc, snapshot.value(i))?;
-        values.push(SegmentValue {
-            number: snapshot.number(i),
-            value,
-        })?;
-    }
-    Ok(values)
-}
 
 /// The reply to a scan: the number and the value of each segment, all of one moment, with all
 /// updates that stood in the history at the scan's first look. It takes no lock and waits for
-/// nobody. What it found is kept in the scanner's room, so that the next scan reads only the values
-/// that have changed.
+/// nobody. Values that the scanner has answered before are shared, and only those that have changed
+/// are read.
 ///
 /// Refused with detail 0 as `Worn` where fewer looks are left than a scan might take; nothing changes
-/// then. As `NoMemory` where memory runs out for the room or the list.
-#[tactic(auto, using(snap_memory::proofs::Kept::snapshot_kept))]
+/// then. As `NoMemory` where memory runs out for a value or the list.
 pub fn answer_scan(alloc: Global, scanner: &mut Scanner) -> Reply
     ensures answer { AnswersScan scanner.old result scanner.new }
     ensures limits { IsInLimits result }
     ensures table { scanner.new.table ≡ scanner.old.table }
     ensures plan { scanner.new.plan ≡ scanner.old.plan }
 {
-    let snapshot = match scanner.scan(alloc) {
-        Ok(snapshot) => snapshot,
+    let all = SegmentSet::all(scanner.segments());
+    match scanner.scan(alloc, all) {
+        Ok(values) => Reply::Snapshot(values),
+        Err(why) => Reply::Refused { why, detail: 0 },
+    }
+}
+
+/// The reply to a scan of some segments, at least one: the number and the value of each that is
+/// named, in ascending order, as [`answer_scan`] answers all of them.
+///
+/// Refused with the number of segments as `NoSegment` where one is named that isn't there; nothing
+/// changes then. Else as [`answer_scan`] refuses, by the looks that a scan of so many might take.
+pub fn answer_part(alloc: Global, scanner: &mut Scanner, set: SegmentSet) -> Reply
+    requires some { 0 < set.bits }
+    ensures answer { AnswersPart scanner.old set.bits result scanner.new }
+    ensures limits { IsInLimits result }
+    ensures table { scanner.new.table ≡ scanner.old.table }
+    ensures plan { scanner.new.plan ≡ scanner.old.plan }
+{
+    let segments = scanner.segments();
+    if !set.is_among(segments) {
+        return Reply::Refused {
+            why: Refusal::NoSegment,
+            detail: segments as u64,
+        };
+    }
+    let listed = match scanner.scan(alloc, set) {
+        Ok(values) => name_values(alloc, set, &values),
         Err(why) => return Reply::Refused { why, detail: 0 },
     };
-    // for what it says of the scanner (docs/DECISIONS.md, 180)
-    let _segments = scanner.segments();
-    let listed = list_of(alloc, &snapshot);
-    scanner.keep(snapshot);
     match listed {
-        Ok(values) => Reply::Snapshot(values),
+        Ok(values) => Reply::Part(values),
         Err(AllocError) => Reply::Refused {
             why: Refusal::NoMemory,
             detail: 0,
         },
     }
+}
+
+/// These values of the named segments, which are in ascending order, each with its segment.
+fn name_values(
+    alloc: Global,
+    set: SegmentSet,
+    values: &Vec<SegmentValue>,
+) -> Result<Vec<NamedValue>, AllocError>
+    requires each { length values.now.items ≡ size set.bits }
+    ensures segments { IfOk result (λ list. map segment_of list.items ≡ named set.bits) }
+    ensures values { IfOk result (λ list.
+        map named_pair list.items ≡ map pair_of values.now.items) }
+{
+    let mut list = Vec::with_capacity(alloc, values.len())?;
+    for segment in 0..MAX_COUNT {
+        if set.has(usize::from(segment)) {
+            let entry = &values[list.len()];
+            list.push(NamedValue {
+                segment,
+                number: entry.number,
+                value: entry.value.clone()?,
+            })?;
+        }
+    }
+    Ok(list)
 }

@@ -3,7 +3,7 @@ use Rattle.std.proofs.Common.{◌≡◌, ◌≢◌, inl, inr, ℕ, ◌≤◌, Li
 use Rattle.std.proofs.Common.{◌∙◌, ap, arith, append-nil, append_assoc, subst, length-append}
 use Rattle.std.specs.Int.{w32, to_be_bytes}
 use Rattle.snap_frame.specs.declared.request.Request.{Request}
-use Rattle.snap_frame.specs.Messages.{max_payload, frame, payload, says, IsInLimits}
+use Rattle.snap_frame.specs.Messages.{max_payload, frame, payload, says, IsAskable, IsInLimits}
 use Rattle.snap_frame.specs.Stream.{HasFrame, HasLongLength}
 use Rattle.snap_frame.specs.declared.reply.Reply.{Reply}
 use Rattle.snap_frame.specs.declared.frame_buffer.Failure.{Failure}
@@ -234,14 +234,14 @@ owes_held old y new false owes = ap (λ (z : Talk). z.held) owes
 pub finishes : {S : Type 0} (gives : S → Request → Reply → S
     → Type 0) (s t : S) (old mid new : Talk) (q : Request) (r : Reply) (ok : Bool) → old.over ≡ None
     → old.asked ≡ Some q → mid ≡ record old { asked = None } → gives s q r t → IsInLimits r
-    → length (payload q) ≤ max_payload → Owes mid (says r) new ok
+    → length (payload q) ≤ max_payload → IsAskable q → Owes mid (says r) new ok
     → Goes Stays gives s t old [] [] new
-finishes gives s t old mid new q r ok going asked is given limits fits owes =
+finishes gives s t old mid new q r ok going asked is given limits fits askable owes =
     (answers gives s t old mid new (payload q) (says r) ok going
     (came_asked old q asked ∙ ap (λ zs. frame (payload q) ++ zs) (sym (ap came is)))
     (ap owed_of is)
     (ap over_of is ∙ going)
-    (fits, inl (q, r, refl, given, (limits, refl)))
+    (fits, inl (q, r, (askable, refl), given, (limits, refl)))
     owes).0
 
 -- nobody waits for an outcome

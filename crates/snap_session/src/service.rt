@@ -2,7 +2,7 @@
 ghost use Rattle.std.specs.Prelude.{◌≡◌, ℕ, IfSome, IfNone};
 ghost use Rattle.snap_frame.specs.declared.request.Request.{Request};
 ghost use Rattle.snap_frame.specs.declared.reply.Reply.{Reply};
-ghost use Rattle.snap_frame.specs.Messages.{IsInLimits};
+ghost use Rattle.snap_frame.specs.Messages.{IsAskable, IsInLimits};
 
 use snap_frame::{Reply, Request};
 
@@ -27,16 +27,19 @@ pub trait Service {
 
     /// The reply, or `None` where the request was handed over: the service is then as it was, and
     /// [`finish`](Service::finish) answers the request once its outcome has come. `key` says
-    /// whose request it is.
+    /// whose request it is. A scan of some segments names one or more.
     fn answer(&mut self, request: &Request, key: usize) -> Option<Reply>
+        requires askable { IsAskable request.now }
         ensures gives { IfSome result (λ r. Self.gives self.old request.now r self.new) }
         ensures limits { IfSome result (λ r. IsInLimits r) }
         ensures later { IfNone result (self.new ≡ self.old) }
         ensures may { IfNone result Self.hands_over }
         ensures under { IfNone result (Self.hands_over_under key) };
 
-    /// The reply to a request that was handed over: it tells its outcome.
+    /// The reply to a request that was handed over: it tells its outcome. A scan of some segments
+    /// names one or more.
     fn finish(&mut self, request: &Request, outcome: Self::Outcome) -> Reply
+        requires askable { IsAskable request.now }
         ensures gives { Self.gives self.old request.now result self.new }
         ensures limits { IsInLimits result }
         ensures tells { Self.tells outcome request.now result };

@@ -6,7 +6,7 @@
 ghost use Rattle.std.specs.Prelude.{◌≡◌, ◌≤◌, ◌<◌, ◌+◌, ◌↔◌, IsTrue, [], length, drop};
 ghost use Rattle.std.specs.Prelude.{Some, None, IfSome, true, false};
 ghost use Rattle.snap_frame.specs.Stream.{IsPartial};
-ghost use Rattle.snap_frame.specs.Messages.{max_payload, payload, says, IsInLimits};
+ghost use Rattle.snap_frame.specs.Messages.{max_payload, payload, says, IsAskable, IsInLimits};
 ghost use Rattle.snap_session.specs.Talk.{
   Talk,
   Goes,
@@ -74,7 +74,7 @@ pub struct Session {
 impl Model for Session {
     ghost use Rattle.std.specs.Prelude.{◌≡◌, ◌≤◌, None, length};
     ghost use Rattle.std.specs.Option.{ForSome};
-    ghost use Rattle.snap_frame.specs.Messages.{max_payload, payload};
+    ghost use Rattle.snap_frame.specs.Messages.{max_payload, payload, IsAskable};
     ghost use Rattle.snap_frame.specs.Stream.{IsBytes};
     ghost use Rattle.snap_session.specs.Talk.{Talk};
 
@@ -88,7 +88,7 @@ impl Model for Session {
     } };
 
     ghost invariant = { λ s. (s.over ≡ None → s.feed.failure ≡ None)
-        × ForSome s.asked (λ q. length (payload q) ≤ max_payload)
+        × ForSome s.asked (λ q. (length (payload q) ≤ max_payload) × IsAskable q)
         × (s.over ≡ None → IsBytes s.feed.bytes) };
 }
 
@@ -198,6 +198,7 @@ impl Session {
     fn take_asked(&mut self) -> Option<Request>
         ensures asked { result ≡ self.old.asked }
         ensures fits { IfSome result (λ q. length (payload q) ≤ max_payload) }
+        ensures askable { IfSome result IsAskable }
         ensures rest { self.new ≡ record self.old { asked = None } }
     {
         self.asked.take()
@@ -205,7 +206,8 @@ impl Session {
 
     /// Keeps a request that was handed over.
     fn keep(&mut self, request: Request)
-        requires { length (payload request) ≤ max_payload }
+        requires fits { length (payload request) ≤ max_payload }
+        requires askable { IsAskable request }
         ensures { self.new ≡ record self.old { asked = Some request } }
     {
         self.asked = Some(request);

@@ -11,7 +11,7 @@ use Rattle.snap_register.specs.Seat.{Known}
 use Rattle.snap_frame.specs.declared.request.Request.{Request}
 use Rattle.snap_frame.specs.declared.request.Request.TheVariants as request
 use Rattle.snap_frame.specs.declared.reply.Reply.{Reply}
-use Rattle.snap_frame.specs.declared.reply.Reply.TheVariants.{Stored, Snapshot, Status, Refused}
+use Rattle.snap_frame.specs.declared.reply.Reply.TheVariants.{Stored, Snapshot, Status, Part, Refused}
 use Rattle.snap_frame.specs.declared.frame_buffer.Failure.{Failure}
 use Rattle.snap_frame.specs.declared.frame_buffer.Failure.TheVariants.{TooLarge, NoMemory}
 use Rattle.snap_frame.specs.Messages.{max_payload, payload, frame, says, Says}
@@ -156,12 +156,15 @@ refusal_stands : (n : ℕ) (start : Start) (h : List Update) (q : Request) (r : 
     (detail : ℕ) → says r ≡ says (Refused why detail) → Stands n start h q r
 refusal_stands n start h q (Stored m) why detail e = absurd (omega (arith, head_is _ _ _ _ e))
 refusal_stands n start h q (Snapshot values) why detail e = absurd (omega (arith, head_is _ _ _ _ e))
+refusal_stands n start h q (Part values) why detail e = absurd (omega (arith, head_is _ _ _ _ e))
 refusal_stands n start h (request.Update i k v) (Status statuses) why detail e = tt
 refusal_stands n start h request.Scan (Status statuses) why detail e = tt
 refusal_stands n start h request.Status (Status statuses) why detail e = tt
+refusal_stands n start h (request.Part set) (Status statuses) why detail e = tt
 refusal_stands n start h (request.Update i k v) (Refused other more) why detail e = tt
 refusal_stands n start h request.Scan (Refused other more) why detail e = tt
 refusal_stands n start h request.Status (Refused other more) why detail e = tt
+refusal_stands n start h (request.Part set) (Refused other more) why detail e = tt
 
 said_fits : (x : List ℕ) (r : Reply) → Says x r → length x ≤ max_payload
 said_fits x r said = rw (said.1) (says_fits r said.0)
@@ -218,13 +221,13 @@ module _ (n : ℕ) (start : Start) (h : List Update) where
       fits told asked heard tails =
       let sendable = can 0 q (omega arith) in
       let first = first_same (payload q) p (frames (map payload qs)) (frames ps ++ (rest ++ late))
-      sendable.1 few.0
+      sendable.2 few.0
       (asked ∙ append_assoc (frame p) (frames ps) (rest ++ late)) in
       let reply = first_same x y (frames xs ++ more) (frames ys ++ tail) (said_fits x r spoken.0)
       fits.0
       (sym (append_assoc (frame x) (frames xs) more) ∙ heard
       ∙ append_assoc (frame y) (frames ys) tail) in (
-        told.0 q r sendable.0 (sym first.0) (spoken.0.0, sym reply.0 ∙ spoken.0.1),
+        told.0 q r sendable.0 (sendable.1, sym first.0) (spoken.0.0, sym reply.0 ∙ spoken.0.1),
         answers_stand qs rs xs ps ys us rest tail more late (All-tail IsSendable q qs can) spoken.1
             few.1 fits.1 told.1 first.1 reply.1 tails,
       )

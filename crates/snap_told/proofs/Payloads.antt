@@ -1,22 +1,23 @@
 -- Payloads, read as a request and its reply, are those that the service had and gave.
-use Rattle.std.proofs.Common.{◌≡◌, ℕ, ◌<◌, ◌^◌, inl, inr, List, [], ◌∷◌, ◌++◌, length, drop, get_or, flat_map, All, map, refl, ap, ap₂, sym, subst, ◌∙◌, arith}
-use Rattle.std.proofs.lemmas.List.Elements.{All-tail}
+use Rattle.std.proofs.Common.{◌≡◌, ℕ, ◌<◌, ◌^◌, inl, inr, List, [], ◌∷◌, ◌++◌, drop, get_or, map, ap, sym, subst, ◌∙◌, arith}
 use Rattle.snap_history.specs.History.{Update, IsBeginning}
 use Rattle.snap_register.specs.History.{starts}
 use Rattle.snap_register.specs.Rule.{segments}
 use Rattle.snap_register.specs.Seat.{Known}
-use Rattle.snap_frame.specs.declared.entries.SegmentValue.{SegmentValue}
+use Rattle.snap_frame.specs.declared.named.NamedValue.{NamedValue}
+use Rattle.snap_frame.specs.segment_value.SegmentValue.{SegmentValue}
 use Rattle.snap_frame.specs.declared.request.Request.{Request}
 use Rattle.snap_frame.specs.declared.request.Request.TheVariants as request
 use Rattle.snap_frame.specs.declared.reply.Reply.{Reply}
-use Rattle.snap_frame.specs.declared.reply.Reply.TheVariants.{Stored, Snapshot, Status, Refused}
-use Rattle.snap_frame.specs.Messages.{payload, says, value_bytes, IsValue, IsInLimits}
-use Rattle.snap_frame.proofs.BigEndian.{same_number}
-use Rattle.snap_frame.proofs.Behind.{values_apart}
+use Rattle.snap_frame.specs.declared.reply.Reply.TheVariants.{Stored, Snapshot, Status, Part, Refused}
+use Rattle.snap_frame.specs.Messages.{payload, says, value_bytes, named_bytes, IsAskable, Asks, IsValue, IsNamedValue, IsInLimits}
+use Rattle.snap_frame.specs.Values.{pair_of}
+use Rattle.snap_frame.proofs.BigEndian.{same_number, same_set}
+use Rattle.snap_frame.proofs.Behind.{values_apart, named_apart, same_entries}
 use Rattle.snap_session.specs.Talk.{Answer}
-use Rattle.snap_service.specs.Answers.{Answers, pair_of}
+use Rattle.snap_service.specs.Answers.{Answers}
 use Rattle.snap_cut.specs.Crash.{Has}
-use Rattle.snap_told.specs.Told.{IsMemoryAfter, Stands, IsTold}
+use Rattle.snap_told.specs.Told.{IsMemoryAfter, IsPartAfter, Stands, IsTold}
 use Rattle.snap_told.proofs.Replies.{stored, replied}
 
 -- the first of both
@@ -37,18 +38,6 @@ same_update i j k l v w k_fits l_fits e =
 same_stored : (m n : ℕ) → m < 2 ^ 64 → n < 2 ^ 64 → says (Stored m) ≡ says (Stored n) → m ≡ n
 same_stored m n m_fits n_fits e =
     (same_number m n [] [] m_fits n_fits (ap (λ (z : List ℕ). drop 1 z ++ []) e)).0
-
-same_values : (es fs : List SegmentValue) → All IsValue es → All IsValue fs
-    → length es ≡ length fs → flat_map value_bytes es ≡ flat_map value_bytes fs → es ≡ fs
-same_values [] [] one two size e = refl
-same_values [] (f ∷ fs) one two size e = absurd (omega (arith, size))
-same_values (d ∷ es) [] one two size e = absurd (omega (arith, size))
-same_values (d ∷ es) (f ∷ fs) one two size e =
-    let both = values_apart d f (flat_map value_bytes es) (flat_map value_bytes fs)
-    (one 0 d (omega arith)) (two 0 f (omega arith)) e in
-    let rest = same_values es fs (All-tail IsValue d es one) (All-tail IsValue f fs two)
-    (omega (arith, size)) both.1 in
-    ap₂ (λ (x : SegmentValue) (xs : List SegmentValue). x ∷ xs) both.0 rest
 
 -- ---- an update that is stored
 
@@ -78,6 +67,8 @@ by_reply a b h i k n v j l w (Snapshot values) fits asked is low lower said seen
     absurd (omega (arith, head_is _ _ _ _ said))
 by_reply a b h i k n v j l w (Status statuses) fits asked is low lower said seen =
     absurd (omega (arith, head_is _ _ _ _ said))
+by_reply a b h i k n v j l w (Part values) fits asked is low lower said seen =
+    absurd (omega (arith, head_is _ _ _ _ said))
 by_reply a b h i k n v j l w (Refused why detail) fits asked is low lower said seen =
     absurd (omega (arith, head_is _ _ _ _ said))
 
@@ -91,6 +82,8 @@ by_request a b h i k n v request.Scan r fits asked is low lower said seen =
     absurd (omega (arith, head_is _ _ _ _ asked))
 by_request a b h i k n v request.Status r fits asked is low lower said seen =
     absurd (omega (arith, head_is _ _ _ _ asked))
+by_request a b h i k n v (request.Part set) r fits asked is low lower said seen =
+    absurd (omega (arith, head_is _ _ _ _ asked))
 
 -- ---- a scan
 
@@ -100,8 +93,8 @@ scanned_as : (a b : Known) (h : List Update) (values others : _) → Answers a r
     → Stands (segments b.plan) (starts b.plan) h request.Scan (Snapshot values)
 scanned_as a b h values others is low lower said seen =
     let told = replied a b request.Scan (Snapshot others) h is seen in
-    let same = same_values values.items others.items low.each lower.each
-    (second_is _ _ _ _ _ _ said) (ap (drop 2) said) in (
+    let same = same_entries value_bytes IsValue values.items others.items values_apart low.each
+    lower.each (second_is _ _ _ _ _ _ said) (ap (drop 2) said) in (
       told.0,
       told.1,
       subst (λ (es : List SegmentValue). IsMemoryAfter (segments b.plan) (starts b.plan) told.0 (map pair_of es)) (sym same)
@@ -118,6 +111,8 @@ scan_by_reply a b h values (Stored n) is low lower said seen =
     absurd (omega (arith, head_is _ _ _ _ said))
 scan_by_reply a b h values (Status statuses) is low lower said seen =
     absurd (omega (arith, head_is _ _ _ _ said))
+scan_by_reply a b h values (Part others) is low lower said seen =
+    absurd (omega (arith, head_is _ _ _ _ said))
 scan_by_reply a b h values (Refused why detail) is low lower said seen =
     absurd (omega (arith, head_is _ _ _ _ said))
 
@@ -131,29 +126,93 @@ scan_by_request a b h values (request.Update j l w) r asked is low lower said se
     absurd (omega (arith, head_is _ _ _ _ asked))
 scan_by_request a b h values request.Status r asked is low lower said seen =
     absurd (omega (arith, head_is _ _ _ _ asked))
+scan_by_request a b h values (request.Part set) r asked is low lower said seen =
+    absurd (omega (arith, head_is _ _ _ _ asked))
+
+-- ---- a scan of some segments
+
+part_as : (a b : Known) (h : List Update) (set other values others : _)
+    → IsAskable (request.Part set) → IsAskable (request.Part other)
+    → payload (request.Part set) ≡ payload (request.Part other)
+    → Answers a (request.Part other) (Part others) b → IsInLimits (Part values)
+    → IsInLimits (Part others) → says (Part values) ≡ says (Part others) → IsBeginning b.seen h
+    → Stands (segments b.plan) (starts b.plan) h (request.Part set) (Part values)
+part_as a b h set other values others may can asked is low lower said seen =
+    let told = replied a b (request.Part other) (Part others) h is seen in
+    let sets = same_set set.bits other.bits may.1 can.1 (ap (drop 1) asked) in
+    let same = same_entries named_bytes IsNamedValue values.items others.items named_apart
+    low.0.each lower.0.each (second_is _ _ _ _ _ _ said) (ap (drop 2) said) in (
+      told.0,
+      told.1,
+      subst (λ (y : ℕ × List NamedValue).
+          IsPartAfter (segments b.plan) (starts b.plan) y.0 told.0 y.1)
+          (λ t. (sym sets t, sym same t)) told.2,
+    )
+
+part_by_reply : (a b : Known) (h : List Update) (set other values : _) (r : Reply)
+    → IsAskable (request.Part set) → IsAskable (request.Part other)
+    → payload (request.Part set) ≡ payload (request.Part other)
+    → Answers a (request.Part other) r b → IsInLimits (Part values) → IsInLimits r
+    → says (Part values) ≡ says r → IsBeginning b.seen h
+    → Stands (segments b.plan) (starts b.plan) h (request.Part set) (Part values)
+part_by_reply a b h set other values (Part others) may can asked is low lower said seen =
+    part_as a b h set other values others may can asked is low lower said seen
+part_by_reply a b h set other values (Stored n) may can asked is low lower said seen =
+    absurd (omega (arith, head_is _ _ _ _ said))
+part_by_reply a b h set other values (Snapshot others) may can asked is low lower said seen =
+    absurd (omega (arith, head_is _ _ _ _ said))
+part_by_reply a b h set other values (Status statuses) may can asked is low lower said seen =
+    absurd (omega (arith, head_is _ _ _ _ said))
+part_by_reply a b h set other values (Refused why detail) may can asked is low lower said seen =
+    absurd (omega (arith, head_is _ _ _ _ said))
+
+part_by_request : (a b : Known) (h : List Update) (set values : _) (q : Request) (r : Reply)
+    → IsAskable (request.Part set) → IsAskable q → payload (request.Part set) ≡ payload q
+    → Answers a q r b → IsInLimits (Part values) → IsInLimits r → says (Part values) ≡ says r
+    → IsBeginning b.seen h
+    → Stands (segments b.plan) (starts b.plan) h (request.Part set) (Part values)
+part_by_request a b h set values (request.Part other) r may can asked is low lower said seen =
+    part_by_reply a b h set other values r may can asked is low lower said seen
+part_by_request a b h set values (request.Update j l w) r may can asked is low lower said seen =
+    absurd (omega (arith, head_is _ _ _ _ asked))
+part_by_request a b h set values request.Scan r may can asked is low lower said seen =
+    absurd (omega (arith, head_is _ _ _ _ asked))
+part_by_request a b h set values request.Status r may can asked is low lower said seen =
+    absurd (omega (arith, head_is _ _ _ _ asked))
 
 -- ---- any answer
 
 reads : (a b : Known) (h : List Update) (x y : List ℕ) (p : Request) (s : Reply)
-    → x ≡ payload p → Answers a p s b → IsInLimits s → y ≡ says s → IsBeginning b.seen h
+    → Asks x p → Answers a p s b → IsInLimits s → y ≡ says s → IsBeginning b.seen h
     → IsTold (segments b.plan) (starts b.plan) h x y
 reads a b h x y p s asks is lower told seen (request.Update i k v) (Stored n) fits asked said =
-    by_request a b h i k n v p s fits (sym asked ∙ asks) is said.0 lower (sym said.1 ∙ told) seen
+    by_request a b h i k n v p s fits (sym asked.1 ∙ asks.1) is said.0 lower (sym said.1 ∙ told) seen
 reads a b h x y p s asks is lower told seen (request.Update i k v) (Snapshot values) fits asked said =
     tt
 reads a b h x y p s asks is lower told seen (request.Update i k v) (Status statuses) fits asked said =
     tt
+reads a b h x y p s asks is lower told seen (request.Update i k v) (Part values) fits asked said = tt
 reads a b h x y p s asks is lower told seen (request.Update i k v) (Refused why detail) fits asked
     said = tt
 reads a b h x y p s asks is lower told seen request.Scan (Snapshot values) fits asked said =
-    scan_by_request a b h values p s (sym asked ∙ asks) is said.0 lower (sym said.1 ∙ told) seen
+    scan_by_request a b h values p s (sym asked.1 ∙ asks.1) is said.0 lower (sym said.1 ∙ told) seen
 reads a b h x y p s asks is lower told seen request.Scan (Stored n) fits asked said = tt
 reads a b h x y p s asks is lower told seen request.Scan (Status statuses) fits asked said = tt
+reads a b h x y p s asks is lower told seen request.Scan (Part values) fits asked said = tt
 reads a b h x y p s asks is lower told seen request.Scan (Refused why detail) fits asked said = tt
 reads a b h x y p s asks is lower told seen request.Status (Stored n) fits asked said = tt
 reads a b h x y p s asks is lower told seen request.Status (Snapshot values) fits asked said = tt
 reads a b h x y p s asks is lower told seen request.Status (Status statuses) fits asked said = tt
+reads a b h x y p s asks is lower told seen request.Status (Part values) fits asked said = tt
 reads a b h x y p s asks is lower told seen request.Status (Refused why detail) fits asked said = tt
+reads a b h x y p s asks is lower told seen (request.Part set) (Part values) fits asked said =
+    part_by_request a b h set values p s asked.0 asks.0 (sym asked.1 ∙ asks.1) is said.0 lower
+    (sym said.1 ∙ told) seen
+reads a b h x y p s asks is lower told seen (request.Part set) (Stored n) fits asked said = tt
+reads a b h x y p s asks is lower told seen (request.Part set) (Snapshot others) fits asked said = tt
+reads a b h x y p s asks is lower told seen (request.Part set) (Status statuses) fits asked said = tt
+reads a b h x y p s asks is lower told seen (request.Part set) (Refused why detail) fits asked said =
+    tt
 
 pub told : (a b : Known) (h : List Update) (x y : List ℕ) → Answer Answers a x y b
     → IsBeginning b.seen h → IsTold (segments b.plan) (starts b.plan) h x y

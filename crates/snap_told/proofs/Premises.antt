@@ -39,7 +39,7 @@ one_turn a b q r can low is = record {
       a,
       b,
       ([], [], refl),
-      (can.1, inl (q, r, refl, is, (low, refl))),
+      (can.2, inl (q, r, (can.1, refl), is, (low, refl))),
       ([], [], refl),
     );
     cut = sym (append-nil (frame (payload q) ++ []) ∙ append-nil (frame (payload q)));
@@ -146,7 +146,7 @@ hears remaining contents reader writer q (Ok r) new can silent calls =
 pub first_heard : FirstHeard
 first_heard =
     let was = heard (scanner_after []) (scanner_after (first_update ∷ []))
-    (request.Update 0 1 (7 ∷ [])) (Stored 1) (omega arith, omega arith) (omega arith) tt
+    (request.Update 0 1 (7 ∷ [])) (Stored 1) (omega arith, tt, omega arith) (omega arith) tt
     (Settled (omega arith) (omega arith) (refl, refl, refl) (record {
       table = refl;
       plan = refl;

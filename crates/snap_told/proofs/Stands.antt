@@ -1,12 +1,12 @@
 -- What stands in a history stands in each longer one, and in one that began earlier.
-use Rattle.std.proofs.Common.{◌≡◌, ℕ, zero, suc, List, [], ◌∷◌, ◌++◌, Some, slice_get, ap, sym, subst, ◌∙◌, append_assoc}
+use Rattle.std.proofs.Common.{◌≡◌, ℕ, zero, suc, ◌<◌, List, [], ◌∷◌, ◌++◌, Some, slice_get, ap, sym, subst, ◌∙◌, append_assoc}
 use Rattle.std.proofs.lemmas.Option.{same_Some}
-use Rattle.snap_history.specs.History.{Update, Start, IsBeginning}
+use Rattle.snap_history.specs.History.{Update, Start, IsBeginning, number_after, value_after}
 use Rattle.snap_history.proofs.Beginnings.{beginning-trans}
 use Rattle.snap_frame.specs.declared.request.Request.{Request}
 use Rattle.snap_frame.specs.declared.request.Request.TheVariants as request
 use Rattle.snap_frame.specs.declared.reply.Reply.{Reply}
-use Rattle.snap_frame.specs.declared.reply.Reply.TheVariants.{Stored, Snapshot, Status, Refused}
+use Rattle.snap_frame.specs.declared.reply.Reply.TheVariants.{Stored, Snapshot, Status, Part, Refused}
 use Rattle.snap_cut.proofs.Starts.{StartsAfter, number_on, value_on}
 use Rattle.snap_told.specs.Told.{Stands, IsTold, AreTold}
 use Rattle.snap_told.specs.Laws.{AllStand}
@@ -19,18 +19,31 @@ stands_on n start h whole (request.Update i k v) (Stored m) longer is =
     (is.0, is.1, (is.2.0, beginning-trans is.2.0 h whole is.2.1 longer, is.2.2, is.2.3))
 stands_on n start h whole (request.Update i k v) (Snapshot values) longer is = tt
 stands_on n start h whole (request.Update i k v) (Status statuses) longer is = tt
+stands_on n start h whole (request.Update i k v) (Part values) longer is = tt
 stands_on n start h whole (request.Update i k v) (Refused why detail) longer is = tt
 stands_on n start h whole request.Scan (Snapshot values) longer is =
     (is.0, beginning-trans is.0 h whole is.1 longer, is.2)
 stands_on n start h whole request.Scan (Stored m) longer is = tt
 stands_on n start h whole request.Scan (Status statuses) longer is = tt
+stands_on n start h whole request.Scan (Part values) longer is = tt
 stands_on n start h whole request.Scan (Refused why detail) longer is = tt
 stands_on n start h whole request.Status (Stored m) longer is = tt
 stands_on n start h whole request.Status (Snapshot values) longer is = tt
 stands_on n start h whole request.Status (Status statuses) longer is = tt
+stands_on n start h whole request.Status (Part values) longer is = tt
 stands_on n start h whole request.Status (Refused why detail) longer is = tt
+stands_on n start h whole (request.Part set) (Part values) longer is =
+    (is.0, beginning-trans is.0 h whole is.1 longer, is.2)
+stands_on n start h whole (request.Part set) (Stored m) longer is = tt
+stands_on n start h whole (request.Part set) (Snapshot others) longer is = tt
+stands_on n start h whole (request.Part set) (Status statuses) longer is = tt
+stands_on n start h whole (request.Part set) (Refused why detail) longer is = tt
 
 -- ---- from an earlier start on
+
+-- the number and the value of a segment after this list of updates
+abbrev memory_at : Start → List Update → ℕ → ℕ × List ℕ
+memory_at start part i = (number_after start part i, value_after start part i)
 
 module _ (n : ℕ) (start : Start) (base : List Update) (next : Start)
     (after : StartsAfter n start base next) where
@@ -40,6 +53,14 @@ module _ (n : ℕ) (start : Start) (base : List Update) (next : Start)
     ap (λ (x : List Update). base ++ x) b.1
         ∙ sym (append_assoc base part b.0),
   )
+
+  memory_on : (part : List Update) (i : ℕ) → i < n
+      → Some (memory_at next part i) ≡ Some (memory_at start (base ++ part) i)
+  memory_on part i low =
+      ap (λ (y : ℕ × List ℕ). Some y) (λ t. (
+        number_on n start base next after part i low t,
+        value_on n start base next after part i low t,
+      ))
 
   pub stands_earlier : (h : List Update) (q : Request) (r : Reply) → Stands n next h q r
       → Stands n start (base ++ h) q r
@@ -56,26 +77,38 @@ module _ (n : ℕ) (start : Start) (base : List Update) (next : Start)
       )
   stands_earlier h (request.Update i k v) (Snapshot values) is = tt
   stands_earlier h (request.Update i k v) (Status statuses) is = tt
+  stands_earlier h (request.Update i k v) (Part values) is = tt
   stands_earlier h (request.Update i k v) (Refused why detail) is = tt
   stands_earlier h request.Scan (Snapshot values) is = (
     base ++ is.0,
     begins_on is.0 h is.1,
     record {
       size = is.2.size;
-      each = λ i low. is.2.each i low
-          ∙ ap (λ (y : ℕ × List ℕ). Some y) (λ t. (
-            number_on n start base next after is.0 i low t,
-            value_on n start base next after is.0 i low t,
-          ));
+      each = λ i low. is.2.each i low ∙ memory_on is.0 i low;
     },
   )
   stands_earlier h request.Scan (Stored m) is = tt
   stands_earlier h request.Scan (Status statuses) is = tt
+  stands_earlier h request.Scan (Part values) is = tt
   stands_earlier h request.Scan (Refused why detail) is = tt
   stands_earlier h request.Status (Stored m) is = tt
   stands_earlier h request.Status (Snapshot values) is = tt
   stands_earlier h request.Status (Status statuses) is = tt
+  stands_earlier h request.Status (Part values) is = tt
   stands_earlier h request.Status (Refused why detail) is = tt
+  stands_earlier h (request.Part set) (Part values) is = (
+    base ++ is.0,
+    begins_on is.0 h is.1,
+    record {
+      names = is.2.names;
+      each = λ p i at.
+          let e = is.2.each p i at in (e.0, e.1 ∙ memory_on is.0 i e.0);
+    },
+  )
+  stands_earlier h (request.Part set) (Stored m) is = tt
+  stands_earlier h (request.Part set) (Snapshot others) is = tt
+  stands_earlier h (request.Part set) (Status statuses) is = tt
+  stands_earlier h (request.Part set) (Refused why detail) is = tt
 
   pub told_earlier : (h : List Update) (xs ys : List (List ℕ)) → AreTold n next h xs ys
       → AreTold n start (base ++ h) xs ys

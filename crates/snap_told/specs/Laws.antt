@@ -9,20 +9,21 @@ use Rattle.snap_register.specs.History.{starts, updates}
 use Rattle.snap_register.specs.Rule.{segments, Kept}
 use Rattle.snap_register.specs.Seat.{Known, IsMemory}
 use Rattle.snap_memory.specs.Scans.{BeginsFresh}
+use Rattle.snap_memory.specs.Values.{pair_of}
 use Rattle.snap_writer.specs.Writer.{WriterState}
 use Rattle.snap_writer.specs.Life.{Place, CrashLeaves}
 use Rattle.snap_frame.specs.declared.request.Request.{Request}
 use Rattle.snap_frame.specs.declared.reply.Reply.{Reply}
-use Rattle.snap_frame.specs.declared.reply.Reply.TheVariants.{Stored, Snapshot}
+use Rattle.snap_frame.specs.declared.reply.Reply.TheVariants.{Stored, Snapshot, Part}
 use Rattle.snap_session.specs.Talk.{Talk, Moves}
 use Rattle.snap_session.specs.Talk as session
 use Rattle.snap_session.specs.Turns.{Turns}
-use Rattle.snap_service.specs.Answers.{Answers, AnswersUpdate, AnswersScan, pair_of}
+use Rattle.snap_service.specs.Answers.{Answers, AnswersUpdate, AnswersScan, AnswersPart}
 use Rattle.snap_client.specs.Calls.{ClientState, Calls, fresh}
 use Rattle.snap_cut.specs.Crash.{Has, Begun, IsRecovered}
 use Rattle.snap_cut.specs.Laws.{IsSeatOf, IsSeenIn}
 use Rattle.snap_restart.specs.Crash.{IsLifeFrom, AreOpened, GoesOn}
-use Rattle.snap_told.specs.Told.{Stands, IsSendable, AreTold}
+use Rattle.snap_told.specs.Told.{IsPartAfter, Stands, IsSendable, AreTold}
 use Rattle.snap_disk.specs.declared.disk.Disk as Disk
 
 -- ---- a reply
@@ -40,6 +41,14 @@ ScannedLaw = (a b : Known) (values : _) (h : List Update)
     → AnswersScan a (Snapshot values) b → IsBeginning b.seen h
     → (part : List Update) × IsBeginning a.seen part × BeginsFresh a b part × IsBeginning part h
     × IsMemory b part (map pair_of values.items)
+
+-- so it is with the named segments, which are all there: each has its number and its value after such
+-- a beginning
+abbrev pub ScannedPartLaw : Type 0
+ScannedPartLaw = (a b : Known) (set : ℕ) (values : _) (h : List Update)
+    → AnswersPart a set (Part values) b → IsBeginning b.seen h
+    → (part : List Update) × IsBeginning a.seen part × BeginsFresh a b part × IsBeginning part h
+    × IsPartAfter (segments b.plan) (starts b.plan) set part values.items
 
 -- whatever the request, what it was replied stands there
 abbrev pub RepliedLaw : Type 0

@@ -4,9 +4,12 @@ use Rattle.snap_history.specs.History.{Update, Start, IsBeginning, number_after,
 use Rattle.snap_frame.specs.declared.request.Request.{Request}
 use Rattle.snap_frame.specs.declared.request.Request.TheVariants as request
 use Rattle.snap_frame.specs.declared.reply.Reply.{Reply}
-use Rattle.snap_frame.specs.declared.reply.Reply.TheVariants.{Stored, Snapshot}
-use Rattle.snap_frame.specs.Messages.{max_payload, payload, Asks, Says}
-use Rattle.snap_service.specs.Answers.{pair_of}
+use Rattle.snap_frame.specs.declared.reply.Reply.TheVariants.{Stored, Snapshot, Part}
+use Rattle.snap_frame.specs.declared.named.NamedValue.{NamedValue}
+use Rattle.snap_frame.specs.Messages.{max_payload, payload, IsAskable, Asks, Says}
+use Rattle.snap_frame.specs.Sets.{named, IsAt}
+use Rattle.snap_frame.specs.Values.{pair_of}
+use Rattle.snap_service.specs.Answers.{segment_of, named_pair}
 use Rattle.snap_cut.specs.Crash.{Has}
 
 -- these are the number and the value of each of n segments after this list of updates
@@ -16,12 +19,22 @@ pub record IsMemoryAfter (n : ℕ) (start : Start) (part : List Update)
   pub each : (i : ℕ) → i < n
       → slice_get pairs i ≡ Some (number_after start part i, value_after start part i)
 
+-- these are the segments that the set names, in ascending order, each of them one of the n, with its
+-- number and its value after this list of updates
+pub record IsPartAfter (n : ℕ) (start : Start) (set : ℕ) (part : List Update)
+    (list : List NamedValue) : Type 0 where
+  pub names : map segment_of list ≡ named set
+  pub each : (p i : ℕ) → IsAt set p i → (i < n)
+      × (slice_get (map named_pair list) p ≡ Some (number_after start part i, value_after start part i))
+
 -- What the reply tells stands in the history of n segments: an update that is stored, with its number and its
--- value; or the memory of a scan, after a beginning of it. Other replies tell nothing of it.
+-- value; or the memory of a scan, or of some segments, after a beginning of it. Other replies tell nothing of it.
 abbrev pub Stands : ℕ → Start → List Update → Request → Reply → Type 0
 Stands n start h (request.Update i k v) (Stored m) = (i < n) × (m ≡ k) × Has start h i k v
 Stands n start h request.Scan (Snapshot values) = (part : List Update) × IsBeginning part h
     × IsMemoryAfter n start part (map pair_of values.items)
+Stands n start h (request.Part set) (Part values) = (part : List Update) × IsBeginning part h
+    × IsPartAfter n start set.bits part values.items
 Stands n start h q r = Unit {0}
 
 -- a number of eight bytes
@@ -29,10 +42,11 @@ abbrev pub HasNumber : Request → Type 0
 HasNumber (request.Update i k v) = k < 2 ^ 64
 HasNumber request.Scan = Unit {0}
 HasNumber request.Status = Unit {0}
+HasNumber (request.Part set) = Unit {0}
 
 -- a request whose payload says it whole and fits a frame: each that a client may call
 abbrev pub IsSendable : Request → Type 0
-IsSendable q = HasNumber q × (length (payload q) ≤ max_payload)
+IsSendable q = HasNumber q × IsAskable q × (length (payload q) ≤ max_payload)
 
 -- whoever reads these payloads as a request and its reply was told what stands in the history
 abbrev pub IsTold : ℕ → Start → List Update → List ℕ → List ℕ → Type 0

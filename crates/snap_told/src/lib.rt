@@ -12,6 +12,7 @@ ghost use Rattle.snap_told.specs.Told.{IsSendable};
 ghost use Rattle.snap_told.specs.Laws.{
   StoredLaw,
   ScannedLaw,
+  ScannedPartLaw,
   RepliedLaw,
   SessionLaw,
   ClientLaw,
@@ -26,12 +27,13 @@ use snap_frame::{Reply, Request};
 use std::alloc::Global;
 use std::io::{Read, Write};
 
-/// An update that was replied `stored`, and the memory that a scan was replied, stand in each history
-/// that begins with what the service's scanner had seen when it replied. And the memory has all that
-/// the scanner saw at the first look of the scan.
+/// An update that was replied `stored`, and the memory that a scan was replied, of all segments or of
+/// some, stand in each history that begins with what the service's scanner had seen when it replied.
+/// And the memory has all that the scanner saw at the first look of the scan.
 pub fn reply_laws()
     ensures stored { StoredLaw }
     ensures scanned { ScannedLaw }
+    ensures part { ScannedPartLaw }
     ensures replied { RepliedLaw }
 {}
 

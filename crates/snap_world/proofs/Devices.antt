@@ -19,11 +19,11 @@ use Rattle.snap_world.specs.declared.drive.Drive.{Drive}
 use Rattle.snap_world.specs.declared.event.Actor.TheVariants as actor
 use Rattle.snap_world.specs.declared.event.Reply.{Reply}
 use Rattle.snap_world.specs.declared.event.Reply.TheVariants.{Begun as Begun_reply, Number, Shown as Shown_reply, Stored, ScanBegun}
-use Rattle.snap_world.specs.declared.event.Reply.TheVariants.{Memory, NotNow}
+use Rattle.snap_world.specs.declared.event.Reply.TheVariants.{Memory, Part, NotNow}
 use Rattle.snap_world.specs.declared.writer.WriterPhase.{WriterPhase}
 use Rattle.snap_world.specs.declared.writer.WriterPhase.TheVariants as writer
 use Rattle.snap_world.specs.declared.scanner.ScannerPhase.TheVariants as scanner
-use Rattle.snap_world.proofs.Acts.{Act, Begins, Looks, Shows, Acknowledges, Scans, Answers, event_of}
+use Rattle.snap_world.proofs.Acts.{Act, Begins, Looks, Shows, Acknowledges, Scans, Picks, Answers, event_of}
 
 -- an element that was written
 pub set_is : {A : Type 0} (xs : List A) (i : ℕ) (x y : A) → slice_get (slice_set xs i x) i ≡ Some y
@@ -159,7 +159,7 @@ to : (n : ℕ) (ds : List Drive) (x y : State) (p q : Phases) → y ≡ x → q 
 to n ds x y p q ey eq f = subst (λ (z : State). Follows n ds z q) (sym ey)
     (subst (λ (z : Phases). Follows n ds x z) (sym eq) f)
 
-either_actors : {n : ℕ} {told : List ℕ} {p r q : WorldPhases} → LooksOn n told p r q
+either_actors : {set : ℕ} {told : List ℕ} {p r q : WorldPhases} → LooksOn set told p r q
     → (q.actors ≡ r.actors) ⊎ (q.actors ≡ p.actors)
 either_actors looks = ⊎_elim (λ e. inl (ap (λ (z : WorldPhases). z.actors) e)) (λ e.
     inr (ap (λ (z : WorldPhases). z.actors) e)) looks.either
@@ -186,8 +186,8 @@ drives_follow n x p (Looks (actor.Writer w)) (Number k) y q ds s t m stand =
           s.2;
     }) s.1 (t.came (λ e. cc)).1 refl (either_actors (m s.0 s.1)))
 drives_follow n x p (Looks (actor.Scanner i)) (Number k) y q ds s t m stand =
-    subst (λ (z : State). Follows n ds z q) (sym s.4)
-    (scanner_follows n x.history x.writers p q ds i stand (either_actors (m s.0 s.1)))
+    subst (λ (z : State). Follows n ds z q) (sym s.5)
+    (scanner_follows n x.history x.writers p q ds i stand (either_actors (m s.0 s.1 s.2)))
 drives_follow n x p (Shows w) Shown_reply y q ds s t m stand =
     to n ds _ y _ q s.4 (ap (λ (r : WorldPhases). r.actors) m)
     (writer_shows n x.history x.writers p.writers ds stand w s.0 (record s.0 {
@@ -204,7 +204,11 @@ drives_follow n x p (Acknowledges w) (Stored k) y q ds s t m stand =
     (λ d ed. stand w d s.0 writer.Shown ed s.2 (t.came (λ e. cc)).1))
 drives_follow n x p (Scans i) ScanBegun y q ds s t m stand =
     to n ds _ y _ q s.1 (ap (λ (r : WorldPhases). r.actors) m) stand
+drives_follow n x p (Picks i set) ScanBegun y q ds s t m stand =
+    to n ds _ y _ q s.1 (ap (λ (r : WorldPhases). r.actors) m) stand
 drives_follow n x p (Answers i) (Memory l) y q ds s t m stand =
     to n ds _ y _ q s.3 (ap (λ (r : WorldPhases). r.actors) m) stand
+drives_follow n x p (Answers i) (Part l) y q ds s t m stand =
+    to n ds _ y _ q s.4 (ap (λ (r : WorldPhases). r.actors) m) stand
 drives_follow n x p (Begins w v) reply y q ds s t m stand = absurd m
 drives_follow n x p a reply y q ds s t m stand = absurd m

@@ -16,13 +16,13 @@ use Rattle.snap_world.specs.declared.event.Actor.TheVariants as actor
 use Rattle.snap_world.specs.declared.event.Event.{Event}
 use Rattle.snap_world.specs.declared.event.Event.TheVariants.{Serve}
 use Rattle.snap_world.specs.declared.event.Reply.{Reply}
-use Rattle.snap_world.specs.declared.event.Reply.TheVariants.{Begun, Number, Shown, Stored, ScanBegun, Memory, NotNow}
+use Rattle.snap_world.specs.declared.event.Reply.TheVariants.{Begun, Number, Shown, Stored, ScanBegun, Memory, Part, NotNow}
 use Rattle.snap_world.specs.declared.node.Node.{Node}
 use Rattle.snap_persist.specs.declared.persist.NextCall.{NextCall}
 use Rattle.snap_world.specs.declared.node.NodePhase.{NodePhase}
 use Rattle.snap_world.specs.declared.node.NodePhase.TheVariants.{Up}
 use Rattle.snap_world.specs.declared.actors.Actors.{Actors}
-use Rattle.snap_world.proofs.Acts.{Act, Begins, Looks, Shows, Acknowledges, Scans, Answers, event_of}
+use Rattle.snap_world.proofs.Acts.{Act, Begins, Looks, Shows, Acknowledges, Scans, Picks, Answers, event_of}
 use Rattle.snap_world.proofs.Devices.{drives_follow}
 
 may_act : (x : State) (p : WorldPhases) (a : Act) → p.node ≡ Up
@@ -33,6 +33,7 @@ may_act x p (Looks (actor.Scanner i)) is m = (is, m.1)
 may_act x p (Shows w) is m = (is, m.1)
 may_act x p (Acknowledges w) is m = (is, m.1)
 may_act x p (Scans i) is m = (is, m.1)
+may_act x p (Picks i set) is m = (is, m.1, m.2)
 may_act x p (Answers i) is m = (is, m.1)
 
 may_from : (x : State) (p : WorldPhases) (a : Act) → MayCome x p (event_of a)
@@ -43,6 +44,7 @@ may_from x p (Looks (actor.Scanner i)) m = (refl, m.1)
 may_from x p (Shows w) m = (refl, m.1)
 may_from x p (Acknowledges w) m = (refl, m.1)
 may_from x p (Scans i) m = (refl, m.1)
+may_from x p (Picks i set) m = (refl, m.1, m.2)
 may_from x p (Answers i) m = (refl, m.1)
 
 devices_stay : (n : ℕ) (x : State) (p : WorldPhases) (ds : List Device) (a : Act) (reply : Reply)
@@ -73,10 +75,10 @@ module _ (n : ℕ) (x : State) (p q : WorldPhases) (node : q.node ≡ p.node) (c
   lifted : (actors : Phases) → up q.actors ≡ up actors → q ≡ actors_to p actors
   lifted actors e = same_phases (actors_to p actors) q node (from_up e) calls
 
-  looks_lift : (told : List ℕ) (actors : Phases)
-      → LooksOn n told (up p.actors) (up actors) (up q.actors)
-      → LooksOn n told p (actors_to p actors) q
-  looks_lift told actors looks = record {
+  looks_lift : (set : ℕ) (told : List ℕ) (actors : Phases)
+      → LooksOn set told (up p.actors) (up actors) (up q.actors)
+      → LooksOn set told p (actors_to p actors) q
+  looks_lift set told actors looks = record {
     ends = λ has. lifted actors (looks.ends has);
     goes_on = λ none. lifted p.actors (looks.goes_on none);
     either = ⊎_elim (λ e. inl (lifted actors e)) (λ e. inr (lifted p.actors e)) looks.either;
@@ -87,12 +89,15 @@ module _ (n : ℕ) (x : State) (p q : WorldPhases) (node : q.node ≡ p.node) (c
       → PhasesMove n x p (event_of a) reply q
   phases_lift a NotNow m = lifted p.actors m
   phases_lift (Begins w v) Begun m = lifted _ m
-  phases_lift (Looks (actor.Writer w)) (Number k) m = λ s e. looks_lift _ _ (m s e)
-  phases_lift (Looks (actor.Scanner i)) (Number k) m = λ s e. looks_lift _ _ (m s e)
+  phases_lift (Looks (actor.Writer w)) (Number k) m = λ s e. looks_lift _ _ _ (m s e)
+  phases_lift (Looks (actor.Scanner i)) (Number k) m = λ asked s e.
+      looks_lift _ _ _ (m asked s e)
   phases_lift (Shows w) Shown m = lifted _ m
   phases_lift (Acknowledges w) (Stored k) m = lifted _ m
   phases_lift (Scans i) ScanBegun m = lifted _ m
+  phases_lift (Picks i set) ScanBegun m = lifted _ m
   phases_lift (Answers i) (Memory v) m = lifted _ m
+  phases_lift (Answers i) (Part v) m = lifted _ m
   phases_lift (Begins w v) reply m = absurd m
   phases_lift a reply m = absurd m
 

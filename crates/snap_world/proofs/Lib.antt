@@ -17,3 +17,5 @@ pub mod Crash
 pub mod Restarts
 pub mod Served
 pub mod Serves
+pub mod Picked
+pub mod Asks

@@ -1,23 +1,26 @@
 -- One look of a collector is a look of the abstract machine.
-use Rattle.std.proofs.Common.{◌≡◌, ℕ, ◌+◌, ◌<◌, ◌≤◌, inl, inr, List, [], ◌∷◌, ◌++◌, length, take, get_or, Option, Some, None, slice_set}
-use Rattle.std.proofs.Common.{refl, ap, sym, ◌∙◌, subst, arith}
-use Rattle.std.proofs.lemmas.Option.{slice_get_read}
+use Rattle.std.proofs.Common.{◌≡◌, ℕ, ◌+◌, ◌<◌, ◌≤◌, inl, inr, List, [], ◌∷◌, ◌++◌, length, take, get_or, Option, Some, None, slice_get}
+use Rattle.std.proofs.Common.{slice_set, slice_index, refl, ap, sym, ◌∙◌, subst, arith}
+use Rattle.std.proofs.lemmas.Option.{slice_get_read, slice_get-get_or, same_Some}
 use Rattle.std.proofs.lemmas.List.{length-set}
 use Rattle.snap_history.specs.History.{Update, from_nothing, number_after, value_after, IsMemory}
 use Rattle.snap_history.proofs.Moments.{number-le, value_same, take-now}
 use Rattle.snap_history.proofs.Pairs.{partner}
 use Rattle.snap_scan.specs.Looks.{IsClean, IsBorrow, IsTurn, IsNoFall}
-use Rattle.snap_scan.specs.Course.{Course, IsNext}
+use Rattle.snap_scan.specs.Course.{Course, IsNext, Borrows}
+use Rattle.snap_scan.specs.Sets.{named, size, IsAt}
+use Rattle.snap_scan.proofs.Sets.{at_is, at_some, at_once, at_within, at_below}
 use Rattle.snap_scan.specs.declared.next.Next.{Next}
 use Rattle.snap_scan.specs.declared.next.Next.TheVariants.{Look, Clean, Borrow}
 use Rattle.snap_scan.specs.Collects.{IsRising, IsKept, Collects}
 use Rattle.snap_scan.proofs.Collects.{same_turn, Collects-push, no_fall, rose, borrow_moment, clean_moment}
-use Rattle.snap_world.specs.Answers.{ScanState, number_at, value_at}
-use Rattle.snap_world.specs.inside.Gathers.{Gathers, Gathered, RegisterStands, ViewStands, RegistersStand}
+use Rattle.snap_world.specs.Answers.{ScanState, number_at, value_at, numbers_of, values_of}
+use Rattle.snap_world.specs.inside.Gathers.{Gathers, Gathered, RegisterStands, ViewStands, RegistersStand, picked}
 use Rattle.snap_world.specs.Machine.{State, WriterState, ShownWith, Decides, looked, IsLook}
 use Rattle.snap_world.specs.declared.register.Register.{Register}
 use Rattle.snap_world.specs.declared.collector.Collector.{Collector}
 use Rattle.snap_world.proofs.ScanEnds.{undecided}
+use Rattle.snap_world.proofs.Picked.{picked_at, picked_size, picked-set}
 
 pub number_now : (h : List Update) (i : ℕ)
     → number_at h (length h) i ≡ number_after from_nothing h i
@@ -26,189 +29,229 @@ number_now h i = ap (λ g. number_after from_nothing g i) (take-now h)
 pub value_now : (h : List Update) (i : ℕ) → value_at h (length h) i ≡ value_after from_nothing h i
 value_now h i = ap (λ g. value_after from_nothing g i) (take-now h)
 
-rising : (h : List Update) → IsRising (number_at h)
-rising h i s t l = number-le from_nothing h i s t l
+rising : (set : ℕ) (h : List Update) → IsRising (numbers_of set h)
+rising set h i s t l = number-le from_nothing h (slice_index (named set) i) s t l
 
-kept : (h : List Update) → IsKept (List ℕ) (number_at h) (value_at h)
-kept h i s t l e = value_same from_nothing h i s t l e
+kept : (set : ℕ) (h : List Update) → IsKept (List ℕ) (numbers_of set h) (values_of set h)
+kept set h i s t l e = value_same from_nothing h (slice_index (named set) i) s t l e
 
 pub register_at : (n : ℕ) (x : State) (g : ℕ) (rs : List Register) (j : ℕ) (r : Register)
     → RegistersStand n x g rs → j < n → r ≡ get_or rs j r → RegisterStands n x.history j r
 register_at n x g rs j r stand l e = stand.each j r (slice_get_read rs n j r (sym stand.size) l e)
 
-module _ (n : ℕ) (x : State) (g : ℕ) (s : ScanState) (col : Collector)
-    (gat : Gathers n x.history s col) (j : ℕ) (turn : col.scan.next ≡ Look j) where
+module _ (n set : ℕ) (x : State) (g : ℕ) (s : ScanState) (col : Collector)
+    (gat : Gathers n set x.history s col) (j : ℕ) (turn : col.scan.next ≡ Look j) where
   abbrev h : List Update
   h = x.history
 
   abbrev now : ℕ
   now = length x.history
 
+  -- the place of the segment in the set
+  abbrev place : ℕ
+  place = (gat.next.look j turn).0
+
   -- the number of the segment now
   abbrev k : ℕ
-  k = number_at x.history (length x.history) j
+  k = numbers_of set x.history (length x.history) (gat.next.look j turn).0
 
-  pub here : IsTurn n s.told j
-  here = gat.next.look j turn
+  at : IsAt set place j
+  at = (gat.next.look j turn).1
+
+  here : IsTurn (size set) s.told place
+  here = (gat.next.look j turn).2
+
+  segment_is : slice_index (named set) place ≡ j
+  segment_is = at_is set place j at
 
   pub turn_within : j < n
-  turn_within = here.0
+  turn_within = at_below set n place j gat.among at
 
-  collects : Collects (List ℕ) n (number_at h) (value_at h) s.start s.last s.told col.memory.items
-  collects = (subst (Gathered n h s col.memory.items) turn gat.gathered).0
+  collects : Collects (List ℕ) (size set) (numbers_of set h) (values_of set h) s.start s.last s.told
+      (picked set col.memory.items)
+  collects = (subst (Gathered set h s col.memory.items) turn gat.gathered).0
 
   end2 : s.start ≤ now
   end2 = let a : s.start ≤ s.last = gat.start in let b : s.last ≤ now = gat.end in omega arith
 
-  pub told_fits : (number : ℕ) → number ≡ number_after from_nothing h j
-      → IsNoFall col.scan.segments col.scan.told j number
+  pub told_fits : (number : ℕ) → number ≡ number_after from_nothing h j → (p : ℕ)
+      → IsAt col.scan.set p j → IsNoFall (size col.scan.set) col.scan.told p number
   told_fits number e =
-      let fits : IsNoFall n s.told j k =
-      no_fall (List ℕ) n (number_at h)
-      (value_at h) s.start s.last s.told col.memory.items collects
-      (rising h) now j gat.end turn_within in
-      subst (λ m. IsNoFall m col.scan.told j number) (sym gat.segments)
-      (subst (λ L. IsNoFall n L j number) (sym gat.told)
-      (subst (IsNoFall n s.told j) (number_now h j ∙ sym e) fits))
+      let fits : IsNoFall (size set) s.told place k =
+      no_fall (List ℕ) (size set) (numbers_of set h) (values_of set h) s.start s.last s.told
+      (picked set col.memory.items) collects (rising set h) now place gat.end
+      (at_within set place j at) in
+      let number_is : k ≡ number = ap (number_at h now) segment_is ∙ number_now h j ∙ sym e in
+      subst (λ z. (p : ℕ) → IsAt z p j → IsNoFall (size z) col.scan.told p number)
+      (sym gat.set_is) (λ p at_p.
+      subst (λ L. IsNoFall (size set) L p number) (sym gat.told)
+      (subst (λ z. IsNoFall (size set) s.told z number) (at_once set place p j at at_p)
+      (subst (IsNoFall (size set) s.told place) number_is fits)))
 
   -- the moment and the values after a look, by what the scan does next
   abbrev Goes : List (List ℕ) → Next → Type 0
-  Goes memory v = (m : Option ℕ) × Decides n x (looked x s k m) m
-      × Gathered n h (looked x s k m) memory v
+  Goes memory v = (m : Option ℕ) × Decides set x (looked x s k m) m
+      × Gathered set h (looked x s k m) memory v
 
   goes_other : (v : Next) (memory : List (List ℕ)) → length memory ≡ n
-      → IsNext n (s.told ++ k ∷ []) v → ((i : ℕ) → v ≡ Borrow i → ⊥)
-      → Collects (List ℕ) n (number_at h) (value_at h) s.start now (s.told ++ k ∷ []) memory
+      → IsNext set (s.told ++ k ∷ []) v → ((i : ℕ) → v ≡ Borrow i → ⊥)
+      → Collects (List ℕ) (size set) (numbers_of set h) (values_of set h) s.start now
+      (s.told ++ k ∷ []) (picked set memory)
       → Goes memory v
-  goes_other (Look i) memory size is none c =
-      (None, undecided n (s.told ++ k ∷ []) (Look i) i is refl, (c, refl))
-  goes_other (Borrow i) memory size is none c = absurd (none i refl)
-  goes_other Clean memory size is none c =
-      let no_borrow : (i : ℕ) → IsBorrow n (s.told ++ k ∷ []) i → ⊥ =
-      λ i br. none i ((is.borrow i).1 br) in
-      let clean : IsClean n (s.told ++ k ∷ []) = is.clean.0 refl in
-      let pos : 0 < n = (let w : j < n = turn_within in omega arith) in
-      let p = clean_moment (List ℕ) n (number_at h) (value_at h) s.start now (s.told
-      ++ k ∷ []) memory c (rising h) (kept h) pos clean no_borrow in (
-        Some p.0,
-        (inl clean, p.1, λ i br. absurd (no_borrow i br)),
+  goes_other (Look i) memory long is none c =
+      (None, undecided set (s.told ++ k ∷ []) (Look i) i is refl, (c, refl))
+  goes_other (Borrow i) memory long is none c = absurd (none i refl)
+  goes_other Clean memory long is none c =
+      let no_borrow : (p : ℕ) → IsBorrow (size set) (s.told ++ k ∷ []) p → ⊥ =
+      λ p br. none (slice_index (named set) p)
+      ((is.borrow (slice_index (named set) p)).1 (p, at_some set p br.segment, br)) in
+      let clean : IsClean (size set) (s.told ++ k ∷ []) = is.clean.0 refl in
+      let pos : 0 < size set =
+      (let w : place < size set = at_within set place j at in omega arith) in
+      let q = clean_moment (List ℕ) (size set) (numbers_of set h) (values_of set h) s.start now
+      (s.told ++ k ∷ []) (picked set memory) c (rising set h) (kept set h) pos clean no_borrow in (
+        Some q.0,
+        (inl clean, q.1, λ i br. absurd (no_borrow br.0 br.2)),
         record {
-          p = p.0;
+          p = q.0;
           moment = refl;
-          is_moment = p.1;
-          is_memory =
-              record { size = size; values = p.2 };
+          is_moment = q.1;
+          is = λ p i at_p. (
+              let low : i < n = at_below set n p i gat.among at_p in
+              slice_get-get_or memory i [] (omega arith)
+              ∙ sym (picked_at set memory p i at_p) ∙ q.2 p (at_within set p i at_p)
+              ∙ ap (λ z. Some (value_at h q.0 z)) (at_is set p i at_p));
         },
       )
 
-  goes_borrow : (i : ℕ) (memory : List (List ℕ)) (p : ℕ) → IsNext n (s.told ++ k ∷ []) (Borrow i)
-      → p ≤ now → number_at h p j + 1 ≡ k → ShownWith x j p
+  goes_borrow : (i : ℕ) (memory : List (List ℕ)) (p : ℕ)
+      → IsNext set (s.told ++ k ∷ []) (Borrow i)
+      → p ≤ now → numbers_of set h p place + 1 ≡ k → ShownWith x j p
       → IsMemory n from_nothing (take p h) memory → Goes memory (Borrow i)
   goes_borrow i memory p is pl before shown mem =
-      let br : IsBorrow n (s.told ++ k ∷ []) i = (is.borrow i).0 refl in
-      let same : i ≡ j = same_turn n s.told k i j here br in
-      let brj : IsBorrow n (s.told ++ k ∷ []) j = subst (IsBorrow n (s.told ++ k ∷ [])) same br in
-      let not_clean : IsClean n (s.told ++ k ∷ []) → ⊥ =
+      let borrows : Borrows set (s.told ++ k ∷ []) i = (is.borrow i).0 refl in
+      let br : IsBorrow (size set) (s.told ++ k ∷ []) place =
+      subst (IsBorrow (size set) (s.told ++ k ∷ []))
+      (same_turn (size set) s.told k borrows.0 place here borrows.2) borrows.2 in
+      let not_clean : IsClean (size set) (s.told ++ k ∷ []) → ⊥ =
       λ cl. (let e : Borrow i ≡ Clean = is.clean.1 cl in cc) in
-      let m = borrow_moment (List ℕ) n (number_at h)
-      (value_at h) s.start s.last s.told col.memory.items collects
-      (rising h) now j gat.end here brj p pl before not_clean in (
+      let m = borrow_moment (List ℕ) (size set) (numbers_of set h) (values_of set h) s.start s.last
+      s.told (picked set col.memory.items) collects (rising set h) now place gat.end here br p pl
+      before not_clean in (
         Some p,
         (
-          inr (i, br),
+          inr (borrows.0, borrows.2),
           m,
-          λ l bl.
-              subst (λ z. ShownWith x z p) (sym (same_turn n s.told k l j here bl)) shown,
+          λ l bl. (
+              let one : bl.0 ≡ place = same_turn (size set) s.told k bl.0 place here bl.2 in
+              let same : j ≡ l =
+              same_Some j l (sym at ∙ ap (slice_get (named set)) (sym one) ∙ bl.1) in
+              subst (λ z. ShownWith x z p) same shown),
         ),
-        record { p = p; moment = refl; is_moment = m; is_memory = mem },
+        record {
+          p = p;
+          moment = refl;
+          is_moment = m;
+          is = λ q l at_q. mem.values l (at_below set n q l gat.among at_q);
+        },
       )
 
   module _ (rs : List Register) (born : g ≤ s.start) (regs : RegistersStand n x g rs) (r : Register)
       (read : r ≡ get_or rs j r)
-      (t : Course) (same_n : t.segments ≡ col.scan.segments) (told : t.told ≡ col.scan.told
+      (t : Course) (same_set : t.set ≡ col.scan.set) (told : t.told ≡ col.scan.told
       ++ r.number ∷ []) (v : Next) (same : v
-      ≡ t.next) (decides : IsNext t.segments t.told v) where
+      ≡ t.next) (decides : IsNext t.set t.told v) where
     stand : RegisterStands n h j r
     stand = register_at n x g rs j r regs turn_within read
 
     number_is : r.number ≡ k
-    number_is = stand.number ∙ sym (number_now h j)
+    number_is = stand.number ∙ sym (number_now h j) ∙ ap (number_at h now) (sym segment_is)
 
     told_k : t.told ≡ s.told ++ k ∷ []
     told_k = told ∙ ap (λ L. L ++ r.number ∷ []) gat.told ∙ ap (λ z. s.told ++ z ∷ []) number_is
 
-    is : IsNext n (s.told ++ k ∷ []) v
-    is = subst (λ L. IsNext n L v) told_k (subst (λ m. IsNext m t.told v) (same_n
-        ∙ gat.segments) decides)
+    is : IsNext set (s.told ++ k ∷ []) v
+    is = subst (λ L. IsNext set L v) told_k (subst (λ z. IsNext z t.told v) (same_set
+        ∙ gat.set_is) decides)
 
     goes : (col2 : Collector) → col2.scan ≡ t → length col2.memory.items ≡ n
-        → Goes col2.memory.items v → (u : ScanState) × IsLook n x s r.number u
-        × Gathers n x.history u col2
-    goes col2 scan-is size f = (
+        → Goes col2.memory.items v → (u : ScanState) × IsLook set x s r.number u
+        × Gathers n set x.history u col2
+    goes col2 scan-is long f = (
       looked x s k f.0,
       record {
         segment = j;
-        turn = here;
+        turn = (place, at, here);
         number = stand.number;
         after =
             ap (λ z. looked x s z f.0) (sym number_is);
         decides = f.1;
       },
       record {
-        segments = ap (λ (z : Course). z.segments) scan-is ∙ same_n ∙ gat.segments;
+        set_is = ap (λ (z : Course). z.set) scan-is ∙ same_set ∙ gat.set_is;
+        among = gat.among;
         told = ap (λ (z : Course). z.told) scan-is ∙ told_k;
-        next = subst (IsNext n (s.told ++ k ∷ [])) (same
+        next = subst (IsNext set (s.told ++ k ∷ [])) (same
             ∙ ap (λ (z : Course). z.next) (sym scan-is)) is;
-        size = size;
+        size = long;
         start = end2;
         end = omega arith;
-        gathered = subst (Gathered n h (looked x s k f.0) col2.memory.items) (same
+        gathered = subst (Gathered set h (looked x s k f.0) col2.memory.items) (same
             ∙ ap (λ (z : Course). z.next) (sym scan-is)) f.2;
       },
     )
 
     pub look_other : ((i : ℕ) → v ≡ Borrow i → ⊥) → (col2 : Collector) → col2.scan ≡ t
         → col2.memory.items ≡ slice_set col.memory.items j r.value → (u : ScanState)
-        × IsLook n x s r.number u × Gathers n x.history u col2
+        × IsLook set x s r.number u × Gathers n set x.history u col2
     look_other not_borrow col2 scan-is memory-is =
-        let memory : List (List ℕ) = slice_set col.memory.items j (value_at h now j) in
+        let value = values_of set h now place in
+        let memory : List (List ℕ) = slice_set col.memory.items j value in
         let is_memory : col2.memory.items ≡ memory =
-        memory-is ∙ ap (slice_set col.memory.items j) (stand.value ∙ sym (value_now h j)) in
-        let size : length memory ≡ n = length-set col.memory.items j (value_at h now j)
-        ∙ gat.size in
-        let c : Collects (List ℕ) n (number_at h) (value_at h) s.start now (s.told
-        ++ k ∷ []) memory =
-        Collects-push (List ℕ) n (number_at h)
-        (value_at h) s.start s.last s.told col.memory.items collects now j gat.end here end2
-        gat.size in
+        memory-is ∙ ap (slice_set col.memory.items j)
+        (stand.value ∙ sym (value_now h j) ∙ ap (value_at h now) (sym segment_is)) in
+        let old : length col.memory.items ≡ n = gat.size in
+        let long : length memory ≡ n = length-set col.memory.items j value ∙ old in
+        let within : j < n = turn_within in
+        let c : Collects (List ℕ) (size set) (numbers_of set h) (values_of set h) s.start now
+        (s.told ++ k ∷ []) (picked set memory) =
+        subst (Collects (List ℕ) (size set) (numbers_of set h) (values_of set h) s.start now
+        (s.told ++ k ∷ []))
+        (sym (picked-set set col.memory.items place j value at (omega arith)))
+        (Collects-push (List ℕ) (size set) (numbers_of set h) (values_of set h) s.start s.last
+        s.told (picked set col.memory.items) collects now place gat.end here end2
+        (picked_size set col.memory.items)) in
         goes col2 scan-is (ap length is_memory
-        ∙ size) (subst (λ z. Goes z v) (sym is_memory)
-        (goes_other v memory size is not_borrow c))
+        ∙ long) (subst (λ z. Goes z v) (sym is_memory)
+        (goes_other v memory long is not_borrow c))
 
     pub look_borrow : (i : ℕ) → v ≡ Borrow i → (col2 : Collector) → col2.scan ≡ t
-        → col2.memory.items ≡ r.view.items → (u : ScanState) × IsLook n x s r.number u
-        × Gathers n x.history u col2
+        → col2.memory.items ≡ r.view.items → (u : ScanState) × IsLook set x s r.number u
+        × Gathers n set x.history u col2
     look_borrow i is_borrow col2 scan-is memory-is =
         let there = slice_get_read rs n j r (sym regs.size) turn_within read in
         let own = partner (λ l q (z : WriterState).
         ViewStands n h g l q z.view) rs x.writers j r regs.views there in
-        let next : IsNext n (s.told ++ k ∷ []) (Borrow i) =
-        subst (IsNext n (s.told ++ k ∷ [])) is_borrow is in
-        let br : IsBorrow n (s.told ++ k ∷ []) i = (next.borrow i).0 refl in
-        let brj : IsBorrow n (s.told ++ k ∷ []) j =
-        subst (IsBorrow n (s.told ++ k ∷ [])) (same_turn n s.told k i j here br) br in
-        let high : number_at h s.start j + 2 ≤ k =
-        rose (List ℕ) n (number_at h)
-        (value_at h) s.start s.last s.told col.memory.items collects
-        (rising h) now j gat.end here brj in
+        let next : IsNext set (s.told ++ k ∷ []) (Borrow i) =
+        subst (IsNext set (s.told ++ k ∷ [])) is_borrow is in
+        let borrows : Borrows set (s.told ++ k ∷ []) i = (next.borrow i).0 refl in
+        let br : IsBorrow (size set) (s.told ++ k ∷ []) place =
+        subst (IsBorrow (size set) (s.told ++ k ∷ []))
+        (same_turn (size set) s.told k borrows.0 place here borrows.2) borrows.2 in
+        let high : numbers_of set h s.start place + 2 ≤ k =
+        rose (List ℕ) (size set) (numbers_of set h) (values_of set h) s.start s.last s.told
+        (picked set col.memory.items) collects (rising set h) now place gat.end here br in
         let base : number_at h g j ≤ number_at h s.start j =
         number-le from_nothing h j g s.start born in
+        let start_is : numbers_of set h s.start place ≡ number_at h s.start j =
+        ap (number_at h s.start) segment_is in
         let is_k : r.number ≡ k = number_is in
         let p = own.2.kept (omega arith) in
         let view = own.2.is_view p.0 p.1 in
         goes col2 scan-is (ap length memory-is
         ∙ stand.size) (subst (Goes col2.memory.items) (sym is_borrow)
-        (goes_borrow i col2.memory.items p.0 next view.until (view.before ∙ is_k) (
+        (goes_borrow i col2.memory.items p.0 next view.until
+        (ap (λ z. number_at h p.0 z + 1) segment_is ∙ view.before ∙ is_k) (
           own.0,
           own.1,
           p.1,

@@ -1,6 +1,6 @@
 -- What stays of a world when one writer, one scanner or the history moves on.
 use Rattle.std.proofs.Common.{◌≡◌, ◌≢◌, ℕ, ◌+◌, ◌^◌, ◌<◌, ◌≤◌, inl, inr, List, [], ◌∷◌, ◌++◌, length, take, get_or, Option, Some}
-use Rattle.std.proofs.Common.{slice_get, slice_set, refl, ap, sym, ◌∙◌, subst, arith}
+use Rattle.std.proofs.Common.{slice_index, slice_get, slice_set, refl, ap, sym, ◌∙◌, subst, arith}
 use Rattle.std.specs.Vec.{with_item}
 use Rattle.std.proofs.lemmas.List.{length-set, length_push}
 use Rattle.std.proofs.lemmas.Option.{slice_get_read, same_Some}
@@ -8,12 +8,15 @@ use Rattle.std.proofs.lemmas.Bool.{cases_eq}
 use Rattle.snap_history.specs.History.{Update, from_nothing, number_after, value_after, IsMemory}
 use Rattle.snap_history.proofs.Moments.{number-push, number-push_other, value-push, value-push_other, take-push, number-le}
 use Rattle.snap_scan.specs.Course.{IsNext}
+use Rattle.snap_scan.specs.Sets.{named, size}
+use Rattle.snap_scan.proofs.Sets.{all_at}
 use Rattle.snap_scan.specs.declared.next.Next.{Next}
 use Rattle.snap_scan.specs.declared.next.Next.TheVariants.{Look, Clean, Borrow}
 use Rattle.snap_scan.specs.Looks.{IsDecided}
 use Rattle.snap_scan.proofs.Collects.{Collects-none, Collects-same, IsMoment-same}
-use Rattle.snap_world.specs.Answers.{ScanState, scan_from, IsAnswer, number_at, value_at}
-use Rattle.snap_world.specs.inside.Gathers.{Gathers, Gathered, IsUnderWay, RegisterStands, IsView, ViewStands, RegistersStand}
+use Rattle.snap_world.specs.Answers.{ScanState, scan_from, IsAnswer, number_at, value_at, all_of, set_of, numbers_of, values_of}
+use Rattle.snap_world.specs.inside.Gathers.{Gathers, Gathered, IsSeen, picked, IsUnderWay, RegisterStands, IsView, ViewStands}
+use Rattle.snap_world.specs.inside.Gathers.{RegistersStand}
 use Rattle.snap_world.specs.Machine.{State, WriterState, ScannerState, with_writer, with_scanner, with_update}
 use Rattle.snap_world.specs.inside.Stands.{HasBegun, HasAnswer, WriterStands, ScannerStands, ActorsStand, IsAtPhase, IsScannerAt}
 use Rattle.snap_world.specs.declared.register.Register.{Register}
@@ -28,24 +31,34 @@ use Rattle.snap_world.specs.declared.scanner.ScannerPhase.TheVariants as scanner
 use Rattle.snap_history.proofs.Lists.{get-set_same, get-set_other}
 use Rattle.snap_history.proofs.Pairs.{partner, Pairs-set, Pairs-left, Pairs-right, Pairs-map}
 use Rattle.snap_world.proofs.Looks.{register_at, number_now}
+use Rattle.snap_world.proofs.ScanEnds.{first_look}
 
 -- a scan that was told nothing
-pub Gathers-none : (n : ℕ) (h : List Update) (c : Collector) → c.scan.segments ≡ n
-    → c.scan.told ≡ [] → c.scan.next ≡ Look 0 → IsNext c.scan.segments c.scan.told c.scan.next
-    → length c.memory.items ≡ n → Gathers n h (scan_from (length h)) c
-Gathers-none n h c segments told first next size = record {
-  segments = segments;
-  told = told;
-  next = subst (λ L. IsNext n L c.scan.next) told
-      (subst (λ m. IsNext m c.scan.told c.scan.next) segments next);
-  size = size;
-  start = omega arith;
-  end = omega arith;
-  gathered = subst (Gathered n h (scan_from (length h)) c.memory.items) (sym first) (
-    Collects-none (List ℕ) n (number_at h) (value_at h) (length h) (length h) c.memory.items,
-    refl,
-  );
-}
+pub Gathers-none : (n set : ℕ) (h : List Update) (c : Collector) → 0 < size set → set < 2 ^ n
+    → c.scan.set ≡ set → c.scan.told ≡ [] → IsNext c.scan.set c.scan.told c.scan.next
+    → length c.memory.items ≡ n
+    → Gathers n set h (scan_from (length h)) c × IsUnderWay c
+Gathers-none n set h c some among set_is told next long =
+    let next_is : IsNext set [] c.scan.next =
+    subst (λ L. IsNext set L c.scan.next) told
+    (subst (λ m. IsNext m c.scan.told c.scan.next) set_is next) in
+    let first = first_look set c.scan.next some next_is in (
+      record {
+        set_is = set_is;
+        among = among;
+        told = told;
+        next = next_is;
+        size = long;
+        start = omega arith;
+        end = omega arith;
+        gathered = subst (Gathered set h (scan_from (length h)) c.memory.items) (sym first.1) (
+          Collects-none (List ℕ) (size set) (numbers_of set h) (values_of set h) (length h)
+              (length h) (picked set c.memory.items),
+          refl,
+        );
+      },
+      first,
+    )
 
 module _ (w : Actors) (x : State) (stands : ActorsStand w x) where
   -- the writer of segment i, with what it stands for
@@ -179,48 +192,55 @@ values_stay : (h : List Update) (u : Update) (e : ℕ) → e ≤ length h → (t
     → value_at (h ++ u ∷ []) t i ≡ value_at h t i
 values_stay h u e end t i l = ap (λ g. value_after from_nothing g i) (take-push h u t (omega arith))
 
-IsAnswer-grow : (n : ℕ) (h : List Update) (s : ScanState) (memory : List (List ℕ)) (u : Update)
-    → s.last ≤ length h → IsAnswer n h s memory → IsAnswer n (h ++ u ∷ []) s memory
-IsAnswer-grow n h s memory u end a =
+IsAnswer-grow : (set : ℕ) (h : List Update) (s : ScanState) (memory : List (List ℕ)) (u : Update)
+    → s.last ≤ length h → IsAnswer set h s (IsSeen set h memory)
+    → IsAnswer set (h ++ u ∷ []) s (IsSeen set (h ++ u ∷ []) memory)
+IsAnswer-grow set h s memory u end a =
     let until : a.p ≤ s.last = a.is_moment.until in
     record {
       p = a.p;
       moment = a.moment;
-      is_moment = IsMoment-same n (number_at h) (number_at (h ++ u ∷ [])) s.start s.last s.told a.p
-          (numbers_stay h u s.last end) a.is_moment;
-      is_memory = subst (λ g. IsMemory n from_nothing g memory)
-          (sym (take-push h u a.p (omega arith))) a.is_memory;
+      is_moment = IsMoment-same (size set) (numbers_of set h) (numbers_of set (h ++ u ∷ [])) s.start
+          s.last s.told a.p
+          (λ t place l. numbers_stay h u s.last end t (slice_index (named set) place) l)
+          a.is_moment;
+      is = λ place i at. a.is place i at
+          ∙ ap (λ v. Some v) (sym (values_stay h u s.last end a.p i until));
     }
 
-HasAnswer-grow : (n : ℕ) (h : List Update) (s : ScanState) (c : Collector) (u : Update)
-    → s.last ≤ length h → HasAnswer n h s c → HasAnswer n (h ++ u ∷ []) s c
-HasAnswer-grow n h s c u end a =
-    record { decided = a.decided; answer = IsAnswer-grow n h s c.memory.items u end a.answer }
+HasAnswer-grow : (set : ℕ) (h : List Update) (s : ScanState) (c : Collector) (u : Update)
+    → s.last ≤ length h → HasAnswer set h s c → HasAnswer set (h ++ u ∷ []) s c
+HasAnswer-grow set h s c u end a =
+    record { decided = a.decided; answer = IsAnswer-grow set h s c.memory.items u end a.answer }
 
-Gathered-grow : (n : ℕ) (h : List Update) (s : ScanState) (memory : List (List ℕ)) (u : Update)
-    (v : Next) → s.last ≤ length h → Gathered n h s memory v → Gathered n (h ++ u ∷ []) s memory v
-Gathered-grow n h s memory u (Look j) end g = (
-  Collects-same (List ℕ) n (number_at h) (value_at h) s.start s.last s.told memory g.0
-      (number_at (h ++ u ∷ [])) (value_at (h ++ u ∷ [])) (numbers_stay h u s.last end)
-      (values_stay h u s.last end),
+Gathered-grow : (set : ℕ) (h : List Update) (s : ScanState) (memory : List (List ℕ)) (u : Update)
+    (v : Next) → s.last ≤ length h → Gathered set h s memory v
+    → Gathered set (h ++ u ∷ []) s memory v
+Gathered-grow set h s memory u (Look j) end g = (
+  Collects-same (List ℕ) (size set) (numbers_of set h) (values_of set h) s.start s.last s.told
+      (picked set memory) g.0
+      (numbers_of set (h ++ u ∷ [])) (values_of set (h ++ u ∷ []))
+      (λ t place l. numbers_stay h u s.last end t (slice_index (named set) place) l)
+      (λ t place l. values_stay h u s.last end t (slice_index (named set) place) l),
   g.1,
 )
-Gathered-grow n h s memory u Clean end g = IsAnswer-grow n h s memory u end g
-Gathered-grow n h s memory u (Borrow j) end g = IsAnswer-grow n h s memory u end g
+Gathered-grow set h s memory u Clean end g = IsAnswer-grow set h s memory u end g
+Gathered-grow set h s memory u (Borrow j) end g = IsAnswer-grow set h s memory u end g
 
 later : (h : List Update) (u : Update) (e : ℕ) → e ≤ length h → e ≤ length (h ++ u ∷ [])
 later h u e l = let y : length (h ++ u ∷ []) ≡ length h + 1 = length_push h u in omega arith
 
-pub Gathers-grow : (n : ℕ) (h : List Update) (s : ScanState) (c : Collector) (u : Update)
-    → Gathers n h s c → Gathers n (h ++ u ∷ []) s c
-Gathers-grow n h s c u g = record {
-  segments = g.segments;
+pub Gathers-grow : (n set : ℕ) (h : List Update) (s : ScanState) (c : Collector) (u : Update)
+    → Gathers n set h s c → Gathers n set (h ++ u ∷ []) s c
+Gathers-grow n set h s c u g = record {
+  set_is = g.set_is;
+  among = g.among;
   told = g.told;
   next = g.next;
   size = g.size;
   start = g.start;
   end = later h u s.last g.end;
-  gathered = Gathered-grow n h s c.memory.items u c.scan.next g.end g.gathered;
+  gathered = Gathered-grow set h s c.memory.items u c.scan.next g.end g.gathered;
 }
 
 pub HasBegun-grow : (n : ℕ) (h : List Update) (since i : ℕ) (w : Writer) (s : WriterState)
@@ -237,7 +257,7 @@ HasBegun-grow n h since i w s u ne g =
       fits = g.fits;
       room = subst (λ x. x + 1 < 2 ^ 63) (sym same) room;
       own = numbers_stay h u s.scan.last end s.scan.start i start ∙ g.own ∙ sym same;
-      gathers = Gathers-grow n h s.scan w.collector u g.gathers;
+      gathers = Gathers-grow n (all_of n) h s.scan w.collector u g.gathers;
     }
 
 phase-grow : (n : ℕ) (h : List Update) (since i : ℕ) (w : Writer) (s : WriterState) (u : Update)
@@ -247,11 +267,11 @@ phase-grow n h since i w s u writer.Idle ne g = g
 phase-grow n h since i w s u writer.Scanning ne g = (HasBegun-grow n h since i w s u ne g.0, g.1)
 phase-grow n h since i w s u writer.Storing ne g = (
   HasBegun-grow n h since i w s u ne g.0,
-  HasAnswer-grow n h s.scan w.collector u g.0.gathers.end g.1,
+  HasAnswer-grow (all_of n) h s.scan w.collector u g.0.gathers.end g.1,
 )
 phase-grow n h since i w s u writer.Stored ne g = (
   HasBegun-grow n h since i w s u ne g.0,
-  HasAnswer-grow n h s.scan w.collector u g.0.gathers.end g.1,
+  HasAnswer-grow (all_of n) h s.scan w.collector u g.0.gathers.end g.1,
 )
 phase-grow n h since i w s u writer.Shown ne g = g
 phase-grow n h since i w s u writer.Fenced ne g = g
@@ -261,9 +281,9 @@ scanner_phase-grow : (n : ℕ) (h : List Update) (since : ℕ) (c : Scanner) (s 
     → IsScannerAt n (h ++ u ∷ []) since c s p
 scanner_phase-grow n h since c s u scanner.Idle g = g
 scanner_phase-grow n h since c s u scanner.Scanning g =
-    (g.0, g.1, g.2, Gathers-grow n h g.0 c.collector u g.3, g.4)
+    (g.0, g.1, g.2, Gathers-grow n (set_of n c.asked) h g.0 c.collector u g.3, g.4)
 scanner_phase-grow n h since c s u scanner.Ready g =
-    (g.0, g.1, later h u g.0.last g.2, HasAnswer-grow n h g.0 c.collector u g.2 g.3)
+    (g.0, g.1, later h u g.0.last g.2, HasAnswer-grow (set_of n c.asked) h g.0 c.collector u g.2 g.3)
 
 pub WriterStands-grow : (n : ℕ) (h : List Update) (since i : ℕ) (w : Writer) (s : WriterState)
     (u : Update) → u.segment ≢ i → WriterStands n h since i w s
@@ -403,20 +423,27 @@ world_shows w x stands i v r a s l here_r here_v here_a =
     }
 
 -- a scan whose machine has no look to make has its answer
-answered : (n : ℕ) (h : List Update) (s : ScanState) (memory : List (List ℕ)) (v : Next)
-    → ((j : ℕ) → v ≡ Look j → ⊥) → Gathered n h s memory v → IsAnswer n h s memory
-answered n h s memory (Look j) done g = absurd (done j refl)
-answered n h s memory Clean done g = g
-answered n h s memory (Borrow j) done g = g
+answered : (set : ℕ) (h : List Update) (s : ScanState) (memory : List (List ℕ)) (v : Next)
+    → ((j : ℕ) → v ≡ Look j → ⊥) → Gathered set h s memory v
+    → IsAnswer set h s (IsSeen set h memory)
+answered set h s memory (Look j) done g = absurd (done j refl)
+answered set h s memory Clean done g = g
+answered set h s memory (Borrow j) done g = g
 
-pub has_answer : (n : ℕ) (h : List Update) (s : ScanState) (c : Collector) → Gathers n h s c
-    → IsDecided n s.told → (IsUnderWay c → ⊥) → HasAnswer n h s c
-has_answer n h s c g decided done =
+pub has_answer : (n set : ℕ) (h : List Update) (s : ScanState) (c : Collector)
+    → Gathers n set h s c → IsDecided (size set) s.told → (IsUnderWay c → ⊥) → HasAnswer set h s c
+has_answer n set h s c g decided done =
     record {
       decided = decided;
       answer =
-          answered n h s c.memory.items c.scan.next (λ j e. done (j, e)) g.gathered;
+          answered set h s c.memory.items c.scan.next (λ j e. done (j, e)) g.gathered;
     }
+
+-- what was seen of all segments is the memory
+pub whole : (n : ℕ) (h : List Update) (memory : List (List ℕ)) (p : ℕ) → n ≤ 16
+    → length memory ≡ n → IsSeen (all_of n) h memory p → IsMemory n from_nothing (take p h) memory
+whole n h memory p most long seen =
+    record { size = long; values = λ i l. seen i i (all_at n most i l) }
 
 -- the moment of the answer comes after the writer's update before, and no update of its own came
 -- since

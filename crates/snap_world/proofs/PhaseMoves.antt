@@ -60,6 +60,11 @@ no_scanner w i p l e =
     length-map w.scanners.items (λ v. v.phase) in
     omega arith
 
+-- each segment has a writer
+pub writers_phases : (w : Actors) (x : State) → ActorsStand w x
+    → length (phases_of_actors w).writers ≡ w.segments
+writers_phases w x stands = length-map w.writers.items (λ v. v.phase) ∙ stands.writers_n
+
 -- the phases after one writer or one scanner has moved, or has kept its phase
 pub writer_moved : (w : Actors) (i : ℕ) (a : Writer)
     → record {

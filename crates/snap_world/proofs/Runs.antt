@@ -11,10 +11,10 @@ use Rattle.snap_world.specs.Runs.{Configuration, Run}
 use Rattle.snap_world.specs.Surface.{StandsFor, IsRun, segments_of, configuration}
 use Rattle.snap_world.specs.declared.event.Actor.TheVariants.{Writer, Scanner}
 use Rattle.snap_world.specs.declared.event.Event.{Event}
-use Rattle.snap_world.specs.declared.event.Event.TheVariants.{Begin, Look, Call, Fail, Show, Acknowledge, Scan, Answer, Crash, Restart}
-use Rattle.snap_world.specs.declared.event.Event.TheVariants.{RestartCall, RestartFail, Serve}
+use Rattle.snap_world.specs.declared.event.Event.TheVariants.{Begin, Look, Call, Fail, Show, Acknowledge, Scan, Pick, Answer, Crash}
+use Rattle.snap_world.specs.declared.event.Event.TheVariants.{Restart, RestartCall, RestartFail, Serve}
 use Rattle.snap_world.specs.declared.event.Reply.TheVariants.{Begun as Begun_reply, Number, Called, DeviceFailed, Shown as Shown_reply}
-use Rattle.snap_world.specs.declared.event.Reply.TheVariants.{Stored, ScanBegun, Memory, Crashed, Restarting, NotNow}
+use Rattle.snap_world.specs.declared.event.Reply.TheVariants.{Stored, ScanBegun, Memory, Part, Crashed, Restarting, NotNow}
 use Rattle.snap_world.specs.declared.event.Reply.{Reply}
 use Rattle.snap_world.specs.declared.world.World.{World}
 
@@ -27,12 +27,14 @@ pub Step-grows : (n : ℕ) (x : State) (event : Event) (reply : Reply) (y : Stat
 Step-grows n x event NotNow y s = stays x y (ap (λ v. v.history) s)
 Step-grows n x (Begin w v) Begun_reply y s = stays x y (ap (λ v. v.history) s.4)
 Step-grows n x (Look (Writer w)) (Number k) y s = stays x y (ap (λ v. v.history) s.4)
-Step-grows n x (Look (Scanner i)) (Number k) y s = stays x y (ap (λ v. v.history) s.4)
+Step-grows n x (Look (Scanner i)) (Number k) y s = stays x y (ap (λ v. v.history) s.5)
 Step-grows n x (Show w) Shown_reply y s =
     (record { segment = w; value = s.1 } ∷ [], ap (λ v. v.history) s.4)
 Step-grows n x (Acknowledge w) (Stored k) y s = stays x y (ap (λ v. v.history) s.5)
 Step-grows n x (Scan i) ScanBegun y s = stays x y (ap (λ v. v.history) s.1)
+Step-grows n x (Pick i set) ScanBegun y s = stays x y (ap (λ v. v.history) s.1)
 Step-grows n x (Answer i) (Memory m) y s = stays x y (ap (λ v. v.history) s.3)
+Step-grows n x (Answer i) (Part m) y s = stays x y (ap (λ v. v.history) s.4)
 Step-grows n x (Call w) (Called kind) y s = stays x y (ap (λ v. v.history) s)
 Step-grows n x (Fail w fill) DeviceFailed y s = stays x y (ap (λ v. v.history) s.4)
 Step-grows n x (Crash fills) Crashed y s = stays x y (ap (λ v. v.history) s)

@@ -10,3 +10,5 @@ pub mod Devices
 pub mod NodePhases
 pub mod inside
 pub use Rattle.snap_persist.specs.declared.persist
+pub use Rattle.snap_scan.specs.declared.set
+pub use Rattle.snap_scan.specs.Sets

@@ -2,17 +2,23 @@
 -- began and looked last, and which moment it answers.
 use Rattle.std.proofs.Common.{suc}
 use Rattle.std.specs.Prelude.{◌≡◌, ℕ, Bool, true, false, List, [], ◌∷◌, ◌++◌, length, map, Option, Some, None, slice_get, slice_set}
+use Rattle.std.specs.Prelude.{take}
 use Rattle.snap_history.specs.History.{Update, from_nothing, number_after, IsMemory}
-use Rattle.snap_scan.specs.Looks.{IsTurn, IsBorrow, IsDecided}
+use Rattle.snap_scan.specs.Looks.{IsDecided}
+use Rattle.snap_scan.specs.Course.{HasTurn, Borrows}
+use Rattle.snap_scan.specs.Sets.{size}
+use Rattle.snap_scan.specs.declared.set.SegmentSet.{SegmentSet}
 use Rattle.snap_scan.specs.Collects.{IsMoment}
-use Rattle.snap_world.specs.Answers.{ScanState, scan_from, IsAnswer, number_at}
+use Rattle.snap_world.specs.Answers.{ScanState, scan_from, IsAnswer, all_of, set_of, numbers_of, part_at, pair_of}
+use Rattle.snap_world.specs.declared.scanner.Asked.{Asked}
+use Rattle.snap_world.specs.declared.scanner.Asked.TheVariants.{All, Only}
 use Rattle.snap_world.specs.declared.event.Actor.TheVariants.{Writer, Scanner}
 use Rattle.snap_world.specs.declared.event.Event.{Event}
-use Rattle.snap_world.specs.declared.event.Event.TheVariants.{Begin, Look, Call, Fail, Show, Acknowledge, Scan, Answer, Crash, Restart}
-use Rattle.snap_world.specs.declared.event.Event.TheVariants.{RestartCall, RestartFail, Serve}
+use Rattle.snap_world.specs.declared.event.Event.TheVariants.{Begin, Look, Call, Fail, Show, Acknowledge, Scan, Pick, Answer, Crash}
+use Rattle.snap_world.specs.declared.event.Event.TheVariants.{Restart, RestartCall, RestartFail, Serve}
 use Rattle.snap_world.specs.declared.event.Reply.{Reply}
 use Rattle.snap_world.specs.declared.event.Reply.TheVariants.{Begun as Begun_reply, Number, Called, DeviceFailed, Shown as Shown_reply}
-use Rattle.snap_world.specs.declared.event.Reply.TheVariants.{Stored, ScanBegun, Memory, Crashed, Restarting, NotNow}
+use Rattle.snap_world.specs.declared.event.Reply.TheVariants.{Stored, ScanBegun, Memory, Part, Crashed, Restarting, NotNow}
 
 -- what a writer has under way
 pub data Pending : Type 0 where
@@ -33,10 +39,10 @@ pub record WriterState : Type 0 where
 abbrev pub resting : WriterState
 resting = record { pending = Free; fenced = false; scan = scan_from 0; view = None }
 
--- a scanner: its scan, if it has one
+-- a scanner: its scan, if it has one, with what was asked for
 pub data ScannerState : Type 0 where
   Closed : ScannerState
-  Opened : (scan : ScanState) → ScannerState
+  Opened : (asked : Asked) → (scan : ScanState) → ScannerState
 
 pub record State : Type 0 where
   pub history : List Update
@@ -70,14 +76,15 @@ with_update x w v s = record {
 abbrev pub ShownWith : State → ℕ → ℕ → Type 0
 ShownWith x j p = (s : WriterState) × (slice_get x.writers j ≡ Some s) × (s.view ≡ Some p)
 
--- in state x the moment of a scan that looked just now: none where the numbers told decide nothing,
--- else one from its beginning to now that they tell; and where they borrow from segment j, the very
--- moment with which its last update was shown
+-- in state x the moment of a scan of this set that looked just now: none where the numbers told
+-- decide nothing, else one from its beginning to now that they tell; and where they borrow from
+-- segment j, the very moment with which its last update was shown
 abbrev pub Decides : ℕ → State → ScanState → Option ℕ → Type 0
-Decides n x s None = IsDecided n s.told → ⊥
-Decides n x s (Some p) =
-    IsDecided n s.told × IsMoment n (number_at x.history) s.start s.last s.told p
-    × ((j : ℕ) → IsBorrow n s.told j → ShownWith x j p)
+Decides set x s None = IsDecided (size set) s.told → ⊥
+Decides set x s (Some p) =
+    IsDecided (size set) s.told
+    × IsMoment (size set) (numbers_of set x.history) s.start s.last s.told p
+    × ((j : ℕ) → Borrows set s.told j → ShownWith x j p)
 
 -- scan s after a look in state x that told the number k
 abbrev pub looked : State → ScanState → ℕ → Option ℕ → ScanState
@@ -88,13 +95,14 @@ looked x s k moment = record {
   moment = moment;
 }
 
--- in state x scan s is told the number k of the segment whose turn it is, and is scan t then
-pub record IsLook (n : ℕ) (x : State) (s : ScanState) (k : ℕ) (t : ScanState) : Type 0 where
+-- in state x scan s of this set is told the number k of the segment whose turn it is, and is scan t
+-- then
+pub record IsLook (set : ℕ) (x : State) (s : ScanState) (k : ℕ) (t : ScanState) : Type 0 where
   pub segment : ℕ
-  pub turn : IsTurn n s.told segment
+  pub turn : HasTurn set s.told segment
   pub number : k ≡ number_after from_nothing x.history segment
   pub after : t ≡ looked x s k t.moment
-  pub decides : Decides n x t t.moment
+  pub decides : Decides set x t t.moment
 
 -- a crash: what was shown is done, what was begun stays, and no scan is open
 abbrev pub crashed_pending : Pending → Pending
@@ -153,15 +161,16 @@ Step n x (Begin w v) Begun_reply y =
       scan =
           scan_from (length x.history);
     }))
--- a look tells the number of the segment whose turn it is
+-- a look tells the number of the segment whose turn it is; the scan that is embedded in an update is
+-- of all segments
 Step n x (Look (Writer w)) (Number k) y =
     (s : WriterState) × (slice_get x.writers w ≡ Some s)
-    × (t : ScanState) × IsLook n x s.scan k t
+    × (t : ScanState) × IsLook (all_of n) x s.scan k t
     × (y ≡ with_writer x w (record s { scan = t }))
 Step n x (Look (Scanner i)) (Number k) y =
-    (s : ScanState) × (slice_get x.scanners i ≡ Some (Opened s))
-    × (t : ScanState) × IsLook n x s k t
-    × (y ≡ with_scanner x i (Opened t))
+    (asked : Asked) × (s : ScanState) × (slice_get x.scanners i ≡ Some (Opened asked s))
+    × (t : ScanState) × IsLook (set_of n asked) x s k t
+    × (y ≡ with_scanner x i (Opened asked t))
 -- a device call that succeeds leaves the state as it is; after one that fails the segment is fenced
 Step n x (Call w) (Called kind) y = y ≡ x
 Step n x (Fail w fill) DeviceFailed y =
@@ -177,11 +186,21 @@ Step n x (Acknowledge w) (Stored k) y =
     × (y ≡ with_writer x w (record s { pending = Free; scan = scan_from 0 }))
 Step n x (Scan i) ScanBegun y =
     (slice_get x.scanners i ≡ Some Closed)
-    × (y ≡ with_scanner x i (Opened (scan_from (length x.history))))
+    × (y ≡ with_scanner x i (Opened All (scan_from (length x.history))))
+Step n x (Pick i set) ScanBegun y =
+    (slice_get x.scanners i ≡ Some Closed)
+    × (y ≡ with_scanner x i (Opened (Only set) (scan_from (length x.history))))
 -- the memory as it stood at the scan's moment, between its beginning and its last look
 Step n x (Answer i) (Memory m) y =
-    (s : ScanState) × (slice_get x.scanners i ≡ Some (Opened s))
-    × IsAnswer n x.history s (map (λ v. v.items) m.items)
+    (s : ScanState) × (slice_get x.scanners i ≡ Some (Opened All s))
+    × IsAnswer (all_of n) x.history s (λ p.
+    IsMemory n from_nothing (take p x.history) (map (λ v. v.items) m.items))
+    × (y ≡ with_scanner x i Closed)
+-- of a scan of some segments, these alone, each with its value as it stood then
+Step n x (Answer i) (Part m) y =
+    (set : SegmentSet) × (s : ScanState) × (slice_get x.scanners i ≡ Some (Opened (Only set) s))
+    × IsAnswer set.bits x.history s (λ p.
+    map pair_of m.items ≡ part_at set.bits x.history p)
     × (y ≡ with_scanner x i Closed)
 Step n x (Crash fills) Crashed y = y ≡ crashed x
 Step n x Restart Restarting y = y ≡ x

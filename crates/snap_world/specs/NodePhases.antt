@@ -1,11 +1,13 @@
 -- The phases of a world: of its node, of its writers and scanners, and of the stores on its
 -- devices.
-use Rattle.std.specs.Prelude.{◌≡◌, ◌⊎◌, ℕ, ◌+◌, ◌<◌, nat_lt, true, if◌then◌else◌, List, [], ◌∷◌, ◌++◌, length, replicate, Some}
+use Rattle.std.specs.Prelude.{◌≡◌, ◌⊎◌, ℕ, ◌+◌, ◌^◌, ◌<◌, nat_lt, true, if◌then◌else◌, List, [], ◌∷◌, ◌++◌, length, replicate, Some}
 use Rattle.std.specs.Prelude.{slice_get, slice_set}
 use Rattle.snap_scan.specs.Looks.{IsDecided}
+use Rattle.snap_scan.specs.Sets.{size}
 use Rattle.snap_history.specs.History.{from_nothing, number_after}
 use Rattle.snap_world.specs.Machine.{State, WriterState, Opened}
-use Rattle.snap_world.specs.Answers.{ScanState}
+use Rattle.snap_world.specs.Answers.{ScanState, all_of, set_of}
+use Rattle.snap_world.specs.declared.scanner.Asked.{Asked}
 use Rattle.snap_world.specs.Phases.{Phases, WriterIs, ScannerIs, writer_to, scanner_to}
 use Rattle.snap_history.specs.declared.limits.TheConstants.{LAST_NUMBER}
 use Rattle.snap_history.specs.Limits.{IsShort}
@@ -14,11 +16,11 @@ use Rattle.snap_persist.specs.Stage.{store_calls}
 use Rattle.snap_world.specs.Calls.{store_call, opening_kind}
 use Rattle.snap_world.specs.declared.event.Actor.TheVariants as actor
 use Rattle.snap_world.specs.declared.event.Event.{Event}
-use Rattle.snap_world.specs.declared.event.Event.TheVariants.{Begin, Look, Show, Acknowledge, Scan, Answer, Call, Fail, Crash, Restart}
-use Rattle.snap_world.specs.declared.event.Event.TheVariants.{RestartCall, RestartFail, Serve}
+use Rattle.snap_world.specs.declared.event.Event.TheVariants.{Begin, Look, Show, Acknowledge, Scan, Pick, Answer, Call, Fail, Crash}
+use Rattle.snap_world.specs.declared.event.Event.TheVariants.{Restart, RestartCall, RestartFail, Serve}
 use Rattle.snap_world.specs.declared.event.Reply.{Reply}
 use Rattle.snap_world.specs.declared.event.Reply.TheVariants.{Begun, Number, Shown, Stored, ScanBegun, Called, DeviceFailed, Crashed}
-use Rattle.snap_world.specs.declared.event.Reply.TheVariants.{Restarting as Restarting_reply, Memory, NotNow}
+use Rattle.snap_world.specs.declared.event.Reply.TheVariants.{Restarting as Restarting_reply, Memory, Part, NotNow}
 use Rattle.snap_world.specs.declared.node.NodePhase.{NodePhase}
 use Rattle.snap_world.specs.declared.node.NodePhase.TheVariants.{Up, Down, Restarting, Ready}
 use Rattle.snap_world.specs.declared.node.OpeningCall.{OpeningCall}
@@ -41,6 +43,10 @@ up actors = record { node = Up; actors = actors; calls = [] }
 abbrev pub segments_in : WorldPhases → ℕ
 segments_in p = length p.calls
 
+-- the set names a segment, and none that isn't there
+abbrev pub IsChoice : Phases → ℕ → Type 0
+IsChoice p set = (0 < set) × (set < 2 ^ length p.writers)
+
 -- in state x with phases p the event may come; writers and scanners act only while the node is up
 abbrev pub MayCome : State → WorldPhases → Event → Type 0
 MayCome x p (Begin w v) =
@@ -53,6 +59,8 @@ MayCome x p (Fail w fill) = (p.node ≡ Up) × WriterIs p.actors w writer.Storin
 MayCome x p (Show w) = (p.node ≡ Up) × WriterIs p.actors w writer.Stored
 MayCome x p (Acknowledge w) = (p.node ≡ Up) × WriterIs p.actors w writer.Shown
 MayCome x p (Scan i) = (p.node ≡ Up) × ScannerIs p.actors i scanner.Idle
+MayCome x p (Pick i set) =
+    (p.node ≡ Up) × ScannerIs p.actors i scanner.Idle × IsChoice p.actors set.bits
 MayCome x p (Answer i) = (p.node ≡ Up) × ScannerIs p.actors i scanner.Ready
 -- a crash comes with a fill for each device
 MayCome x p (Crash fills) = length fills.items ≡ segments_in p
@@ -75,10 +83,11 @@ actors_to p actors = record { node = p.node; actors = actors; calls = p.calls }
 abbrev pub node_to : WorldPhases → NodePhase → WorldPhases
 node_to p node = record { node = node; actors = p.actors; calls = p.calls }
 
--- after a look the phases go on to r where the numbers told decide an answer, and stay otherwise
-pub record LooksOn {P : Type 0} (n : ℕ) (told : List ℕ) (p r q : P) : Type 0 where
-  pub ends : IsDecided n told → q ≡ r
-  pub goes_on : (IsDecided n told → ⊥) → q ≡ p
+-- after a look of a scan of this set the phases go on to r where the numbers told decide an answer,
+-- and stay otherwise
+pub record LooksOn {P : Type 0} (set : ℕ) (told : List ℕ) (p r q : P) : Type 0 where
+  pub ends : IsDecided (size set) told → q ≡ r
+  pub goes_on : (IsDecided (size set) told → ⊥) → q ≡ p
   pub either : (q ≡ r) ⊎ (q ≡ p)
 
 -- after a call with these ones left; once none is left the update is stored, and the next store
@@ -114,10 +123,12 @@ PhasesMove n x p event NotNow q = q ≡ p
 PhasesMove n x p (Begin w v) Begun q = q ≡ actors_to p (writer_to p.actors w writer.Scanning)
 PhasesMove n x p (Look (actor.Writer w)) (Number k) q =
     (s : WriterState) → slice_get x.writers w ≡ Some s
-    → LooksOn n (s.scan.told ++ k ∷ []) p (actors_to p (writer_to p.actors w writer.Storing)) q
+    → LooksOn (all_of n) (s.scan.told ++ k ∷ []) p
+    (actors_to p (writer_to p.actors w writer.Storing)) q
 PhasesMove n x p (Look (actor.Scanner i)) (Number k) q =
-    (s : ScanState) → slice_get x.scanners i ≡ Some (Opened s)
-    → LooksOn n (s.told ++ k ∷ []) p (actors_to p (scanner_to p.actors i scanner.Ready)) q
+    (asked : Asked) (s : ScanState) → slice_get x.scanners i ≡ Some (Opened asked s)
+    → LooksOn (set_of n asked) (s.told ++ k ∷ []) p
+    (actors_to p (scanner_to p.actors i scanner.Ready)) q
 PhasesMove n x p (Call w) (Called kind) q =
     (rest : List NextCall) × (slice_get p.calls w ≡ Some (store_call kind ∷ rest))
     × AfterCall p w rest q
@@ -129,7 +140,9 @@ PhasesMove n x p (Fail w fill) DeviceFailed q = q ≡ record {
 PhasesMove n x p (Show w) Shown q = q ≡ actors_to p (writer_to p.actors w writer.Shown)
 PhasesMove n x p (Acknowledge w) (Stored k) q = q ≡ actors_to p (writer_to p.actors w writer.Idle)
 PhasesMove n x p (Scan i) ScanBegun q = q ≡ actors_to p (scanner_to p.actors i scanner.Scanning)
+PhasesMove n x p (Pick i set) ScanBegun q = q ≡ actors_to p (scanner_to p.actors i scanner.Scanning)
 PhasesMove n x p (Answer i) (Memory m) q = q ≡ actors_to p (scanner_to p.actors i scanner.Idle)
+PhasesMove n x p (Answer i) (Part m) q = q ≡ actors_to p (scanner_to p.actors i scanner.Idle)
 PhasesMove n x p (Crash fills) Crashed q = q ≡ record {
   node = Down;
   actors = all_idle p.actors;

@@ -1,15 +1,19 @@
 //! One scan in progress: its double collects, and the values that it saw last.
-ghost use Rattle.std.specs.Prelude.{◌≡◌, ◌↔◌, length, map, IfOk, IsTrue, MatchBool};
+ghost use Rattle.std.specs.Prelude.{◌≡◌, ◌↔◌, ◌<◌, ℕ, length, map, IfOk, IsTrue, MatchBool};
 ghost use Rattle.snap_scan.specs.Looks.{IsDecided};
-ghost use Rattle.snap_world.specs.inside.Gathers.{IsLookOf, IsUnderWay, MayLook};
+ghost use Rattle.snap_scan.specs.Sets.{IsAt, named, size};
+ghost use Rattle.snap_world.specs.Answers.{pair_of};
+ghost use Rattle.snap_world.specs.inside.Gathers.{IsLookOf, IsUnderWay, MayLook, entry_in};
 
+use crate::event::PartEntry;
 use crate::register::Register;
 use crate::value::Value;
-use snap_scan::{Next, Scan};
+use snap_scan::{MAX_SEGMENTS, Next, Scan, SegmentSet};
 use std::alloc::{AllocError, Global};
 
-/// A scan with the value of the latest look at each segment and, once the scan has its answer, that
-/// answer.
+/// A scan with the value of the latest look at each of its segments and, once the scan has its
+/// answer, that answer. The memory has a place for each segment, and means something at those of the
+/// scan's set alone.
 #[derive(Drop)]
 pub struct Collector {
     pub scan: Scan,
@@ -45,7 +49,8 @@ impl Collector {
     /// Whether the scan has its answer.
     pub fn is_done(&self) -> bool
         ensures under_way { MatchBool result (IsUnderWay self.now → ⊥) (IsUnderWay self.now) }
-        ensures decided { IsTrue result ↔ IsDecided self.now.scan.segments self.now.scan.told }
+        ensures decided { IsTrue result
+            ↔ IsDecided (size self.now.scan.set) self.now.scan.told }
     {
         match self.scan.next() {
             Next::Look(_) => false,
@@ -73,4 +78,24 @@ pub fn bytes_of_all(alloc: Global, values: &Vec<Value>) -> Result<Vec<Vec<u8>>, 
         all.push(values[i].to_vec(alloc)?)?;
     }
     Ok(all)
+}
+
+/// Each segment of the set with the bytes of its value, in ascending order.
+pub fn entries_of(
+    alloc: Global,
+    values: &Vec<Value>,
+    set: SegmentSet,
+) -> Result<Vec<PartEntry>, AllocError>
+    requires within { (place i : ℕ) → IsAt set.bits place i → i < length values.now.items }
+    ensures { IfOk result (λ part.
+        map pair_of part.items ≡ map (entry_in values.now.items) (named set.bits)) }
+{
+    let mut part = Vec::new(alloc);
+    for segment in 0..MAX_SEGMENTS {
+        if set.has(segment) {
+            let value = values[segment].to_vec(alloc)?;
+            part.push(PartEntry { segment, value })?;
+        }
+    }
+    Ok(part)
 }

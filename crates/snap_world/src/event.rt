@@ -1,6 +1,7 @@
 //! What may happen in a world, and what it answers.
 use snap_disk::Fill;
 use snap_persist::Write;
+use snap_scan::SegmentSet;
 
 /// Who looks.
 #[derive(Clone, Copy, Debug, Drop, PartialEq, Eq)]
@@ -43,7 +44,11 @@ pub enum Event {
     Acknowledge(usize),
     /// This scanner, which is idle, begins a scan: `ScanBegun`.
     Scan(usize),
-    /// This scanner, whose scan has its answer, gives it and is idle again: `Memory`.
+    /// This scanner, which is idle, begins a scan of these segments alone: `ScanBegun`. The set has
+    /// to name a segment, and none that isn't there.
+    Pick(usize, SegmentSet),
+    /// This scanner, whose scan has its answer, gives it and is idle again: `Memory`, or `Part` where
+    /// `Pick` began the scan.
     Answer(usize),
     /// Each device crashes, and its open places get its fill, of which there is one for each
     /// segment: `Crashed`. It may come at any time. Nobody is at work any more, and the node is
@@ -60,6 +65,13 @@ pub enum Event {
     /// The restart, whose device calls are all made, ends: `Memory`, the recovered one. The node is
     /// up, and everybody idle.
     Serve,
+}
+
+/// A segment and its value, as a scan of some segments answers them.
+#[derive(Debug, Drop, PartialEq, Eq)]
+pub struct PartEntry {
+    pub segment: usize,
+    pub value: Vec<u8>,
 }
 
 /// What a world answers to an event.
@@ -81,6 +93,8 @@ pub enum Reply {
     ScanBegun,
     /// The value of each segment, in order.
     Memory(Vec<Vec<u8>>),
+    /// Each segment of the scan's set with its value, in ascending order.
+    Part(Vec<PartEntry>),
     /// The devices crashed.
     Crashed,
     /// The restart has begun.

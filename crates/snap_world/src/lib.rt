@@ -8,9 +8,10 @@
 //! `snap_persist`, on devices of `snap_disk`, and a restart reads them by `snap_slot`.
 //!
 //! What the world promises is durable linearizability (Izraelevitz et al. 2016) of the
-//! single-writer atomic snapshot (Afek et al. 1993): each scan answers the memory as it stood at
-//! one moment between its beginning and its last look, and each restart the memory after all
-//! updates visible by then, followed by at most one begun update of each writer.
+//! single-writer atomic snapshot (Afek et al. 1993): each scan answers the memory, or the segments
+//! of it that it was asked for, as it stood at one moment between its beginning and its last look,
+//! and each restart the memory after all updates visible by then, followed by at most one begun
+//! update of each writer.
 //!
 //! The world stores no history. Its contracts speak of an abstract machine that keeps one
 //! (specs/Machine.antt), of the phases that each event needs and leaves (specs/NodePhases.antt), of
@@ -30,9 +31,10 @@ mod value;
 mod world;
 mod writer;
 
-pub use event::{Actor, Event, Kind, Reply};
+pub use event::{Actor, Event, Kind, PartEntry, Reply};
 pub use node::{NodePhase, OpeningCall};
 pub use scanner::ScannerPhase;
 pub use snap_persist::Write;
+pub use snap_scan::SegmentSet;
 pub use world::{Stopped, World};
 pub use writer::WriterPhase;

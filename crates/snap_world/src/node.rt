@@ -83,6 +83,7 @@ impl Node {
             (Event::Show(segment), NodePhase::Up) => Ok(self.actors.show(*segment)),
             (Event::Acknowledge(segment), NodePhase::Up) => Ok(self.actors.acknowledge(*segment)),
             (Event::Scan(scanner), NodePhase::Up) => Ok(self.actors.scan(*scanner)),
+            (Event::Pick(scanner, set), NodePhase::Up) => Ok(self.actors.pick(*scanner, *set)),
             (Event::Answer(scanner), NodePhase::Up) => self.actors.answer(alloc, *scanner),
             _ => Ok(Reply::NotNow),
         }

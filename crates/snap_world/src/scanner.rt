@@ -1,5 +1,14 @@
 //! A scanner, as a plain value.
-use crate::collector::Collector;
+ghost use Rattle.std.specs.Prelude.{◌≡◌, ℕ, ◌<◌, ◌≤◌, length, IfOk};
+ghost use Rattle.snap_history.specs.declared.limits.TheConstants.{MAX_COUNT};
+ghost use Rattle.snap_scan.specs.Sets.{IsAt};
+ghost use Rattle.snap_world.specs.Answers.{set_of};
+ghost use Rattle.snap_world.specs.inside.Steps.{IsReplyOf};
+
+use crate::collector::{Collector, bytes_of_all, entries_of};
+use crate::event::Reply;
+use snap_scan::SegmentSet;
+use std::alloc::{AllocError, Global};
 
 /// How far a scanner is with its scan.
 #[derive(Clone, Copy, Debug, Drop, PartialEq, Eq)]
@@ -12,9 +21,50 @@ pub enum ScannerPhase {
     Ready,
 }
 
-/// One scanner, with its scan.
+/// What a scanner was asked for.
+#[derive(Clone, Copy, Debug, Drop, PartialEq, Eq)]
+pub enum Asked {
+    /// All segments.
+    All,
+    /// These alone.
+    Only(SegmentSet),
+}
+
+impl Asked {
+    /// The segments to look at, where there are this many.
+    pub fn set(self, segments: usize) -> SegmentSet
+        requires most { segments ≤ MAX_COUNT }
+        ensures { result.bits ≡ set_of segments self }
+    {
+        match self {
+            Asked::All => SegmentSet::all(segments),
+            Asked::Only(set) => set,
+        }
+    }
+}
+
+/// One scanner, with its scan and what that was asked for.
 #[derive(Drop)]
 pub struct Scanner {
     pub phase: ScannerPhase,
+    pub asked: Asked,
     pub collector: Collector,
+}
+
+impl Scanner {
+    ghost use Rattle.snap_scan.specs.declared.set.SegmentSet.{SegmentSet};
+
+    /// The reply to whoever asked: its memory, or the entries of what was asked for. A set has to
+    /// name no segment that the memory has no place for.
+    pub fn reply(&self, alloc: Global) -> Result<Reply, AllocError>
+        requires within { (set : SegmentSet) → self.now.asked ≡ Asked.Only set
+            → (place i : ℕ) → IsAt set.bits place i → i < length self.now.collector.memory.items }
+        ensures { IfOk result (IsReplyOf self.now.asked self.now.collector.memory.items) }
+    {
+        let memory = &self.collector.memory;
+        match self.asked {
+            Asked::All => Ok(Reply::Memory(bytes_of_all(alloc, memory)?)),
+            Asked::Only(set) => Ok(Reply::Part(entries_of(alloc, memory, set)?)),
+        }
+    }
 }

@@ -10,7 +10,7 @@ ghost use Rattle.snap_world.specs.inside.Fresh.{
 
 use crate::collector::Collector;
 use crate::register::Register;
-use crate::scanner::{Scanner, ScannerPhase};
+use crate::scanner::{Asked, Scanner, ScannerPhase};
 use crate::value::Value;
 use crate::writer::{Writer, WriterPhase};
 use snap_scan::Scan;
@@ -90,6 +90,7 @@ pub fn new_scanners(
         let collector = new_collector(alloc, segments)?;
         scanners.push(Scanner {
             phase: ScannerPhase::Idle,
+            asked: Asked::All,
             collector,
         })?;
     }

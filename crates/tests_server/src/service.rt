@@ -1,6 +1,6 @@
 //! Sessions with a node over new files.
 ghost use Rattle.std.specs.Prelude.{◌≡◌, ◌^◌, ◌-◌, ◌<◌, ◌≤◌, All, length, IfOk};
-ghost use Rattle.snap_frame.specs.Messages.{payload, max_payload};
+ghost use Rattle.snap_frame.specs.Messages.{payload, max_payload, IsAskable};
 ghost use Rattle.snap_restart.specs.Closed.{AreBack};
 ghost use Rattle.snap_service.specs.Memory.{AreWriters, IsOf};
 
@@ -13,7 +13,7 @@ use bytes::Bytes;
 use snap_client::{Client, ClientFault};
 use snap_devices::MemDisk;
 use snap_frame::{Reply, Request};
-use snap_memory::{Scanner, Snapshot};
+use snap_memory::{Scanner, SegmentSet};
 use snap_restart::Store;
 use snap_service::{Memory, Node, Shared};
 use snap_session::{End, serve};
@@ -55,11 +55,10 @@ fn serve_bytes<M: Memory, R: Wait>(
     requires writers { AreWriters M.table M.plan writers.items }
     requires scanner { IsOf M.table M.plan scanner }
 {
-    let snapshot = Snapshot::new(alloc, scanner.segments())?;
     let Ok(shared) = Shared::<M, MemDisk>::new(alloc, writers) else {
         return Err(AllocError);
     };
-    let mut node = Node::new(rt, alloc, &shared, scanner, snapshot);
+    let mut node = Node::new(rt, alloc, &shared, scanner);
     let mut reader = stream(Vec::from_slice(alloc, input)?);
     let mut writer = stream(Vec::new(alloc));
     let end = serve(rt, alloc, &mut reader, &mut writer, &mut node);
@@ -154,6 +153,32 @@ fn scanner_comes_back_from_its_node(rt: HostRuntime) -> Result<(), Fail> {
     Ok(())
 }
 
+// A scan of some segments, one that isn't there, and none.
+#[test]
+fn partial_frames(rt: HostRuntime) -> Result<(), Fail> {
+    let talk: [Pair<'_>; 4] = [
+        (HI, STORED_1),
+        (
+            &[0, 0, 0, 3, 4, 0, 2],
+            &[0, 0, 0, 15, 0x84, 1, 1, 0, 0, 0, 0, 0, 0, 0, 0, 0, 0, 0, 0],
+        ),
+        (
+            &[0, 0, 0, 3, 4, 0, 4],
+            &[0, 0, 0, 10, 0xE0, 2, 0, 0, 0, 0, 0, 0, 0, 2],
+        ),
+        (&[0, 0, 0, 3, 4, 0, 0], MALFORMED),
+    ];
+    assert!(rt; is_talk(&rt, new_files(rt.alloc(), 2)?, &talk, End::Closed)?);
+    Ok(())
+}
+
+#[test]
+fn scan_of_one_segment_takes_two_looks(rt: HostRuntime) -> Result<(), Fail> {
+    let served = serve_files(&rt, new_files(rt.alloc(), 2)?, &[0, 0, 0, 3, 4, 0, 2])?;
+    assert!(rt; served.looks_left == (1 << 50) - 2);
+    Ok(())
+}
+
 /// What is said while the only segment's first store fails, and behind it.
 const FAULT: [Pair<'static>; 6] = [
     (HI, FAILED),
@@ -182,7 +207,8 @@ fn fault_fences_the_segment(rt: HostRuntime) -> Result<(), Fail> {
 
 /// What a client says of the request: the bytes that it writes, and its answer to these bytes.
 fn call(alloc: Global, request: &Request, replies: Vec<u8>) -> (Vec<u8>, Result<Reply, ClientFault>)
-    requires { length (payload request.now) ≤ max_payload }
+    requires fits { length (payload request.now) ≤ max_payload }
+    requires askable { IsAskable request.now }
 {
     let mut client = Client::new(alloc, stream(replies), stream(Vec::new(alloc)));
     let answer = client.call(request);
@@ -197,7 +223,8 @@ fn call_node(
     before: &[u8],
     request: &Request,
 ) -> Result<Reply, Fail>
-    requires { length (payload request.now) ≤ max_payload }
+    requires fits { length (payload request.now) ≤ max_payload }
+    requires askable { IsAskable request.now }
 {
     let (asked, fault) = call(rt.alloc(), request, Vec::new(rt.alloc()));
     assert!(rt; fault == Err(ClientFault::Ended));
@@ -253,5 +280,22 @@ fn client_asks_a_node_for_its_status(rt: HostRuntime) -> Result<(), Fail> {
     assert!(rt; statuses.len() == 2);
     assert!(rt; statuses[0].number == 1 && !statuses[0].is_fenced);
     assert!(rt; statuses[1].number == 0 && !statuses[1].is_fenced);
+    Ok(())
+}
+
+#[test]
+fn client_asks_a_node_for_some_segments(rt: HostRuntime) -> Result<(), Fail> {
+    let both = Request::Part(SegmentSet { bits: 3 });
+    let Reply::Part(values) = call_node(&rt, HI, &both)? else {
+        panic!(rt; "no part")
+    };
+    assert!(rt; values.len() == 2);
+    assert!(rt; values[0].segment == 0 && values[0].value.as_slice() == b"hi".as_slice());
+    assert!(rt; values[1].segment == 1 && values[1].number == 0 && values[1].value.is_empty());
+    let first = Request::Part(SegmentSet { bits: 1 });
+    let Reply::Part(values) = call_node(&rt, HI, &first)? else {
+        panic!(rt; "no part")
+    };
+    assert!(rt; values.len() == 1 && values[0].segment == 0 && values[0].number == 1);
     Ok(())
 }

@@ -1,5 +1,6 @@
 //! What no clause says: defaults, and the texts of faults and of help.
 mod address;
+mod part;
 mod server;
 
 use snap_args::{WordFault, order};

@@ -1,13 +1,13 @@
 //! What a call prints and says, and how it ends, for each reply and each fault.
 ghost use Rattle.std.specs.Prelude.{◌≤◌, length};
-ghost use Rattle.snap_frame.specs.Messages.{max_payload, payload};
+ghost use Rattle.snap_frame.specs.Messages.{IsAskable, max_payload, payload};
 ghost use Rattle.snap_order.specs.Order.{request_of};
 
 use bytes::Bytes;
 use snap_call::ask;
 use snap_client::MAX_TRIES;
 use snap_frame::Request;
-use snap_order::{Calling, Question, Status};
+use snap_order::{Calling, Question, SegmentSet, Status};
 use snap_stream::TestStream;
 use std::alloc::{AllocError, Global};
 use std::process::Abort;
@@ -23,6 +23,12 @@ const STORED: &[u8] = &[0, 0, 0, 9, 0x81, 0, 0, 0, 0, 0, 0, 0, 1];
 const SNAPSHOT: &[u8] = &[
     0, 0, 0, 28, 0x82, 2, 0, 0, 0, 0, 0, 0, 0, 1, 0, 0, 0, 2, 0x68, 0x69, 0, 0, 0, 0, 0, 0, 0, 0,
     0, 0, 0, 0,
+];
+
+/// A scan of segments 3 and 12: `hi` as number 1, and the empty value as number 258.
+const PART: &[u8] = &[
+    0, 0, 0, 30, 0x84, 2, 3, 0, 0, 0, 0, 0, 0, 0, 1, 0, 0, 0, 2, 0x68, 0x69, 12, 0, 0, 0, 0, 0, 0,
+    1, 2, 0, 0, 0, 0,
 ];
 
 /// A status of two segments: number 1, and number 12, which is fenced.
@@ -42,6 +48,9 @@ const SOUND: &[u8] = &[0, 0, 0, 11, 0x83, 1, 0, 0, 0, 0, 0, 0, 0, 1, 0];
 /// Refused as a conflict, with detail 258.
 const CONFLICT: &[u8] = &[0, 0, 0, 10, 0xE0, 4, 0, 0, 0, 0, 0, 0, 1, 2];
 
+/// Refused by a server of two segments, which lacks one that was named.
+const NO_SEGMENT: &[u8] = &[0, 0, 0, 10, 0xE0, 2, 0, 0, 0, 0, 0, 0, 0, 2];
+
 const WHOLE: usize = usize::MAX;
 
 /// A stream of these bytes that fails behind `passes` bytes, and moves five at once.
@@ -60,12 +69,15 @@ enum Asked {
     /// The update of segment 0 as number 1 by `hi`.
     Update,
     Scan,
+    /// Segments 3 and 12.
+    Part,
     Status,
     Health,
 }
 
 fn question_of(asked: Asked) -> Question
-    ensures { length (payload (request_of result)) ≤ max_payload }
+    ensures fits { length (payload (request_of result)) ≤ max_payload }
+    ensures askable { IsAskable (request_of result) }
 {
     match asked {
         Asked::Update => Question::Request(Request::Update {
@@ -74,6 +86,7 @@ fn question_of(asked: Asked) -> Question
             value: Bytes::from_static(b"hi"),
         }),
         Asked::Scan => Question::Request(Request::Scan),
+        Asked::Part => Question::Request(Request::Part(SegmentSet { bits: 0x1008 })),
         Asked::Status => Question::Request(Request::Status),
         Asked::Health => Question::Health,
     }
@@ -219,8 +232,7 @@ fn health_fails_as_a_status(rt: HostRuntime) -> Result<(), Fail> {
         links: &[Some((STORED, WHOLE))],
         status: Status::Failed,
         printed: "",
-        said: "snapd: host:7: what came isn't an answer to the request: is a snapd at the other \
-end?: check the address\n",
+        said: NO_ANSWER,
         ..UPDATE
     };
     let cut = Case {
@@ -251,6 +263,55 @@ fn refusals_are_said(rt: HostRuntime) -> Result<(), Fail> {
     };
     Ok(all_end(&rt, &[refused])?)
 }
+
+/// Each line is under the segment that its entry names.
+#[test]
+fn parts_name_their_segments(rt: HostRuntime) -> Result<(), Fail> {
+    let part = Case {
+        asked: Asked::Part,
+        links: &[Some((PART, WHOLE))],
+        printed: "segment 3 number 1 value 6869\nsegment 12 number 258 value -\n",
+        ..UPDATE
+    };
+    Ok(all_end(&rt, &[part])?)
+}
+
+/// A scan of some segments is refused as other requests are, and no other reply answers it.
+#[test]
+fn parts_fail_as_scans(rt: HostRuntime) -> Result<(), Fail> {
+    let refused = Case {
+        asked: Asked::Part,
+        links: &[Some((NO_SEGMENT, WHOLE))],
+        status: Status::Refused,
+        printed: "",
+        said: "snapd: refused 2 NoSegment 2\n",
+        ..UPDATE
+    };
+    let other = Case {
+        asked: Asked::Part,
+        links: &[Some((SNAPSHOT, WHOLE))],
+        status: Status::Failed,
+        printed: "",
+        said: NO_ANSWER,
+        ..UPDATE
+    };
+    let cut = Case {
+        asked: Asked::Part,
+        links: &[Some((PART, WHOLE))],
+        room: 8,
+        status: Status::Failed,
+        printed: "segment ",
+        said: "snapd: standard output: the test's fault\n",
+        ..UPDATE
+    };
+    all_end(&rt, &[refused])?;
+    all_end(&rt, &[other])?;
+    Ok(all_end(&rt, &[cut])?)
+}
+
+/// Where what came answers another request.
+const NO_ANSWER: &str = "snapd: host:7: what came isn't an answer to the request: is a snapd at \
+the other end?: check the address\n";
 
 const ENDED: &str = "snapd: host:7: the connection ended before the reply: whether the request \
 was done isn't known: send it again, since an update is stored once\n";
@@ -297,11 +358,7 @@ update is stored once\n",
         Some((&[0, 0, 0, 9, 0x81, 0, 0, 0, 0, 0, 0, 0], WHOLE)),
         ENDED,
     ),
-    (
-        Some((STATUS, WHOLE)),
-        "snapd: host:7: what came isn't an answer to the request: is a snapd at the \
-other end?: check the address\n",
-    ),
+    (Some((STATUS, WHOLE)), NO_ANSWER),
 ];
 
 #[test]

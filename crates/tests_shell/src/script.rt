@@ -1,5 +1,6 @@
 //! Whole scripts: what they write, and how they end.
 mod lines;
+mod parts;
 mod streams;
 
 use snap_script::{LineFault, ScriptEnd, script};

@@ -143,8 +143,7 @@ fn names_the_file_of_another_segment(rt: HostRuntime) -> Result<(), Fail> {
     let plan = Plan::of(1, Some(0));
     let seen = host_over(&rt, rt.alloc(), files, &ready, plan, &NoGate)?;
     let refused = "snapd: refused 14 WrongFile\n";
-    let remedy =
-        "it isn't the file of segment 0 of 2, or has the old format: see snapd check first";
+    let remedy = "it isn't the file of segment 0 of 2: see snapd check first";
     let said = format!(in rt.alloc(); "{refused}snapd: first: {remedy}\n")?;
     assert!(rt; seen.status == Status::Refused && seen.out.is_empty());
     assert!(rt; seen.errors.as_slice() == said.as_bytes());

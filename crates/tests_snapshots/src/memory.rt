@@ -15,6 +15,7 @@ use std::alloc::{AllocError, Global};
 use std::process::Abort;
 use std::test::Fail;
 
+mod some;
 mod staged;
 mod threads;
 
@@ -56,6 +57,21 @@ fn scan(scanner: &mut Scanner, out: &mut Snapshot) -> Option<Result<(), Refusal>
         return None;
     }
     Some(scanner.scan_into(out))
+}
+
+/// The value of the update of this number, from 1 on.
+fn value_of(segment: usize, number: u64) -> [u8; 9] {
+    let s = segment.to_le_bytes();
+    let n = number.to_be_bytes();
+    [s[0], n[0], n[1], n[2], n[3], n[4], n[5], n[6], n[7]]
+}
+
+/// Whether the value is the one of this number, which is the empty one at first.
+fn is_value_of(segment: usize, number: u64, value: &[u8]) -> bool {
+    match number {
+        0 => value.is_empty(),
+        number => value == value_of(segment, number).as_slice(),
+    }
 }
 
 /// Whether the snapshot has this number and value.
@@ -140,14 +156,19 @@ fn five_thousand_updates(rt: HostRuntime) -> Result<(), Fail> {
     Ok(())
 }
 
-/// One segment's writer, and two scanners. The first one may meet the writer.
-fn open_three(rt: &impl Abort, alloc: Global) -> Result<(WriteSeat, Scanner, Scanner), AllocError>
+/// The writer of the last of so many segments, and two scanners. The first one may meet the writer.
+fn open_three(
+    rt: &impl Abort,
+    alloc: Global,
+    segments: usize,
+) -> Result<(WriteSeat, Scanner, Scanner), AllocError>
+    requires segments { (0 < segments) × (segments ≤ 16) }
     ensures together { IfOk result (λ r. AreTogether r.1 r.0) }
 {
     let Parts {
         mut writers,
         mut scanners,
-    } = open(alloc, 1, 2, 100)?;
+    } = open(alloc, segments, 2, 100)?;
     let (Some(writer), Some(met), Some(unmet)) = (writers.pop(), scanners.pop(), scanners.pop())
     else {
         panic!(rt; "a seat is missing")
@@ -160,7 +181,7 @@ fn open_three(rt: &impl Abort, alloc: Global) -> Result<(WriteSeat, Scanner, Sca
 #[test]
 fn met_and_unmet_scanners(rt: HostRuntime) -> Result<(), Fail> {
     let mut out = Snapshot::new(rt.alloc(), 1)?;
-    let (mut writer, mut met, mut unmet) = open_three(&rt, rt.alloc())?;
+    let (mut writer, mut met, mut unmet) = open_three(&rt, rt.alloc(), 1)?;
     assert!(rt; update(&mut writer, b"hi") == Some(1));
     met.meet(&mut writer);
     assert!(rt; answers(&mut met, &mut out, 1, b"hi"));

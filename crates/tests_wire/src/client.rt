@@ -2,19 +2,20 @@
 ghost use Rattle.std.specs.Prelude.{◌≤◌, length};
 
 mod again;
+mod words;
 
 use crate::streams::{joined, sink, source};
 use bytes::Bytes;
 use snap_client::{Client, ClientFault};
-use snap_disk::Refusal;
-use snap_frame::{Reply, SegmentStatus, SegmentValue};
+use snap_frame::{Reply, SegmentSet};
 use snap_stream::TestStream;
 use std::alloc::{AllocError, Global};
 use std::test::Fail;
+use words::{Answer, WORDS, told};
 
-/// Frames of an update, a scan and a status, and those of their answers by a server of two
-/// segments.
-pub(crate) const TALK: [(&[u8], &[u8]); 3] = [
+/// Frames of an update, a scan, a status and a scan of segment 1, and those of their answers by a
+/// server of two segments.
+pub(crate) const TALK: [(&[u8], &[u8]); 4] = [
     (
         &[0, 0, 0, 12, 1, 0, 0, 0, 0, 0, 0, 0, 0, 1, 0x68, 0x69],
         &[0, 0, 0, 9, 0x81, 0, 0, 0, 0, 0, 0, 0, 1],
@@ -32,64 +33,22 @@ pub(crate) const TALK: [(&[u8], &[u8]); 3] = [
             0, 0, 0, 20, 0x83, 2, 0, 0, 0, 0, 0, 0, 0, 1, 0, 0, 0, 0, 0, 0, 0, 0, 0, 0,
         ],
     ),
+    (
+        &[0, 0, 0, 3, 4, 0, 2],
+        &[0, 0, 0, 15, 0x84, 1, 1, 0, 0, 0, 0, 0, 0, 0, 0, 0, 0, 0, 0],
+    ),
 ];
 
 /// The refusal of a worn scanner.
 pub(crate) const REFUSED: [u8; 14] = [0, 0, 0, 10, 0xE0, 17, 0, 0, 0, 0, 0, 0, 0, 0];
-
-/// What a call gave: the words of its reply, or its fault.
-pub(crate) type Answer = Result<&'static str, ClientFault>;
-
-/// The words of the replies above.
-const WORDS: [&str; 3] = ["stored 1", "snapshot", "status"];
 
 /// Makes the request of this row.
 fn ask(client: &mut Client<TestStream, TestStream>, which: usize) -> Result<Reply, ClientFault> {
     match which {
         0 => client.update(0, 1, Bytes::from_static(b"hi")),
         1 => client.scan(),
-        _ => client.status(),
-    }
-}
-
-/// Whether this is the snapshot above.
-fn is_snapshot(values: &[SegmentValue]) -> bool {
-    values.len() == 2
-        && values[0].number == 1
-        && values[0].value.as_slice() == b"hi".as_slice()
-        && values[1].number == 0
-        && values[1].value.is_empty()
-}
-
-/// Whether this is the status above.
-fn is_status(statuses: &[SegmentStatus]) -> bool {
-    statuses.len() == 2
-        && statuses[0].number == 1
-        && !statuses[0].is_fenced
-        && statuses[1].number == 0
-        && !statuses[1].is_fenced
-}
-
-/// The words of a reply of these tests.
-fn words_of(reply: &Reply) -> &'static str {
-    match reply {
-        Reply::Stored(1) => WORDS[0],
-        Reply::Stored(9) => "stored 9",
-        Reply::Snapshot(values) if is_snapshot(values) => WORDS[1],
-        Reply::Status(statuses) if is_status(statuses) => WORDS[2],
-        Reply::Refused {
-            why: Refusal::Worn,
-            detail: 0,
-        } => "worn",
-        _ => "another reply",
-    }
-}
-
-/// The answer in words.
-pub(crate) fn told(answer: &Result<Reply, ClientFault>) -> Answer {
-    match answer {
-        Ok(reply) => Ok(words_of(reply)),
-        Err(fault) => Err(*fault),
+        2 => client.status(),
+        _ => client.scan_some(SegmentSet { bits: 2 }),
     }
 }
 
@@ -160,7 +119,7 @@ fn talk_of_cut(which: usize, request: &[u8], reply: &[u8], cut: usize) -> Given 
         return alike(ClientFault::Ended, cut, request.len());
     }
     Given {
-        first: Ok(WORDS[which.min(2)]),
+        first: Ok(WORDS[which.min(3)]),
         second: Err(ClientFault::WriteFailed),
         read: cut,
         written: Some(request.len()),
@@ -169,7 +128,7 @@ fn talk_of_cut(which: usize, request: &[u8], reply: &[u8], cut: usize) -> Given 
 
 #[test]
 fn answers_in_any_pieces(rt: HostRuntime) -> Result<(), Fail> {
-    for which in 0..3 {
+    for which in 0..4 {
         let (request, reply) = TALK[which];
         for cut in 0..=reply.len() {
             for step in [1, 7, 4096] {
@@ -189,7 +148,7 @@ fn answers_in_any_pieces(rt: HostRuntime) -> Result<(), Fail> {
 
 #[test]
 fn failed_reads_and_writes(rt: HostRuntime) -> Result<(), Fail> {
-    for which in 0..3 {
+    for which in 0..4 {
         let (request, reply) = TALK[which];
         for passes in 0..reply.len() {
             let case = Case {
@@ -219,7 +178,7 @@ fn failed_reads_and_writes(rt: HostRuntime) -> Result<(), Fail> {
 }
 
 /// Frames that answer no update.
-const BAD_REPLIES: [&[u8]; 7] = [
+const BAD_REPLIES: [&[u8]; 8] = [
     &[0, 0, 0, 0],
     &[0, 0, 0, 1, 0x81],
     &[0, 0, 0, 9, 0x81, 0x80, 0, 0, 0, 0, 0, 0, 0],
@@ -227,6 +186,7 @@ const BAD_REPLIES: [&[u8]; 7] = [
     &[0, 1, 1, 0xD1],
     &[0, 0, 0, 14, 0x82, 1, 0, 0, 0, 0, 0, 0, 0, 1, 0, 0, 0, 0],
     &[0, 0, 0, 11, 0x83, 1, 0, 0, 0, 0, 0, 0, 0, 1, 0],
+    &[0, 0, 0, 15, 0x84, 1, 16, 0, 0, 0, 0, 0, 0, 0, 0, 0, 0, 0, 0],
 ];
 
 #[test]
@@ -237,8 +197,8 @@ fn bad_replies(rt: HostRuntime) -> Result<(), Fail> {
         let wanted = alike(ClientFault::BadReply, talk.read, update.len());
         assert!(rt; talk == wanted, "{bad:?}");
     }
-    for asked in 0..3 {
-        for answered in 0..3 {
+    for asked in 0..4 {
+        for answered in 0..4 {
             let case = whole(asked, TALK[asked].0, TALK[answered].1);
             let is_answer = talk(rt.alloc(), &case)?.first.is_ok();
             assert!(rt; is_answer == (asked == answered), "{answered} for {asked}");
@@ -250,7 +210,7 @@ fn bad_replies(rt: HostRuntime) -> Result<(), Fail> {
 /// A refusal answers any request, and another number than was sent is handed on.
 #[test]
 fn refusals_and_other_numbers(rt: HostRuntime) -> Result<(), Fail> {
-    for which in 0..3 {
+    for which in 0..4 {
         let talk = talk(rt.alloc(), &whole(which, TALK[which].0, &REFUSED))?;
         let is = talk.first == Ok("worn") && talk.second == Err(ClientFault::Ended);
         assert!(rt; is, "request {which}");
@@ -291,7 +251,7 @@ fn is_answer_without_memory(talk: &Given, words: &str) -> bool {
 /// Run with each allocation refused in turn: a client answers, or says that memory was wanting.
 #[test]
 fn client_without_memory(rt: HostRuntime) -> Result<(), Fail> {
-    for which in 0..3 {
+    for which in 0..4 {
         let case = Case {
             step: 7,
             ..whole(which, TALK[which].0, TALK[which].1)

@@ -1,6 +1,7 @@
 //! The worked vectors of docs/FORMATS.md, "Frames and messages", cut everywhere.
 ghost use Rattle.snap_frame.specs.Messages.{IsInLimits};
 
+mod partial;
 mod random;
 mod written;
 

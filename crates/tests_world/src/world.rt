@@ -4,7 +4,7 @@ mod restarts;
 mod steps;
 
 use std::alloc::AllocError;
-use steps::{FIRST_STORE, LATER_STORE, Step, play};
+use steps::{Early, FIRST_STORE, LATER_STORE, Step, play};
 
 const CLEAN_AFTER_SIX: [Step<'static>; 6] = [
     Step::Scan,
@@ -79,4 +79,53 @@ const QUIET_SCAN: [Step<'static>; 3] = [Step::Scan, Step::Looks(&[0, 0]), Step::
 #[test]
 fn quiet_scan(rt: HostRuntime) -> Result<(), AllocError> {
     play(&rt, 1, &QUIET_SCAN)
+}
+
+const PARTIAL: [Step<'static>; 7] = [
+    Step::Pick(0b101),
+    Step::NotNow(Early::Scan),
+    Step::Looks(&[0, 0]),
+    Step::Store(1, "a", &[0, 0, 0, 0, 0, 0], &FIRST_STORE),
+    Step::Show(1, 1),
+    Step::Looks(&[0, 0]),
+    Step::Part(&[(0, ""), (2, "")]),
+];
+
+/// A scan of two of three segments is clean, while the third one moves.
+#[test]
+fn partial_script(rt: HostRuntime) -> Result<(), AllocError> {
+    play(&rt, 3, &PARTIAL)
+}
+
+const PARTIAL_NOT_NOW: [Step<'static>; 6] = [
+    Step::NotNow(Early::Pick(0b1000)),
+    Step::NotNow(Early::Pick(0b1101)),
+    Step::NotNow(Early::Pick(0)),
+    Step::Pick(0b111),
+    Step::NotNow(Early::Pick(0b101)),
+    Step::Looks(&[0, 0, 0, 0, 0, 0]),
+];
+
+/// The set has to name a segment, and none that isn't there.
+#[test]
+fn partial_not_now(rt: HostRuntime) -> Result<(), AllocError> {
+    play(&rt, 3, &PARTIAL_NOT_NOW)
+}
+
+const BORROWED_PART: [Step<'static>; 9] = [
+    Step::Pick(0b101),
+    Step::Looks(&[0]),
+    Step::Store(0, "a", &[0, 0, 0, 0, 0, 0], &FIRST_STORE),
+    Step::Show(0, 1),
+    Step::Looks(&[0, 1]),
+    Step::Store(0, "b", &[1, 0, 0, 1, 0, 0], &LATER_STORE),
+    Step::Show(0, 2),
+    Step::Looks(&[0, 2]),
+    Step::Part(&[(0, "a"), (2, "")]),
+];
+
+/// A scan of some segments borrows their entries of a view.
+#[test]
+fn borrowed_part(rt: HostRuntime) -> Result<(), AllocError> {
+    play(&rt, 3, &BORROWED_PART)
 }

@@ -1,10 +1,12 @@
 //! Looks: a seat gives its old pin back, pins the current buffer, and reads what is pinned.
 ghost use Rattle.std.specs.Prelude.{◌≡◌, ℕ, ◌+◌, ◌^◌, ◌<◌, ◌≤◌, length, slice_index};
-ghost use Rattle.std.specs.Prelude.{◌*◌, ◌++◌, ◌∷◌, [], slice_set, take};
+ghost use Rattle.std.specs.Prelude.{◌*◌, ◌++◌, ◌∷◌, [], slice_set, take, slice_get, IfOk, MatchBool};
+ghost use Rattle.snap_history.specs.Limits.{IsShort};
+ghost use Rattle.snap_scan.specs.Sets.{Names};
 ghost use Rattle.snap_history.specs.declared.limits.TheConstants.{MAX_VALUE_LEN};
 ghost use Rattle.snap_register.specs.declared.words.TheConstants.{BLOCK_WORDS};
 ghost use Rattle.snap_register.specs.Rule.{segments, Learns, IsLegal};
-ghost use Rattle.snap_register.specs.Words.{IsWhole, bytes_at, size_at, value_at};
+ghost use Rattle.snap_register.specs.Words.{IsWhole, bytes_at, length_at, size_at, value_at, words_for};
 ghost use Rattle.snap_register.specs.Held.{held, IsPinned, HasLookedFrom};
 ghost use Rattle.snap_register.specs.Seat.{Grows, IsBelow, number_in, Looks, HasLooked, IsValue};
 ghost use Rattle.snap_register.specs.Seat.{HasFoundUpdate, IsView};
@@ -14,6 +16,9 @@ use crate::access::{Access, PIN_RANGE};
 use crate::setup::{GiveBack, Pin, Read, TableSeat, WordTable};
 use crate::snapshot::{Held, SnapshotBuf};
 use crate::words::block_size;
+use bytes::Bytes;
+use snap_scan::SegmentSet;
+use std::alloc::{AllocError, Global};
 
 impl Access {
     /// The published number of j, whose record is pinned from here on.
@@ -136,10 +141,11 @@ impl Access {
     fn read_value(&mut self, j: usize, at: usize, out: &mut [u8]) -> usize
         requires pinned { HasPin (view_of self.old) j }
         requires block { IsWhole (held (view_of self.old) j) at }
-        requires room { MAX_VALUE_LEN ≤ length out.old }
+        requires room { 8 * words_for (length_at (held (view_of self.old) j) at) ≤ length out.old }
         ensures value { take result out.new ≡ value_at (held (view_of self.old) j) at }
         ensures size { (result ≡ slice_index (held (view_of self.old) j) (at + 1))
             × (result ≤ MAX_VALUE_LEN) }
+        ensures room { length out.new ≡ length out.old }
         ensures same { IsSame self.old self.new }
     {
         let place = self.place(j, at);
@@ -148,17 +154,55 @@ impl Access {
         length
     }
 
-    /// The view of the pinned record of j, which is an update's.
-    pub(crate) fn view(&mut self, j: usize, out: &mut SnapshotBuf)
+    /// The value of the pinned record of j, in memory of its own.
+    pub(crate) fn value_bytes(&mut self, alloc: Global, j: usize) -> Result<Bytes, AllocError>
+        requires segment { j < segments (view_of self.old).plan }
+        requires looked { HasLooked (known_of self.old) j }
+        ensures value { IfOk result (λ v. IsValue (known_of self.old) j v) }
+        ensures size { IfOk result (λ v. IsShort v) }
+        ensures same { IsSame self.old self.new }
+    {
+        let words = self.size_at(j, 0) - 2;
+        let mut value = Vec::new(alloc);
+        value.resize(8 * words, 0)?;
+        let length = self.read_value(j, 0, &mut value);
+        value.truncate(length);
+        Ok(Bytes::from_vec(value)?)
+    }
+
+    /// What the view of the pinned record of j, which is an update's, has of the named segments.
+    pub(crate) fn view(&mut self, j: usize, set: SegmentSet, out: &mut SnapshotBuf)
         requires segment { j < segments (view_of self.old).plan }
         requires updated { HasFoundUpdate (known_of self.old) j }
         requires room { length out.old ≡ segments (view_of self.old).plan }
-        ensures view { IsView (known_of self.old) j out.new }
+        ensures view { IsView (known_of self.old) j set.bits out.new }
+        ensures others { (i : ℕ) → (Names set.bits i → ⊥)
+            → slice_get out.new i ≡ slice_get out.old i }
         ensures same { IsSame self.old self.new }
     {
+        let segments = self.count_segments();
         let mut at = self.size_at(j, 0);
-        for k in 0..out.segments.len() {
-            at += self.read_block(j, at, &mut out.segments[k]);
+        for k in 0..segments {
+            at += self.read_named(j, at, set.has(k), &mut out.segments[k]);
+        }
+    }
+
+    // The number and the value of the block at this place, where its segment is named. Answers how
+    // many words it takes.
+    fn read_named(&mut self, j: usize, at: usize, is_named: bool, out: &mut Held) -> usize
+        requires pinned { HasPin (view_of self.old) j }
+        requires block { IsWhole (held (view_of self.old) j) at }
+        ensures block { MatchBool is_named (out.new ≡ (
+          slice_index (held (view_of self.old) j) at,
+          value_at (held (view_of self.old) j) at,
+        )) (out.new ≡ out.old) }
+        ensures size { result ≡ size_at (held (view_of self.old) j) at }
+        ensures same { IsSame self.old self.new }
+    {
+        if is_named {
+            self.read_block(j, at, out)
+        } else {
+            self.size_at(j, at)
         }
     }
 

@@ -1,4 +1,4 @@
-use Rattle.snap_told.proofs.Replies.{stored, snapshot, replied}
+use Rattle.snap_told.proofs.Replies.{stored, snapshot, snapshot_part, replied}
 use Rattle.snap_told.proofs.reply_laws.Goals as goal
 
 pub returns-clause-stored : goal.returns-clause-stored
@@ -6,6 +6,9 @@ returns-clause-stored c = stored
 
 pub returns-clause-scanned : goal.returns-clause-scanned
 returns-clause-scanned c = snapshot
+
+pub returns-clause-part : goal.returns-clause-part
+returns-clause-part c = snapshot_part
 
 pub returns-clause-replied : goal.returns-clause-replied
 returns-clause-replied c = replied

@@ -1,31 +1,50 @@
 -- What a scan in progress has seen of a history, and what a register holds of it.
-use Rattle.std.specs.Prelude.{◌≡◌, ℕ, ◌+◌, ◌<◌, ◌≤◌, List, length, take, slice_get, Option, Some, None}
+use Rattle.std.specs.Prelude.{◌≡◌, ℕ, ◌+◌, ◌^◌, ◌<◌, ◌≤◌, List, [], length, map, take, get_or, slice_get, Option, Some, None}
 use Rattle.snap_history.specs.History.{Update, from_nothing, number_after, value_after, IsMemory}
 use Rattle.snap_history.specs.Pairs.{Pairs}
 use Rattle.snap_scan.specs.Course.{IsNext}
+use Rattle.snap_scan.specs.Sets.{named, size, IsAt}
 use Rattle.snap_scan.specs.declared.next.Next.{Next}
 use Rattle.snap_scan.specs.declared.next.Next.TheVariants.{Look, Clean, Borrow}
 use Rattle.snap_scan.specs.Collects.{Collects}
-use Rattle.snap_world.specs.Answers.{ScanState, IsAnswer, number_at, value_at}
+use Rattle.snap_world.specs.Answers.{ScanState, IsAnswer, number_at, value_at, numbers_of, values_of}
 use Rattle.snap_world.specs.Machine.{State, IsLook}
 use Rattle.snap_world.specs.declared.register.Register.{Register}
 use Rattle.snap_world.specs.declared.collector.Collector.{Collector}
 
-abbrev pub Gathered : ℕ → List Update → ScanState → List (List ℕ) → Next → Type 0
-Gathered n h s memory (Look j) =
-    Collects (List ℕ) n (number_at h) (value_at h) s.start s.last s.told memory × (s.moment ≡ None)
-Gathered n h s memory Clean = IsAnswer n h s memory
-Gathered n h s memory (Borrow j) = IsAnswer n h s memory
+-- what a memory has at segment i, by itself and with the segment
+abbrev pub value_in : List (List ℕ) → ℕ → List ℕ
+value_in memory i = get_or memory i []
 
--- the collector stands for the scan s of the abstract machine
-pub record Gathers (n : ℕ) (h : List Update) (s : ScanState) (c : Collector) : Type 0 where
-  pub segments : c.scan.segments ≡ n
+abbrev pub entry_in : List (List ℕ) → ℕ → ℕ × List ℕ
+entry_in memory i = (i, value_in memory i)
+
+-- what it has at the places of the set
+abbrev pub picked : ℕ → List (List ℕ) → List (List ℕ)
+picked set memory = map (value_in memory) (named set)
+
+-- the memory has each segment of the set as it stood at moment p
+abbrev pub IsSeen : ℕ → List Update → List (List ℕ) → ℕ → Type 0
+IsSeen set h memory p =
+    (place i : ℕ) → IsAt set place i → slice_get memory i ≡ Some (value_at h p i)
+
+abbrev pub Gathered : ℕ → List Update → ScanState → List (List ℕ) → Next → Type 0
+Gathered set h s memory (Look j) =
+    Collects (List ℕ) (size set) (numbers_of set h) (values_of set h) s.start s.last s.told
+    (picked set memory) × (s.moment ≡ None)
+Gathered set h s memory Clean = IsAnswer set h s (IsSeen set h memory)
+Gathered set h s memory (Borrow j) = IsAnswer set h s (IsSeen set h memory)
+
+-- the collector, which has a value for each of n segments, stands for the scan s of a set of them
+pub record Gathers (n set : ℕ) (h : List Update) (s : ScanState) (c : Collector) : Type 0 where
+  pub set_is : c.scan.set ≡ set
+  pub among : set < 2 ^ n
   pub told : c.scan.told ≡ s.told
-  pub next : IsNext n s.told c.scan.next
+  pub next : IsNext set s.told c.scan.next
   pub size : length c.memory.items ≡ n
   pub start : s.start ≤ s.last
   pub end : s.last ≤ length h
-  pub gathered : Gathered n h s c.memory.items c.scan.next
+  pub gathered : Gathered set h s c.memory.items c.scan.next
 
 -- the scan has a look to make
 abbrev pub IsUnderWay : Collector → Type 0
@@ -59,14 +78,14 @@ pub record RegistersStand (n : ℕ) (x : State) (g : ℕ) (rs : List Register) :
 -- the registers and the scan stand for some state
 abbrev pub MayLook : List Register → Collector → Type 0
 MayLook rs c =
-    ∥ ((n : ℕ) × (x : State) × (g : ℕ) × (s : ScanState)
-    × (g ≤ s.start) × RegistersStand n x g rs × Gathers n x.history s c) ∥₁
+    ∥ ((n set : ℕ) × (x : State) × (g : ℕ) × (s : ScanState)
+    × (g ≤ s.start) × RegistersStand n x g rs × Gathers n set x.history s c) ∥₁
 
 -- the look gave this number: in whatever state and for whatever scan the registers and the
 -- collector stood, it is a look of the abstract machine, to a scan that the collector stands for
 -- now
 abbrev pub IsLookOf : List Register → Collector → ℕ → Collector → Type 0
 IsLookOf rs old number new =
-    (n : ℕ) (x : State) (g : ℕ) (s : ScanState)
-    → g ≤ s.start → RegistersStand n x g rs → Gathers n x.history s old
-    → (t : ScanState) × IsLook n x s number t × Gathers n x.history t new
+    (n set : ℕ) (x : State) (g : ℕ) (s : ScanState)
+    → g ≤ s.start → RegistersStand n x g rs → Gathers n set x.history s old
+    → (t : ScanState) × IsLook set x s number t × Gathers n set x.history t new

@@ -5,8 +5,9 @@ use Rattle.snap_history.specs.Pairs.{Pairs}
 use Rattle.snap_history.specs.Limits.{IsNumber, IsShort}
 use Rattle.snap_history.specs.declared.limits.TheConstants.{MAX_COUNT}
 use Rattle.snap_scan.specs.Looks.{IsDecided}
-use Rattle.snap_world.specs.Answers.{ScanState, IsAnswer, number_at}
-use Rattle.snap_world.specs.inside.Gathers.{Gathers, IsUnderWay, RegistersStand}
+use Rattle.snap_scan.specs.Sets.{size}
+use Rattle.snap_world.specs.Answers.{ScanState, IsAnswer, number_at, all_of, set_of}
+use Rattle.snap_world.specs.inside.Gathers.{Gathers, IsSeen, IsUnderWay, RegistersStand}
 use Rattle.snap_world.specs.Machine.{State, WriterState, ScannerState, Free, Begun, Shown, Closed, Opened}
 use Rattle.snap_world.specs.declared.collector.Collector.{Collector}
 use Rattle.snap_world.specs.declared.actors.Actors.{Actors}
@@ -27,18 +28,18 @@ pub record HasBegun (n : ℕ) (h : List Update) (g i : ℕ) (w : Writer)
   pub fits : IsShort w.value
   pub room : IsNumber (number_after from_nothing h i + 1)
   pub own : number_at h s.scan.start i ≡ number_after from_nothing h i
-  pub gathers : Gathers n h s.scan w.collector
+  pub gathers : Gathers n (all_of n) h s.scan w.collector
 
--- the scan has its answer: the numbers told decide one, and the collector has it
-pub record HasAnswer (n : ℕ) (h : List Update) (s : ScanState) (c : Collector) : Type 0 where
-  pub decided : IsDecided n s.told
-  pub answer : IsAnswer n h s c.memory.items
+-- the scan of this set has its answer: the numbers told decide one, and the collector has it
+pub record HasAnswer (set : ℕ) (h : List Update) (s : ScanState) (c : Collector) : Type 0 where
+  pub decided : IsDecided (size set) s.told
+  pub answer : IsAnswer set h s (IsSeen set h c.memory.items)
 
 abbrev pub IsAtPhase : ℕ → List Update → ℕ → ℕ → Writer → WriterState → WriterPhase → Type 0
 IsAtPhase n h g i w s writer.Idle = s.pending ≡ Free
 IsAtPhase n h g i w s writer.Scanning = HasBegun n h g i w s × IsUnderWay w.collector
-IsAtPhase n h g i w s writer.Storing = HasBegun n h g i w s × HasAnswer n h s.scan w.collector
-IsAtPhase n h g i w s writer.Stored = HasBegun n h g i w s × HasAnswer n h s.scan w.collector
+IsAtPhase n h g i w s writer.Storing = HasBegun n h g i w s × HasAnswer (all_of n) h s.scan w.collector
+IsAtPhase n h g i w s writer.Stored = HasBegun n h g i w s × HasAnswer (all_of n) h s.scan w.collector
 IsAtPhase n h g i w s writer.Shown = (v : List ℕ) × (s.pending ≡ Shown v)
 IsAtPhase n h g i w s writer.Fenced = (v : List ℕ) × (s.pending ≡ Begun v)
 
@@ -55,11 +56,11 @@ pub record WriterStands (n : ℕ) (h : List Update) (g i : ℕ) (w : Writer)
 abbrev pub IsScannerAt : ℕ → List Update → ℕ → Scanner → ScannerState → ScannerPhase → Type 0
 IsScannerAt n h g c s scanner.Idle = s ≡ Closed
 IsScannerAt n h g c s scanner.Scanning =
-    (scan : ScanState) × (s ≡ Opened scan) × (g ≤ scan.start)
-    × Gathers n h scan c.collector × IsUnderWay c.collector
+    (scan : ScanState) × (s ≡ Opened c.asked scan) × (g ≤ scan.start)
+    × Gathers n (set_of n c.asked) h scan c.collector × IsUnderWay c.collector
 IsScannerAt n h g c s scanner.Ready =
-    (scan : ScanState) × (s ≡ Opened scan) × (scan.last ≤ length h)
-    × HasAnswer n h scan c.collector
+    (scan : ScanState) × (s ≡ Opened c.asked scan) × (scan.last ≤ length h)
+    × HasAnswer (set_of n c.asked) h scan c.collector
 
 pub record ScannerStands (n : ℕ) (h : List Update) (g i : ℕ) (c : Scanner)
     (s : ScannerState) : Type 0 where

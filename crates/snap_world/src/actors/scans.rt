@@ -1,23 +1,44 @@
 //! What each event of a scanner does.
-ghost use Rattle.std.specs.Prelude.{◌≡◌, IfOk, OnErr};
+ghost use Rattle.std.specs.Prelude.{◌≡◌, ◌<◌, ◌^◌, IfOk, OnErr};
+ghost use Rattle.snap_world.specs.Answers.{set_of};
 ghost use Rattle.snap_world.specs.inside.Stands.{Stand};
 ghost use Rattle.snap_world.specs.Phases.{ScannerIs};
-ghost use Rattle.snap_world.specs.inside.Steps.{IsActorsStep, phases_of_actors};
+ghost use Rattle.snap_world.specs.inside.Steps.{IsActorsStep, phases_of_actors, asking};
 ghost use Rattle.snap_world.specs.declared.event.Actor.{Actor};
 ghost use Rattle.snap_world.specs.declared.event.Event.{Event};
 
 use crate::actors::Actors;
-use crate::collector::bytes_of_all;
 use crate::event::Reply;
-use crate::scanner::ScannerPhase;
-use snap_scan::Scan;
+use crate::scanner::{Asked, ScannerPhase};
+use snap_scan::{Scan, SegmentSet};
 use std::alloc::{AllocError, Global};
 
 impl Actors {
-    /// A scan begins.
+    /// A scan of all segments begins.
     pub fn scan(&mut self, at: usize) -> Reply
         requires stands { Stand self.old }
         ensures step { IsActorsStep self.old (Event.Scan at) result self.new }
+    {
+        self.ask(at, Asked::All)
+    }
+
+    /// A scan of these segments begins.
+    pub fn pick(&mut self, at: usize, set: SegmentSet) -> Reply
+        requires stands { Stand self.old }
+        ensures step { IsActorsStep self.old (Event.Pick at set) result self.new }
+    {
+        if set.is_empty() || !set.is_among(self.segments) {
+            return Reply::NotNow;
+        }
+        self.ask(at, Asked::Only(set))
+    }
+
+    /// A scan of what is asked for begins, at least one segment, and none that isn't there.
+    fn ask(&mut self, at: usize, asked: Asked) -> Reply
+        requires stands { Stand self.old }
+        requires some { 0 < set_of self.old.segments asked }
+        requires among { set_of self.old.segments asked < 2 ^ self.old.segments }
+        ensures step { IsActorsStep self.old (asking at asked) result self.new }
     {
         if at >= self.scanners.len() {
             return Reply::NotNow;
@@ -25,7 +46,8 @@ impl Actors {
         match self.scanners[at].phase {
             ScannerPhase::Idle => {
                 let scanner = &mut self.scanners[at];
-                scanner.collector.scan = Scan::new(self.segments);
+                scanner.asked = asked;
+                scanner.collector.scan = Scan::of(asked.set(self.segments));
                 scanner.phase = ScannerPhase::Scanning;
                 Reply::ScanBegun
             }
@@ -68,9 +90,9 @@ impl Actors {
         }
         match self.scanners[at].phase {
             ScannerPhase::Ready => {
-                let values = bytes_of_all(alloc, &self.scanners[at].collector.memory)?;
+                let reply = self.scanners[at].reply(alloc)?;
                 self.scanners[at].phase = ScannerPhase::Idle;
-                Ok(Reply::Memory(values))
+                Ok(reply)
             }
             _ => Ok(Reply::NotNow),
         }

@@ -8,7 +8,7 @@ use crossbeam_channel::{Sender, bounded};
 use snap_desk::{Desk, Outcome, StoreThread, Window};
 use snap_devices::{Held, Waited};
 use snap_disk::Disk;
-use snap_memory::{Scanner, Snapshot};
+use snap_memory::Scanner;
 use snap_restart::Store;
 use snap_service::{Memory, WriterOf};
 use snap_session::Done;
@@ -187,8 +187,7 @@ fn desk_of<R: Wait + Copy + Clock, M: Memory>(
     if windows.len() != segments {
         return Err(AllocError);
     }
-    let snapshot = Snapshot::new(alloc, segments)?;
-    Ok(Desk::new(*rt, alloc, 0, windows, scanner, snapshot))
+    Ok(Desk::new(*rt, alloc, 0, windows, scanner))
 }
 
 /// A run with these writers and this scanner.

@@ -310,8 +310,8 @@ fn faults_of_servers_say_what_is_wrong(rt: HostRuntime) -> Result<(), Fail> {
     Ok(())
 }
 
-const NO_FORM: &str =
-    "error: the request is not `update I NUMBER HEX`, `scan`, `status` or `health`\n";
+pub(super) const NO_FORM: &str =
+    "error: the request is not `update I NUMBER HEX`, `scan`, `part MASK`, `status` or `health`\n";
 
 const NO_VALUE: &str =
     "error: the update's value is not `-` or two hexadecimal digits for each byte\n";

@@ -11,6 +11,7 @@ fn lines_that_can_be_read(rt: HostRuntime) -> Result<(), AllocError> {
     prints(&rt, rt.alloc(), "begin 0 -", "begun")?;
     prints(&rt, rt.alloc(), "begin 00000000000000001 6A6b", "begun")?;
     prints(&rt, rt.alloc(), "scan 00", "scanning")?;
+    prints(&rt, rt.alloc(), "pick 00 0003", "scanning")?;
     for line in [
         "begin 2 61",
         "begin 17 61",
@@ -20,6 +21,8 @@ fn lines_that_can_be_read(rt: HostRuntime) -> Result<(), AllocError> {
         "show 0",
         "ack 0",
         "scan 1",
+        "pick 0 0004",
+        "pick 0 fFFf",
         "answer 0",
         "call 0",
         "fail 0 keep",
@@ -64,7 +67,7 @@ fn lines_that_cannot_be_read(rt: HostRuntime) -> Result<(), AllocError> {
 }
 
 /// Lines that begin as these events do, and lack their form.
-const BAD_FORMS: [(Verb, &[&str]); 13] = [
+const BAD_FORMS: [(Verb, &[&str]); 14] = [
     (
         Verb::Show,
         &[
@@ -94,6 +97,27 @@ const BAD_FORMS: [(Verb, &[&str]); 13] = [
     (Verb::Look, &["look 0", "look W00", "look w", "look w 0"]),
     (Verb::Acknowledge, &["ack"]),
     (Verb::Scan, &["scan s0"]),
+    (
+        Verb::Pick,
+        &[
+            "pick",
+            "pick 0",
+            "pick 0 ",
+            "pick s0 0001",
+            "pick 0001 0",
+            "pick 0 001",
+            "pick 0 00001",
+            "pick 0 1",
+            "pick 0 +001",
+            "pick 0 -001",
+            "pick 0 0x01",
+            "pick 0 000g",
+            "pick 0 -",
+            "pick 0 00 01",
+            "pick 0  0001",
+            "pick 0 0001 ",
+        ],
+    ),
     (Verb::Answer, &["answer w0"]),
     (Verb::Call, &["call"]),
     (
@@ -193,6 +217,7 @@ fn printed_faults(rt: HostRuntime) -> Result<(), AllocError> {
         (Verb::Show, "expected `show W`"),
         (Verb::Acknowledge, "expected `ack W`"),
         (Verb::Scan, "expected `scan S`"),
+        (Verb::Pick, "expected `pick S MASK`"),
         (Verb::Answer, "expected `answer S`"),
         (Verb::Crash, "expected `crash FILL ..`"),
         (Verb::Restart, "expected `restart`"),

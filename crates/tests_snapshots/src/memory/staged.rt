@@ -3,7 +3,8 @@ ghost use Rattle.std.specs.Prelude.{◌≡◌, ◌≤◌, ◌<◌, length};
 
 use crate::memory::{open, update};
 use crate::seats::{last_seat, last_writer};
-use snap_memory::{prepare, scan, show};
+use bytes::Bytes;
+use snap_memory::{SegmentSet, prepare, scan, show};
 use snap_register::{Looker, Parts, ReadSeat, SnapshotBuf, WriteSeat};
 use snap_scan::most_looks;
 use std::alloc::{AllocError, Global};
@@ -115,8 +116,13 @@ impl Looker for Staged<'_> {
         self.seat.value(j, out)
     }
 
-    fn view(&mut self, j: usize, out: &mut SnapshotBuf) {
-        self.seat.view(j, out);
+    fn value_bytes(&mut self, alloc: Global, j: usize) -> Result<Bytes, AllocError> {
+        self.show_all();
+        self.seat.value_bytes(alloc, j)
+    }
+
+    fn view(&mut self, j: usize, set: SegmentSet, out: &mut SnapshotBuf) {
+        self.seat.view(j, set, out);
     }
 }
 
@@ -153,8 +159,12 @@ impl Looker for Patient<'_> {
         self.seat.value(j, out)
     }
 
-    fn view(&mut self, j: usize, out: &mut SnapshotBuf) {
-        self.seat.view(j, out);
+    fn value_bytes(&mut self, alloc: Global, j: usize) -> Result<Bytes, AllocError> {
+        self.seat.value_bytes(alloc, j)
+    }
+
+    fn view(&mut self, j: usize, set: SegmentSet, out: &mut SnapshotBuf) {
+        self.seat.view(j, set, out);
     }
 }
 

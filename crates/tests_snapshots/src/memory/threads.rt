@@ -1,7 +1,13 @@
 //! Writers and scanners in threads of their own, and a plain judge of all that they saw.
 ghost use Rattle.std.specs.Prelude.{◌<◌, ◌≤◌};
 
-use crate::memory::{open, scan, update};
+mod looks;
+mod seen;
+
+use crate::memory::some::Numbers;
+use crate::memory::threads::looks::{Kind, Looking, scan_once};
+use crate::memory::threads::seen::{Seen, are_ordered, is_sound};
+use crate::memory::{open, update, value_of};
 use snap_memory::{Scanner, Snapshot};
 use snap_register::{Parts, WriteSeat};
 use snap_scan::MAX_SEGMENTS;
@@ -11,16 +17,15 @@ use std::sync::atomic::{AtomicU64, Ordering};
 use std::test::Fail;
 use std::thread::{Threads, for_each_mut, yield_now};
 
-/// Of each segment one number; those of segments that aren't there are 0.
-type Numbers = [u64; MAX_SEGMENTS];
-
-/// How much there is of everything: updates of each writer, and scans of each scanner.
+/// How much there is of everything: updates of each writer, and scans of each scanner. Where there
+/// are all kinds of scanners, every second one scans drawn sets.
 #[derive(Clone, Copy)]
 struct Size {
     segments: usize,
     scanners: usize,
     updates: u64,
     scans: usize,
+    all_kinds: bool,
 }
 
 /// How many workers there are, and how many have arrived. Of each segment, the number of the last
@@ -33,28 +38,11 @@ struct Course {
     ended: Vec<AtomicU64>,
 }
 
-/// A scan: what had ended before it, the numbers that it answered, and what had begun after it.
-#[derive(Drop)]
-struct Seen {
-    ended: Numbers,
-    numbers: Numbers,
-    begun: Numbers,
-    /// Whether each value was the one of its number.
-    right: bool,
-}
-
 /// Who works in a thread of its own, and what came of it.
 #[derive(Drop)]
 enum Worker {
-    Writer {
-        seat: WriteSeat,
-        is_done: bool,
-    },
-    Scanner {
-        scanner: Scanner,
-        snapshot: Snapshot,
-        record: Vec<Seen>,
-    },
+    Writer { seat: WriteSeat, is_done: bool },
+    Scanner { looking: Looking, record: Vec<Seen> },
 }
 
 fn zeros(alloc: Global, count: usize) -> Result<Vec<AtomicU64>, AllocError> {
@@ -65,13 +53,7 @@ fn zeros(alloc: Global, count: usize) -> Result<Vec<AtomicU64>, AllocError> {
     Ok(words)
 }
 
-fn value_of(segment: usize, number: u64) -> [u8; 9] {
-    let s = segment.to_le_bytes();
-    let n = number.to_be_bytes();
-    [s[0], n[0], n[1], n[2], n[3], n[4], n[5], n[6], n[7]]
-}
-
-fn numbers_of(words: &Vec<AtomicU64>) -> Numbers {
+fn load_all(words: &Vec<AtomicU64>) -> Numbers {
     let mut numbers = [0; MAX_SEGMENTS];
     for (number, word) in numbers.iter_mut().zip(words.iter()) {
         *number = word.load(Ordering::SeqCst);
@@ -97,40 +79,6 @@ fn write_all(writer: &mut WriteSeat, course: &Course, updates: u64) -> bool {
     true
 }
 
-/// Whether each value is the one of its number.
-fn are_of_their_numbers(snapshot: &Snapshot) -> bool {
-    for i in 0..snapshot.len() {
-        let right = match snapshot.number(i) {
-            0 => snapshot.value(i).is_empty(),
-            number => snapshot.value(i) == value_of(i, number).as_slice(),
-        };
-        if !right {
-            return false;
-        }
-    }
-    true
-}
-
-fn numbers_in(snapshot: &Snapshot) -> Numbers {
-    let mut numbers = [0; MAX_SEGMENTS];
-    for i in 0..snapshot.len().min(MAX_SEGMENTS) {
-        numbers[i] = snapshot.number(i);
-    }
-    numbers
-}
-
-fn scan_once(scanner: &mut Scanner, snapshot: &mut Snapshot, course: &Course) -> Seen {
-    let ended = numbers_of(&course.ended);
-    let answered = scan(scanner, snapshot) == Some(Ok(()));
-    let begun = numbers_of(&course.begun);
-    Seen {
-        ended,
-        numbers: numbers_in(snapshot),
-        begun,
-        right: answered && are_of_their_numbers(snapshot),
-    }
-}
-
 /// Waits for the others, but not for long: where no thread can be made they come after this one.
 fn wait_for_all(course: &Course) {
     course.arrived.fetch_add(1, Ordering::SeqCst);
@@ -148,13 +96,9 @@ fn work(worker: &mut Worker, course: &Course, size: Size) {
     wait_for_all(course);
     match worker {
         Worker::Writer { seat, is_done } => *is_done = write_all(seat, course, size.updates),
-        Worker::Scanner {
-            scanner,
-            snapshot,
-            record,
-        } => {
-            for _ in 0..size.scans {
-                if record.push(scan_once(scanner, snapshot, course)).is_err() {
+        Worker::Scanner { looking, record } => {
+            for round in 0..size.scans {
+                if record.push(scan_once(looking, round, course)).is_err() {
                     return;
                 }
                 yield_now();
@@ -163,51 +107,9 @@ fn work(worker: &mut Worker, course: &Course, size: Size) {
     }
 }
 
-fn is_below(a: &Numbers, b: &Numbers) -> bool {
-    a.iter().zip(b.iter()).all(|(x, y)| *x <= *y)
-}
-
-/// Whether each scan is right: it has all that ended before it began, and nothing that began after
-/// it ended.
-fn are_right(record: &Vec<Seen>) -> bool {
-    for seen in record {
-        if !seen.right || !is_below(&seen.ended, &seen.numbers) {
-            return false;
-        }
-        if !is_below(&seen.numbers, &seen.begun) {
-            return false;
-        }
-    }
-    true
-}
-
-/// Whether no number fell in a scanner's record.
-fn are_rising(record: &Vec<Seen>) -> bool {
-    let mut last = [0; MAX_SEGMENTS];
-    for seen in record {
-        if !is_below(&last, &seen.numbers) {
-            return false;
-        }
-        last = seen.numbers;
-    }
-    true
-}
-
-/// Whether of any two scans one shows no more than the other.
-fn are_ordered(record: &Vec<Seen>, other: &Vec<Seen>) -> bool {
-    for a in record {
-        for b in other {
-            if !is_below(&a.numbers, &b.numbers) && !is_below(&b.numbers, &a.numbers) {
-                return false;
-            }
-        }
-    }
-    true
-}
-
 /// Whether the worker did all that was its to do, and all that it saw is right and ordered with
-/// what every other one saw.
-fn is_sound(worker: &Worker, others: &Vec<Worker>, scans: usize) -> bool {
+/// what each of these saw.
+fn did_all(worker: &Worker, others: &[Worker], scans: usize) -> bool {
     let record = match worker {
         Worker::Writer { is_done, .. } => return *is_done,
         Worker::Scanner { record, .. } => record,
@@ -219,7 +121,7 @@ fn is_sound(worker: &Worker, others: &Vec<Worker>, scans: usize) -> bool {
             }
         }
     }
-    record.len() == scans && are_right(record) && are_rising(record)
+    is_sound(record, scans)
 }
 
 /// A worker at each of the seats.
@@ -231,10 +133,19 @@ fn workers_at(alloc: Global, parts: Parts, size: Size) -> Result<Vec<Worker>, Al
             is_done: false,
         })?;
     }
-    for seat in parts.scanners {
+    for (place, seat) in parts.scanners.into_iter().enumerate() {
+        let kind = if size.all_kinds && place % 2 == 0 {
+            Kind::Drawn(place as u64)
+        } else {
+            Kind::All
+        };
         workers.push(Worker::Scanner {
-            scanner: Scanner::new(seat),
-            snapshot: Snapshot::new(alloc, size.segments)?,
+            looking: Looking {
+                scanner: Scanner::new(seat),
+                snapshot: Snapshot::new(alloc, size.segments)?,
+                kind,
+                alloc,
+            },
             record: Vec::with_capacity(alloc, size.scans)?,
         })?;
     }
@@ -253,29 +164,27 @@ fn course_of(alloc: Global, workers: usize, segments: usize) -> Result<Course, A
 
 /// All that the workers did and saw is right.
 fn judge(rt: &impl Abort, workers: &Vec<Worker>, scans: usize) {
-    for worker in workers {
-        assert!(rt; is_sound(worker, workers, scans));
+    for place in 0..workers.len() {
+        assert!(rt; did_all(&workers[place], &workers[place..], scans));
     }
 }
 
+/// Whether one scan more shows the last updates of its segments.
+fn shows_last(looking: &mut Looking, course: &Course, updates: u64) -> bool {
+    let last = scan_once(looking, 0, course);
+    for segment in 0..MAX_SEGMENTS {
+        if last.set.has(segment) && last.numbers[segment] != updates {
+            return false;
+        }
+    }
+    last.right
+}
+
 /// One scan more by each scanner shows the last updates.
-fn judge_last(rt: &impl Abort, workers: &mut Vec<Worker>, course: &Course, size: Size)
-    requires { size.segments ≤ 16 }
-{
+fn judge_last(rt: &impl Abort, workers: &mut Vec<Worker>, course: &Course, size: Size) {
     for worker in workers {
-        if let Worker::Scanner {
-            scanner,
-            snapshot,
-            ..
-        } = worker
-        {
-            let last = scan_once(scanner, snapshot, course);
-            assert!(rt;
-                last.right
-                    && last.numbers[..size.segments]
-                        .iter()
-                        .all(|n| *n == size.updates)
-            );
+        if let Worker::Scanner { looking, .. } = worker {
+            assert!(rt; shows_last(looking, course, size.updates));
         }
     }
 }
@@ -311,6 +220,7 @@ fn three_writers_and_two_scanners_in_threads(rt: HostRuntime) -> Result<(), Fail
         scanners: 2,
         updates: 200,
         scans: 300,
+        all_kinds: false,
     };
     judged_run(&rt, rt.alloc(), size)?;
     Ok(())
@@ -323,6 +233,21 @@ fn sixteen_writers_and_sixteen_scanners_in_threads(rt: HostRuntime) -> Result<()
         scanners: 16,
         updates: 1_250,
         scans: 250,
+        all_kinds: false,
+    };
+    judged_run(&rt, rt.alloc(), size)?;
+    Ok(())
+}
+
+/// Half of the scanners scan drawn sets, and half all segments.
+#[test]
+fn scans_of_some_and_of_all_in_threads(rt: HostRuntime) -> Result<(), Fail> {
+    let size = Size {
+        segments: 16,
+        scanners: 16,
+        updates: 1_000,
+        scans: 200,
+        all_kinds: true,
     };
     judged_run(&rt, rt.alloc(), size)?;
     Ok(())

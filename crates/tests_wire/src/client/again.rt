@@ -1,5 +1,6 @@
 //! One request on one connection after another.
-use super::{Answer, REFUSED, TALK, told};
+use super::words::{Answer, told};
+use super::{REFUSED, TALK};
 use crate::streams::{sink, source};
 use bytes::Bytes;
 use snap_client::{ClientFault, MAX_TRIES, call_again};

@@ -3,7 +3,7 @@
 use super::expect_next;
 use bytes::Bytes;
 use snap_disk::Refusal;
-use snap_frame::{Feed, Request};
+use snap_frame::{Feed, Request, SegmentSet};
 use std::alloc::{AllocError, Global};
 use std::process::Abort;
 use std::test::Fail;
@@ -85,6 +85,13 @@ fn answer_to(
     }
     if payload == [3].as_slice() {
         return Ok(Ok(Some(Request::Status)));
+    }
+    if payload.len() == 3 && payload[0] == 4 {
+        let bits = u16::wrapping_add(u16::from(payload[1]) << 8, u16::from(payload[2]));
+        return Ok(match bits {
+            0 => Err(Refusal::Malformed),
+            _ => Ok(Some(Request::Part(SegmentSet { bits }))),
+        });
     }
     if payload.len() < 10 || payload[0] != 1 {
         return Ok(Err(Refusal::Malformed));

@@ -12,7 +12,7 @@ use std::alloc::{AllocError, Global};
 use std::process::Abort;
 use std::test::Fail;
 
-/// Writes a request that fits a frame.
+/// Writes a request that may be asked.
 fn write(request: &Request, out: &mut BytesMut) -> Result<(), Refusal> {
     match request {
         Request::Update { value, .. } => {
@@ -23,6 +23,12 @@ fn write(request: &Request, out: &mut BytesMut) -> Result<(), Refusal> {
         }
         Request::Scan => write_request(request, out),
         Request::Status => write_request(request, out),
+        Request::Part(set) => {
+            if set.bits == 0 {
+                return Err(Refusal::Malformed);
+            }
+            write_request(request, out)
+        }
     }
 }
 
@@ -40,14 +46,18 @@ fn rewritten(alloc: Global, frame: &[u8]) -> Result<BytesMut, Refusal> {
 }
 
 /// The reply of the frame is written as the same frame.
-fn expect_rewritten(rt: &impl Abort, alloc: Global, frame: &[u8]) -> Result<(), Refusal> {
+pub(super) fn expect_rewritten(
+    rt: &impl Abort,
+    alloc: Global,
+    frame: &[u8],
+) -> Result<(), Refusal> {
     let out = rewritten(alloc, frame)?;
     expect_bytes(rt, out.as_slice(), frame);
     Ok(())
 }
 
 /// The request is written as its frame, behind what the buffer holds.
-fn expect_written(
+pub(super) fn expect_written(
     rt: &impl Abort,
     alloc: Global,
     request: &Request,

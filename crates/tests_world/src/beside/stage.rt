@@ -3,11 +3,12 @@ ghost use Rattle.std.specs.Prelude.{◌≡◌, ◌<◌, ◌≤◌, length, IfSom
 ghost use Rattle.snap_register.specs.Seat.{MayPublish};
 
 use crate::draw::Draw;
-use snap_memory::{prepare, show};
+use bytes::Bytes;
+use snap_memory::{SegmentSet, prepare, show};
 use snap_register::{Looker, ReadSeat, SnapshotBuf, View, WriteSeat};
 use snap_scan::most_looks;
 use snap_world::{Actor, Event, Reply, World};
-use std::alloc::Global;
+use std::alloc::{AllocError, Global};
 
 /// The value of an update: two to eight bytes that no other update has.
 #[derive(Drop)]
@@ -201,8 +202,12 @@ impl Looker for Stage {
         self.seat.value(j, out)
     }
 
-    fn view(&mut self, j: usize, out: &mut SnapshotBuf) {
+    fn value_bytes(&mut self, alloc: Global, j: usize) -> Result<Bytes, AllocError> {
+        self.seat.value_bytes(alloc, j)
+    }
+
+    fn view(&mut self, j: usize, set: SegmentSet, out: &mut SnapshotBuf) {
         self.borrows = self.borrows.saturating_add(1);
-        self.seat.view(j, out);
+        self.seat.view(j, set, out);
     }
 }

@@ -5,7 +5,8 @@ ghost use Rattle.std.specs.Prelude.{◌<◌};
 use crate::draw::Draw;
 use snap_disk::Fill;
 use snap_history::{Update, memory_after};
-use snap_world::{Actor, Event, Reply, World};
+use snap_scan::MAX_SEGMENTS;
+use snap_world::{Actor, Event, PartEntry, Reply, SegmentSet, World};
 use std::alloc::{AllocError, Global};
 use std::process::Abort;
 use std::test::Fail;
@@ -28,7 +29,7 @@ fn events_of(
         let scanner = draw.below(scanners);
         let byte = draw.below(256) as u8;
         let len = draw.below(4);
-        events.push(match draw.below(40) {
+        events.push(match draw.below(41) {
             0 | 1 => Event::Begin(segment, [byte; 4][..len].to_vec(alloc)?),
             2..=8 => Event::Look(Actor::Writer(segment)),
             9..=15 => Event::Call(segment),
@@ -40,6 +41,7 @@ fn events_of(
             26..=35 => Event::RestartCall,
             36 => Event::Restart,
             37 => Event::Serve,
+            38 => Event::Pick(scanner, any_set(&mut draw)),
             _ => rare_event(alloc, &mut draw, segment, segments)?,
         })?;
     }
@@ -53,6 +55,13 @@ fn any_fill(draw: &mut Draw) -> Fill {
         1 => Fill::All(0),
         2 => Fill::All(0xA5),
         _ => Fill::All(draw.below(256) as u8),
+    }
+}
+
+/// Any set of the first three segments, the empty one too.
+fn any_set(draw: &mut Draw) -> SegmentSet {
+    SegmentSet {
+        bits: draw.below(8) as u16,
     }
 }
 
@@ -77,6 +86,15 @@ fn rare_event(
     }
 }
 
+/// A scanner's scan: its set, where it isn't of all segments, and how many updates were shown at its
+/// beginning and at its last look.
+#[derive(Clone, Copy, Drop)]
+struct OpenScan {
+    set: Option<SegmentSet>,
+    start: usize,
+    last: usize,
+}
+
 /// What the replies so far imply.
 #[derive(Drop)]
 struct Followed {
@@ -85,8 +103,7 @@ struct Followed {
     history: Vec<Update>,
     /// The value of each writer's update that has begun and was not shown.
     begun: Vec<Option<Vec<u8>>>,
-    /// How many updates were shown at the beginning of each scanner's scan, and at its last look.
-    scans: Vec<(usize, usize)>,
+    scans: Vec<OpenScan>,
 }
 
 impl Followed {
@@ -95,8 +112,24 @@ impl Followed {
             segments,
             history: Vec::new(alloc),
             begun: empty_places(alloc, segments)?,
-            scans: vec![in alloc; (0, 0); scanners]?,
+            scans: vec![in alloc; OpenScan {
+                set: None,
+                start: 0,
+                last: 0
+            }; scanners]?,
         })
+    }
+
+    /// A scan begins.
+    fn open(&mut self, scanner: usize, set: Option<SegmentSet>) {
+        let now = self.history.len();
+        if let Some(scan) = self.scans.get_mut(scanner) {
+            *scan = OpenScan {
+                set,
+                start: now,
+                last: now,
+            };
+        }
     }
 
     /// Takes in one event. False for a memory that did not stand within its scan.
@@ -115,18 +148,15 @@ impl Followed {
                     }
                 }
             }
-            (Event::Scan(scanner), Reply::ScanBegun) => {
-                if let Some(scan) = self.scans.get_mut(*scanner) {
-                    *scan = (now, now);
-                }
-            }
+            (Event::Scan(scanner), Reply::ScanBegun) => self.open(*scanner, None),
+            (Event::Pick(scanner, set), Reply::ScanBegun) => self.open(*scanner, Some(*set)),
             (Event::Look(Actor::Scanner(scanner)), Reply::Number(_)) => {
                 if let Some(scan) = self.scans.get_mut(*scanner) {
-                    scan.1 = now;
+                    scan.last = now;
                 }
             }
-            (Event::Answer(scanner), Reply::Memory(memory)) => {
-                return self.stood(alloc, *scanner, memory);
+            (Event::Answer(scanner), Reply::Memory(_) | Reply::Part(_)) => {
+                return self.stood(alloc, *scanner, reply);
             }
             (Event::Serve, Reply::Memory(memory)) => return self.served(alloc, memory),
             _ => {}
@@ -155,17 +185,13 @@ impl Followed {
         Ok(memory_after(alloc, self.segments, &self.history)? == *memory)
     }
 
-    /// Whether this was the memory at a moment of the scanner's scan, by the plain program.
-    fn stood(
-        &self,
-        alloc: Global,
-        scanner: usize,
-        memory: &Vec<Vec<u8>>,
-    ) -> Result<bool, AllocError> {
+    /// Whether the reply shows the memory at a moment of the scanner's scan, by the plain program.
+    fn stood(&self, alloc: Global, scanner: usize, reply: &Reply) -> Result<bool, AllocError> {
         if let Some(scan) = self.scans.get(scanner) {
-            for moment in scan.0..=scan.1.min(self.history.len()) {
+            for moment in scan.start..=scan.last.min(self.history.len()) {
                 if let Some(before) = self.history.get(..moment) {
-                    if memory_after(alloc, self.segments, before)? == *memory {
+                    let memory = memory_after(alloc, self.segments, before)?;
+                    if shows(alloc, &memory, scan.set, reply)? {
                         return Ok(true);
                     }
                 }
@@ -173,6 +199,38 @@ impl Followed {
         }
         Ok(false)
     }
+}
+
+/// Whether the reply shows this memory: all of it or, to a scan of some segments, those.
+fn shows(
+    alloc: Global,
+    memory: &Vec<Vec<u8>>,
+    set: Option<SegmentSet>,
+    reply: &Reply,
+) -> Result<bool, AllocError> {
+    match (set, reply) {
+        (None, Reply::Memory(values)) => Ok(values == memory),
+        (Some(set), Reply::Part(entries)) => Ok(*entries == part_of(alloc, memory, set)?),
+        _ => Ok(false),
+    }
+}
+
+/// The entries of this memory at the segments of the set, in ascending order.
+fn part_of(
+    alloc: Global,
+    memory: &Vec<Vec<u8>>,
+    set: SegmentSet,
+) -> Result<Vec<PartEntry>, AllocError> {
+    let mut part = Vec::new(alloc);
+    for (segment, value) in memory.iter().enumerate() {
+        if segment < MAX_SEGMENTS && set.has(segment) {
+            part.push(PartEntry {
+                segment,
+                value: value.to_vec(alloc)?,
+            })?;
+        }
+    }
+    Ok(part)
 }
 
 /// A place for the update of each writer.
@@ -187,13 +245,24 @@ fn empty_places(alloc: Global, segments: usize) -> Result<Vec<Option<Vec<u8>>>, 
 #[test]
 fn generated_runs(rt: HostRuntime) -> Result<(), Fail> {
     let alloc = rt.alloc();
-    for (seed, segments, scanners) in [(1, 1, 1), (2, 2, 1), (3, 2, 3), (4, 4, 2), (5, 16, 1)] {
+    for (seed, segments, scanners) in [
+        (1, 1, 1),
+        (2, 2, 1),
+        (3, 2, 3),
+        (4, 4, 2),
+        (5, 16, 1),
+        (6, 3, 1),
+        (7, 3, 2),
+    ] {
         let events = events_of(alloc, seed, segments, scanners, 30_000)?;
         let replies = World::new(alloc, segments, scanners)?.run(&events)?;
         assert!(rt; replies.len() == events.len(), "seed {seed}");
         let mut followed = Followed::new(alloc, segments, scanners)?;
         agree(&rt, alloc, &mut followed, &events, &replies, seed)?;
         are_many(&rt, &events, &replies, seed);
+        if segments == 3 {
+            each_set_answers(&rt, &replies, seed);
+        }
     }
     Ok(())
 }
@@ -227,4 +296,21 @@ fn are_many(rt: &impl Abort, events: &[Event], replies: &[Reply], seed: u64) {
     }
     assert!(rt; memories >= 10, "seed {seed}: {memories} memories");
     assert!(rt; restarts >= 20, "seed {seed}: {restarts} restarts");
+}
+
+/// Each set of three segments had an answer: so many entries, and among them each segment.
+fn each_set_answers(rt: &impl Abort, replies: &[Reply], seed: u64) {
+    let mut answered = [false; 8];
+    for reply in replies {
+        if let Reply::Part(entries) = reply {
+            let mut bits = 0;
+            for entry in entries {
+                bits |= 1_usize << entry.segment % 3;
+            }
+            answered[bits % 8] = true;
+        }
+    }
+    for bits in 1..8 {
+        assert!(rt; answered[bits], "seed {seed}: no answer of {bits:#b}");
+    }
 }

@@ -1,7 +1,7 @@
 //! The steps of a worked run, and a player of them.
 use snap_disk::Fill;
 use snap_persist::Write;
-use snap_world::{Actor, Event, Kind, Reply, World};
+use snap_world::{Actor, Event, Kind, PartEntry, Reply, SegmentSet, World};
 use std::alloc::{AllocError, Global};
 use std::process::Abort;
 
@@ -29,6 +29,7 @@ pub(crate) enum Early<'a> {
     Show,
     Acknowledge,
     Scan,
+    Pick(u16),
     RestartCall,
     Serve,
 }
@@ -47,10 +48,14 @@ pub(crate) enum Step<'a> {
     Show(usize, u64),
     /// The scanner begins a scan.
     Scan,
+    /// The scanner begins a scan of the segments of this set.
+    Pick(u16),
     /// The scanner looks once for each number, which it has to be told.
     Looks(&'a [u64]),
     /// The scan has its answer, which is these texts.
     Answer(&'a [&'a str]),
+    /// The scan has its answer, which is these segments with these texts.
+    Part(&'a [(usize, &'a str)]),
     /// The next device call of the first segment fails.
     Fail(Option<u8>),
     /// The same, where there is a fault.
@@ -152,16 +157,23 @@ fn memory_of(alloc: Global, texts: &[&str]) -> Result<Vec<Vec<u8>>, AllocError> 
     Ok(memory)
 }
 
-fn answer(
-    rt: &impl Abort,
-    alloc: Global,
-    world: &mut World,
-    texts: &[&str],
-) -> Result<(), AllocError> {
+/// These segments with these texts.
+fn part_of(alloc: Global, texts: &[(usize, &str)]) -> Result<Vec<PartEntry>, AllocError> {
+    let mut part = Vec::new(alloc);
+    for (segment, text) in texts {
+        part.push(PartEntry {
+            segment: *segment,
+            value: text.as_bytes().to_vec(alloc)?,
+        })?;
+    }
+    Ok(part)
+}
+
+/// The scan has this answer, and gives it once.
+fn answer(rt: &impl Abort, world: &mut World, reply: Reply) -> Result<(), AllocError> {
     let scanner = Actor::Scanner(0);
     expect(rt, world, Event::Look(scanner), Reply::NotNow)?;
-    let memory = memory_of(alloc, texts)?;
-    expect(rt, world, Event::Answer(0), Reply::Memory(memory))?;
+    expect(rt, world, Event::Answer(0), reply)?;
     expect(rt, world, Event::Answer(0), Reply::NotNow)
 }
 
@@ -207,6 +219,7 @@ fn early_event(alloc: Global, early: Early<'_>) -> Result<Event, AllocError> {
         Early::Show => Event::Show(0),
         Early::Acknowledge => Event::Acknowledge(0),
         Early::Scan => Event::Scan(0),
+        Early::Pick(bits) => Event::Pick(0, SegmentSet { bits }),
         Early::RestartCall => Event::RestartCall,
         Early::Serve => Event::Serve,
     })
@@ -221,6 +234,7 @@ fn play_one(
 ) -> Result<(), AllocError> {
     let (event, reply) = match step {
         Step::Scan => (Event::Scan(0), Reply::ScanBegun),
+        Step::Pick(bits) => (Event::Pick(0, SegmentSet { bits }), Reply::ScanBegun),
         Step::Fail(byte) => (Event::Fail(0, fill(byte)), Reply::DeviceFailed),
         Step::Crash(bytes) => (Event::Crash(fills(alloc, bytes)?), Reply::Crashed),
         Step::Restart => (Event::Restart, Reply::Restarting),
@@ -246,7 +260,8 @@ fn play_step(
         }
         Step::Show(segment, number) => show(rt, world, segment, number),
         Step::Looks(numbers) => looks(rt, world, Actor::Scanner(0), numbers),
-        Step::Answer(texts) => answer(rt, alloc, world, texts),
+        Step::Answer(texts) => answer(rt, world, Reply::Memory(memory_of(alloc, texts)?)),
+        Step::Part(texts) => answer(rt, world, Reply::Part(part_of(alloc, texts)?)),
         Step::FailIf(None) => Ok(()),
         Step::FailIf(Some(byte)) => play_one(rt, alloc, world, Step::Fail(byte)),
         Step::OneFile => one_file(rt, world),

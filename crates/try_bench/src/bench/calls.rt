@@ -1,6 +1,6 @@
 //! Calls of clients whose peer's replies are there already.
 ghost use Rattle.std.specs.Prelude.{◌≤◌, length};
-ghost use Rattle.snap_frame.specs.Messages.{max_payload, payload};
+ghost use Rattle.snap_frame.specs.Messages.{max_payload, payload, IsAskable};
 
 use bytes::Bytes;
 use snap_client::{Client, ClientFault};
@@ -58,7 +58,8 @@ fn replies(alloc: Global, segments: u8, length: u16) -> Result<Frames, AllocErro
 
 /// One request on a connection of its own.
 fn call_once(alloc: Global, request: &Request, reply: &[u8]) -> Result<Reply, ClientFault>
-    requires { length (payload request.now) ≤ max_payload }
+    requires fits { length (payload request.now) ≤ max_payload }
+    requires askable { IsAskable request.now }
 {
     let mut client = Client::new(alloc, reply, Nowhere);
     client.call(request)
@@ -66,7 +67,8 @@ fn call_once(alloc: Global, request: &Request, reply: &[u8]) -> Result<Reply, Cl
 
 /// The three requests. The last answer, or the first fault.
 fn call_each(alloc: Global, update: &Request, frames: &Frames) -> Result<Reply, ClientFault>
-    requires { length (payload update.now) ≤ max_payload }
+    requires fits { length (payload update.now) ≤ max_payload }
+    requires askable { IsAskable update.now }
 {
     let _ = call_once(alloc, update, &frames.stored)?;
     let _ = call_once(alloc, &Request::Status, &frames.status)?;

@@ -1,11 +1,11 @@
 //! Requests to a node over files in memory, and calls of clients, for `make bench` and for
 //! tests/test_service_allocations.py and tests/test_client_allocations.py.
 //!
-//!     try_bench bench-service update|scan|status SEGMENTS ROUNDS LENGTH
+//!     try_bench bench-service update|scan|part|status SEGMENTS ROUNDS LENGTH
 //!
 //! updates each of SEGMENTS to number 1 with LENGTH bytes, makes the same request ROUNDS times, and
 //! prints its last reply. The update is that of the first segment to number 2: the first round
-//! stores it, and the others repeat it.
+//! stores it, and the others repeat it. A part is a scan of the first two segments.
 //!
 //!     try_bench bench-service call SEGMENTS ROUNDS LENGTH
 //!
@@ -17,13 +17,14 @@
 //! makes a plain copy of as many bytes ROUNDS times.
 ghost use Rattle.std.specs.Prelude.{◌≡◌, ◌<◌, ◌≤◌, length, IfOk};
 ghost use Rattle.snap_restart.specs.Closed.{AreBack};
+ghost use Rattle.snap_frame.specs.Messages.{IsAskable};
 ghost use Rattle.snap_service.specs.Memory.{AreWriters, IsOf};
 
 use crate::bench::calls::call_rounds;
 use bytes::Bytes;
 use snap_devices::MemDisk;
-use snap_frame::{Reply, Request};
-use snap_memory::{Scanner, Snapshot};
+use snap_frame::{Reply, Request, SegmentSet};
+use snap_memory::Scanner;
 use snap_restart::Store;
 use snap_service::{Memory, Node, Shared};
 use snap_session::Service;
@@ -39,6 +40,8 @@ use try_parts::{new_memories, opened_all};
 enum Work {
     Update,
     Scan,
+    /// A scan of the first two segments.
+    Part,
     Status,
 }
 
@@ -52,12 +55,9 @@ struct Task {
 }
 
 /// The update of this segment to this number.
-fn update_of(
-    alloc: Global,
-    segment: u8,
-    number: u64,
-    length: usize,
-) -> Result<Request, AllocError> {
+fn update_of(alloc: Global, segment: u8, number: u64, length: usize) -> Result<Request, AllocError>
+    ensures { IfOk result IsAskable }
+{
     let value = vec![in alloc; 7u8; length]?;
     Ok(Request::Update {
         segment,
@@ -67,10 +67,13 @@ fn update_of(
 }
 
 /// The request of each round.
-fn request_of(alloc: Global, task: Task) -> Result<Request, AllocError> {
+fn request_of(alloc: Global, task: Task) -> Result<Request, AllocError>
+    ensures { IfOk result IsAskable }
+{
     match task.work {
         Work::Update => update_of(alloc, 0, 2, task.length),
         Work::Scan => Ok(Request::Scan),
+        Work::Part => Ok(Request::Part(SegmentSet { bits: 3 })),
         Work::Status => Ok(Request::Status),
     }
 }
@@ -86,11 +89,10 @@ fn serve_rounds<M: Memory, R: Wait>(
     requires writers { AreWriters M.table M.plan writers.items }
     requires scanner { IsOf M.table M.plan scanner }
 {
-    let snapshot = Snapshot::new(alloc, scanner.segments())?;
     let Ok(shared) = Shared::<M, MemDisk>::new(alloc, writers) else {
         return Err(AllocError);
     };
-    let mut node = Node::new(rt, alloc, &shared, scanner, snapshot);
+    let mut node = Node::new(rt, alloc, &shared, scanner);
     for segment in 0..task.segments {
         let request = update_of(alloc, segment, 1, task.length)?;
         let _ = node.answer(&request, 0);
@@ -157,6 +159,10 @@ fn print_reply(rt: &HostRuntime, reply: Option<Reply>) -> io::Result<()> {
             let count = values.len();
             println!(rt; "snapshot of {count}")
         }
+        Some(Reply::Part(values)) => {
+            let count = values.len();
+            println!(rt; "part of {count}")
+        }
         Some(Reply::Status(statuses)) => {
             let count = statuses.len();
             println!(rt; "status of {count}")
@@ -186,6 +192,7 @@ pub(crate) fn measure_requests<X: Wait>(
     let work = match *name {
         "update" => Work::Update,
         "scan" => Work::Scan,
+        "part" => Work::Part,
         "status" => Work::Status,
         "copy" => {
             let len = usize::from(segments) * usize::from(length);
@@ -193,7 +200,7 @@ pub(crate) fn measure_requests<X: Wait>(
             return println!(rt; "copied {read}");
         }
         "call" => return print_calls(rt, segments, rounds, length),
-        _ => return Err(io::Error::other("WORK is update, scan, status, call or copy")),
+        _ => return Err(io::Error::other("WORK is update, scan, part, status, call or copy")),
     };
     let task = Task {
         work,

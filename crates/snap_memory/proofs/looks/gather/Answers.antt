@@ -1,6 +1,13 @@
-use Rattle.std.proofs.Common.{◌≡◌, ℕ, ◌<◌, ◌≤◌, sym, subst, ◌∙◌}
+use Rattle.std.proofs.Common.{◌≡◌, ℕ, ◌^◌, ◌<◌, List, sym, subst, ◌∙◌, arith}
 use Rattle.snap_scan.specs.declared.next.Next.{Next}
 use Rattle.snap_scan.specs.declared.next.Next.TheVariants.{Clean, Borrow}
+use Rattle.snap_scan.specs.Looks.{IsBorrow}
+use Rattle.snap_scan.specs.Sets.{Names, size}
+use Rattle.snap_scan.specs.Course.{IsNext}
+use Rattle.snap_register.specs.Rule.{segments}
+use Rattle.snap_register.specs.declared.plan.Plan.{Plan}
+use Rattle.snap_scan.proofs.Sets.{at_some, at_below, at_named, some}
+use Rattle.snap_memory.specs.Scans.{IsCleanScan, TakesLooksOf}
 use Rattle.snap_memory.proofs.Collects.{Gathers-none, Gathers-look, told_fits, takes_looks, clean_some, borrow_some, clean_scan}
 use Rattle.snap_memory.proofs.Collects.{numbers_are, borrowed_scan}
 use Rattle.snap_memory.proofs.looks.gather.Goals as goal
@@ -8,64 +15,109 @@ use Rattle.snap_memory.proofs.looks.gather.Goals as goal
 not_both : (v : Next) (j : ℕ) → v ≡ Clean → v ≡ Borrow j → ⊥
 not_both v j clean borrow = cc
 
+-- where the numbers told are clean no place of the set is borrowed from
+no_borrow : (set : ℕ) (told : List ℕ) (v : Next) → IsNext set told v → v ≡ Clean → (p : ℕ)
+    → IsBorrow (size set) told p → ⊥
+no_borrow set told v decides clean p b = not_both v _ clean
+    ((decides.borrow _).1 (p, at_some set p b.segment, b))
+
 pub looks-init : goal.looks-init
 looks-init g c =
-    Gathers-none (g.L.Looker.known c.args.seat.now) c.new-scan.result c.args.numbers.now
-    (c.new-scan.ensures.segments ∙ c.segments.ensures.count)
-    (subst (λ m. 0 < m) (sym c.new-scan.ensures.segments) c.segments.ensures.some.0)
-    (subst (λ m. m ≤ 16) (sym c.new-scan.ensures.segments) c.segments.ensures.some.1) c.told-numbers
-    c.new-scan.ensures.told
+    let a = g.L.Looker.known c.args.seat.now in
+    let set_is = c.of-scan.ensures.set in
+    let short : c.args.set.bits < 2 ^ 16 = omega (arith, c.well_formed, c.of-scan.type_inv) in
+    record {
+      gathers = Gathers-none a c.of-scan.result c.args.numbers.now
+          (subst (λ v. v < 2 ^ segments a.plan) (sym set_is) c.requires.set.among)
+          (subst (λ v. v < 2 ^ 16) (sym set_is) short)
+          (subst (λ v. 0 < size v) (sym set_is) (some c.args.set.bits short c.requires.set.some))
+          c.told-numbers c.of-scan.ensures.told;
+      set = set_is;
+    }
+
+-- the segment whose turn it is
+pub look-number-requires-clause-segment : goal.look-number-requires-clause-segment
+look-number-requires-clause-segment g c =
+    let gathers = c.looks.invariant.gathers in
+    let turn = c.next.ensures.decides.look c.in-Look.segment c.in-Look.is in
+    subst (λ (p : Plan). c.in-Look.segment < segments p) (sym gathers.grows.plan)
+    (at_below c.looks.scan.set _ turn.0 c.in-Look.segment gathers.among turn.1)
+
+pub bounds-numbers-segment : goal.bounds-numbers-segment
+bounds-numbers-segment g c =
+    let turn = c.next.ensures.decides.look c.in-Look.segment c.in-Look.is in
+    (at_named c.looks.scan.set turn.0 c.in-Look.segment turn.1).0
+
+pub offset_bounds-numbers-segment : goal.offset_bounds-numbers-segment
+offset_bounds-numbers-segment g c =
+    let turn = c.next.ensures.decides.look c.in-Look.segment c.in-Look.is in
+    let low = (at_named c.looks.scan.set turn.0 c.in-Look.segment turn.1).0 in
+    omega arith
 
 pub told-requires-clause-rising : goal.told-requires-clause-rising
 told-requires-clause-rising g c =
     told_fits (g.L.Looker.known c.args.seat.now) (g.L.Looker.known c.looks.seat)
     (g.L.Looker.known c.look-number.new.self) c.looks.scan c.looks.numbers c.in-Look.segment
     c.look-number.result
-    c.looks.invariant (c.next.ensures.decides.look c.in-Look.segment c.in-Look.is)
+    c.looks.invariant.gathers (c.next.ensures.decides.look c.in-Look.segment c.in-Look.is)
     c.look-number.ensures.seen c.look-number.ensures.number
 
 pub looks-preserved : goal.looks-preserved
 looks-preserved g c =
-    Gathers-look (g.L.Looker.known c.args.seat.now) (g.L.Looker.known c.looks.seat)
-    (g.L.Looker.known c.look-number.new.self) c.looks.scan c.looks.numbers c.in-Look.segment
-    c.look-number.result
-    c.looks.invariant (c.next.ensures.decides.look c.in-Look.segment c.in-Look.is)
-    c.look-number.ensures.seen c.look-number.ensures.number
-    c.told.new.self c.told.ensures.segments c.told.ensures.told
-    (c.next.ensures.decides.bound c.in-Look.segment c.in-Look.is) c.look-number.ensures.looked
-    c.look-number.ensures.sights c.look-number.ensures.left c.look-number.ensures.below
+    record {
+      gathers = Gathers-look (g.L.Looker.known c.args.seat.now) (g.L.Looker.known c.looks.seat)
+          (g.L.Looker.known c.look-number.new.self) c.looks.scan c.looks.numbers c.in-Look.segment
+          c.look-number.result
+          c.looks.invariant.gathers (c.next.ensures.decides.look c.in-Look.segment c.in-Look.is)
+          c.look-number.ensures.seen c.look-number.ensures.number
+          c.told.new.self c.told.ensures.set c.told.ensures.told
+          (c.next.ensures.decides.bound c.in-Look.segment c.in-Look.is) c.look-number.ensures.looked
+          c.look-number.ensures.sights c.look-number.ensures.left c.look-number.ensures.below;
+      set = c.told.ensures.set ∙ c.looks.invariant.set;
+    }
 
 pub returns-in-Clean-clause-below : goal.returns-in-Clean-clause-below
 returns-in-Clean-clause-below g c =
     let clean = c.next.ensures.decides.clean.0 c.in-Clean.is in
-    c.looks.invariant.below (clean_some _ _ _ _ c.looks.invariant clean)
+    let gathers = c.looks.invariant.gathers in
+    gathers.below (clean_some _ _ _ _ gathers clean)
 
 pub returns-in-Clean-clause-scan : goal.returns-in-Clean-clause-scan
 returns-in-Clean-clause-scan g c =
-    clean_scan _ _ _ _ c.looks.invariant (c.next.ensures.decides.clean.0 c.in-Clean.is) (λ j b.
-    not_both c.next.result j c.in-Clean.is ((c.next.ensures.decides.borrow j).1 b))
+    subst (λ v. IsCleanScan v (g.L.Looker.known c.args.seat.now) (g.L.Looker.known c.looks.seat))
+    c.looks.invariant.set
+    (clean_scan _ _ _ _ c.looks.invariant.gathers (c.next.ensures.decides.clean.0 c.in-Clean.is)
+    (no_borrow _ _ _ c.next.ensures.decides c.in-Clean.is))
 
 pub returns-in-Clean-clause-left : goal.returns-in-Clean-clause-left
 returns-in-Clean-clause-left g c =
-    takes_looks _ _ _ _ c.looks.invariant
-    (clean_some _ _ _ _ c.looks.invariant (c.next.ensures.decides.clean.0 c.in-Clean.is))
+    let gathers = c.looks.invariant.gathers in
+    subst (λ v. TakesLooksOf (size v) (g.L.Looker.known c.args.seat.now)
+    (g.L.Looker.known c.looks.seat)) c.looks.invariant.set
+    (takes_looks _ _ _ _ gathers
+    (clean_some _ _ _ _ gathers (c.next.ensures.decides.clean.0 c.in-Clean.is)))
 
 pub returns-in-Clean-clause-numbers : goal.returns-in-Clean-clause-numbers
-returns-in-Clean-clause-numbers g c =
-    λ _. numbers_are _ _ _ _ c.looks.invariant (c.next.ensures.decides.clean.0 c.in-Clean.is)
-    (λ j b. not_both c.next.result j c.in-Clean.is ((c.next.ensures.decides.borrow j).1 b))
+returns-in-Clean-clause-numbers g c = λ _ i l named.
+    numbers_are _ _ _ _ c.looks.invariant.gathers (c.next.ensures.decides.clean.0 c.in-Clean.is)
+    (no_borrow _ _ _ c.next.ensures.decides c.in-Clean.is) i l
+    (subst (λ v. Names v i) (sym c.looks.invariant.set) named)
 
 pub returns-in-Borrow-clause-below : goal.returns-in-Borrow-clause-below
 returns-in-Borrow-clause-below g c =
-    c.looks.invariant.below (borrow_some _ _ _ _ c.looks.invariant c.in-Borrow.segment
-    ((c.next.ensures.decides.borrow c.in-Borrow.segment).0 c.in-Borrow.is))
+    let from = (c.next.ensures.decides.borrow c.in-Borrow.segment).0 c.in-Borrow.is in
+    let gathers = c.looks.invariant.gathers in
+    gathers.below (borrow_some _ _ _ _ gathers from.0 from.2)
 
 pub returns-in-Borrow-clause-scan : goal.returns-in-Borrow-clause-scan
 returns-in-Borrow-clause-scan g c =
-    borrowed_scan _ _ _ _ c.looks.invariant c.in-Borrow.segment
+    borrowed_scan _ _ _ _ c.looks.invariant.gathers c.in-Borrow.segment
     ((c.next.ensures.decides.borrow c.in-Borrow.segment).0 c.in-Borrow.is)
 
 pub returns-in-Borrow-clause-left : goal.returns-in-Borrow-clause-left
 returns-in-Borrow-clause-left g c =
-    takes_looks _ _ _ _ c.looks.invariant (borrow_some _ _ _ _ c.looks.invariant c.in-Borrow.segment
-    ((c.next.ensures.decides.borrow c.in-Borrow.segment).0 c.in-Borrow.is))
+    let from = (c.next.ensures.decides.borrow c.in-Borrow.segment).0 c.in-Borrow.is in
+    let gathers = c.looks.invariant.gathers in
+    subst (λ v. TakesLooksOf (size v) (g.L.Looker.known c.args.seat.now)
+    (g.L.Looker.known c.looks.seat)) c.looks.invariant.set
+    (takes_looks _ _ _ _ gathers (borrow_some _ _ _ _ gathers from.0 from.2))

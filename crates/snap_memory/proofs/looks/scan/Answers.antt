@@ -1,13 +1,32 @@
-use Rattle.std.proofs.Common.{sym, subst}
-use Rattle.snap_register.specs.Seat.{Known}
-use Rattle.snap_memory.specs.Scans.{IsScan, IsSnapshot}
-use Rattle.snap_memory.proofs.ScanAnswer.{snapshot_clean}
+use Rattle.std.proofs.Common.{sym, subst, ◌∙◌}
+use Rattle.snap_memory.specs.Scans.{HasLooks, HasPart, TakesLooksOf}
+use Rattle.snap_memory.proofs.ScanAnswer.{snapshot_all, all_set, all_is, all_count, all_grown, all_same}
 use Rattle.snap_memory.proofs.looks.scan.Goals as goal
 
-pub returns-in-Collected-clause-snapshot : goal.returns-in-Collected-clause-snapshot
-returns-in-Collected-clause-snapshot g c =
+pub scan_some-requires-clause-set : goal.scan_some-requires-clause-set
+scan_some-requires-clause-set g c =
+    all_set (g.L.Looker.known c.args.seat.now) c.segments.result c.all.result.bits
+    c.segments.ensures.count c.all.ensures.all c.segments.ensures.some.0
+
+pub scan_some-requires-clause-left : goal.scan_some-requires-clause-left
+scan_some-requires-clause-left g c =
     let a = g.L.Looker.known c.args.seat.now in
-    let b = g.L.Looker.known c.gather.new.seat in
-    subst (λ (z : Known). IsSnapshot a z c.read_all.new.out) (sym c.read_all.ensures.same)
-    (snapshot_clean a b c.read_all.new.out
-    (subst (IsScan a b) c.in-Collected.is c.gather.ensures.scan) c.read_all.ensures.values)
+    subst (λ n. HasLooks n a) (sym (all_count a c.segments.result c.all.result.bits
+    c.segments.ensures.count c.all.ensures.all c.segments.ensures.some.1)) c.requires.left
+
+pub returns-clause-snapshot : goal.returns-clause-snapshot
+returns-clause-snapshot g c =
+    let a = g.L.Looker.known c.args.seat.now in
+    let b = g.L.Looker.known c.scan_some.new.seat in
+    snapshot_all a b (all_grown a b c.scan_some.ensures.seen c.segments.result
+    c.segments.ensures.count c.segments.ensures.some.1) c.scan_some.new.out
+    (subst (λ v. HasPart v a b c.scan_some.new.out)
+    (all_is a c.segments.result c.all.result.bits c.segments.ensures.count c.all.ensures.all
+    ∙ all_same a b c.scan_some.ensures.seen) c.scan_some.ensures.part)
+
+pub returns-clause-left : goal.returns-clause-left
+returns-clause-left g c =
+    let a = g.L.Looker.known c.args.seat.now in
+    subst (λ n. TakesLooksOf n a (g.L.Looker.known c.scan_some.new.seat)) (all_count a
+    c.segments.result c.all.result.bits c.segments.ensures.count c.all.ensures.all
+    c.segments.ensures.some.1) c.scan_some.ensures.left

@@ -1,14 +1,8 @@
-use Rattle.std.proofs.Common.{◌≡◌, ◌≢◌, ℕ, not, eqb, List, ◌∙◌, ap, rules, arith}
+use Rattle.std.proofs.Common.{◌≡◌, ◌≢◌, ℕ, not, eqb, List, ◌∙◌, ap, arith}
 use Rattle.std.specs.Prelude.{IsTrue, ◌↔◌, slice_index}
 use Rattle.std.proofs.lemmas.Bool.Decides.{nat_tests}
 use Rattle.snap_slot.proofs.Blank.{gate_read}
 use Rattle.snap_segment.proofs.creation.is_unformatted.Goals as goal
-
-pub returns-in_err-read_at-clause-calls : goal.returns-in_err-read_at-clause-calls
-returns-in_err-read_at-clause-calls g c = search rules
-
-pub returns-clause-calls : goal.returns-clause-calls
-returns-clause-calls g c = search rules
 
 same_gate : (x y : ℕ) → x ≡ y → IsTrue (not (eqb x 165)) ↔ (y ≢ 165)
 same_gate x y same = grind (arith, nat_tests)

@@ -13,7 +13,7 @@ returns-in-Ok-Some-read_request-clause-malformed c x rest none has bad =
     let same = same_frame c.self.inside.frames.bytes x c.in-Ok-Some.payload.items rest _ held
     found.0 in
     let is = rw c.in-Ok-Some-read_request.field-0-is at c.in-Ok-Some-read_request.ensures.request in
-    absurd (bad c.in-Ok-Some-read_request.request (same.0 ∙ is))
+    absurd (bad c.in-Ok-Some-read_request.request (is.0, same.0 ∙ is.1))
 
 pub returns-in-Ok-None-read_request-clause-next : goal.returns-in-Ok-None-read_request-clause-next
 returns-in-Ok-None-read_request-clause-next c = search rules

@@ -1,8 +1,11 @@
-use Rattle.std.proofs.Common.{rules, ◌≡◌, ℕ, ◌+◌, ◌^◌, ◌<◌, ◌≤◌, List, Some, slice_get, slice_set, length, ap, sym, subst}
+use Rattle.std.proofs.Common.{rules, ◌≡◌, ℕ, ◌+◌, ◌^◌, ◌<◌, ◌≤◌, List, Some, slice_get, slice_set, length, refl, ap, sym, subst}
 use Rattle.std.proofs.Common.{◌∙◌, arith}
 use mathlib.Core.Logic.{dite}
 use native.Mathlib.Decide.{ℕ_discrete}
+use Rattle.std.proofs.lemmas.Bool.{MatchBool-at_true, MatchBool-at_false, false_from_ne_true}
+use Rattle.std.proofs.lemmas.Option.{slice_get_read}
 use Rattle.atomic_table.specs.Table.{Me}
+use Rattle.snap_scan.specs.Sets.{Names}
 use Rattle.snap_history.proofs.Lists.{get-set_same, get-set_other}
 use Rattle.snap_register.specs.declared.plan.SeatView.{SeatView}
 use Rattle.snap_register.specs.Rule.{segments}
@@ -31,17 +34,16 @@ at_is c = c.loop-k.invariant.at
 whole : (c : In-loop-k) → IsWhole (held (view_of c.loop-k.self) c.args.j) c.loop-k.at
 whole c =
     let a = c.args.self.now in
-    let room = c.requires.room in
-    let out = ap length c.out.view_is in
+    let count = c.count_segments-segments.ensures.count in
     let test = c.loop-k-test.true in
     let lt : c.loop-k.k < segments (view_of a).plan = omega arith in
     let found = update_found a.seat.table_id (view_of a) c.args.j c.requires.updated in
     subst (λ (x : List ℕ × ℕ). IsWhole x.0 x.1) (λ t. (sym (words_are c) t, sym (at_is c) t))
     (view_whole a c.args.j c.loop-k.k c.size_at-at.ensures.legal found.1 c.requires.segment lt)
 
-pub read_block-at-requires-clause-block : goal.read_block-at-requires-clause-block
-read_block-at-requires-clause-block c =
-    whole (goal.at.read_block-at-requires-clause-block c).In-loop-k
+pub read_named-at-requires-clause-block : goal.read_named-at-requires-clause-block
+read_named-at-requires-clause-block c =
+    whole (goal.at.read_named-at-requires-clause-block c).In-loop-k
 
 pub overflow_add-at : goal.overflow_add-at
 overflow_add-at c =
@@ -51,14 +53,14 @@ overflow_add-at c =
     let same : length w ≡ length (held (view_of c.args.self.now) c.args.j) =
     ap length (words_are e) in
     let few = held_small c.args.self.now c.args.j c.requires.segment in
-    let size : c.read_block-at.result ≡ size_at w c.loop-k.at = c.read_block-at.ensures.size in
-    let small_sum : c.loop-k.at + c.read_block-at.result < 2 ^ 64 = omega arith in
+    let size : c.read_named-at.result ≡ size_at w c.loop-k.at = c.read_named-at.ensures.size in
+    let small_sum : c.loop-k.at + c.read_named-at.result < 2 ^ 64 = omega arith in
     omega (arith, small_sum)
 
 pub loop-k-preserved : goal.loop-k-preserved
 loop-k-preserved c =
     let inv = c.loop-k.invariant in
-    let same = c.read_block-at.ensures.same in
+    let same = c.read_named-at.ensures.same in
     let a = c.size_at-at.new.self.seat.me in
     let k : ℕ = c.loop-k.k in
     let w : List ℕ = held a.0 c.args.j in
@@ -66,12 +68,15 @@ loop-k-preserved c =
     ap (λ (m : Me (Unit {0}) SeatView). held m.0 c.args.j) inv.same.2 in
     let here : block_at (held (view_of c.loop-k.self) c.args.j) c.loop-k.at ≡ view_in w k =
     λ t. block_at (words t) (inv.at t) in
-    let size : c.read_block-at.result ≡ size_at w (behind w (size_at w 0) k) =
-    c.read_block-at.ensures.size ∙ (λ t. size_at (words t) (inv.at t)) in
+    let size : c.read_named-at.result ≡ size_at w (behind w (size_at w 0) k) =
+    c.read_named-at.ensures.size ∙ (λ t. size_at (words t) (inv.at t)) in
     let at = inv.at in
     let items = c.loop-k.out-inside.segments.items in
     let test = c.loop-k-test.true in
     let long = inv.long in
+    let count = c.count_segments-segments.ensures.count in
+    let room = c.requires.room in
+    let out = ap length c.out.view_is in
     record {
       same = (
         same.0 ∙ inv.same.0,
@@ -81,12 +86,24 @@ loop-k-preserved c =
       );
       long = search rules;
       at = (λ t. at t + size t) ∙ sym (behind_more w (size_at w 0) k);
-      view = λ i li. dite (ℕ_discrete i k)
-          (λ e. ap (slice_get (slice_set items k c.read_block-at.new.out)) e
-          ∙ (get-set_same items k c.read_block-at.new.out (omega arith)
-          ∙ (ap (λ (x : ℕ × List ℕ). Some x) (c.read_block-at.ensures.block ∙ here)
+      view = λ i li named. dite (ℕ_discrete i k)
+          (λ e. ap (slice_get (slice_set items k c.read_named-at.new.out)) e
+          ∙ (get-set_same items k c.read_named-at.new.out (omega arith)
+          ∙ (ap (λ (x : ℕ × List ℕ). Some x) (MatchBool-at_true _ _
+          (c.has.ensures.names.1 (subst (Names c.args.set.bits) e named))
+          c.read_named-at.ensures.block ∙ here)
           ∙ ap (λ (z : ℕ). Some (view_in w z)) (sym e))))
-          (λ ne. get-set_other items k i c.read_block-at.new.out ne ∙ inv.view i (omega arith));
+          (λ ne. get-set_other items k i c.read_named-at.new.out ne ∙ inv.view i (omega arith) named);
+      others = λ i un. dite (ℕ_discrete i k)
+          (λ e. ap (slice_get (slice_set items k c.read_named-at.new.out)) e
+          ∙ (get-set_same items k c.read_named-at.new.out (omega arith)
+          ∙ (ap (λ (x : ℕ × List ℕ). Some x) (MatchBool-at_false _ _
+          (false_from_ne_true _ (λ t. un (subst (Names c.args.set.bits) (sym e)
+          (c.has.ensures.names.0 t)))) c.read_named-at.ensures.block)
+          ∙ (sym (slice_get_read items (length items) k c.index_mut.result.now refl (omega arith)
+          c.index_mut.ensures.value)
+          ∙ (ap (slice_get items) (sym e) ∙ inv.others i un)))))
+          (λ ne. get-set_other items k i c.read_named-at.new.out ne ∙ inv.others i un);
     }
 
 pub returns-clause-view : goal.returns-clause-view
@@ -97,9 +114,10 @@ returns-clause-view c =
     let room = c.requires.room in
     let out = ap length c.out.view_is in
     let long = inv.long in
+    let count = c.count_segments-segments.ensures.count in
     let test = c.loop-k-test.false in
     let size : length xs ≡ segments (view_of a).plan = omega arith in
-    view_shown a.seat.table_id (view_of a) c.args.j xs c.size_at-at.ensures.legal
+    view_shown a.seat.table_id (view_of a) c.args.j c.args.set.bits xs c.size_at-at.ensures.legal
     c.requires.updated (a.seated.records_are c.args.j c.requires.segment) size
-    (λ k lk. inv.view k (omega arith) ∙ ap (λ (m : Me (Unit {0}) SeatView).
+    (λ k lk named. inv.view k (omega arith) named ∙ ap (λ (m : Me (Unit {0}) SeatView).
     Some (view_in (held m.0 c.args.j) k)) c.size_at-at.ensures.same.2)

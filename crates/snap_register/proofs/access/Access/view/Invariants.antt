@@ -1,4 +1,5 @@
 use Rattle.std.proofs.Common.{◌≡◌, ℕ, ◌<◌, length, slice_get, Some}
+use Rattle.snap_scan.specs.Sets.{Names}
 use Rattle.snap_register.specs.Held.{held, view_in}
 use Rattle.snap_register.specs.Words.{behind, size_at}
 use Rattle.snap_register.specs.Steps.{view_of, IsSame}
@@ -10,6 +11,8 @@ invariant-loop-k l = record {
   long : length l.out-inside.segments.items ≡ length l.initial.out-inside.segments.items;
   at : l.at ≡ behind (held (view_of l.initial.self) l.j)
       (size_at (held (view_of l.initial.self) l.j) 0) l.k;
-  view : (i : ℕ) → i < l.k → slice_get l.out-inside.segments.items i
+  view : (i : ℕ) → i < l.k → Names l.set.bits i → slice_get l.out-inside.segments.items i
       ≡ Some (view_in (held (view_of l.initial.self) l.j) i);
+  others : (i : ℕ) → (Names l.set.bits i → ⊥) → slice_get l.out-inside.segments.items i
+      ≡ slice_get l.initial.out-inside.segments.items i;
 }

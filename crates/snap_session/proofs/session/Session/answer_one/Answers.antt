@@ -29,11 +29,11 @@ returns-in-Some-clause-goes g c =
       ),
     ) c.owe.ensures.owes
 
-pub keep-requires : goal.keep-requires
-keep-requires g c =
+pub keep-requires-clause-fits : goal.keep-requires-clause-fits
+keep-requires-clause-fits g c =
     let h = c.in-Asked.ensures in
     let fits = h.1.fits in
-    omega (arith, fits, ap length h.2)
+    omega (arith, fits, ap length h.2.1)
 
 pub returns-in-None-clause-goes : goal.returns-in-None-clause-goes
 returns-in-None-clause-goes g c =
@@ -41,7 +41,7 @@ returns-in-None-clause-goes g c =
     rw c.in-None.ensures.later
     (by_more g.S.Service.gives _ _ _ _ _ _ 0 1 (omega arith)
     (hands g.S.Service.gives c.args.service.now c.args.self.now c.hear.new.self c.keep.new.self
-    h.0 c.in-Asked.request c.requires.going c.requires.free h.1 h.2 h.3 h.4 c.keep.ensures))
+    h.0 c.in-Asked.request c.requires.going c.requires.free h.1 h.2.1 h.3 h.4 c.keep.ensures))
 
 pub returns-in-Malformed-clause-goes : goal.returns-in-Malformed-clause-goes
 returns-in-Malformed-clause-goes g c =

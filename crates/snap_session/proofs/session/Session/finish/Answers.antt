@@ -9,7 +9,8 @@ returns-in-Some-clause-goes g c =
     finishes g.S.Service.gives _ _ c.args.self.now c.take_asked.new.self c.owe.new.self
     c.in-Some.request c.finish-reply.result c.owe.result c.requires
     (sym c.in-Some.ensures.asked) c.take_asked.ensures.rest c.finish-reply.ensures.gives
-    c.finish-reply.ensures.limits c.in-Some.ensures.fits c.owe.ensures.owes
+    c.finish-reply.ensures.limits c.in-Some.ensures.fits c.in-Some.ensures.askable
+    c.owe.ensures.owes
 
 pub returns-in-None-clause-goes : goal.returns-in-None-clause-goes
 returns-in-None-clause-goes g c =

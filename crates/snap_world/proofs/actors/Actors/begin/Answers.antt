@@ -1,6 +1,6 @@
 use Rattle.std.proofs.Common.{◌≡◌, ℕ, ◌-◌, ◌^◌, ◌<◌, ◌≤◌, List, length, refl, ap, subst, ◌∙◌, sym, arith}
 use Rattle.snap_history.specs.History.{from_nothing, number_after}
-use Rattle.snap_world.specs.Answers.{scan_from}
+use Rattle.snap_world.specs.Answers.{scan_from, all_of}
 use Rattle.snap_world.specs.Machine.{WriterState, Begun, Free, with_writer}
 use Rattle.snap_world.specs.Phases.{WriterIs}
 use Rattle.snap_world.specs.inside.Stands.{WriterStands, IsAtPhase, is_fenced}
@@ -11,6 +11,7 @@ use Rattle.snap_world.proofs.Looks.{number_now}
 use Rattle.snap_world.proofs.Moves.{the_writer, the_register, writer_moves, Gathers-none, same_read}
 use Rattle.snap_world.specs.NodePhases.{up}
 use Rattle.snap_world.proofs.PhaseMoves.{writer_is, other_writer, writer_moved, refused, came}
+use Rattle.snap_world.proofs.Asks.{all_some, all_among, some_named}
 use Rattle.snap_world.proofs.Sizes.{segments_most, writer_fits, writer_there, register_fits}
 use Rattle.snap_world.proofs.actors.Actors.begin.Goals as goal
 
@@ -79,6 +80,11 @@ returns-in-Idle c =
             scan =
                 scan_from (length x.history);
           } in
+          let all = all_of w.segments in
+          let gathers = Gathers-none w.segments all x.history new.collector
+          (some_named w.segments all stands.most (all_some w.segments stands.least)
+          (all_among w.segments)) (all_among w.segments) c.new-writer.ensures.set
+          c.new-writer.ensures.told c.new-writer.ensures.next a.2.size in
           let here : WriterStands w.segments x.history stands.since i new state = record {
             size = a.2.size;
             fenced = a.2.fenced ∙ ap is_fenced phase;
@@ -89,11 +95,9 @@ returns-in-Idle c =
                 fits = subst (λ (v : List ℕ). length v ≤ 4080) value short;
                 room = (omega arith);
                 own = number_now x.history i;
-                gathers = Gathers-none w.segments x.history _ c.new-writer.ensures.segments
-                    c.new-writer.ensures.told c.new-writer.ensures.first c.new-writer.ensures.next
-                    a.2.size;
+                gathers = gathers.0;
               },
-              (0, c.new-writer.ensures.first),
+              gathers.1,
             );
           } in (
             with_writer x i state,

@@ -77,8 +77,8 @@ returns-after-is_done c =
             step = subst (IsActorsStep w (Look (actor.Scanner i)) (Number k)) (sym b.self-is)
                 (came w _ _ _ (λ e. cc) refl (λ x stands.
                 scanner_ends w x stands i l old read phase k col look done tells) (λ x stands.
-                (refl, may x stands)) (λ x stands s e.
-                looks_up (scanner_goes w x stands i l old read phase k col look tells s e)));
+                (refl, may x stands)) (λ x stands asked s e.
+                looks_up (scanner_goes w x stands i l old read phase k col look tells asked s e)));
           })
       | else-is_done b ↦ (
           let under_way = MatchBool-at_false (IsUnderWay col
@@ -87,8 +87,8 @@ returns-after-is_done c =
             step = subst (IsActorsStep w (Look (actor.Scanner i)) (Number k)) (sym b.self-is)
                 (came w _ _ _ (λ e. cc) refl (λ x stands.
                 scanner_looks w x stands i l old read phase k col look under_way) (λ x stands.
-                (refl, may x stands)) (λ x stands s e.
-                looks_up (scanner_stays w x stands i l old read phase k col look under_way s
+                (refl, may x stands)) (λ x stands asked s e.
+                looks_up (scanner_stays w x stands i l old read phase k col look under_way asked s
                 e)));
           })
     ]

@@ -10,7 +10,7 @@ use Rattle.snap_world.specs.inside.Steps.{phases_of_actors}
 use Rattle.snap_world.specs.declared.register.Register.{Register}
 use Rattle.snap_world.specs.declared.writer.Writer.{Writer}
 use Rattle.snap_world.specs.declared.writer.WriterPhase.TheVariants as writer
-use Rattle.snap_world.proofs.Moves.{the_writer, the_register, own_moment, world_shows, shown_register, shown_view, same_read}
+use Rattle.snap_world.proofs.Moves.{the_writer, the_register, own_moment, world_shows, shown_register, shown_view, same_read, whole}
 use Rattle.snap_world.specs.NodePhases.{up}
 use Rattle.snap_world.proofs.PhaseMoves.{writer_is, other_writer, writer_moved, refused, came}
 use Rattle.snap_world.proofs.Sizes.{writer_fits, writer_there, register_fits}
@@ -109,7 +109,8 @@ returns-in-Stored c =
                 v;
           }) register state answer.p answer.moment (omega arith) before
           (subst (IsMemory w.segments from_nothing (take answer.p h))
-          (sym c.copy_all.ensures) answer.is_memory) in
+          (sym c.copy_all.ensures)
+          (whole w.segments h old.collector.memory.items answer.p stands.most a.2.size answer.is)) in
           let here_a : WriterStands w.segments (h ++ record {
             segment = i;
             value =

@@ -1,4 +1,4 @@
-use Rattle.snap_world.proofs.Acts.{Begins, Looks, Shows, Acknowledges, Scans, Answers}
+use Rattle.snap_world.proofs.Acts.{Begins, Looks, Shows, Acknowledges, Scans, Picks, Answers}
 use Rattle.snap_world.proofs.Events.{acts, acts_or_fails}
 use Rattle.snap_world.proofs.node.Node.step.Goals as goal
 
@@ -22,6 +22,10 @@ returns-in-Acknowledge-Up-clause-step c =
 pub returns-in-Scan-Up-clause-step : goal.returns-in-Scan-Up-clause-step
 returns-in-Scan-Up-clause-step c =
     acts _ _ _ _ (Scans _) c.in-Scan-Up.is-0 c.in-Scan-Up.is-1 c.scan.ensures.step
+
+pub returns-in-Pick-Up-clause-step : goal.returns-in-Pick-Up-clause-step
+returns-in-Pick-Up-clause-step c =
+    acts _ _ _ _ (Picks _ _) c.in-Pick-Up.is-0 c.in-Pick-Up.is-1 c.pick.ensures.step
 
 pub returns-in-Answer-Up-clause-step : goal.returns-in-Answer-Up-clause-step
 returns-in-Answer-Up-clause-step c =

@@ -1,0 +1,291 @@
+-- The segments of a set by their places: they ascend, each is named, and each that is named has a place.
+use Rattle.std.proofs.Common.{◌≡◌, ℕ, zero, suc, ◌+◌, ◌-◌, ◌^◌, ◌<◌, ◌≤◌, inl, inr, List, [], ◌∷◌, ◌++◌, length, take, None, Some, slice_get, slice_set, slice_index}
+use Rattle.std.proofs.Common.{refl, ap, sym, ◌∙◌, subst, arith, ◌==◌}
+use Rattle.std.specs.Int.{bit_at}
+use Rattle.std.proofs.lemmas.Bool.{cases_eq, cases_lt, cases_order, eq-eqb, ne_eqb, cond-true, cond-false}
+use Rattle.std.proofs.Math.Nat.{pow-le-pow_right}
+use Rattle.std.proofs.lemmas.List.{length_push, take_more_set}
+use Rattle.std.proofs.lemmas.Nat.Bits.{bit_at_above, bit_at_ones, bit_at_ones_above, same_from_bits_below, bit_at-zero, bit_at-lt}
+use Rattle.std.proofs.lemmas.Option.{slice_get_within, slice_get-get_or, same_Some, get_or_from_slice_get}
+use Rattle.snap_history.proofs.Lists.{get-push, get-append_left, get-append_last}
+use Rattle.snap_scan.specs.Sets.{Names, named_below, named, size, IsAt}
+
+-- the list below k + 1, by whether k is named
+module _ (set k : ℕ) where
+  abbrev below : List ℕ
+  below = named_below set k
+
+  pub with : Names set k → named_below set (suc k) ≡ below ++ k ∷ []
+  unfolding named_below
+  with is = cond-true (bit_at set k == 1) (below ++ k ∷ []) below (eq-eqb (bit_at set k) 1 is)
+
+  pub without : (Names set k → ⊥) → named_below set (suc k) ≡ below
+  unfolding named_below
+  without un = cond-false (bit_at set k == 1) (below ++ k ∷ []) below
+      (ne_eqb (bit_at set k) 1 un)
+
+  pub more : (P : List ℕ → Type 0) → (Names set k → P (below ++ k ∷ [])) → ((Names set k → ⊥) → P below)
+      → P (named_below set (suc k))
+  more P does un = elim (cases_eq (bit_at set k) 1) [
+    | inl is ↦ subst P (sym (with is)) (does is)
+    | inr ne ↦ subst P (sym (without ne)) (un ne)
+  ]
+
+pub is_named : (set k p j : ℕ) → slice_get (named_below set k) p ≡ Some j → (j < k) × Names set j
+unfolding named_below
+is_named set zero p j e = absurd (let none : None ≡ Some j = e in cc)
+is_named set (suc k) p j e =
+    more set k (λ l. (p j : ℕ) → slice_get l p ≡ Some j → (j < suc k) × Names set j)
+    (λ is. get-push (λ v. (v < suc k) × Names set v) (below set k) k
+    (λ i v f. (let old = is_named set k i v f in (omega (arith, old.0), old.1))) (omega arith, is))
+    (λ un i v f. (let old = is_named set k i v f in (omega (arith, old.0), old.1))) p j e
+
+pub has_place : (set k j : ℕ) → j < k → Names set j → (p : ℕ) × (slice_get (named_below set k) p ≡ Some j)
+has_place set zero j l is = absurd (omega arith)
+has_place set (suc k) j l is =
+    more set k (λ xs. (p : ℕ) × (slice_get xs p ≡ Some j))
+    (λ last. elim (cases_eq j k) [
+      | inl same ↦ (length (below set k), get-append_last (below set k) k ∙ ap (λ v. Some v) (sym same))
+      | inr other ↦ (
+          let old = has_place set k j (omega arith) is in (
+            old.0,
+            get-append_left (below set k) (k ∷ []) old.0
+                (slice_get_within (below set k) old.0 j old.1) ∙ old.1,
+          ))
+    ])
+    (λ un. elim (cases_eq j k) [
+      | inl same ↦ absurd (un (subst (Names set) same is))
+      | inr other ↦ has_place set k j (omega arith) is
+    ])
+
+-- a place before another one has the smaller segment
+pub ascends : (set k p q i j : ℕ) → slice_get (named_below set k) p ≡ Some i
+    → slice_get (named_below set k) q ≡ Some j → p < q → i < j
+unfolding named_below
+ascends set zero p q i j e f l = absurd (let none : None ≡ Some i = e in cc)
+ascends set (suc k) p q i j e f l =
+    more set k (λ xs. slice_get xs p ≡ Some i → slice_get xs q ≡ Some j → i < j)
+    (λ is e f. (
+    let xs = below set k in
+    let inside : q < length (xs ++ k ∷ []) = slice_get_within (xs ++ k ∷ []) q j f in
+    let long : length (xs ++ k ∷ []) ≡ length xs + 1 = length_push xs k in
+    let first : slice_get xs p ≡ Some i =
+    sym (get-append_left xs (k ∷ []) p (omega arith)) ∙ e in
+    elim (cases_lt q (length xs)) [
+      | inl lt ↦ ascends set k p q i j first (sym (get-append_left xs (k ∷ []) q lt) ∙ f) l
+      | inr ge ↦ (
+          let at : q ≡ length xs = omega arith in
+          let last : k ≡ j = same_Some k j (sym (get-append_last xs k) ∙ ap (slice_get (xs ++ k ∷ [])) (sym at) ∙ f) in
+          let low = (is_named set k p i first).0 in
+          omega arith)
+    ]))
+    (λ un e f. ascends set k p q i j e f l) e f
+
+pub few_below : (set k : ℕ) → length (named_below set k) ≤ k
+unfolding named_below
+few_below set zero = omega arith
+few_below set (suc k) =
+    let old = few_below set k in
+    more set k (λ xs. length xs ≤ suc k)
+    (λ is. (let long : length (below set k ++ k ∷ []) ≡ length (below set k) + 1 = length_push (below set k) k in
+    omega arith)) (λ un. omega arith)
+
+-- the list has the numbers below k, each at its place
+record IsUpTo (k : ℕ) (xs : List ℕ) : Type 0 where
+  count : length xs ≡ k
+  each : (p : ℕ) → p < k → slice_get xs p ≡ Some p
+
+up_to_push : (k : ℕ) (xs : List ℕ) → IsUpTo k xs → IsUpTo (suc k) (xs ++ k ∷ [])
+up_to_push k xs up = record {
+  count = (let e = length_push xs k in let f = up.count in omega arith);
+  each = λ p l. (
+      let f = up.count in
+      elim (cases_lt p k) [
+        | inl lt ↦ get-append_left xs (k ∷ []) p (omega arith) ∙ up.each p lt
+        | inr ge ↦ (let at : p ≡ length xs = omega arith in
+            ap (slice_get (xs ++ k ∷ [])) at ∙ get-append_last xs k
+            ∙ ap (λ v. Some v) (let same : k ≡ p = omega arith in same))
+      ]);
+}
+
+all_below : (n k : ℕ) → k ≤ n → IsUpTo k (named_below (2 ^ n - 1) k)
+unfolding named_below
+all_below n zero l = record { count = refl; each = λ p l. absurd (omega arith) }
+all_below n (suc k) l =
+    subst (IsUpTo (suc k)) (sym (with (2 ^ n - 1) k (bit_at_ones n k (omega arith))))
+    (up_to_push k (named_below (2 ^ n - 1) k) (all_below n k (omega arith)))
+
+all_of : (n k : ℕ) → n ≤ k → IsUpTo n (named_below (2 ^ n - 1) k)
+all_of n zero l = (let same : 0 ≡ n = omega arith in
+    subst (λ v. IsUpTo v (named_below (2 ^ n - 1) zero)) same (all_below n zero (omega arith)))
+all_of n (suc k) l = elim (cases_lt k n) [
+  | inl lt ↦ (let same : suc k ≡ n = omega arith in
+      subst (λ v. IsUpTo v (named_below (2 ^ n - 1) (suc k))) same (all_below n (suc k) (omega arith)))
+  | inr ge ↦ subst (IsUpTo n) (sym (without (2 ^ n - 1) k
+      (λ is. (let none : bit_at (2 ^ n - 1) k ≡ 0 = bit_at_ones_above n k ge in
+      absurd (cc)))))
+      (all_of n k ge)
+]
+
+up : (k : ℕ) → suc k ≡ k + 1
+up k = omega arith
+
+-- how many there are, one segment further
+pub size_with : (set k n : ℕ) → n ≡ length (named_below set k) → Names set k
+    → n + 1 ≡ length (named_below set (k + 1))
+size_with set k n e is = (let f = ap length (with set k is) in
+    let g = length_push (named_below set k) k in
+    subst (λ v. n + 1 ≡ length (named_below set v)) (up k) (omega arith))
+
+pub size_without : (set k n : ℕ) → n ≡ length (named_below set k) → (Names set k → ⊥)
+    → n ≡ length (named_below set (k + 1))
+size_without set k n e un =
+    subst (λ v. n ≡ length (named_below set v)) (up k) (e ∙ sym (ap length (without set k un)))
+
+-- and as the front of a list
+pub listed_with : (set k n : ℕ) (xs : List ℕ) → take n xs ≡ named_below set k → n < length xs
+    → Names set k → take (n + 1) (slice_set xs n k) ≡ named_below set (k + 1)
+listed_with set k n xs e l is =
+    take_more_set xs n k l ∙ ap (λ v. v ++ k ∷ []) e ∙ sym (with set k is)
+    ∙ ap (named_below set) (up k)
+
+pub listed_without : (set k n : ℕ) (xs : List ℕ) → take n xs ≡ named_below set k
+    → (Names set k → ⊥) → take n xs ≡ named_below set (k + 1)
+listed_without set k n xs e un = e ∙ sym (without set k un) ∙ ap (named_below set) (up k)
+
+-- as places and segments of the whole set
+module _ (set : ℕ) where
+  pub few : size set ≤ 16
+  few = few_below set 16
+
+  pub at_named : (p j : ℕ) → IsAt set p j → (j < 16) × Names set j
+  at_named p j at = is_named set 16 p j at
+
+  pub named_at : (j : ℕ) → j < 16 → Names set j → (p : ℕ) × IsAt set p j
+  named_at j l is = has_place set 16 j l is
+
+  pub at_once : (p q j : ℕ) → IsAt set p j → IsAt set q j → p ≡ q
+  at_once p q j a b = elim (cases_order p q) [
+    | inl same ↦ same
+    | inr (inl lt) ↦ (let low = ascends set 16 p q j j a b lt in absurd (omega arith))
+    | inr (inr gt) ↦ (let low = ascends set 16 q p j j b a gt in absurd (omega arith))
+  ]
+
+  pub at_some : (p : ℕ) → p < size set → IsAt set p (slice_index (named set) p)
+  at_some p l = slice_get-get_or (named set) p 0 l
+
+  pub at_within : (p j : ℕ) → IsAt set p j → p < size set
+  at_within p j at = slice_get_within (named set) p j at
+
+  pub at_is : (p j : ℕ) → IsAt set p j → slice_index (named set) p ≡ j
+  at_is p j at = get_or_from_slice_get (named set) p j 0 at
+
+  -- a set with a number below 2 ^ n names no segment from n on
+  pub at_below : (n p j : ℕ) → set < 2 ^ n → IsAt set p j → j < n
+  at_below n p j l at = elim (cases_lt j n) [
+    | inl lt ↦ lt
+    | inr ge ↦ (
+        let is : bit_at set j ≡ 1 = (at_named p j at).1 in
+        let none : bit_at set j ≡ 0 = bit_at_above set n j l ge in
+        absurd (omega arith))
+  ]
+
+  -- and a set whose number isn't 0 names one
+  pub some : set < 2 ^ 16 → 0 < set → 0 < size set
+  some small pos = elim (cases_lt 0 (size set)) [
+    | inl lt ↦ lt
+    | inr ge ↦ (
+        let zero_is : set ≡ 0 = same_from_bits_below 16 set 0 small (omega arith) (λ i l. elim (cases_eq (bit_at set i) 1) [
+          | inl is ↦ (let place = named_at i l is in
+              let inside = at_within place.0 i place.1 in
+              absurd (omega arith))
+          | inr ne ↦ (let low : bit_at set i < 2 = bit_at-lt set i in
+              let nil : bit_at 0 i ≡ 0 = bit_at-zero i in
+              omega arith)
+        ]) in
+        absurd (omega arith))
+  ]
+
+-- the set of all of n segments has each at the place of its number
+module _ (n : ℕ) (most : n ≤ 16) where
+  pub all_size : size (2 ^ n - 1) ≡ n
+  all_size = (all_of n 16 most).count
+
+  pub all_at : (p : ℕ) → p < n → IsAt (2 ^ n - 1) p p
+  all_at p l = (all_of n 16 most).each p l
+
+  pub all_is : (p j : ℕ) → IsAt (2 ^ n - 1) p j → j ≡ p
+  all_is p j at =
+      let inside : p < size (2 ^ n - 1) = at_within (2 ^ n - 1) p j at in
+      let e = all_size in
+      same_Some j p (sym at ∙ all_at p (omega arith))
+
+-- a set among n segments, at most 16, has 16 bits, and each of them has a name below n
+below_most : (set n : ℕ) → n ≤ 16 → set < 2 ^ n → set < 2 ^ 16
+below_most set n few among =
+    let more : 2 ^ n ≤ 2 ^ 16 = pow-le-pow_right (omega arith) few in
+    omega arith
+
+module _ (set n : ℕ) (few' : n ≤ 16) (among : set < 2 ^ n) where
+  pub some_among : 0 < set → 0 < size set
+  some_among = some set (below_most set n few' among)
+
+  pub names_below : (j : ℕ) → Names set j → j < n
+  names_below j is = elim (cases_lt j n) [
+    | inl lt ↦ lt
+    | inr ge ↦ (let none : bit_at set j ≡ 0 = bit_at_above set n j among ge in
+        let one : bit_at set j ≡ 1 = is in
+        absurd (omega arith))
+  ]
+
+  -- so those below n are all
+  all_named : (d : ℕ) → named_below set (n + d) ≡ named_below set n
+  all_named zero = ap (named_below set) (let same : n + 0 ≡ n = omega arith in same)
+  all_named (suc d) =
+      let up : n + suc d ≡ suc (n + d) = omega arith in
+      ap (named_below set) up
+      ∙ without set (n + d) (λ is. (let low : n + d < n = names_below (n + d) is in absurd (omega arith)))
+      ∙ all_named d
+
+  pub named_all : named_below set n ≡ named set
+  named_all = sym (all_named (16 - n)) ∙ ap (named_below set) (let same : n + (16 - n) ≡ 16 = omega arith in same)
+
+-- what holds of the entry at each place of a list holds at each place of the list with one more
+module _ {A : Type 0} (P : ℕ → A → Type 0) (set k : ℕ) (xs : List A) where
+  abbrev IsListed : ℕ → List A → Type 0
+  IsListed n l = (length l ≡ length (named_below set n))
+      × ((p j : ℕ) → slice_get (named_below set n) p ≡ Some j → (x : A) × (slice_get l p ≡ Some x) × P j x)
+
+  pub list_named : Names set k → (x : A) → P k x → IsListed k xs → IsListed (k + 1) (xs ++ x ∷ [])
+  list_named is x px listed =
+      subst (λ n. IsListed n (xs ++ x ∷ [])) (up k)
+      (subst (λ l. (length (xs ++ x ∷ []) ≡ length l)
+      × ((p j : ℕ) → slice_get l p ≡ Some j → (y : A) × (slice_get (xs ++ x ∷ []) p ≡ Some y) × P j y))
+      (sym (with set k is)) (
+        (let e = listed.0 in let f = length_push xs x in
+            let g = length_push (named_below set k) k in omega arith),
+        λ p j at. (
+            let e = listed.0 in
+            let long = length_push (named_below set k) k in
+            let inside = slice_get_within (named_below set k ++ k ∷ []) p j at in
+            elim (cases_lt p (length (named_below set k))) [
+              | inl lt ↦ (
+                  let old = listed.1 p j (sym (get-append_left (named_below set k) (k ∷ []) p lt) ∙ at) in
+                  (old.0, get-append_left xs (x ∷ []) p (slice_get_within xs p old.0 old.1) ∙ old.1, old.2))
+              | inr ge ↦ (
+                  let last : p ≡ length (named_below set k) = omega arith in
+                  let same : k ≡ j = same_Some k j (sym (get-append_last (named_below set k) k)
+                  ∙ ap (slice_get (named_below set k ++ k ∷ [])) (sym last) ∙ at) in (
+                    x,
+                    ap (slice_get (xs ++ x ∷ [])) (last ∙ sym e) ∙ get-append_last xs x,
+                    subst (λ v. P v x) same px,
+                  ))
+            ]),
+      ))
+
+  pub list_unnamed : (Names set k → ⊥) → IsListed k xs → IsListed (k + 1) xs
+  list_unnamed un listed =
+      subst (λ n. IsListed n xs) (up k)
+      (subst (λ l. (length xs ≡ length l)
+      × ((p j : ℕ) → slice_get l p ≡ Some j → (y : A) × (slice_get xs p ≡ Some y) × P j y))
+      (sym (without set k un)) listed)

@@ -1,0 +1,39 @@
+//! The segments of a set, in ascending order.
+ghost use Rattle.std.specs.Prelude.{◌≡◌, ◌<◌, take, length, slice_get, Some};
+ghost use Rattle.snap_scan.specs.Sets.{named, size};
+
+use crate::limits::MAX_SEGMENTS;
+use crate::set::SegmentSet;
+
+/// The segments of a set, by their places in it.
+#[derive(Debug, Drop)]
+pub struct Segments {
+    pub(crate) count: usize,
+    list: [usize; MAX_SEGMENTS],
+}
+
+impl Segments {
+    /// Those of this set.
+    pub(crate) fn of(set: SegmentSet) -> Segments
+        ensures list { take result.count result.list ≡ named set.bits }
+        ensures count { result.count ≡ size set.bits }
+    {
+        let mut count = 0;
+        let mut list = [0; MAX_SEGMENTS];
+        for segment in 0..MAX_SEGMENTS {
+            if set.has(segment) {
+                list[count] = segment;
+                count += 1;
+            }
+        }
+        Segments { count, list }
+    }
+
+    /// The segment at this place.
+    pub(crate) fn at(&self, place: usize) -> usize
+        requires place { place < length (take self.now.count self.now.list) }
+        ensures at { slice_get (take self.now.count self.now.list) place ≡ Some result }
+    {
+        self.list[place]
+    }
+}

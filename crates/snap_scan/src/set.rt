@@ -1,0 +1,60 @@
+//! Which segments a scan looks at.
+ghost use Rattle.std.specs.Prelude.{◌≡◌, ◌-◌, ◌^◌, ◌<◌, ◌≤◌, ◌↔◌, IsTrue};
+ghost use Rattle.snap_history.specs.declared.limits.TheConstants.{MAX_COUNT};
+ghost use Rattle.snap_scan.specs.Sets.{Names, size};
+
+use crate::limits::MAX_SEGMENTS;
+
+/// Some of the segments 0 to 15: bit i of its number names segment i.
+#[derive(Clone, Copy, Debug, PartialEq, Eq, Drop)]
+pub struct SegmentSet {
+    pub bits: u16,
+}
+
+impl SegmentSet {
+    /// The set of all of this many segments, at most [`MAX_SEGMENTS`].
+    pub fn all(segments: usize) -> SegmentSet
+        requires most { segments ≤ MAX_COUNT }
+        ensures all { result.bits ≡ 2 ^ segments - 1 }
+    {
+        SegmentSet {
+            bits: ((1u32 << segments) - 1) as u16,
+        }
+    }
+
+    /// Whether it names this segment, which is below [`MAX_SEGMENTS`].
+    pub fn has(self, segment: usize) -> bool
+        requires segment { segment < MAX_COUNT }
+        ensures names { IsTrue result ↔ Names self.bits segment }
+    {
+        self.bits >> segment & 1 == 1
+    }
+
+    /// Whether it names no segment.
+    pub fn is_empty(self) -> bool
+        ensures none { IsTrue result ↔ (self.bits ≡ 0) }
+    {
+        self.bits == 0
+    }
+
+    /// Whether all that it names are among the first so many segments, at most [`MAX_SEGMENTS`].
+    pub fn is_among(self, segments: usize) -> bool
+        requires most { segments ≤ MAX_COUNT }
+        ensures below { IsTrue result ↔ (self.bits < 2 ^ segments) }
+    {
+        u32::from(self.bits) < 1u32 << segments
+    }
+
+    /// How many segments it names.
+    pub fn len(self) -> usize
+        ensures size { result ≡ size self.bits }
+    {
+        let mut named = 0;
+        for segment in 0..MAX_SEGMENTS {
+            if self.has(segment) {
+                named += 1;
+            }
+        }
+        named
+    }
+}

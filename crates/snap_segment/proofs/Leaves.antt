@@ -1,0 +1,32 @@
+-- What a crash leaves of a run of calls, at any time during it and after it.
+use Rattle.std.proofs.Common.{List, ℕ}
+use Rattle.snap_disk.specs.Device.{MayLeave}
+use Rattle.snap_disk.specs.Laws as laws
+use Rattle.snap_disk.specs.declared.disk.Disk as Disk
+use Rattle.snap_segment.specs.Calls.{Leaves}
+
+module _ {D : Type 0} (disk : Disk.Ghosts D) where
+  -- of no call
+  pub none : (old : D) (P : List ℕ → Type 0)
+      → ((b : List ℕ) → disk.might_have_left old (disk.clock old) b → MayLeave (disk.device old) b)
+      → ((b : List ℕ) → MayLeave (disk.device old) b → P b) → Leaves disk old old P
+  none old P only here = record {
+    any_time = laws.started disk old P (λ b left. here b (only b left));
+    now = here;
+  }
+
+  pub weaker : {old new : D} {P R : List ℕ → Type 0} → Leaves disk old new P
+      → ((b : List ℕ) → P b → R b) → Leaves disk old new R
+  weaker {old} {new} {P} {R} is from = record {
+    any_time = laws.weaker disk old new P R is.any_time from;
+    now = λ b left. from b (is.now b left);
+  }
+
+  -- one run after another
+  pub then : {old mid new : D} {P Q R : List ℕ → Type 0} → Leaves disk old mid P
+      → Leaves disk mid new Q → ((b : List ℕ) → P b → R b) → ((b : List ℕ) → Q b → R b)
+      → Leaves disk old new R
+  then {old} {mid} {new} {P} {Q} {R} first second from_P from_Q = record {
+    any_time = laws.then disk old mid new P Q R first.any_time second.any_time from_P from_Q;
+    now = λ b left. from_Q b (second.now b left);
+  }
