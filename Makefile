@@ -1,17 +1,41 @@
 # Two commands for a stranger: `make demo` builds the program and runs its first job, `make test` runs every test.
 # They want the kit (`rt` on the PATH), python3 and gcc.
 
-.PHONY: build programs demo test test-all edits new-edits libraries tests bench replicated clean
+.PHONY: build install uninstall programs demo test test-all edits new-edits libraries tests bench replicated clean
 
 # The program is proved before it is built, with all that it stands on, on as many processors as there are. What this machine has
-# proved before is taken from its store, with FRESH=1 nothing.
+# proved before is taken from its archive, with FRESH=1 nothing.
 build:
 	python3 verification/build.py $(if $(FRESH),--fresh)
+
+# Installs what `make build` left: the program, its page of the manual, what completes its words in three shells, and the headers for C. All
+# go below DESTDIR with PREFIX, as packages want it.
+PREFIX ?= /usr/local
+DESTDIR ?=
+PROGRAM ?= bin/snapd
+TO = $(DESTDIR)$(PREFIX)
+FOLDERS = bin include share/man/man1 share/bash-completion/completions share/zsh/site-functions share/fish/vendor_completions.d
+HEADERS = snapd.h snapd_segment.h
+FILES = bin/snapd $(HEADERS:%=include/%) share/man/man1/snapd.1 share/bash-completion/completions/snapd share/zsh/site-functions/_snapd \
+	share/fish/vendor_completions.d/snapd.fish
+
+install:
+	@test -x '$(PROGRAM)' || { echo 'there is no $(PROGRAM): run make build first' >&2; exit 1; }
+	install -d $(FOLDERS:%='$(TO)/%')
+	install -m 755 '$(PROGRAM)' '$(TO)/bin/snapd'
+	install -m 644 $(HEADERS:%=clients/c/%) '$(TO)/include'
+	umask 022 && '$(TO)/bin/snapd' help --man > '$(TO)/share/man/man1/snapd.1'
+	umask 022 && '$(TO)/bin/snapd' help --completions bash > '$(TO)/share/bash-completion/completions/snapd'
+	umask 022 && '$(TO)/bin/snapd' help --completions zsh > '$(TO)/share/zsh/site-functions/_snapd'
+	umask 022 && '$(TO)/bin/snapd' help --completions fish > '$(TO)/share/fish/vendor_completions.d/snapd.fish'
+
+uninstall:
+	rm -f $(FILES:%='$(TO)/%')
 
 demo: build
 	sh tests/demo.sh bin/snapd
 
-# Everything. The last line counts proofs, edits and end-to-end tests. With FRESH=1 nothing comes from this machine's store.
+# Everything. The last line counts proofs, edits and end-to-end tests. With FRESH=1 nothing comes from this machine's archive.
 test:
 	python3 verification/test.py $(if $(FRESH),--fresh)
 

@@ -1,6 +1,8 @@
 """What the tests of the clients have in common: the client in C as a program, peers that behave as they are told, the vectors
 of docs/FORMATS.md, and jobs that are killed."""
 
+import asyncio
+import contextlib
 import functools
 import os
 import pathlib
@@ -20,6 +22,7 @@ sys.path.insert(0, str(TOP / "tests" / "oracle"))
 
 import server as oracle  # noqa: E402, F401
 import snapd_client  # noqa: E402
+from snapd_client import aio  # noqa: E402
 
 STRICT = ["-std=c99", "-Wall", "-Wextra", "-Wpedantic", "-Wshadow", "-Wconversion", "-Werror", "-O2"]
 ENVIRONMENT = {**os.environ, "PYTHONPATH": str(TOP / "clients" / "python"), "PYTHONDONTWRITEBYTECODE": "1"}
@@ -28,6 +31,60 @@ STORED_ONE = bytes.fromhex("00000009 81 0000000000000001")
 
 # The client in Python, which waits as long as it takes where a test says nothing else.
 Client = functools.partial(snapd_client.Client, timeout=PATIENCE)
+AioClient = functools.partial(aio.Client, timeout=PATIENCE)
+
+
+class Driven:
+    """Something of the client of asyncio, each of whose calls is made to its end by a loop, so that a test means the same for both
+    clients. What isn't awaited is as it is."""
+
+    def __init__(self, driven, loop):
+        vars(self).update(driven=driven, loop=loop)
+
+    def finished(self, given):
+        if asyncio.iscoroutine(given):
+            return self.loop.run_until_complete(given)
+        return Driven(given, self.loop) if isinstance(given, aio.Segment) else given
+
+    def __getattr__(self, name):
+        found = getattr(self.driven, name)
+        if name.startswith("_") or not callable(found):
+            return self.finished(found)
+        return lambda *words, **named: self.finished(found(*words, **named))
+
+    def __setattr__(self, name, value):
+        setattr(self.driven, name, value)
+
+    def __enter__(self):
+        return self
+
+    def __exit__(self, *_):
+        self.close()
+
+
+@functools.lru_cache(maxsize=None)
+def _loop():
+    """Goes with the process."""
+    return asyncio.new_event_loop()
+
+
+def driven_client(address, timeout=PATIENCE, **more):
+    """The client of asyncio, by a loop that runs while it is in a call."""
+    return Driven(aio.Client(address, timeout=timeout, **more), _loop())
+
+
+BOTH = (Client, driven_client)
+
+
+@contextlib.contextmanager
+def replaced(place, name, value):
+    """Something stands in the place of another thing meanwhile."""
+    before = getattr(place, name)
+    setattr(place, name, value)
+    try:
+        yield
+    finally:
+        setattr(place, name, before)
 
 
 EXAMPLES = TOP / "clients" / "c" / "examples"
@@ -48,10 +105,14 @@ def _folder():
     return tempfile.TemporaryDirectory(prefix="snapd-c-")
 
 
+def host_and_port(address):
+    """The words by which the programs in C are told an address."""
+    return [address, "0"] if address.startswith("unix:") else address.split(":")
+
+
 def ask(address, *words, timeout=1000 * PATIENCE, tries=1):
     """Status, output and errors of one request by the client in C."""
-    host, port = address.split(":")
-    run = subprocess.run([compiled("ask"), host, port, str(timeout), str(tries), *map(str, words)],
+    run = subprocess.run([compiled("ask"), *host_and_port(address), str(timeout), str(tries), *map(str, words)],
                          capture_output=True, text=True, timeout=2 * PATIENCE)
     return run.returncode, run.stdout, run.stderr
 
@@ -67,6 +128,11 @@ class Peer:
         self.heard = []
         self.listener = socket.create_server(("127.0.0.1", 0))
         self.address = "{}:{}".format(*self.listener.getsockname())
+
+    @classmethod
+    def each(cls, *handlers):
+        """One for each of both clients in Python."""
+        return [(make, cls(*handlers)) for make in BOTH]
 
     def __enter__(self):
         self.thread = threading.Thread(target=self.run, daemon=True)
@@ -119,6 +185,45 @@ def says_nothing(peer, connection):
         pass
 
 
+class Deaf:
+    """An address that takes no connection and refuses none: its queue is full, and what comes beyond it is dropped."""
+
+    def __init__(self):
+        self.listener = socket.socket()
+        self.listener.bind(("127.0.0.1", 0))
+        self.listener.listen(0)
+        self.place, self.waiting = self.listener.getsockname(), []
+        while not self.is_deaf():
+            pass
+
+    def is_deaf(self):
+        caller = socket.socket()
+        self.waiting.append(caller)
+        caller.settimeout(0.2)
+        try:
+            caller.connect(self.place)
+            return False
+        except socket.timeout:
+            return True
+
+    def __enter__(self):
+        return self
+
+    def __exit__(self, *_):
+        for it in (self.listener, *self.waiting):
+            it.close()
+
+
+async def cancelled(task):
+    """Cancels a task, and waits until it has ended so."""
+    task.cancel()
+    try:
+        await task
+    except asyncio.CancelledError:
+        return
+    raise AssertionError("it wasn't cancelled")
+
+
 def raised(call):
     """The exception that the call raises."""
     try:
@@ -164,7 +269,7 @@ def vectors():
 def jobs(address):
     """The words of the examples' jobs, one in each language and on a segment of its own, without the number of steps."""
     example = TOP / "clients" / "python" / "examples" / "resuming_job.py"
-    return [[sys.executable, str(example), address, "0"], [compiled("resuming_job"), *address.split(":"), "1"]]
+    return [[sys.executable, str(example), address, "0"], [compiled("resuming_job"), *host_and_port(address), "1"]]
 
 
 def begun(words, steps):

@@ -212,7 +212,7 @@ def test_the_longest_snapshot_is_read(_, __):
 
 def test_the_python_client_is_of_python_3_8(_, __):
     files = list((TOP / "clients" / "python").rglob("*.py"))
-    assert len(files) == 6
+    assert len(files) == 11
     for file in files:
         ast.parse(file.read_text(), file.name, feature_version=(3, 8))
 

@@ -5,7 +5,7 @@ import subprocess
 import sys
 import threading
 
-from clients import ENVIRONMENT, TOP, Client, ask, begun, compiled, ends_right, jobs, kill, raised
+from clients import BOTH, ENVIRONMENT, TOP, Client, ask, begun, compiled, ends_right, jobs, kill, raised, refused
 from serving import FRESH, LOOPBACK, Server, fresh, segments
 from waiting import NO_END, PATIENCE, gets_on, moment
 
@@ -39,6 +39,31 @@ def test_both_clients_are_refused(snapd, _):
             assert type(error) is getattr(snapd_client, name) and (error.number, error.detail) == (wanted, detail), error
             ended = ask(server.address, "update", segment, number, value.decode())
             assert ended == (3, "", f"refused {wanted} {name} {detail}\n"), ended
+
+
+def test_segments_and_waits_on_the_server(snapd, _):
+    with Server(snapd, *segments(snapd, HI, FRESH)) as server:
+        for made, make in enumerate(BOTH):
+            with make(server.address) as client:
+                mine, other = client.segment(0), client.segment(1)
+                assert mine.get() == b"hi" and mine.number == 1
+                assert other.number == 2 * made and other.put(LONGEST) == 2 * made + 1 and other.get() == LONGEST
+                assert client.wait({1: 2 * made + 1, 0: 0}, timeout=PATIENCE) == {0: 1, 1: 2 * made + 1}
+                refused(lambda: mine.put(LONGEST + b"v"), 3, 4_081)
+                client.update(1, 2 * made + 2, b"a stranger's")
+                refused(lambda: other.put(b"mine"), 4, 2 * made + 2)
+                assert other.get() == b"a stranger's" and other.number == 2 * made + 2
+                refused(client.segment(2).get, 2, 2)
+                refused(lambda: client.segment(2).put(b""), 2, 2)
+                refused(lambda: client.wait({2: 1}, timeout=PATIENCE), 2, 2)
+                error = raised(lambda: client.wait({0: 1, 1: 7}, timeout=1))
+                assert type(error) is snapd_client.WaitTimedOut and error.lagging == {1: 5 - 2 * made}, error
+        assert ask(server.address, "put", 0, "yo") == (0, "stored 2\n", "")
+        assert ask(server.address, "get", 0) == (0, "segment 0 number 2 value 796f\n", "")
+        assert ask(server.address, "get", 2) == ask(server.address, "put", 2, "") == (3, "", "refused 2 NoSegment 2\n")
+        told = "segment 0 number 2 fenced 0\nsegment 1 number 4 fenced 0\n"
+        assert ask(server.address, "wait", 1000 * PATIENCE, 0, 2, 1, 1) == (0, told, "")
+        assert ask(server.address, "wait", 1000, 0, 2, 1, 5) == (1, told, "timed out\n")
 
 
 # A client that was used before processes are forked off: each updates a segment of its own by it.
@@ -196,6 +221,29 @@ def test_one_client_outlives_many_servers(snapd, rng):
             killing.join()
     with Server(snapd, *files) as server:
         assert server.scan() == [(number, b"step %d" % number)]
+
+
+def test_puts_and_waits_outlive_many_servers(snapd, rng):
+    """Each value is stored under one number, the next one, however often its put was cut off."""
+    for make in BOTH:
+        files, answered, number = fresh(snapd, 1), Answered(), 0
+        with Restarted(snapd, files) as server:
+            killing = threading.Thread(target=answered.kill, args=(server, rng))
+            killing.start()
+            try:
+                with make(server.address, tries=14, pause=0.01) as client:
+                    mine = client.segment(0)
+                    while answered.kills < 10:
+                        number += 1
+                        assert mine.put(b"step %d" % number) == number
+                        assert client.wait({0: number}, timeout=PATIENCE) == {0: number}
+                        assert mine.get() == b"step %d" % number and mine.number == number
+                        answered.answers = number
+            finally:
+                answered.is_over = True
+                killing.join()
+        with Server(snapd, *files) as server:
+            assert server.scan() == [(number, b"step %d" % number)]
 
 
 def test_readme_of_the_python_client_runs_on_the_server(snapd, _):

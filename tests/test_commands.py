@@ -216,7 +216,8 @@ def test_wrong_words(snapd, _):
     for words, parts in [
         ([], ["requires a subcommand"]),
         (["frobnicate"], ["unrecognized subcommand 'frobnicate'"]),
-        (["serve", "127.0.0.1:1"], ["<FILE>"]),
+        (["serve", "127.0.0.1:1"], ["no FILE and no --dir is given"]),
+        (["serve", "127.0.0.1:1", "F", "--dir", "D"], ["FILEs and --dir are given"]),
         (["get"], ["<FILE>"]),
         (["get", "F", "G"], ["unexpected argument 'G'"]),
         (["get", "F", "--index"], ["--index"]),

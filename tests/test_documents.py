@@ -105,6 +105,7 @@ IN_NO_ROW = {
     "its trait's clauses are its own": (
         ("snap_devices/src/file.rt", "failures len from"),
         ("snap_server/src/announce.rt", "announce"), ("snap_server/src/worker.rt", "work_off"),
+        ("snapd/src/folder.rt", "from"),
     ),
     "it puts its arguments together, or gives a part of what is there": (
         ("snap_serve/src/bind.rt", "new"), ("snap_server/src/intake.rt", "new"),
@@ -115,7 +116,7 @@ IN_NO_ROW = {
         ("snap_serve/src/watch.rt", "unstored"), ("snap_server/src/gate.rt", "enter leave"), ("snap_server/src/socket.rt", "flush"),
     ),
     "no test was seen to fail on another body: which errors of a folder's sync are none": (
-        ("snap_devices/src/file.rt", "is_not_allowed"),
+        ("snap_devices/src/file.rt", "is_not_allowed"), ("snapd/src/folder.rt", "is_not_allowed"),
     ),
 }
 

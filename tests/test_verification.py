@@ -10,16 +10,16 @@ TOP = pathlib.Path(__file__).resolve().parent.parent
 sys.path.insert(0, str(TOP / "verification"))
 
 import kit  # noqa: E402
-import store  # noqa: E402
+import archive  # noqa: E402
 from batches import Trial, Tried, batches_of, listing, own_error, strangers  # noqa: E402
 from costs import costs  # noqa: E402
 from digests import Digests, Refusal, read_lock, write_lock  # noqa: E402
 from edits import OF_ONE_CRATE, SAMPLE, Edits, drawn, record_all, told  # noqa: E402
-from lanes import Plan, jobs_of, keep_apart, with_store  # noqa: E402
+from lanes import Plan, jobs_of, keep_apart, with_archive  # noqa: E402
 from libraries import lay_all, lowest_first  # noqa: E402
 from proofs import Proofs, prove  # noqa: E402
 from source import function_of, functions_in, named, together  # noqa: E402
-from store import PROOF, QUICK, TESTS, Store, over  # noqa: E402
+from archive import PROOF, QUICK, TESTS, Archive, over  # noqa: E402
 from tree import copied, edits_of  # noqa: E402
 
 BODY = """\
@@ -450,72 +450,72 @@ def built(top, name, text):
 
 def test_a_proof_is_taken_where_all_that_it_read_is_the_same(snapd, _):
     folder, top = snapd.folder / "kept", tree(snapd.folder / "one")
-    assert not Store(top, folder).take("low", PROOF)
+    assert not Archive(top, folder).take("low", PROOF)
     built(top, "low", "low as built")
-    Store(top, folder).keep("low", PROOF)
+    Archive(top, folder).keep("low", PROOF)
     built(top, "middle", "middle as built")
-    Store(top, folder).keep("middle", PROOF)
+    Archive(top, folder).keep("middle", PROOF)
     again = tree(snapd.folder / "two")
-    store = Store(again, folder)
-    assert not store.take("middle", TESTS) and store.take("low", PROOF) and store.take("middle", PROOF)
+    archive = Archive(again, folder)
+    assert not archive.take("middle", TESTS) and archive.take("low", PROOF) and archive.take("middle", PROOF)
     assert (again / "crates/middle/out/rlib/middle.rlib/interface").read_text() == "middle as built"
     # The library below was built anew, and to other bytes.
     built(again, "low", "low as it was built later")
-    assert not Store(again, folder).take("middle", PROOF)
+    assert not Archive(again, folder).take("middle", PROOF)
     built(again, "low", "low as built")
-    assert Store(again, folder).take("middle", PROOF)
+    assert Archive(again, folder).take("middle", PROOF)
     for path in FILES:
         text = (again / "crates/middle" / path).read_text()
         (again / "crates/middle" / path).write_text(text + "more\n")
-        assert not Store(again, folder).take("middle", PROOF), path
+        assert not Archive(again, folder).take("middle", PROOF), path
         (again / "crates/middle" / path).write_text(text)
     (again / "HANDLES").write_text("Handles allowed: Threads.\n")
-    assert not Store(again, folder).take("middle", PROOF)
+    assert not Archive(again, folder).take("middle", PROOF)
     (again / "HANDLES").write_text("Handles allowed: none.\n")
     crates = again / "crates.txt"
     crates.write_text(crates.read_text().replace("middle: low", "middle: low bytes"))
-    assert not Store(again, folder).take("middle", PROOF)
-    assert not Store(top, folder, takes=False).take("low", PROOF) and Store(top, folder).take("low", PROOF)
+    assert not Archive(again, folder).take("middle", PROOF)
+    assert not Archive(top, folder, takes=False).take("low", PROOF) and Archive(top, folder).take("low", PROOF)
 
 
 def test_a_quick_proof_is_not_taken_for_a_whole_one(snapd, _):
     folder, top = snapd.folder / "kept", tree(snapd.folder)
     built(top, "low", "low as built")
-    Store(top, folder, how=QUICK).keep("low", PROOF)
-    assert Store(top, folder, how=QUICK).take("low", PROOF) and not Store(top, folder).take("low", PROOF)
+    Archive(top, folder, how=QUICK).keep("low", PROOF)
+    assert Archive(top, folder, how=QUICK).take("low", PROOF) and not Archive(top, folder).take("low", PROOF)
     built(top, "middle", "middle as built")
-    Store(top, folder).keep("middle", PROOF)
-    assert Store(top, folder, how=QUICK).take("middle", PROOF) and Store(top, folder).take("middle", PROOF)
+    Archive(top, folder).keep("middle", PROOF)
+    assert Archive(top, folder, how=QUICK).take("middle", PROOF) and Archive(top, folder).take("middle", PROOF)
 
 
-def test_a_store_that_was_damaged_or_that_others_may_write_to_gives_nothing(snapd, _):
+def test_an_archive_that_was_damaged_or_that_others_may_write_to_gives_nothing(snapd, _):
     folder, top = snapd.folder / "kept", tree(snapd.folder)
     built(top, "low", "low as built")
-    Store(top, folder).keep("low", PROOF)
+    Archive(top, folder).keep("low", PROOF)
     folder.chmod(0o777)
-    assert not Store(top, folder).take("low", PROOF)
+    assert not Archive(top, folder).take("low", PROOF)
     folder.chmod(0o700)
-    assert Store(top, folder).take("low", PROOF)
+    assert Archive(top, folder).take("low", PROOF)
     kept = next(folder.glob("*/out/rlib/low.rlib/interface"))
     kept.write_text("low as bu1lt")
-    assert not Store(top, folder).take("low", PROOF) and list(folder.iterdir()) == []
-    Store(top, snapd.folder / "HANDLES" / "no-folder").keep("low", PROOF)
+    assert not Archive(top, folder).take("low", PROOF) and list(folder.iterdir()) == []
+    Archive(top, snapd.folder / "HANDLES" / "no-folder").keep("low", PROOF)
     (snapd.folder / "file").write_text("")
-    assert not Store(top, snapd.folder / "file" / "kept").take("low", PROOF)
+    assert not Archive(top, snapd.folder / "file" / "kept").take("low", PROOF)
 
 
-def test_a_store_lets_go_of_what_was_not_taken_for_longest(snapd, _):
-    folder, top, room = snapd.folder / "kept", tree(snapd.folder), store.ROOM
+def test_an_archive_lets_go_of_what_was_not_taken_for_longest(snapd, _):
+    folder, top, room = snapd.folder / "kept", tree(snapd.folder), archive.ROOM
     for name in ("low", "middle", "high"):
         built(top, name, name * 100)
-        Store(top, folder).keep(name, PROOF)
+        Archive(top, folder).keep(name, PROOF)
     for age, kept in enumerate(sorted(folder.iterdir(), key=lambda it: next(it.rglob("interface")).read_text())):
         os.utime(kept, (1000 - age, 1000 - age))
     try:
-        store.ROOM = 1500
-        Store(top, folder).thin()
+        archive.ROOM = 1500
+        Archive(top, folder).thin()
     finally:
-        store.ROOM = room
+        archive.ROOM = room
     left = {next(it.rglob("interface")).read_text()[:3] for it in folder.iterdir()}
     assert left == {"hig", "low"}
 
@@ -532,12 +532,12 @@ def test_what_fails_is_not_kept_and_what_is_kept_is_not_proved_again(snapd, _):
         return call
 
     def run(came):
-        return over(Store(top, snapd.folder / "kept"), ("low", PROOF), proves(came))({}, 1)
+        return over(Archive(top, snapd.folder / "kept"), ("low", PROOF), proves(came))({}, 1)
 
     assert run(False) is False and run(True) is True and run(False) is True
     assert calls == [False, True]
     tasks = {("low", it): ([], lines, 1, proves(True)) for it, lines in (("proof", 5), ("tests", 0), ("edits", 5))}
-    wrapped = with_store(Store(top, snapd.folder / "kept"), tasks)
+    wrapped = with_archive(Archive(top, snapd.folder / "kept"), tasks)
     assert [wrapped[it][3] is tasks[it][3] for it in tasks] == [False, True, True]
 
 
@@ -571,7 +571,7 @@ def test_what_the_prover_says_is_counted(snapd, _):
     proofs = ran(snapd, PASSED)
     assert (proofs.passed, proofs.failed, proofs.edits, proofs.kept, proofs.failures) == (9, 0, 6, (2, 5), [])
     assert (snapd.folder / "log").read_text() == PASSED
-    assert proofs.told()[0].startswith("proofs: 3 crates passed") and proofs.told()[1] == "from this machine's store: 2 of 5 proofs"
+    assert proofs.told()[0].startswith("proofs: 3 crates passed") and proofs.told()[1] == "from this machine's archive: 2 of 5 proofs"
 
 
 # As a release says it that keeps no proofs and counts no edits.
@@ -599,8 +599,8 @@ def test_a_prover_that_fails_is_never_taken_for_one_that_passed(snapd, _):
     assert ran(snapd, "", 0).failed == 1
 
 
-class KitsStore:
-    """What is used here of the store of a kit that has one."""
+class KitsArchive:
+    """What is used here of the archive of a kit that has one."""
 
     def __init__(self, at):
         self.at = at
@@ -616,7 +616,7 @@ def test_a_run_that_asks_less_keeps_apart_what_it_proves(snapd, _):
     of_gate, apart = snapd.folder / "kit", snapd.folder / "apart"
     for folder, key in ((of_gate, "whole"), (apart, "quick")):
         (folder / key).mkdir(parents=True)
-    rt = types.SimpleNamespace(Kept=type("Kept", (KitsStore,), {}), STORE=str(of_gate))
+    rt = types.SimpleNamespace(Kept=type("Kept", (KitsArchive,), {}), STORE=str(of_gate))
     keep_apart(rt, apart)
     assert rt.STORE == str(apart)
     kept = rt.Kept(rt.STORE)
@@ -628,7 +628,7 @@ def test_a_run_that_asks_less_keeps_apart_what_it_proves(snapd, _):
     program = types.SimpleNamespace(name="snapd")
     assert [kept.is_whole(program, False, it) for it in (["snapd"], ["snapd", "snapd.by-rattle"], [])] == [True, True, False]
     # The gate's own runs are as they were.
-    assert not KitsStore(of_gate).give(None, False, "quick") and not KitsStore(of_gate).is_whole(program, False, ["snapd"])
+    assert not KitsArchive(of_gate).give(None, False, "quick") and not KitsArchive(of_gate).is_whole(program, False, ["snapd"])
 
 
 class Library:

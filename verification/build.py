@@ -3,7 +3,7 @@
     python3 verification/build.py [--fresh] [NAME ..]
 
 With names it builds these programs too and leaves each in its crate's out/, as the benchmarks want them. With --fresh
-nothing is taken from this machine's store of earlier proofs.
+nothing is taken from this machine's archive of earlier proofs.
 """
 
 import argparse
@@ -31,7 +31,7 @@ def take_programs(copy, names):
 
 def main():
     words = argparse.ArgumentParser(description="Proves and builds snapd, and the programs that are named.")
-    words.add_argument("--fresh", action="store_true", help="take nothing from this machine's store of proofs")
+    words.add_argument("--fresh", action="store_true", help="take nothing from this machine's archive of proofs")
     words.add_argument("names", nargs="*")
     words = words.parse_args()
     names, crates, began = ["snapd", *words.names], crates_of(TOP), time.monotonic()

@@ -47,7 +47,7 @@ def measure(name, tests):
     """Checks a crate over built libraries; gives what the prover wrote and when, and whether it is proved."""
     crates = crates_of(TOP)
     with copied(TOP, {*below(crates, name), name}) as copy, tempfile.TemporaryDirectory() as room:
-        # The crate itself stays out, so that the libraries alone are proved, or come from the store.
+        # The crate itself stays out, so that the libraries alone are proved, or come from the archive.
         whole = (copy / "crates.txt").read_text()
         if below(crates, name):
             (copy / "crates.txt").write_text("".join(f"{crates[it].line}\n" for it in crates if it in below(crates, name)))

@@ -10,7 +10,7 @@ parts have proved is gathered by one of them. So a crate gets one, and beside it
 
 `build` proves every function too, and leaves to the gate what is no proof: the search for contracts that no call can
 meet, and the second compiler. What it has proved is kept apart, since the gate asks more; what the gate has proved it
-takes. Where the kit keeps no proofs of earlier runs, they are kept here (store.py). With --anew none is taken.
+takes. Where the kit keeps no proofs of earlier runs, they are kept here (archive.py). With --anew none is taken.
 
 A kit whose parts aren't those that are known here runs its own way.
 """
@@ -23,7 +23,7 @@ import sys
 from concurrent.futures import FIRST_COMPLETED, ThreadPoolExecutor, wait
 
 import kit
-from store import PROOF, QUICK, TESTS, WHOLE, Store, home, is_ours, over
+from archive import PROOF, QUICK, TESTS, WHOLE, Archive, home, is_ours, over
 
 # What each proof took when it was last measured on one processor, in seconds: only the order goes by it.
 SECONDS = pathlib.Path(__file__).resolve().parent / "seconds.txt"
@@ -66,16 +66,16 @@ def jobs_of(idle, others):
     return max(1, min(MOST, idle - others))
 
 
-def with_store(store, tasks):
-    """These tasks, of which each proof is taken from the store where it has it."""
-    return {key: (*task[:3], over(store, key, task[3]) if key[1] in (PROOF, TESTS) and task[1] else task[3]) for key, task in tasks.items()}
+def with_archive(archive, tasks):
+    """These tasks, of which each proof is taken from the archive where it has it."""
+    return {key: (*task[:3], over(archive, key, task[3]) if key[1] in (PROOF, TESTS) and task[1] else task[3]) for key, task in tasks.items()}
 
 
-def in_lanes(rt, store=None):
+def in_lanes(rt, archive=None):
     """What takes the place of the kit's function of that name."""
 
     def run(tasks):
-        tasks = with_store(store, tasks) if store else tasks
+        tasks = with_archive(archive, tasks) if archive else tasks
         lanes, memory, plan = rt.processors(), 0.85 * rt.free(), Plan(tasks)
         running, given = {}, {}
         # A release that ends its processes when it is interrupted says how.
@@ -132,9 +132,9 @@ def main():
     if not kit.is_known():
         os.execvp("rt", ["rt", *words])
     rt = kit.load()
-    store = None if keeps else Store(pathlib.Path.cwd(), takes=not is_anew, how=QUICK if is_quick else WHOLE)
-    rt.in_lanes = in_lanes(rt, store)
-    # What asks less is kept where the gate doesn't look: our store tells the two apart, and a kit's own is given another folder.
+    archive = None if keeps else Archive(pathlib.Path.cwd(), takes=not is_anew, how=QUICK if is_quick else WHOLE)
+    rt.in_lanes = in_lanes(rt, archive)
+    # What asks less is kept where the gate doesn't look: our archive tells the two apart, and a kit's own is given another folder.
     may_keep = not keeps or kit.has(rt, "STORE", "Kept.give", "Kept.is_whole")
     if is_quick and may_keep and kit.has(rt, "rtlib.help_of", "Crate.compile_by"):
         leave_to_the_gate(rt)
@@ -142,8 +142,8 @@ def main():
             keep_apart(rt, home() / "by-the-kit")
     status = rt.main(words)
     sys.stdout.flush()
-    if store:
-        store.thin()
+    if archive:
+        archive.thin()
     return status
 
 

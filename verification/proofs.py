@@ -39,7 +39,7 @@ class Proofs:
 
     def told(self):
         lines = [f"proofs: {self.passed - self.edits} crates passed in {self.seconds:.0f} s, {self.processor:.0f} s of processors"]
-        return lines + (["from this machine's store: {} of {} proofs".format(*self.kept)] if self.kept[0] else [])
+        return lines + (["from this machine's archive: {} of {} proofs".format(*self.kept)] if self.kept[0] else [])
 
 
 class Progress:

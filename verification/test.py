@@ -3,7 +3,7 @@ edits; and the end-to-end tests run on the built programs.
 
     python3 verification/test.py [--fresh] [--seed N]
 
-With --fresh nothing is taken from this machine's store of earlier proofs. The last line, `N passed, M failed`, is the sum
+With --fresh nothing is taken from this machine's archive of earlier proofs. The last line, `N passed, M failed`, is the sum
 of the three, and the status is 1 where something failed or didn't come to its count. Before it stand the parts by
 themselves, how long each took, and the last lines of what failed.
 """
@@ -79,7 +79,7 @@ def run_end_to_end():
 
 def main():
     words = argparse.ArgumentParser(description="Proves all, tries edits and runs every test.")
-    words.add_argument("--fresh", action="store_true", help="take nothing from this machine's store of proofs")
+    words.add_argument("--fresh", action="store_true", help="take nothing from this machine's archive of proofs")
     words.add_argument("--every-edit", action="store_true", help="try each edit, by the kit itself")
     words.add_argument("--seed", type=int, default=random.SystemRandom().randrange(10**9), help="of the sample of edits")
     parts = [*prove_and_try(words.parse_args()), run_end_to_end()]

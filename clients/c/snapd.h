@@ -1,6 +1,7 @@
 /* snapd.h: a client of the snapd server in one header. C99 and POSIX sockets; it allocates nothing.
  *
- * It speaks with `snapd serve` in the frames of docs/FORMATS.md, "Frames and messages".
+ * It speaks with `snapd serve` in the frames of docs/FORMATS.md, "Frames and messages". snapd_segment.h beside it has calls on
+ * one segment, and a wait for numbers.
  *
  *     #define _POSIX_C_SOURCE 200809L     // before the first include of a file that is compiled with -std=c99
  *     #include "snapd.h"
@@ -32,6 +33,7 @@
 #include <string.h>
 #include <sys/socket.h>
 #include <sys/types.h>
+#include <sys/un.h>
 #include <time.h>
 #include <unistd.h>
 
@@ -114,6 +116,7 @@ typedef struct {
     socklen_t address_length;
     int timeout; /* milliseconds, for one try */
     int tries;
+    int64_t until; /* by snapd_now: no call goes on behind it */
     /* the connection, or -1, and the process that made it */
     int connection;
     pid_t process;
@@ -127,13 +130,13 @@ typedef struct {
 
 /* ---- numbers: the highest byte first ---- */
 
-static inline void snapd_put(unsigned char *at, uint64_t number, int bytes)
+static inline void snapd_write_number(unsigned char *at, uint64_t number, int bytes)
 {
     for (int i = bytes - 1; i >= 0; i--, number >>= 8)
         at[i] = (unsigned char)(number & 255);
 }
 
-static inline uint64_t snapd_get(const unsigned char *at, int bytes)
+static inline uint64_t snapd_read_number(const unsigned char *at, int bytes)
 {
     uint64_t number = 0;
     for (int i = 0; i < bytes; i++)
@@ -143,36 +146,57 @@ static inline uint64_t snapd_get(const unsigned char *at, int bytes)
 
 /* ---- connections ---- */
 
-/* Names the server: a numeric IPv4 or IPv6 address (no name is looked up), its port, the milliseconds that one try may
- * take, and how many connections one call may make. Nothing is sent yet. SNAPD_BAD_CALL where a word is out of range. */
-static inline snapd_result snapd_open(snapd_client *client, const char *host, int port, int timeout, int tries)
+static inline void snapd_name(snapd_client *client, const void *address, size_t length)
+{
+    memcpy(&client->address, address, length);
+    client->address_length = (socklen_t)length;
+}
+
+/* A file behind `unix:`, or a numeric address with a port. No name is looked up. */
+static inline snapd_result snapd_name_server(snapd_client *client, const char *host, int port)
 {
     struct sockaddr_in four;
     struct sockaddr_in6 six;
+    struct sockaddr_un file;
+    memset(&four, 0, sizeof four);
+    memset(&six, 0, sizeof six);
+    memset(&file, 0, sizeof file);
+    if (strncmp(host, "unix:", 5) == 0) {
+        size_t length = strlen(host + 5);
+        if (port != 0 || length < 1 || length >= sizeof file.sun_path)
+            return SNAPD_BAD_CALL;
+        file.sun_family = AF_UNIX;
+        memcpy(file.sun_path, host + 5, length);
+        snapd_name(client, &file, sizeof file);
+    } else if (port < 1 || port > 65535) {
+        return SNAPD_BAD_CALL;
+    } else if (inet_pton(AF_INET, host, &four.sin_addr) == 1) {
+        four.sin_family = AF_INET;
+        four.sin_port = htons((uint16_t)port);
+        snapd_name(client, &four, sizeof four);
+    } else if (inet_pton(AF_INET6, host, &six.sin6_addr) == 1) {
+        six.sin6_family = AF_INET6;
+        six.sin6_port = htons((uint16_t)port);
+        snapd_name(client, &six, sizeof six);
+    }
+    return client->address_length ? SNAPD_OK : SNAPD_BAD_CALL;
+}
+
+/* Names the server: a numeric IPv4 or IPv6 address (no name is looked up) and its port, or "unix:PATH" and 0 for a Unix
+ * socket; the milliseconds that one try may take, and how many connections one call may make. Nothing is sent yet.
+ * SNAPD_BAD_CALL where a word is out of range. */
+static inline snapd_result snapd_open(snapd_client *client, const char *host, int port, int timeout, int tries)
+{
     memset(&client->address, 0, sizeof client->address);
     client->address_length = 0;
     client->timeout = timeout;
     client->tries = tries;
+    client->until = INT64_MAX;
     client->connection = -1;
     client->process = getpid();
     client->refusal = client->error = 0;
     client->detail = 0;
-    if (port < 1 || port > 65535 || timeout < 1 || tries < 1)
-        return SNAPD_BAD_CALL;
-    memset(&four, 0, sizeof four);
-    memset(&six, 0, sizeof six);
-    if (inet_pton(AF_INET, host, &four.sin_addr) == 1) {
-        four.sin_family = AF_INET;
-        four.sin_port = htons((uint16_t)port);
-        memcpy(&client->address, &four, sizeof four);
-        client->address_length = sizeof four;
-    } else if (inet_pton(AF_INET6, host, &six.sin6_addr) == 1) {
-        six.sin6_family = AF_INET6;
-        six.sin6_port = htons((uint16_t)port);
-        memcpy(&client->address, &six, sizeof six);
-        client->address_length = sizeof six;
-    }
-    return client->address_length ? SNAPD_OK : SNAPD_BAD_CALL;
+    return timeout < 1 || tries < 1 ? SNAPD_BAD_CALL : snapd_name_server(client, host, port);
 }
 
 /* Ends the connection. A later call makes a new one. */
@@ -191,8 +215,18 @@ static inline int64_t snapd_now(void)
     return (int64_t)now.tv_sec * 1000 + now.tv_nsec / 1000000;
 }
 
+static inline void snapd_rest(int64_t milliseconds)
+{
+    struct timespec rest;
+    if (milliseconds <= 0)
+        return;
+    rest.tv_sec = (time_t)(milliseconds / 1000);
+    rest.tv_nsec = (long)(milliseconds % 1000) * 1000000L;
+    nanosleep(&rest, NULL);
+}
+
 /* Waits until the connection can be read (POLLIN) or written (POLLOUT). */
-static inline snapd_result snapd_wait(snapd_client *client, short what, int64_t end)
+static inline snapd_result snapd_poll(snapd_client *client, short what, int64_t end)
 {
     for (;;) {
         struct pollfd one;
@@ -219,6 +253,22 @@ static inline snapd_result snapd_failed(snapd_client *client)
     return SNAPD_NOT_ANSWERED;
 }
 
+/* Connects, or begins to and waits until that has come to something. Where the queue of a Unix socket is full the system says
+ * so at once, and lets nobody wait. */
+static inline snapd_result snapd_join(snapd_client *client, int64_t end)
+{
+    while (connect(client->connection, (struct sockaddr *)&client->address, client->address_length) != 0) {
+        if (errno == EINPROGRESS || errno == EINTR)
+            return snapd_poll(client, POLLOUT, end);
+        if (errno != EAGAIN || client->address.ss_family != AF_UNIX)
+            return snapd_failed(client);
+        if (snapd_now() >= end)
+            return SNAPD_TIMED_OUT;
+        snapd_rest(2);
+    }
+    return SNAPD_OK;
+}
+
 /* A new connection. */
 static inline snapd_result snapd_connect(snapd_client *client, int64_t end)
 {
@@ -231,11 +281,7 @@ static inline snapd_result snapd_connect(snapd_client *client, int64_t end)
         return snapd_failed(client);
     fcntl(client->connection, F_SETFD, FD_CLOEXEC);
     setsockopt(client->connection, IPPROTO_TCP, TCP_NODELAY, &on, sizeof on);
-    if (connect(client->connection, (struct sockaddr *)&client->address, client->address_length) == 0)
-        return SNAPD_OK;
-    if (errno != EINPROGRESS && errno != EINTR)
-        return snapd_failed(client);
-    result = snapd_wait(client, POLLOUT, end);
+    result = snapd_join(client, end);
     if (result != SNAPD_OK)
         return result;
     if (getsockopt(client->connection, SOL_SOCKET, SO_ERROR, &error, &size) < 0)
@@ -267,7 +313,7 @@ static inline snapd_result snapd_send(snapd_client *client, const unsigned char 
 {
     while (length > 0) {
         ssize_t sent;
-        snapd_result result = snapd_wait(client, POLLOUT, end);
+        snapd_result result = snapd_poll(client, POLLOUT, end);
         if (result != SNAPD_OK)
             return result;
         sent = send(client->connection, bytes, length, MSG_NOSIGNAL);
@@ -286,7 +332,7 @@ static inline snapd_result snapd_receive(snapd_client *client, unsigned char *by
 {
     while (length > 0) {
         ssize_t came;
-        snapd_result result = snapd_wait(client, POLLIN, end);
+        snapd_result result = snapd_poll(client, POLLIN, end);
         if (result != SNAPD_OK)
             return result;
         came = recv(client->connection, bytes, length, 0);
@@ -319,7 +365,10 @@ static inline snapd_result snapd_try(snapd_client *client, const snapd_request *
 {
     int64_t end = snapd_now() + client->timeout;
     size_t whole = request->head_length + request->length;
-    snapd_result result = snapd_connected(client, end);
+    snapd_result result;
+    if (end > client->until)
+        end = client->until;
+    result = snapd_connected(client, end);
     if (result != SNAPD_OK)
         return result;
     memcpy(client->frame, request->head, request->head_length);
@@ -331,26 +380,18 @@ static inline snapd_result snapd_try(snapd_client *client, const snapd_request *
     result = snapd_receive(client, client->frame, 4, end);
     if (result != SNAPD_OK)
         return result;
-    *length = (size_t)snapd_get(client->frame, 4);
+    *length = (size_t)snapd_read_number(client->frame, 4);
     if (*length > SNAPD_MAX_PAYLOAD)
         return SNAPD_BAD_REPLY;
     return snapd_receive(client, client->frame, *length, end);
 }
 
-/* A tenth of a second, twice as long after each try. */
-static inline void snapd_rest(int tries_made)
-{
-    struct timespec rest;
-    int64_t tenths = tries_made < 8 ? (int64_t)1 << (tries_made - 1) : 128;
-    rest.tv_sec = (time_t)(tenths / 10);
-    rest.tv_nsec = (long)(tenths % 10) * 100000000L;
-    nanosleep(&rest, NULL);
-}
-
-/* The payload of the reply, over as many connections as it may take. */
+/* The payload of the reply, over as many connections as it may take. It rests for a tenth of a second after the first one, and
+ * after each other one twice as long. */
 static inline snapd_result snapd_ask(snapd_client *client, const snapd_request *request, size_t *length)
 {
     for (int made = 1;; made++) {
+        int64_t rest = 100 * (made < 8 ? (int64_t)1 << (made - 1) : 128), left;
         snapd_result result;
         client->refusal = client->error = 0;
         client->detail = 0;
@@ -360,7 +401,10 @@ static inline snapd_result snapd_ask(snapd_client *client, const snapd_request *
         snapd_close(client);
         if (result == SNAPD_BAD_REPLY || made >= client->tries)
             return result;
-        snapd_rest(made);
+        left = client->until - snapd_now();
+        snapd_rest(rest < left ? rest : left);
+        if (rest >= left)
+            return SNAPD_TIMED_OUT;
     }
 }
 
@@ -370,7 +414,7 @@ static inline snapd_result snapd_other(snapd_client *client, size_t length)
     const unsigned char *x = client->frame;
     if (length == 10 && x[0] == 0xE0 && x[1] >= SNAPD_MALFORMED && x[1] <= SNAPD_WORN) {
         client->refusal = x[1];
-        client->detail = snapd_get(x + 2, 8);
+        client->detail = snapd_read_number(x + 2, 8);
         return SNAPD_REFUSED;
     }
     snapd_close(client);
@@ -399,17 +443,17 @@ static inline snapd_result snapd_update(snapd_client *client, unsigned segment, 
     *stored = 0;
     if (segment > 255 || length > SNAPD_MAX_SENT)
         return SNAPD_BAD_CALL;
-    snapd_put(request.head, 10 + length, 4);
+    snapd_write_number(request.head, 10 + length, 4);
     request.head[4] = 0x01;
     request.head[5] = (unsigned char)segment;
-    snapd_put(request.head + 6, number, 8);
+    snapd_write_number(request.head + 6, number, 8);
     request.head_length = 14;
     request.value = value;
     request.length = length;
     result = snapd_ask(client, &request, &came);
     if (result != SNAPD_OK)
         return result;
-    if (came != 9 || client->frame[0] != 0x81 || !snapd_is_number(number) || snapd_get(client->frame + 1, 8) != number)
+    if (came != 9 || client->frame[0] != 0x81 || !snapd_is_number(number) || snapd_read_number(client->frame + 1, 8) != number)
         return snapd_other(client, came);
     *stored = number;
     return SNAPD_OK;
@@ -419,7 +463,7 @@ static inline snapd_result snapd_update(snapd_client *client, unsigned segment, 
 static inline snapd_result snapd_ask_byte(snapd_client *client, unsigned char byte, size_t *length)
 {
     snapd_request request;
-    snapd_put(request.head, 1, 4);
+    snapd_write_number(request.head, 1, 4);
     request.head[4] = byte;
     request.head_length = 5;
     request.value = NULL;
@@ -432,8 +476,8 @@ static inline size_t snapd_read_entry(const unsigned char *x, size_t length, siz
 {
     if (length - at < 12)
         return 0;
-    entry->number = snapd_get(x + at, 8);
-    entry->length = (uint32_t)snapd_get(x + at + 8, 4);
+    entry->number = snapd_read_number(x + at, 8);
+    entry->length = (uint32_t)snapd_read_number(x + at + 8, 4);
     entry->value = x + at + 12;
     at += 12;
     if (!snapd_is_number(entry->number) || entry->length > SNAPD_MAX_VALUE || length - at < entry->length)
@@ -502,9 +546,9 @@ static inline snapd_result snapd_scan_some(snapd_client *client, unsigned mask, 
     part->mask = 0;
     if (mask == 0 || mask >> SNAPD_MAX_SEGMENTS != 0)
         return SNAPD_BAD_CALL;
-    snapd_put(request.head, 3, 4);
+    snapd_write_number(request.head, 3, 4);
     request.head[4] = 0x04;
-    snapd_put(request.head + 5, mask, 2);
+    snapd_write_number(request.head + 5, mask, 2);
     request.head_length = 7;
     request.value = NULL;
     request.length = 0;
@@ -525,7 +569,7 @@ static inline int snapd_read_status(const unsigned char *x, size_t length, snapd
     list->count = x[1];
     for (int i = 0; i < list->count; i++) {
         const unsigned char *at = x + 2 + 9 * i;
-        list->standing[i].number = snapd_get(at, 8);
+        list->standing[i].number = snapd_read_number(at, 8);
         list->standing[i].fenced = at[8];
         if (!snapd_is_number(list->standing[i].number) || at[8] > 1)
             return 0;

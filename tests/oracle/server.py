@@ -126,23 +126,15 @@ class Session(socketserver.BaseRequestHandler):
         self.request.sendall(struct.pack(">I", len(payload)) + payload)
 
 
-class Server(socketserver.ThreadingTCPServer):
-    """The model behind a socket of this machine."""
+class Behind:
+    """What a server is, whatever its socket."""
 
     allow_reuse_address = True
     daemon_threads = True
     request_queue_size = 128
 
-    def __init__(self, model, port=0):
-        self.model = model
-        super().__init__(("127.0.0.1", port), Session)
-
     def handle_error(self, request, client_address):
         """A client that went away is nobody's fault."""
-
-    @property
-    def address(self):
-        return "{}:{}".format(*self.server_address)
 
     def __enter__(self):
         threading.Thread(target=self.serve_forever, kwargs={"poll_interval": 0.01}, daemon=True).start()
@@ -151,6 +143,30 @@ class Server(socketserver.ThreadingTCPServer):
     def __exit__(self, *_):
         self.shutdown()
         self.server_close()
+
+
+class Server(Behind, socketserver.ThreadingTCPServer):
+    """The model behind a socket of this machine."""
+
+    def __init__(self, model, port=0):
+        self.model = model
+        super().__init__(("127.0.0.1", port), Session)
+
+    @property
+    def address(self):
+        return "{}:{}".format(*self.server_address)
+
+
+class FileServer(Behind, socketserver.ThreadingUnixStreamServer):
+    """The model behind a Unix socket."""
+
+    def __init__(self, model, path):
+        self.model = model
+        super().__init__(str(path), Session)
+
+    @property
+    def address(self):
+        return f"unix:{self.server_address}"
 
 
 def main():

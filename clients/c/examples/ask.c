@@ -2,12 +2,13 @@
  *
  *     cc -std=c99 -O2 -I .. -o ask ask.c
  *     ./ask HOST PORT TIMEOUT TRIES update SEGMENT NUMBER TEXT | scan | part MASK | status
+ *                                   | put SEGMENT TEXT | get SEGMENT | wait MILLISECONDS SEGMENT NUMBER [SEGMENT NUMBER ..]
  *
- * MASK is hexadecimal, and its bit i names segment i. It prints `stored NUMBER`, or a line for each segment. Status 0 done,
- * 1 no answer, 2 the words, 3 refused.
+ * MASK is hexadecimal, and its bit i names segment i. HOST is `unix:PATH` and PORT 0 where the server listens on a Unix socket.
+ * It prints `stored NUMBER`, or a line for each segment. Status 0 done, 1 no answer, 2 the words, 3 refused.
  */
 #define _POSIX_C_SOURCE 200809L
-#include "snapd.h"
+#include "snapd_segment.h"
 
 #include <inttypes.h>
 #include <stdio.h>
@@ -49,12 +50,17 @@ static snapd_result part(const char *mask)
     return result;
 }
 
+static void print_standing(int segment, const snapd_standing *standing)
+{
+    printf("segment %d number %" PRIu64 " fenced %d\n", segment, standing->number, standing->fenced);
+}
+
 static snapd_result status(void)
 {
     snapd_status_list list;
     snapd_result result = snapd_status(&client, &list);
     for (int i = 0; result == SNAPD_OK && i < list.count; i++)
-        printf("segment %d number %" PRIu64 " fenced %d\n", i, list.standing[i].number, list.standing[i].fenced);
+        print_standing(i, &list.standing[i]);
     return result;
 }
 
@@ -65,6 +71,47 @@ static snapd_result update(const char *segment, const char *number, const char *
                                        strlen(text), &stored);
     if (result == SNAPD_OK)
         printf("stored %" PRIu64 "\n", stored);
+    return result;
+}
+
+static snapd_result put(const char *segment, const char *text)
+{
+    uint64_t number;
+    snapd_result result = snapd_put(&client, (unsigned)strtoul(segment, NULL, 10), text, strlen(text), &number);
+    if (result == SNAPD_OK)
+        printf("stored %" PRIu64 "\n", number);
+    else if (number > 0)
+        fprintf(stderr, "sent as %" PRIu64 ": ", number);
+    return result;
+}
+
+static snapd_result get(const char *segment)
+{
+    snapd_entry entry;
+    snapd_result result = snapd_get(&client, (unsigned)strtoul(segment, NULL, 10), &entry);
+    if (result == SNAPD_OK)
+        print_entry(atoi(segment), &entry);
+    return result;
+}
+
+/* It prints what it saw last of each segment that is named, in time or not. */
+static snapd_result wait_for(const char *timeout, int count, char **words)
+{
+    uint64_t numbers[SNAPD_MAX_SEGMENTS] = {0};
+    unsigned mask = 0;
+    snapd_status_list list;
+    snapd_result result;
+    for (int i = 0; i + 1 < count; i += 2) {
+        unsigned segment = (unsigned)strtoul(words[i], NULL, 10);
+        if (segment >= SNAPD_MAX_SEGMENTS)
+            return SNAPD_BAD_CALL;
+        mask |= 1U << segment;
+        numbers[segment] = strtoull(words[i + 1], NULL, 10);
+    }
+    result = snapd_wait(&client, mask, numbers, atoi(timeout), &list);
+    for (int i = 0; i < list.count; i++)
+        if (mask >> i & 1)
+            print_standing(i, &list.standing[i]);
     return result;
 }
 
@@ -84,8 +131,8 @@ static int status_of(snapd_result result)
 int main(int argc, char **argv)
 {
     if (argc < 6 || snapd_open(&client, argv[1], atoi(argv[2]), atoi(argv[3]), atoi(argv[4])) != SNAPD_OK) {
-        fprintf(stderr, "usage: %s HOST PORT TIMEOUT TRIES update SEGMENT NUMBER TEXT | scan | part MASK | status\n",
-                argv[0]);
+        fprintf(stderr, "usage: %s HOST PORT TIMEOUT TRIES update SEGMENT NUMBER TEXT | scan | part MASK | status | "
+                "put SEGMENT TEXT | get SEGMENT | wait MILLISECONDS SEGMENT NUMBER [SEGMENT NUMBER ..]\n", argv[0]);
         return 2;
     }
     if (argc == 6 && strcmp(argv[5], "scan") == 0)
@@ -96,6 +143,13 @@ int main(int argc, char **argv)
         return status_of(part(argv[6]));
     if (argc == 9 && strcmp(argv[5], "update") == 0)
         return status_of(update(argv[6], argv[7], argv[8]));
-    fprintf(stderr, "%s: neither update SEGMENT NUMBER TEXT nor scan nor part MASK nor status\n", argv[5]);
+    if (argc == 8 && strcmp(argv[5], "put") == 0)
+        return status_of(put(argv[6], argv[7]));
+    if (argc == 7 && strcmp(argv[5], "get") == 0)
+        return status_of(get(argv[6]));
+    if (argc >= 9 && argc % 2 == 1 && strcmp(argv[5], "wait") == 0)
+        return status_of(wait_for(argv[6], argc - 7, argv + 7));
+    fprintf(stderr, "%s: none of update SEGMENT NUMBER TEXT, scan, part MASK, status, put SEGMENT TEXT, get SEGMENT and wait "
+            "MILLISECONDS SEGMENT NUMBER [SEGMENT NUMBER ..]\n", argv[5]);
     return 2;
 }

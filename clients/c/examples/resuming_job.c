@@ -4,10 +4,10 @@
  *
  * It adds up the squares of 1 to STEPS, one step after another, and keeps step and sum in its segment of a snapd server.
  * Kill it with `kill -9` at any time and start it again with the same words: it goes on with the step that was next. At
- * the end it prints the sum.
+ * the end it prints the sum. HOST is `unix:PATH` and PORT 0 where the server listens on a Unix socket.
  */
 #define _POSIX_C_SOURCE 200809L
-#include "snapd.h"
+#include "snapd_segment.h"
 
 #include <inttypes.h>
 #include <stdio.h>
@@ -27,10 +27,10 @@ static void fail(const char *call, snapd_result result)
 
 int main(int argc, char **argv)
 {
-    snapd_snapshot now;
+    snapd_entry mine;
     snapd_result result;
     char state[64] = "";
-    uint64_t number, step = 0, sum = 0, steps;
+    uint64_t step = 0, sum = 0, steps;
     unsigned segment;
     if (argc != 5) {
         fprintf(stderr, "usage: %s HOST PORT SEGMENT STEPS\n", argv[0]);
@@ -42,16 +42,12 @@ int main(int argc, char **argv)
         fprintf(stderr, "%s: not an address\n", argv[1]);
         return 2;
     }
-    result = snapd_scan(&client, &now);
+    result = snapd_get(&client, segment, &mine);
     if (result != SNAPD_OK)
-        fail("scan", result);
-    if (segment >= (unsigned)now.count || now.entry[segment].length >= sizeof state) {
-        fprintf(stderr, "segment %u isn't this job's\n", segment);
-        return 1;
-    }
-    number = now.entry[segment].number;
-    memcpy(state, now.entry[segment].value, now.entry[segment].length);
-    if (state[0] != 0 && sscanf(state, "step %" SCNu64 " sum %" SCNu64, &step, &sum) != 2) {
+        fail("get", result);
+    if (mine.length < sizeof state)
+        memcpy(state, mine.value, mine.length);
+    if (mine.length > 0 && sscanf(state, "step %" SCNu64 " sum %" SCNu64, &step, &sum) != 2) {
         fprintf(stderr, "segment %u isn't this job's\n", segment);
         return 1;
     }
@@ -61,7 +57,7 @@ int main(int argc, char **argv)
         step++;
         sum += step * step;
         length = snprintf(state, sizeof state, "step %" PRIu64 " sum %" PRIu64, step, sum);
-        result = snapd_update(&client, segment, number + 1, state, (size_t)length, &number);
+        result = snapd_update(&client, segment, mine.number + 1, state, (size_t)length, &mine.number);
         if (result != SNAPD_OK)
             fail("update", result);
     }

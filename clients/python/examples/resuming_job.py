@@ -16,13 +16,13 @@ from snapd_client import Client
 def main() -> None:
     address, segment, steps = sys.argv[1], int(sys.argv[2]), int(sys.argv[3])
     with Client(address) as client:
-        number, value = client.scan()[segment]
-        state = json.loads(value) if value else {"step": 0, "sum": 0}
+        mine = client.segment(segment)
+        state = json.loads(mine.get() or b'{"step": 0, "sum": 0}')
         print("begins behind step", state["step"], file=sys.stderr, flush=True)
         while state["step"] < steps:
             step = state["step"] + 1
             state = {"step": step, "sum": state["sum"] + step * step}
-            number = client.update(segment, number + 1, json.dumps(state).encode())
+            mine.put(json.dumps(state).encode())
     print(state["sum"])
 
 

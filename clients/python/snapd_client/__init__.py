@@ -5,9 +5,11 @@
     with Client("127.0.0.1:7070") as client:
         mine = client.scan()[0]                                # number and value of segment 0
         client.update(0, mine.number + 1, b"step 17")          # returns once it is on the disk
+
+`client.segment(0)` keeps the number itself, and `snapd_client.aio` has the same client for asyncio.
 """
 
-from .client import Client
+from .client import Client, Segment
 from .errors import (
     AlreadyFormatted,
     BadReply,
@@ -29,6 +31,7 @@ from .errors import (
     TooLarge,
     TooLong,
     Unformatted,
+    WaitTimedOut,
     Worn,
     WrongFile,
 )
@@ -54,12 +57,14 @@ __all__ = [
     "NotNow",
     "OutOfStep",
     "Refused",
+    "Segment",
     "SnapdError",
     "Standing",
     "TimedOut",
     "TooLarge",
     "TooLong",
     "Unformatted",
+    "WaitTimedOut",
     "Worn",
     "WrongFile",
 ]

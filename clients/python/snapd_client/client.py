@@ -1,80 +1,40 @@
-"""One connection to a server, made again where it breaks."""
+"""The client whose calls block."""
 
-import os
+import math
+import queue
 import socket
 import threading
 import time
-import weakref
 from types import TracebackType
-from typing import Dict, Iterable, Optional, Tuple, Type, TypeVar, Union, overload
+from typing import Any, Callable, Coroutine, Dict, Iterable, Mapping, Optional, Tuple, Type, TypeVar, Union, overload
 
-from . import messages
-from .errors import BadReply, NotAnswered, Refused, TimedOut
-from .messages import Bytes, Entry, Part, Snapshot, Standing, Standings, Stored
+from . import addresses, messages, questions
+from .addresses import Address, OfHost, Place, Places
+from .calls import PIECE, Caller, OutOfTime, completed, left_until
+from .messages import Bytes, Entry, Standing
+from .questions import Question
+from .segments import Numbered, reached
 
-Address = Union[str, Tuple[str, int]]
-Wanted = TypeVar("Wanted", Stored, Snapshot, Standings, Part)
-
-PIECE = 65_536
-MAX_PORT = 65_535
-
-
-class _Gone(Exception):
-    """The connection ended before the reply."""
+Answer = TypeVar("Answer")
 
 
-def _split(address: Address) -> Tuple[str, int]:
-    if isinstance(address, str):
-        host, colon, port = address.rpartition(":")
-        if not colon or not (port.isascii() and port.isdigit()):
-            raise ValueError(f"an address is HOST:PORT, not {address!r}")
-        if host.startswith("[") and host.endswith("]"):
-            host = host[1:-1]
-    else:
-        host, port = address
-    number = int(port)
-    if not 1 <= number <= MAX_PORT:
-        raise ValueError(f"a port is 1 to {MAX_PORT}, not {number}")
-    return host, number
-
-
-# The clients of this process, which a process that is forked off has inherited.
-_clients: "weakref.WeakSet[Client]" = weakref.WeakSet()
-
-
-def _begin_anew() -> None:
-    for client in list(_clients):
-        client._begin_anew()
-
-
-# Two processes on one connection would take each other's replies.
-if hasattr(os, "register_at_fork"):
-    os.register_at_fork(after_in_child=_begin_anew)
-
-
-class Client:
+class Client(Caller):
     """Asks a snapd server, one request at a time.
 
     The first call connects. A call whose connection fails, ends or says nothing for `timeout` seconds is tried again on
     a new one, up to `tries` connections in all, with a pause of `pause` seconds in between that doubles each time. It
-    sends the same bytes each time: an update under one number is stored once, however often it comes.
+    sends the same bytes each time: an update under one number is stored once, however often it comes. The timeout is of a
+    whole try, with the look-up of a name and all of its addresses, which share what is left of it.
 
     Calls may come from several threads; they wait for each other. A process that is forked off makes a connection of its
     own at its first call, also where it was forked during another thread's call.
     """
 
     def __init__(self, address: Address, *, timeout: float = 5.0, tries: int = 3, pause: float = 0.1) -> None:
-        """`address` is "HOST:PORT" or a pair of both. Nothing is sent yet. `ValueError` where a word is out of range."""
-        if timeout <= 0 or pause < 0 or tries < 1:
-            raise ValueError("timeout is above 0, pause at least 0, tries at least 1")
-        self._address = _split(address)
-        self._timeout = timeout
-        self._tries = tries
-        self._pause = pause
+        """`address` is "HOST:PORT", a pair of both, or "unix:PATH" of a Unix socket. Nothing is sent yet. `ValueError` where a word
+        is out of range."""
         self._lock = threading.Lock()
-        self._socket: Optional[socket.socket] = None
-        self._frames = messages.Frames()
-        _clients.add(self)
+        super().__init__(address, timeout, tries, pause)
 
     def update(self, segment: int, number: int, value: Bytes) -> int:
         """Stores `value` as this number of a segment, and returns the number once it is on the server's disk.
@@ -83,7 +43,7 @@ class Client:
         update may be repeated. Every `Refused` says what to do. Before a byte is sent comes `TypeError` where the value
         isn't bytes-like or a number isn't an integer, and `ValueError` where no message can say it.
         """
-        return self._ask(messages.update(segment, number, value), Stored, number).number
+        return self._ask(questions.update(segment, number, value))
 
     @overload
     def scan(self) -> Tuple[Entry, ...]: ...
@@ -99,13 +59,34 @@ class Client:
         `TypeError` where a segment isn't an integer, and `ValueError` where it isn't 0 to 15 or none is named.
         """
         if segments is None:
-            return self._ask(messages.scan(), Snapshot).entries
-        names = messages.named(segments)
-        return self._ask(messages.scan_some(names), Part, segments=names).entries
+            return self._ask(questions.scan())
+        return self._ask(questions.scan_some(segments))
 
     def status(self) -> Tuple[Standing, ...]:
         """Number and fence of every segment. It isn't a snapshot: each entry is of a moment of its own."""
-        return self._ask(messages.status(), Standings).standings
+        return self._ask(questions.status())
+
+    def segment(self, segment: int) -> "Segment":
+        """One segment, which knows its number. Nothing is sent yet. `TypeError` where it isn't an integer, `ValueError` where it
+        isn't 0 to 15."""
+        return Segment(self, segment)
+
+    def wait(self, numbers: Mapping[int, int], timeout: float) -> Dict[int, int]:
+        """Waits until each segment's number has come to the one that is given for it, or passed it: `wait({0: 17}, timeout=30)`.
+
+        It returns the numbers that it saw, by segment. It asks for the status, rests for 1 ms, asks again, and rests twice as long
+        each time, up to 100 ms; near the end for half of the time that is left. Other threads make their calls in between. The
+        clock is one that nobody sets.
+
+        `WaitTimedOut` after `timeout` seconds (`math.inf` is for ever), which says which segments lag and by how much. `NoSegment`
+        at once where the server hasn't one of them, `BadReply` where a number falls, and `NotAnswered` where a look has no answer
+        after `tries` tries. Before a byte is sent come `TypeError` and `ValueError`, as of a scan, and `ValueError` where the
+        timeout isn't above 0.
+        """
+        wanted = messages.wanted(numbers)
+        if not timeout > 0:
+            raise ValueError("the timeout of a wait is above 0")
+        return completed(reached(self, wanted, timeout))
 
     def close(self) -> None:
         """Ends the connection. A later call makes a new one."""
@@ -123,97 +104,96 @@ class Client:
     ) -> None:
         self.close()
 
-    def _begin_anew(self) -> None:
-        """Lets go of what a forked process has inherited: a thread that isn't here may have been in a call."""
-        self._lock = threading.Lock()
-        self._drop()
+    # ---- turns ----
 
-    def _ask(
-        self,
-        frame: bytes,
-        wanted: Type[Wanted],
-        number: Optional[int] = None,
-        segments: Tuple[int, ...] = (),
-    ) -> Wanted:
-        with self._lock:
-            try:
-                message = messages.reply(self._exchange(frame))
-                if not isinstance(message, (wanted, Refused)):
-                    raise BadReply("the reply answers another request")
-                if isinstance(message, Stored) and message.number != number:
-                    raise BadReply(f"the reply says that number {message.number} is stored, and asked was {number}")
-                if isinstance(message, Part) and tuple(message.entries) != segments:
-                    raise BadReply(f"the reply is of the segments {tuple(message.entries)}, and asked was {segments}")
-            except BaseException:
-                # Whatever ended the call, an answer may still come: this connection isn't asked again.
-                self._drop()
-                raise
-        if isinstance(message, Refused):
-            raise message
-        return message
-
-    def _exchange(self, frame: bytes) -> bytes:
-        """Sends the frame and reads a payload, over as many connections as it may take."""
-        pause = self._pause
-        for left in reversed(range(self._tries)):
-            try:
-                return self._try(frame, time.monotonic() + self._timeout)
-            except (OSError, _Gone) as error:
-                self._drop()
-                if not left:
-                    kind = TimedOut if isinstance(error, socket.timeout) else NotAnswered
-                    where = "{}:{}".format(*self._address)
-                    raise kind(f"{where}: no answer after {self._tries} tries: {error}") from error
-            time.sleep(pause)
-            pause *= 2
-        raise AssertionError("a client has at least one try")
-
-    def _try(self, frame: bytes, end: float) -> bytes:
-        connection = self._connected(end)
-        self._limit(connection, end)
-        connection.sendall(frame)
-        while True:
-            payload = self._frames.next()
-            if payload is not None:
-                return payload
-            self._limit(connection, end)
-            piece = connection.recv(PIECE)
-            if not piece:
-                raise _Gone("the connection ended before the reply")
-            self._frames.push(piece)
-
-    def _connected(self, end: float) -> socket.socket:
-        """The connection that stands, or a new one where none does or the server has closed it."""
-        if self._socket is not None and self._is_closed(self._socket):
-            self._drop()
-        if self._socket is None:
-            self._socket = socket.create_connection(self._address, timeout=max(end - time.monotonic(), 0.001))
-            self._socket.setsockopt(socket.IPPROTO_TCP, socket.TCP_NODELAY, 1)
-        return self._socket
-
-    def _is_closed(self, connection: socket.socket) -> bool:
-        """Whether the server has ended it. `BadReply` where bytes came that nobody asked for."""
-        if self._frames.held:
-            raise BadReply("bytes came that nobody asked for")
-        connection.setblocking(False)
+    def _in_turn(self, call: Callable[[], Coroutine[Any, Any, Answer]], until: float = math.inf) -> Answer:
+        """Makes a call once no other thread is in one. `OutOfTime` where that isn't before `until`."""
+        left = min(max(until - time.monotonic(), 0), threading.TIMEOUT_MAX)
+        if not self._lock.acquire(timeout=left):
+            raise OutOfTime(f"{self._address}: another call was under way")
         try:
-            if connection.recv(1, socket.MSG_PEEK):
-                raise BadReply("bytes came that nobody asked for")
-            return True
-        except (BlockingIOError, InterruptedError):
-            return False
-        except OSError:
-            return True
+            return completed(call())
+        finally:
+            self._lock.release()
 
-    @staticmethod
-    def _limit(connection: socket.socket, end: float) -> None:
-        left = end - time.monotonic()
-        if left <= 0:
-            raise socket.timeout("timed out")
-        connection.settimeout(left)
+    def _ask(self, question: Question[Answer], until: float = math.inf) -> Answer:
+        return self._in_turn(lambda: self._answer(question, until), until)
 
-    def _drop(self) -> None:
-        if self._socket is not None:
-            self._socket.close()
-        self._socket = None
-        self._frames = messages.Frames()
+    def _begin_anew(self) -> None:
+        """A thread that isn't here may have been in a call."""
+        self._lock = threading.Lock()
+        super()._begin_anew()
+
+    # ---- waits ----
+
+    async def _look(self, least: Mapping[int, int], end: float) -> Dict[int, Standing]:
+        return self._ask(questions.standings(least), end)
+
+    async def _sleep(self, seconds: float) -> None:
+        time.sleep(seconds)
+
+    async def _look_up(self, address: OfHost, end: float) -> Places:
+        told: "queue.SimpleQueue[Union[Places, Exception]]" = queue.SimpleQueue()
+        addresses.look_up(address, told.put)
+        try:
+            found = told.get(timeout=left_until(end))
+        except queue.Empty:
+            raise socket.timeout("timed out") from None
+        if isinstance(found, Exception):
+            raise found
+        return found
+
+    async def _join(self, connection: socket.socket, place: Place, end: float) -> None:
+        connection.settimeout(left_until(end))
+        connection.connect(place[1])
+
+    async def _send(self, connection: socket.socket, data: bytes, end: float) -> None:
+        connection.settimeout(left_until(end))
+        connection.sendall(data)
+
+    async def _receive(self, connection: socket.socket, end: float) -> bytes:
+        connection.settimeout(left_until(end))
+        return connection.recv(PIECE)
+
+
+class Segment:
+    """One segment of a client, with its number: that of the value which it stored or read last.
+
+    The first call learns the number from the server. A `put` goes behind that value and no other one, so it is refused where
+    another job has stored one in between; another object of the same segment is such a job. Calls may come from several threads;
+    they wait for each other.
+    """
+
+    def __init__(self, client: Client, segment: int) -> None:
+        """Use `Client.segment`."""
+        self._client = client
+        self._numbered = Numbered(client, segment)
+
+    @property
+    def number(self) -> int:
+        """The number of the value that was stored or read last. The first use asks the server, by a status: `NoSegment` where it
+        hasn't this segment."""
+        known = self._numbered.number
+        return self._client._in_turn(self._numbered.learned) if known is None else known
+
+    def put(self, value: Bytes) -> int:
+        """Stores `value` as the next number, and returns that once it is on the server's disk.
+
+        A `Refused` is never tried again: nothing was stored, the number stays, and the next `put` takes the same one. After
+        `Conflict` or `OutOfStep` another job has written this segment, and each `put` is refused alike until a `get` has read
+        what is there; one after that goes behind it.
+
+        After `NotAnswered` and `BadReply` the value may have been stored; the number stays. `put` it again and it is stored
+        once. Another value instead is refused as `Conflict` where the first one was stored, and a `get` tells.
+
+        Before a byte is sent comes `TypeError` where the value isn't bytes-like, and `ValueError` where it has above 65,990 bytes.
+        """
+        held = messages.value_of(value)
+        return self._client._in_turn(lambda: self._numbered.put(held))
+
+    def get(self) -> bytes:
+        """The value. `number` is its number then, also where another job stored it.
+
+        `NoSegment` where the server hasn't this segment. `BadReply` where its number is below the one that was known; that stays.
+        """
+        return self._client._in_turn(self._numbered.get)

@@ -1,6 +1,6 @@
 """Why a call gives no answer. Every exception of this package is a `SnapdError`."""
 
-from typing import Dict, Type
+from typing import Dict, Mapping, Tuple, Type
 
 
 class SnapdError(Exception):
@@ -19,9 +19,33 @@ class TimedOut(NotAnswered):
     """The last try had no whole reply within the client's timeout."""
 
 
+class WaitTimedOut(SnapdError):
+    """Not every segment came to its number within the time of a `wait`.
+
+    `numbers` are those that were seen last, by segment, and `lagging` says by how much each segment lags that does. Both are empty
+    where no look was answered in time. `__cause__` is why the last look had no answer, where it had none.
+    """
+
+    def __init__(self, timeout: float, wanted: Mapping[int, int], seen: Mapping[int, Tuple[int, bool]]) -> None:
+        super().__init__(timeout, wanted, seen)
+        self.numbers: Dict[int, int] = {segment: number for segment, (number, _) in seen.items()}
+        self.lagging: Dict[int, int] = {
+            segment: wanted[segment] - number for segment, number in self.numbers.items() if number < wanted[segment]
+        }
+        lags = (
+            f"segment {segment}{', which is fenced,' if seen[segment][1] else ''} lags by {lag}: "
+            f"it is at number {self.numbers[segment]} of {wanted[segment]}"
+            for segment, lag in self.lagging.items()
+        )
+        self._text = f"after {timeout} s {'; '.join(lags) or 'no look was answered'}"
+
+    def __str__(self) -> str:
+        return self._text
+
+
 class BadReply(SnapdError):
     """What came isn't an answer to the request, or says that another number was stored than was sent, or tells other segments
-    than were named. It isn't tried again.
+    than were named, or has a segment at a smaller number than it was at before. It isn't tried again.
 
     Something else than a snapd may be at the other end. An update may have been stored all the same: check the address, and scan.
     """

@@ -2,7 +2,7 @@
 
 import operator
 import struct
-from typing import Dict, Iterable, List, NamedTuple, Tuple, Union
+from typing import Dict, Iterable, List, Mapping, NamedTuple, Tuple, Union
 
 from .errors import BY_NUMBER, BadReply, Refused
 
@@ -55,23 +55,25 @@ def frame(payload: bytes) -> bytes:
     return struct.pack(">I", len(payload)) + payload
 
 
-def _bytes(value: Bytes) -> bytes:
-    """The bytes of a value. `bytes` itself would make zeros of a number, and take a list."""
+def value_of(value: Bytes) -> bytes:
+    """The bytes of a value. `bytes` itself would make zeros of a number, and take a list. `TypeError` where it isn't bytes-like,
+    `ValueError` where no frame can carry it."""
     try:
-        return memoryview(value).tobytes()
+        held = memoryview(value).tobytes()
     except TypeError:
         raise TypeError(f"a value is bytes-like, not {type(value).__name__}") from None
+    if len(held) > MAX_UPDATE_VALUE:
+        raise ValueError(f"an update carries at most {MAX_UPDATE_VALUE} bytes, not {len(held)}")
+    return held
 
 
 def update(segment: int, number: int, value: Bytes) -> bytes:
     """The frame that asks to store a value. `TypeError` where a word is of another kind, `ValueError` where no frame can say it."""
-    segment, number, value = operator.index(segment), operator.index(number), _bytes(value)
+    segment, number, value = operator.index(segment), operator.index(number), value_of(value)
     if not 0 <= segment <= 255:
         raise ValueError(f"a segment is 0 to 255, not {segment}")
     if not 0 <= number < 1 << 64:
         raise ValueError(f"a number is 0 to 2^64 - 1, not {number}")
-    if len(value) > MAX_UPDATE_VALUE:
-        raise ValueError(f"an update carries at most {MAX_UPDATE_VALUE} bytes, not {len(value)}")
     return frame(struct.pack(">BBQ", UPDATE, segment, number) + value)
 
 
@@ -80,16 +82,27 @@ def scan() -> bytes:
     return frame(bytes([SCAN]))
 
 
-def named(segments: Iterable[int]) -> Tuple[int, ...]:
-    """The segments that a scan of some names, in ascending order; one that comes twice counts once. `TypeError` where one isn't
-    an integer, `ValueError` where it isn't 0 to 15, or there is none."""
+def named(segments: Iterable[int], by: str = "a scan of some segments") -> Tuple[int, ...]:
+    """The segments that a call of this kind names, in ascending order; one that comes twice counts once. `TypeError` where one
+    isn't an integer, `ValueError` where it isn't 0 to 15, or there is none."""
     names = sorted({operator.index(segment) for segment in segments})
     if not names:
-        raise ValueError("a scan of some segments names one or more")
+        raise ValueError(f"{by} names one or more")
     for segment in names:
         if not 0 <= segment < MAX_SEGMENTS:
-            raise ValueError(f"a scan of some segments names 0 to {MAX_SEGMENTS - 1}, not {segment}")
+            raise ValueError(f"{by} names 0 to {MAX_SEGMENTS - 1}, not {segment}")
     return tuple(names)
+
+
+def wanted(numbers: Mapping[int, int]) -> Dict[int, int]:
+    """The numbers that are waited for, in ascending order of their segments, which are as `named` takes them. `TypeError` where
+    one isn't an integer, `ValueError` where no segment can have it."""
+    named(numbers, "a wait")
+    found = {operator.index(segment): operator.index(number) for segment, number in numbers.items()}
+    for number in found.values():
+        if not 0 <= number < NUMBERS:
+            raise ValueError(f"a wait is for a number of 0 to 2^63 - 1, not {number}")
+    return dict(sorted(found.items()))
 
 
 def scan_some(segments: Iterable[int]) -> bytes:
@@ -227,4 +240,6 @@ __all__: List[str] = [
     "scan_some",
     "status",
     "update",
+    "value_of",
+    "wanted",
 ]

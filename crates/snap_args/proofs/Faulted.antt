@@ -1,14 +1,16 @@
 -- What is wrong with the parts that were found is wrong with the words.
-use Rattle.std.proofs.Common.{◌≡◌, ◌≢◌, ◌⊎◌, List, ap, arith, codes, inl, inr, refl, subst, sym}
+use Rattle.std.proofs.Common.{◌≡◌, ◌≢◌, ◌⊎◌, ◌∙◌, List, None, ap, arith, codes, inl, inr, refl, subst, sym}
 use Rattle.std.proofs.lemmas.Grind.{common_steps}
 use Rattle.clap.specs.Words.{Text, first_value}
 use Rattle.clap.specs.declared.parser.matches.Found.{Found}
-use Rattle.snap_args.specs.Faults.{HasWord, IsCallingFault, IsFaultOf, IsMigrationFault, IsPathFault, IsServingFault}
-use Rattle.snap_args.specs.Numbers.{IsNoNumber, IsNumberFault, IsPlaceFault}
+use Rattle.snap_args.specs.Faults.{HasWord, IsCallingFault, IsFaultOf, IsFolderFault, IsFoundingFault, IsMigrationFault}
+use Rattle.snap_args.specs.Faults.{IsAnswerFault, IsPathFault, IsServiceFault, IsServingFault}
+use Rattle.snap_args.specs.Requests.{IsRequestFault}
+use Rattle.snap_args.specs.Numbers.{IsCountFault, IsNoNumber, IsNumberFault, IsPlaceFault}
 use Rattle.snap_args.specs.Words.{HasCommand, OfCommand, all_values, word_of, words_of}
 use Rattle.snap_args.specs.declared.fault.WordFault.{WordFault}
-use Rattle.snap_args.specs.declared.fault.WordFault.TheVariants.{Count, Index, Memory, Missing, Number, Scanners, Tries}
-use Rattle.snap_args.proofs.Asked.{by_words, missing}
+use Rattle.snap_args.specs.declared.fault.WordFault.TheVariants.{Count, Index, Memory, Missing, NoFiles, Number, Request, Scanners, Tries}
+use Rattle.snap_args.proofs.Asked.{by_words, missing, named, word_is}
 
 -- a fault of a path that the command takes
 path_fault : {words : List Text} {name : Text} {found : Found} → HasCommand words name found
@@ -26,31 +28,75 @@ number_fault {words} its what takes (Number n) is =
 number_fault its what takes (Missing n) is = missing its what takes n.now is
 number_fault its what takes why is = absurd is
 
+-- of a count that it takes
+count_fault : {words : List Text} {name : Text} {found : Found} → HasCommand words name found
+    → HasWord name (codes "count") → (why : WordFault)
+    → IsCountFault (word_of words (codes "count")) why → IsFaultOf words why
+count_fault its takes (Count n) is = is
+count_fault its takes why is = number_fault its (codes "count") takes why is
+
 -- of a place that it takes
 place_fault : {words : List Text} {name : Text} {found : Found} → HasCommand words name found
     → ((what : Text) → (what ≡ codes "index") ⊎ (what ≡ codes "count") → HasWord name what)
     → (why : WordFault)
     → IsPlaceFault (word_of words (codes "index")) (word_of words (codes "count")) why
     → IsFaultOf words why
-place_fault its takes (Count n) is = is
 place_fault its takes (Index i n) is = is
 place_fault its takes why (inl is) =
     number_fault its (codes "index") (takes _ (inl refl)) why is
-place_fault its takes why (inr is) =
-    number_fault its (codes "count") (takes _ (inr refl)) why is
+place_fault its takes why (inr is) = count_fault its (takes _ (inr refl)) why is
 
--- of a server's words
-serving_fault : {words : List Text} {name : Text} {found : Found} → HasCommand words name found
-    → name ≡ codes "serve" → (why : WordFault)
-    → IsServingFault (word_of words) (words_of words) why → IsFaultOf words why
-serving_fault its named Memory is = tt
-serving_fault its named (Scanners n) (inr (inr (inl is))) = is
-serving_fault its named why (inl is) =
+-- of the words of a server, but for its files
+service_fault : {words : List Text} {name : Text} {found : Found} → HasCommand words name found
+    → name ≡ codes "serve" → (why : WordFault) → IsServiceFault (word_of words) why
+    → IsFaultOf words why
+service_fault its named Memory is = tt
+service_fault its named (Scanners n) (inr (inl is)) = is
+service_fault its named why (inl is) =
     path_fault its (codes "address") (inl (named, inl refl)) why is
-serving_fault its named why (inr (inr (inl is))) =
+service_fault its named why (inr (inl is)) =
     number_fault its (codes "scanners") (inl (named, inr refl)) why is
 -- any other is that of the words as it stands, or none
-serving_fault its named why (inr is) = grind (arith, is)
+service_fault its named why (inr is) = grind (arith, is)
+
+-- of one that has no folder
+serving_fault : {words : List Text} {name : Text} {found : Found} → HasCommand words name found
+    → name ≡ codes "serve" → word_of words (codes "dir") ≡ None → (why : WordFault)
+    → IsServingFault (word_of words) (words_of words) why → IsFaultOf words why
+serving_fault its called no_folder why (inr is) = service_fault its called why is
+serving_fault its called no_folder NoFiles (inl is) = (named its _ called, is, no_folder)
+serving_fault its called no_folder why (inl is) = grind (arith, is)
+
+-- of one that has one
+folder_fault : {words : List Text} {name : Text} {found : Found} → HasCommand words name found
+    → name ≡ codes "serve" → word_of words (codes "dir") ≢ None → (why : WordFault)
+    → IsFolderFault (word_of words) (words_of words) why → IsFaultOf words why
+folder_fault its called folder why (inr is) = service_fault its called why is
+folder_fault its called folder why (inl is) = rw is.0 (is.1, folder)
+
+-- of the words of a folder that is to be made
+founding_fault : {words : List Text} {name : Text} {found : Found} → HasCommand words name found
+    → name ≡ codes "init" → (why : WordFault) → IsFoundingFault (word_of words) why
+    → IsFaultOf words why
+founding_fault its called why (inl is) =
+    path_fault its (codes "folder") (inr (inr (inl (called, inl refl)))) why is
+founding_fault its called why (inr is) =
+    count_fault its (inr (inr (inl (called, inr refl)))) why is
+
+-- of a request's words
+request_fault : (words : List Text) (why : WordFault)
+    → IsRequestFault (words_of words (codes "request")) (word_of words (codes "value"))
+    (word_of words (codes "after")) why → IsFaultOf words why
+request_fault words (Request why) is = is
+request_fault words Memory is = tt
+request_fault words why is = absurd is
+
+-- of the words for how long an answer is waited for, and how it is printed
+answer_fault : (words : List Text) (why : WordFault)
+    → IsAnswerFault (word_of words) (words_of words) why → IsFaultOf words why
+answer_fault words why (inl is) = rw is.0 (refl, is.1)
+answer_fault words why (inr (inl is)) = rw is.0 (refl, is.1, is.2)
+answer_fault words why (inr (inr is)) = rw is.0 is.1
 
 -- of a call's words
 calling_fault : {words : List Text} {name : Text} {found : Found} → HasCommand words name found
@@ -62,7 +108,8 @@ calling_fault its named why (inl is) =
     path_fault its (codes "address") (inr (inl (named, inl refl))) why is
 calling_fault its named why (inr (inl is)) =
     number_fault its (codes "tries") (inr (inl (named, inr refl))) why is
-calling_fault its named why (inr is) = grind (arith, is)
+calling_fault {words} its named why (inr (inr (inl is))) = request_fault words why is
+calling_fault {words} its named why (inr (inr (inr is))) = answer_fault words why is
 
 -- a migration takes two files and a place
 migrate_takes : (name what : Text) → name ≡ codes "migrate"
@@ -83,10 +130,25 @@ migration_fault its named why (inr (inr is)) =
 
 -- The same of what was found, by the command's name.
 pub serve_fault : {name : Text} (found : Found) → name ≡ codes "serve" → (why : WordFault)
+    → first_value found (codes "dir") ≡ None
     → IsServingFault (first_value found) (all_values found) why
     → OfCommand name found (λ words. IsFaultOf words why)
-serve_fault found named why is = λ words its.
-    serving_fault its named why (by_words its (λ of all. IsServingFault of all why) is)
+serve_fault found called why no_folder is = λ words its.
+    serving_fault its called (sym (word_is its (codes "dir")) ∙ no_folder) why
+    (by_words its (λ of all. IsServingFault of all why) is)
+
+pub serve_folder_fault : {name : Text} (found : Found) → name ≡ codes "serve" → (why : WordFault)
+    → first_value found (codes "dir") ≢ None
+    → IsFolderFault (first_value found) (all_values found) why
+    → OfCommand name found (λ words. IsFaultOf words why)
+serve_folder_fault found called why folder is = λ words its.
+    folder_fault its called (λ none. folder (word_is its (codes "dir") ∙ none)) why
+    (by_words its (λ of all. IsFolderFault of all why) is)
+
+pub init_fault : {name : Text} (found : Found) → name ≡ codes "init" → (why : WordFault)
+    → IsFoundingFault (first_value found) why → OfCommand name found (λ words. IsFaultOf words why)
+init_fault found called why is = λ words its.
+    founding_fault its called why (by_words its (λ of all. IsFoundingFault of why) is)
 
 pub call_fault : {name : Text} (found : Found) → name ≡ codes "call" → (why : WordFault)
     → IsCallingFault (first_value found) (all_values found) why
@@ -95,11 +157,11 @@ call_fault found named why is = λ words its.
     calling_fault its named why (by_words its (λ of all. IsCallingFault of all why) is)
 
 pub placed_fault : {name : Text} (found : Found) → name ≢ codes "script" → name ≢ codes "serve"
-    → name ≢ codes "call" → name ≢ codes "check" → (why : WordFault)
+    → name ≢ codes "call" → name ≢ codes "init" → name ≢ codes "check" → (why : WordFault)
     → IsPlaceFault (first_value found (codes "index")) (first_value found (codes "count")) why
     → OfCommand name found (λ words. IsFaultOf words why)
-placed_fault found script serve call check why is = λ words its.
-    place_fault its (λ what place. inr (inr (script, serve, call, inr (check, place)))) why
+placed_fault found script serve call init check why is = λ words its.
+    place_fault its (λ what place. inr (inr (inr (script, serve, call, init, inr (check, place))))) why
     (by_words its (λ of all. IsPlaceFault (of (codes "index")) (of (codes "count")) why) is)
 
 pub migrate_fault : {name : Text} (found : Found) → name ≡ codes "migrate" → (why : WordFault)

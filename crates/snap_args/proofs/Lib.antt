@@ -1,4 +1,5 @@
 pub mod Asked
+pub mod Explained
 pub mod Faulted
 pub mod Masks
 pub mod Requests

@@ -1,19 +1,25 @@
 -- Which order and which fault goes with the words of a command.
-use Rattle.std.specs.Prelude.{◌≡◌, ◌≢◌, ◌⊎◌, ◌<◌, List, length, Option, Some, None, codes}
+use Rattle.std.specs.Prelude.{◌≡◌, ◌≢◌, ◌⊎◌, ◌<◌, List, [], false, length, Option, Some, None, codes}
 use Rattle.clap.specs.Words.{IsAmong, Row, Text, fault_of, kind_of, subcommand_of}
 use Rattle.clap.specs.declared.error.Error.{Error}
 use Rattle.clap.specs.declared.error.kind.ErrorKind.{ErrorKind}
 use Rattle.clap.specs.declared.error.kind.ErrorKind.TheVariants.{DisplayHelp, DisplayVersion, OutOfMemory}
 use Rattle.snap_order.specs.Limits.{MAX_COUNT}
+use Rattle.snap_order.specs.Order.{lists_segments}
 use Rattle.snap_order.specs.declared.order.Order.{Order}
 use Rattle.snap_order.specs.declared.order.Order.TheVariants as order
 use Rattle.snap_order.specs.declared.order.FileOrder.{FileOrder}
 use Rattle.snap_order.specs.declared.order.FileOrder.TheVariants.{Format, Put, Get, Check}
-use Rattle.snap_order.specs.declared.order.Serving.{Serving}
+use Rattle.snap_order.specs.declared.order.Calling.{Calling}
+use Rattle.snap_order.specs.declared.order.Question.{Question}
+use Rattle.snap_args.specs.Explanations.{IsShellUnknown}
 use Rattle.snap_args.specs.Grammar.{grammar_of}
-use Rattle.snap_args.specs.Numbers.{IsClientsFault, IsConnectionsFault, IsIdleFault, IsLargeNumberOf, IsLevelFault, IsNoNumber}
-use Rattle.snap_args.specs.Numbers.{IsNumberOf, IsPlaceFault, IsScannersFault, IsTriesFault}
-use Rattle.snap_args.specs.Requests.{IsNoRequest, IsRequestFault}
+use Rattle.snap_args.specs.Numbers.{IsClientsFault, IsConnectionsFault, IsCountFault, IsGiven, IsIdleFault, IsLargeNumberOf}
+use Rattle.snap_args.specs.Numbers.{IsLayoutFault, IsLevelFault, IsNoNumber, IsNumberOf, IsPlaceFault, IsScannersFault}
+use Rattle.snap_args.specs.Numbers.{IsTimeoutFault, IsTriesFault}
+use Rattle.snap_args.specs.Orders.{IsNamed}
+use Rattle.snap_args.specs.Requests.{IsNoRequest, IsQuestionOf, IsRequestFault}
+use Rattle.snap_args.specs.Services.{IsServiceOf}
 use Rattle.snap_args.specs.Words.{word_of, words_of}
 use Rattle.snap_args.specs.declared.fault.WordFault.{WordFault}
 use Rattle.snap_args.specs.declared.fault.WordFault.TheVariants as fault
@@ -29,9 +35,15 @@ IsMigrationFault of why = IsPlaceFault (of (codes "index")) (of (codes "count"))
     ⊎ (IsPathFault (of (codes "old")) (codes "old") why
     ⊎ IsPathFault (of (codes "new")) (codes "new") why)
 
+-- what is wrong with the words for a folder that is to be made
+abbrev pub IsFoundingFault : (of : Text → Option Text) → WordFault → Type 0
+IsFoundingFault of why = IsPathFault (of (codes "folder")) (codes "folder") why
+    ⊎ IsCountFault (of (codes "count")) why
+
 -- what is wrong with these words for files: there are none, or more than a server may have
 abbrev pub IsFilesFault : List Text → WordFault → Type 0
-IsFilesFault files (fault.Files n) = (length files ≡ n) × ((n ≡ 0) ⊎ (MAX_COUNT < n))
+IsFilesFault files fault.NoFiles = files ≡ []
+IsFilesFault files (fault.Files n) = (length files ≡ n) × (MAX_COUNT < n)
 IsFilesFault files fault.Memory = Unit {0}
 IsFilesFault files why = ⊥
 
@@ -40,16 +52,39 @@ abbrev pub IsLimitsFault : (of : Text → Option Text) → WordFault → Type 0
 IsLimitsFault of why = IsClientsFault (of (codes "clients-max")) why
     ⊎ (IsIdleFault (of (codes "idle")) why ⊎ IsLevelFault (of (codes "log")) why)
 
--- what is wrong with the words of a server
+-- what is wrong with the words of a server, but for its files
+abbrev pub IsServiceFault : (of : Text → Option Text) → WordFault → Type 0
+IsServiceFault of why = IsPathFault (of (codes "address")) (codes "address") why
+    ⊎ (IsScannersFault (of (codes "scanners")) why
+    ⊎ (IsConnectionsFault (of (codes "connections")) why ⊎ IsLimitsFault of why))
+
+-- what is wrong with the words of a server that has no folder
 abbrev pub IsServingFault : (of : Text → Option Text) (all : Text → List Text) → WordFault → Type 0
-IsServingFault of all why = IsPathFault (of (codes "address")) (codes "address") why
-    ⊎ (IsFilesFault (all (codes "files")) why ⊎ (IsScannersFault (of (codes "scanners")) why
-    ⊎ (IsConnectionsFault (of (codes "connections")) why ⊎ IsLimitsFault of why)))
+IsServingFault of all why = IsFilesFault (all (codes "files")) why ⊎ IsServiceFault of why
+
+-- what is wrong with the words of a server that has one
+abbrev pub IsFolderFault : (of : Text → Option Text) (all : Text → List Text) → WordFault → Type 0
+IsFolderFault of all why =
+    ((why ≡ fault.FilesAndFolder) × (all (codes "files") ≢ [])) ⊎ IsServiceFault of why
+
+-- a way to print the answer is given, and what these words ask lists no segments
+abbrev pub IsUnlisted : (text json : Option Text) → List Text → (value after : Option Text) → Type 0
+IsUnlisted text json words value after = (IsGiven text ⊎ IsGiven json)
+    × ((q : Question) × IsQuestionOf words value after q × (lists_segments q ≡ false))
+
+-- what is wrong with the words for how long an answer is waited for, and how it is printed
+abbrev pub IsAnswerFault : (of : Text → Option Text) (all : Text → List Text) → WordFault → Type 0
+IsAnswerFault of all why = IsTimeoutFault (of (codes "timeout")) why
+    ⊎ (IsLayoutFault (of (codes "text")) (of (codes "json")) why
+    ⊎ ((why ≡ fault.NoLayout) × IsUnlisted (of (codes "text")) (of (codes "json"))
+    (all (codes "request")) (of (codes "value")) (of (codes "after"))))
 
 -- what is wrong with the words of a call
 abbrev pub IsCallingFault : (of : Text → Option Text) (all : Text → List Text) → WordFault → Type 0
 IsCallingFault of all why = IsPathFault (of (codes "address")) (codes "address") why
-    ⊎ (IsTriesFault (of (codes "tries")) why ⊎ IsRequestFault (all (codes "request")) why)
+    ⊎ (IsTriesFault (of (codes "tries")) why
+    ⊎ (IsRequestFault (all (codes "request")) (of (codes "value")) (of (codes "after")) why
+    ⊎ IsAnswerFault of all why))
 
 -- the kinds of what is asked for in place of an order
 abbrev pub IsRequest : ErrorKind → Type 0
@@ -66,8 +101,8 @@ IsParseFault error why = ⊥
 abbrev pub IsCommandName : Text → Type 0
 IsCommandName name =
     (name ≡ codes "format") ⊎ ((name ≡ codes "put") ⊎ ((name ≡ codes "get")
-    ⊎ ((name ≡ codes "check") ⊎ ((name ≡ codes "migrate") ⊎ ((name ≡ codes "serve")
-    ⊎ ((name ≡ codes "call") ⊎ (name ≡ codes "script")))))))
+    ⊎ ((name ≡ codes "check") ⊎ ((name ≡ codes "migrate") ⊎ ((name ≡ codes "init")
+    ⊎ ((name ≡ codes "serve") ⊎ ((name ≡ codes "call") ⊎ (name ≡ codes "script"))))))))
 
 -- the words for files that the command takes
 abbrev pub HasFile : Text → Text → Type 0
@@ -77,7 +112,7 @@ HasFile command what = ((command ≡ codes "migrate") × ((what ≡ codes "old")
 -- the command, which is about one segment, takes this word behind its name
 abbrev pub HasSegmentWord : Text → Text → Type 0
 HasSegmentWord command what = (command ≢ codes "script") × (command ≢ codes "serve")
-    × (command ≢ codes "call") × (HasFile command what
+    × (command ≢ codes "call") × (command ≢ codes "init") × (HasFile command what
     ⊎ ((command ≢ codes "check") × ((what ≡ codes "index") ⊎ (what ≡ codes "count"))))
 
 -- the command takes this word behind its name
@@ -85,7 +120,8 @@ abbrev pub HasWord : Text → Text → Type 0
 HasWord command what =
     ((command ≡ codes "serve") × ((what ≡ codes "address") ⊎ (what ≡ codes "scanners")))
     ⊎ (((command ≡ codes "call") × ((what ≡ codes "address") ⊎ (what ≡ codes "tries")))
-    ⊎ HasSegmentWord command what)
+    ⊎ (((command ≡ codes "init") × ((what ≡ codes "folder") ⊎ (what ≡ codes "count")))
+    ⊎ HasSegmentWord command what))
 
 -- the command takes this word, and none was found
 abbrev pub IsMissing : List Text → Text → Type 0
@@ -100,11 +136,14 @@ IsFaultOf words (fault.Help error) = IsAmong (kind_of error) (fault_of grammar_o
     × IsRequest (kind_of error)
 IsFaultOf words (fault.Words error) =
     IsAmong (kind_of error) (fault_of grammar_of words) × (IsRequest (kind_of error) → ⊥)
-IsFaultOf words (fault.Count n) =
-    IsPlaceFault (word_of words (codes "index")) (word_of words (codes "count")) (fault.Count n)
+IsFaultOf words (fault.Count n) = IsCountFault (word_of words (codes "count")) (fault.Count n)
 IsFaultOf words (fault.Index i n) =
     IsPlaceFault (word_of words (codes "index")) (word_of words (codes "count")) (fault.Index i n)
+IsFaultOf words fault.NoFiles = (IsNamed words (codes "serve")) × (words_of words (codes "files") ≡ [])
+    × (word_of words (codes "dir") ≡ None)
 IsFaultOf words (fault.Files n) = IsFilesFault (words_of words (codes "files")) (fault.Files n)
+IsFaultOf words fault.FilesAndFolder = (words_of words (codes "files") ≢ [])
+    × (word_of words (codes "dir") ≢ None)
 IsFaultOf words (fault.Scanners n) =
     IsScannersFault (word_of words (codes "scanners")) (fault.Scanners n)
 IsFaultOf words fault.Connections =
@@ -113,10 +152,18 @@ IsFaultOf words fault.Clients =
     IsClientsFault (word_of words (codes "clients-max")) fault.Clients
 IsFaultOf words fault.Idle = IsIdleFault (word_of words (codes "idle")) fault.Idle
 IsFaultOf words fault.Level = IsLevelFault (word_of words (codes "log")) fault.Level
+IsFaultOf words fault.Timeout = IsTimeoutFault (word_of words (codes "timeout")) fault.Timeout
+IsFaultOf words fault.TwoLayouts =
+    IsLayoutFault (word_of words (codes "text")) (word_of words (codes "json")) fault.TwoLayouts
+IsFaultOf words fault.NoLayout = IsUnlisted (word_of words (codes "text"))
+    (word_of words (codes "json")) (words_of words (codes "request")) (word_of words (codes "value"))
+    (word_of words (codes "after"))
 IsFaultOf words (fault.Tries n) = IsTriesFault (word_of words (codes "tries")) (fault.Tries n)
-IsFaultOf words (fault.Request why) = IsNoRequest (words_of words (codes "request")) why
+IsFaultOf words (fault.Request why) = IsNoRequest (words_of words (codes "request"))
+    (word_of words (codes "value")) (word_of words (codes "after")) why
 IsFaultOf words (fault.Number name) = IsNoNumber (word_of words name.now)
 IsFaultOf words (fault.Missing name) = IsMissing words name.now
+IsFaultOf words fault.Shell = IsShellUnknown words
 IsFaultOf words fault.NoCommand =
     (name : Text) (rows : List Row) → subcommand_of grammar_of words ≡ Some (name, rows)
     → IsCommandName name → ⊥
@@ -128,7 +175,12 @@ IsFaultOf words fault.Memory = Unit {0}
 abbrev pub IsLaterFault : WordFault → Type 0
 IsLaterFault (fault.Count count) = Unit {0}
 IsLaterFault (fault.Index index count) = Unit {0}
+IsLaterFault fault.NoFiles = Unit {0}
 IsLaterFault (fault.Files count) = Unit {0}
+IsLaterFault fault.FilesAndFolder = Unit {0}
+IsLaterFault fault.Timeout = Unit {0}
+IsLaterFault fault.TwoLayouts = Unit {0}
+IsLaterFault fault.NoLayout = Unit {0}
 IsLaterFault (fault.Scanners scanners) = Unit {0}
 IsLaterFault fault.Connections = Unit {0}
 IsLaterFault fault.Clients = Unit {0}
@@ -152,17 +204,18 @@ AreFileNumbersOf words (Get file i n) = IsNumberOf (word_of words (codes "index"
     × IsNumberOf (word_of words (codes "count")) n
 AreFileNumbersOf words (Check file) = Unit {0}
 
--- the numbers of a server are those of their words
-pub record AreServingNumbersOf (words : List Text) (s : Serving) : Type 0 where
-  pub scanners : IsNumberOf (word_of words (codes "scanners")) s.scanners
-  pub connections : IsLargeNumberOf (word_of words (codes "connections")) s.connections
-  pub clients : IsLargeNumberOf (word_of words (codes "clients-max")) s.clients
-  pub idle : IsLargeNumberOf (word_of words (codes "idle")) s.idle
+-- the numbers of a call are those of their words
+pub record AreCallingNumbersOf (words : List Text) (c : Calling) : Type 0 where
+  pub tries : IsNumberOf (word_of words (codes "tries")) c.tries
+  pub timeout : IsLargeNumberOf (word_of words (codes "timeout")) c.timeout
 
 abbrev pub AreNumbersOf : List Text → Order → Type 0
 AreNumbersOf words (order.File o) = AreFileNumbersOf words o
 AreNumbersOf words (order.Migrate m) = IsNumberOf (word_of words (codes "index")) m.index
     × IsNumberOf (word_of words (codes "count")) m.count
-AreNumbersOf words (order.Serve s) = AreServingNumbersOf words s
-AreNumbersOf words (order.Call c) = IsNumberOf (word_of words (codes "tries")) c.tries
+AreNumbersOf words (order.Init f) = IsNumberOf (word_of words (codes "count")) f.count
+AreNumbersOf words (order.Serve s) = IsServiceOf (word_of words) s
+AreNumbersOf words (order.ServeFolder folder s) = IsServiceOf (word_of words) s
+AreNumbersOf words (order.Call c) = AreCallingNumbersOf words c
 AreNumbersOf words order.Script = Unit {0}
+AreNumbersOf words (order.Explain e) = Unit {0}

@@ -3,7 +3,7 @@ use Rattle.std.specs.Prelude.{◌≡◌, [], ◌∷◌, Some, false, true, codes
 use Rattle.clap.specs.Words.{App, Rule, Shape, Text, app_of, new_app, new_rule, with_rule, with_subcommand}
 use Rattle.clap.specs.declared.builder.Command.{Command}
 use Rattle.clap.specs.declared.builder.Command.TheViews.{out-Command}
-use Rattle.clap.specs.declared.builder.ArgAction.TheVariants.{Append, Set}
+use Rattle.clap.specs.declared.builder.ArgAction.TheVariants.{Append, Set, SetTrue}
 use Rattle.clap.specs.declared.builder.value_parser.ValueParser.TheVariants as parser
 
 -- a word that has to be there, under this name
@@ -13,6 +13,10 @@ word_rule name = record (new_rule name) { value_names = 1; required = true; acti
 -- one word or more, under this name
 abbrev pub words_rule : Text → Rule
 words_rule name = record (word_rule name) { action = Some Append }
+
+-- any number of words, under this name
+abbrev pub free_words_rule : Text → Rule
+free_words_rule name = record (words_rule name) { required = false }
 
 -- an option that takes a number from 0 to 255
 abbrev pub number_rule : Text → Text → Rule
@@ -32,6 +36,10 @@ large_number_rule name = record (new_rule name) {
   parser = Some (parser.Unsigned 0 18446744073709551615);
 }
 
+-- an option that takes a word, and may be left out
+abbrev pub text_rule : Text → Rule
+text_rule name = record (new_rule name) { long = Some name; value_names = 1 }
+
 -- an option that takes a word
 abbrev pub choice_rule : Text → Text → Rule
 choice_rule name default = record (new_rule name) {
@@ -39,6 +47,10 @@ choice_rule name default = record (new_rule name) {
   value_names = 1;
   defaults = default ∷ [];
 }
+
+-- an option that takes no word
+abbrev pub flag_rule : Text → Rule
+flag_rule name = record (new_rule name) { long = Some name; action = Some SetTrue }
 
 abbrev pub filed : App → App
 filed app = with_rule app (word_rule (codes "file"))
@@ -52,6 +64,11 @@ placed app = with_rule (with_rule app (number_rule (codes "index") (codes "0")))
 abbrev pub paired : App → App
 paired app = placed (with_rule (with_rule app (word_rule (codes "old"))) (word_rule (codes "new")))
 
+-- with a folder and how many segments it is to have
+abbrev pub founded : App → App
+founded app = with_rule (with_rule app (word_rule (codes "folder")))
+    (number_rule (codes "count") (codes "1"))
+
 abbrev pub addressed : App → App
 addressed app = with_rule app (word_rule (codes "address"))
 
@@ -61,16 +78,31 @@ limited app = with_rule
     (with_rule (with_rule app (large_number_rule (codes "clients-max")))
     (large_number_rule (codes "idle"))) (choice_rule (codes "log") (codes "info"))
 
--- with an address, files, and the numbers of a server
+-- with files, or the folder that they are in
+abbrev pub supplied : App → App
+supplied app = with_rule (with_rule app (free_words_rule (codes "files"))) (text_rule (codes "dir"))
+
+-- with an address, files or a folder, and the numbers of a server
 abbrev pub served : App → App
-served app = limited (with_rule
-    (with_rule (with_rule (addressed app) (words_rule (codes "files")))
+served app = limited (with_rule (with_rule (supplied (addressed app))
     (number_rule (codes "scanners") (codes "4"))) (large_number_rule (codes "connections")))
 
--- with an address, the words of a request, and the number of tries
+-- with a put's value, and the number behind which it is stored
+abbrev pub stored : App → App
+stored app = with_rule (with_rule app (text_rule (codes "value"))) (large_number_rule (codes "after"))
+
+-- with how the answer is printed
+abbrev pub printed : App → App
+printed app = with_rule (with_rule app (flag_rule (codes "text"))) (flag_rule (codes "json"))
+
+-- with how often and how long an answer is waited for
+abbrev pub tried : App → App
+tried app = with_rule (with_rule app (number_rule (codes "tries") (codes "1")))
+    (large_number_rule (codes "timeout"))
+
+-- with an address, the words of a request, the tries, a put's options, and how the answer is printed
 abbrev pub called : App → App
-called app = with_rule (with_rule (addressed app) (words_rule (codes "request")))
-    (number_rule (codes "tries") (codes "1"))
+called app = printed (stored (tried (with_rule (addressed app) (words_rule (codes "request")))))
 
 -- this command tells a version, and so does each command below it
 abbrev pub versioned : App → App
@@ -85,7 +117,7 @@ abbrev pub program_of : App
 program_of = record { top = top_shape; subs = [] }
 
 abbrev pub grammar_of : App
-grammar_of = with_subcommand
+grammar_of = with_subcommand (with_subcommand
     (with_subcommand (with_subcommand (with_subcommand (with_subcommand (with_subcommand
     (with_subcommand (with_subcommand program_of
     (placed (filed (new_app (codes "format")))).top)
@@ -93,6 +125,7 @@ grammar_of = with_subcommand
     (placed (filed (new_app (codes "get")))).top)
     (filed (new_app (codes "check"))).top)
     (paired (new_app (codes "migrate"))).top)
+    (founded (new_app (codes "init"))).top)
     (served (new_app (codes "serve"))).top)
     (called (new_app (codes "call"))).top) (new_app (codes "script")).top
 

@@ -1,14 +1,17 @@
 -- The numbers among the words of a command, and what is wrong with them.
-use Rattle.std.specs.Prelude.{◌≡◌, ◌≢◌, ◌⊎◌, ℕ, ◌<◌, ◌≤◌, ◌^◌, length, Option, Some, None, codes}
+use Rattle.std.specs.Prelude.{◌≡◌, ◌≢◌, ◌⊎◌, ℕ, ◌-◌, ◌<◌, ◌≤◌, ◌^◌, length, Option, Some, None, codes}
 use Rattle.std.specs.Str.Parse.{IsNumeral, digits_value, without_leading_plus}
 use Rattle.clap.specs.Words.{Text}
 use Rattle.snap_order.specs.Limits.{MAX_COUNT, MAX_SCANNERS, MAX_TRIES}
 use Rattle.snap_order.specs.Order.{IsOneTo}
+use Rattle.snap_order.specs.declared.order.Layout.{Layout}
+use Rattle.snap_order.specs.declared.order.Layout.TheVariants as layout
 use Rattle.snap_order.specs.declared.order.Level.{Level}
 use Rattle.snap_order.specs.declared.order.Level.TheVariants as level
-use Rattle.snap_order.specs.declared.order.TheConstants.{MAX_CLIENTS, MAX_IDLE}
+use Rattle.snap_order.specs.declared.order.TheConstants.{MAX_CLIENTS, MAX_IDLE, MAX_TIMEOUT}
 use Rattle.snap_args.specs.declared.fault.WordFault.{WordFault}
 use Rattle.snap_args.specs.declared.fault.WordFault.TheVariants as fault
+use Rattle.snap_args.specs.declared.fault.RequestFault.TheVariants as request
 
 -- the word is a decimal number, with or without a plus sign, and n is its value
 abbrev pub IsNumberOf : Option Text → ℕ → Type 0
@@ -30,6 +33,10 @@ IsNoNumber word = IsNoNumberBelow (2 ^ 8) word
 -- of 64 bits
 abbrev pub IsNoLargeNumber : Option Text → Type 0
 IsNoLargeNumber word = IsNoNumberBelow (2 ^ 64) word
+
+-- of 64 bits with another one behind it
+abbrev pub IsNoBehind : Option Text → Type 0
+IsNoBehind word = IsNoNumberBelow (2 ^ 64 - 1) word
 
 -- the word is no decimal number from 1 to this one
 abbrev pub IsNoNumberTo : ℕ → Option Text → Type 0
@@ -54,13 +61,16 @@ IsNumberFault word what (fault.Number name) = (name.now ≡ what) × IsNoNumber 
 IsNumberFault word what (fault.Missing name) = (name.now ≡ what) × (word ≡ None)
 IsNumberFault word what why = ⊥
 
+-- what is wrong with this word for a count
+abbrev pub IsCountFault : Option Text → WordFault → Type 0
+IsCountFault count (fault.Count n) = IsNumberOf count n × ((n ≡ 0) ⊎ (MAX_COUNT < n))
+IsCountFault count why = IsNumberFault count (codes "count") why
+
 -- what is wrong with these words for an index and a count
 abbrev pub IsPlaceFault : (index count : Option Text) → WordFault → Type 0
-IsPlaceFault index count (fault.Count n) = IsNumberOf count n × ((n ≡ 0) ⊎ (MAX_COUNT < n))
 IsPlaceFault index count (fault.Index i n) = IsNumberOf index i × IsNumberOf count n × (n ≤ i)
     × (n ≤ MAX_COUNT)
-IsPlaceFault index count why = IsNumberFault index (codes "index") why
-    ⊎ IsNumberFault count (codes "count") why
+IsPlaceFault index count why = IsNumberFault index (codes "index") why ⊎ IsCountFault count why
 
 -- what is wrong with this word for a number of scanners
 abbrev pub IsScannersFault : Option Text → WordFault → Type 0
@@ -79,19 +89,40 @@ IsConnectionsFault word why = ⊥
 
 -- what is wrong with this word for the most connections at once
 abbrev pub IsClientsFault : Option Text → WordFault → Type 0
-IsClientsFault word fault.Clients = IsNoNumberTo MAX_CLIENTS word
-IsClientsFault word why = ⊥
+IsClientsFault word why = (why ≡ fault.Clients) × IsNoNumberTo MAX_CLIENTS word
 
 -- what is wrong with this word for the seconds that a connection may say nothing
 abbrev pub IsIdleFault : Option Text → WordFault → Type 0
-IsIdleFault word fault.Idle = IsNoNumberTo MAX_IDLE word
-IsIdleFault word why = ⊥
+IsIdleFault word why = (why ≡ fault.Idle) × IsNoNumberTo MAX_IDLE word
+
+-- what is wrong with this word for the seconds that an answer is waited for
+abbrev pub IsTimeoutFault : Option Text → WordFault → Type 0
+IsTimeoutFault word why = (why ≡ fault.Timeout) × IsNoNumberTo MAX_TIMEOUT word
+
+-- what is wrong with this word for a number that another one is stored behind
+abbrev pub IsAfterFault : Option Text → WordFault → Type 0
+IsAfterFault word (fault.Request request.After) = IsNoBehind word
+IsAfterFault word why = ⊥
 
 abbrev pub level_word : Level → Text
 level_word level.Error = codes "error"
 level_word level.Warn = codes "warn"
 level_word level.Info = codes "info"
 level_word level.Debug = codes "debug"
+
+-- the flag is given
+abbrev pub IsGiven : Option Text → Type 0
+IsGiven word = word ≡ Some (codes "true")
+
+-- how these flags say that an answer is printed
+abbrev pub IsLayoutOf : (text json : Option Text) → Layout → Type 0
+IsLayoutOf text json layout.Lines = (IsGiven text → ⊥) × (IsGiven json → ⊥)
+IsLayoutOf text json layout.Text = IsGiven text × (IsGiven json → ⊥)
+IsLayoutOf text json layout.Json = IsGiven json × (IsGiven text → ⊥)
+
+-- what is wrong with these flags: both are given
+abbrev pub IsLayoutFault : (text json : Option Text) → WordFault → Type 0
+IsLayoutFault text json why = (why ≡ fault.TwoLayouts) × IsGiven text × IsGiven json
 
 -- the word is this level's
 abbrev pub IsLevelOf : Option Text → Level → Type 0

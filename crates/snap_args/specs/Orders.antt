@@ -1,15 +1,18 @@
 -- Which order goes with which words.
-use Rattle.std.specs.Prelude.{◌≡◌, ◌≢◌, List, map, Option, Some, codes}
+use Rattle.std.specs.Prelude.{◌≡◌, ◌≢◌, List, [], map, Option, Some, None, codes}
 use Rattle.clap.specs.Words.{Row, Text, first_of, subcommand_of}
 use Rattle.snap_order.specs.declared.order.Order.{Order}
 use Rattle.snap_order.specs.declared.order.Order.TheVariants as order
 use Rattle.snap_order.specs.declared.order.FileOrder.{FileOrder}
 use Rattle.snap_order.specs.declared.order.FileOrder.TheVariants.{Format, Put, Get, Check}
+use Rattle.snap_order.specs.declared.order.Founding.{Founding}
 use Rattle.snap_order.specs.declared.order.Serving.{Serving}
 use Rattle.snap_order.specs.declared.order.Calling.{Calling}
+use Rattle.snap_args.specs.Explanations.{IsExplanationOf}
 use Rattle.snap_args.specs.Grammar.{grammar_of}
-use Rattle.snap_args.specs.Numbers.{IsLevelOf}
+use Rattle.snap_args.specs.Numbers.{IsLayoutOf}
 use Rattle.snap_args.specs.Requests.{IsQuestionOf}
+use Rattle.snap_args.specs.Services.{IsServiceOf}
 use Rattle.snap_args.specs.Words.{word_of, words_of}
 
 -- the command's name and the words of its rules
@@ -29,7 +32,7 @@ IsNamed words name = (rows : List Row) × (subcommand_of grammar_of words ≡ So
 -- a command of this name is none of those that have more than one file, or none
 abbrev pub IsOtherCommand : Text → Type 0
 IsOtherCommand name = (name ≢ codes "script") × (name ≢ codes "serve") × (name ≢ codes "call")
-    × (name ≢ codes "migrate")
+    × (name ≢ codes "migrate") × (name ≢ codes "init")
 
 -- the words are those of this order: its command, and its file
 abbrev pub IsFileAskedBy : List Text → FileOrder → Type 0
@@ -42,23 +45,40 @@ IsFileAskedBy words (Get file index count) =
 IsFileAskedBy words (Check file) =
     IsCommand (subcommand_of grammar_of words) (codes "check") file.now
 
--- the words are those of a server at this address, with these files, and with this level of its log
+-- the words are those of the making of this folder
+pub record IsFoundingOf (words : List Text) (f : Founding) : Type 0 where
+  pub command : IsNamed words (codes "init")
+  pub folder : word_of words (codes "folder") ≡ Some f.folder.now
+
+-- the words are those of this server, with these files and no folder
 pub record IsServerOf (words : List Text) (s : Serving) : Type 0 where
   pub command : IsNamed words (codes "serve")
-  pub address : word_of words (codes "address") ≡ Some s.address.now
   pub files : words_of words (codes "files") ≡ map (λ f. f.now) s.files.items
-  pub log : IsLevelOf (word_of words (codes "log")) s.log
+  pub no_folder : word_of words (codes "dir") ≡ None
+  pub service : IsServiceOf (word_of words) s
 
--- the words are those of a call of the server at this address, with this request
+-- the words are those of this server, with this folder and no files
+pub record IsFolderServerOf (words : List Text) (path : Text) (s : Serving) : Type 0 where
+  pub command : IsNamed words (codes "serve")
+  pub folder : word_of words (codes "dir") ≡ Some path
+  pub no_files : words_of words (codes "files") ≡ []
+  pub service : IsServiceOf (word_of words) s
+
+-- the words are those of a call of the server at this address, with this question and this layout
 pub record IsCallOf (words : List Text) (c : Calling) : Type 0 where
   pub command : IsNamed words (codes "call")
   pub address : word_of words (codes "address") ≡ Some c.address.now
-  pub request : IsQuestionOf (words_of words (codes "request")) c.question
+  pub request : IsQuestionOf (words_of words (codes "request")) (word_of words (codes "value"))
+      (word_of words (codes "after")) c.question
+  pub layout : IsLayoutOf (word_of words (codes "text")) (word_of words (codes "json")) c.layout
 
 abbrev pub IsAskedBy : List Text → Order → Type 0
 IsAskedBy words (order.File o) = IsFileAskedBy words o
 IsAskedBy words (order.Migrate m) =
     IsPair (subcommand_of grammar_of words) (codes "migrate") m.old.now m.new.now
+IsAskedBy words (order.Init f) = IsFoundingOf words f
 IsAskedBy words (order.Serve s) = IsServerOf words s
+IsAskedBy words (order.ServeFolder folder s) = IsFolderServerOf words folder.now s
 IsAskedBy words (order.Call c) = IsCallOf words c
 IsAskedBy words order.Script = IsNamed words (codes "script")
+IsAskedBy words (order.Explain e) = IsExplanationOf words e

@@ -1,13 +1,17 @@
 -- Which request goes with which words.
-use Rattle.std.specs.Prelude.{◌≡◌, ◌≢◌, ◌<◌, ℕ, List, [], ◌∷◌, length, Some, codes}
+use Rattle.std.specs.Prelude.{◌≡◌, ◌≢◌, ◌⊎◌, ◌<◌, ℕ, List, [], ◌∷◌, length, Option, Some, None, codes}
 use Rattle.clap.specs.Words.{Text}
 use Rattle.snap_hex.specs.Text.{IsHex}
-use Rattle.snap_order.specs.Limits.{MAX_UPDATE_VALUE}
+use Rattle.snap_order.specs.Limits.{MAX_COUNT, MAX_UPDATE_VALUE}
 use Rattle.snap_order.specs.request.Request.{Request}
 use Rattle.snap_order.specs.request.Request.TheVariants.{Update, Scan, Status, Part}
 use Rattle.snap_order.specs.declared.order.Question.{Question}
 use Rattle.snap_order.specs.declared.order.Question.TheVariants as question
-use Rattle.snap_args.specs.Numbers.{IsMask, IsNoLargeNumber, IsNoNumber, IsNumberOf}
+use Rattle.snap_order.specs.declared.order.Putting.{Putting}
+use Rattle.snap_order.specs.declared.order.Source.{Source}
+use Rattle.snap_order.specs.declared.order.Source.TheVariants as source
+use Rattle.snap_args.specs.Numbers.{IsLargeNumberOf, IsMask, IsNoBehind, IsNoLargeNumber, IsNoNumber, IsNoNumberBelow}
+use Rattle.snap_args.specs.Numbers.{IsNumberOf}
 use Rattle.snap_args.specs.declared.fault.RequestFault.{RequestFault}
 use Rattle.snap_args.specs.declared.fault.RequestFault.TheVariants as fault
 use Rattle.snap_args.specs.declared.fault.WordFault.{WordFault}
@@ -24,9 +28,13 @@ IsUpdateOf segment number value (Update i k bytes) =
     IsNumberOf (Some segment) i × IsNumberOf (Some number) k × IsHex value bytes
 IsUpdateOf segment number value request = ⊥
 
+-- the words are this name and one more, and this holds of that one
+abbrev pub OfTwo : (name : Text) → List Text → (Text → Type 0) → Type 0
+OfTwo name words P = (word : Text) × (words ≡ name ∷ word ∷ []) × P word
+
 -- the words are those of a scan of some segments, and this holds of its mask
 abbrev pub OfPart : List Text → (Text → Type 0) → Type 0
-OfPart words P = (mask : Text) × (words ≡ codes "part" ∷ mask ∷ []) × P mask
+OfPart words P = OfTwo (codes "part") words P
 
 -- the scan of the segments that the mask names
 abbrev pub IsPartOf : (mask : Text) → Request → Type 0
@@ -41,10 +49,31 @@ IsRequestOf words Scan = words ≡ codes "scan" ∷ []
 IsRequestOf words Status = words ≡ codes "status" ∷ []
 IsRequestOf words (Part set) = OfPart words (λ mask. IsPartOf mask (Part set))
 
--- what the words ask of a server
-abbrev pub IsQuestionOf : List Text → Question → Type 0
-IsQuestionOf words (question.Request r) = IsRequestOf words r
-IsQuestionOf words question.Health = words ≡ codes "health" ∷ []
+-- where a put's value comes from: these bytes, where there is a word for it, and else standard input
+abbrev pub IsSourceOf : Option Text → Source → Type 0
+IsSourceOf None source.Input = Unit {0}
+IsSourceOf (Some word) (source.Words bytes) = bytes ≡ word
+IsSourceOf word s = ⊥
+
+-- the put that the word for a segment and the options say
+pub record IsPutOf (i : Text) (text k : Option Text) (p : Putting) : Type 0 where
+  pub segment : IsNumberOf (Some i) p.segment
+  pub value : IsSourceOf text p.value
+  pub after : IsLargeNumberOf k p.after
+
+-- the options of a put aren't given
+abbrev pub HasNoOption : (value after : Option Text) → Type 0
+HasNoOption value after = (value ≡ None) × (after ≡ None)
+
+-- What the words ask of a server. The options of a put are for it alone.
+abbrev pub IsQuestionOf : List Text → (value after : Option Text) → Question → Type 0
+IsQuestionOf words value after (question.Request r) = IsRequestOf words r × HasNoOption value after
+IsQuestionOf words value after question.Health =
+    (words ≡ codes "health" ∷ []) × HasNoOption value after
+IsQuestionOf words value after (question.Get i) =
+    OfTwo (codes "get") words (λ segment. IsNumberOf (Some segment) i) × HasNoOption value after
+IsQuestionOf words value after (question.Put p) =
+    OfTwo (codes "put") words (λ segment. IsPutOf segment value after p)
 
 -- what is wrong with the words of an update
 abbrev pub IsNoUpdate : (segment number value : Text) → RequestFault → Type 0
@@ -61,15 +90,53 @@ IsNoPart mask fault.Mask = (bits : ℕ) → IsMask mask bits → ⊥
 IsNoPart mask fault.NoSegment = IsMask mask 0
 IsNoPart mask why = ⊥
 
--- why the words are no request: they are of no form, or a scan's of some segments or an update's
--- that is wrong
-abbrev pub IsNoRequest : List Text → RequestFault → Type 0
-IsNoRequest words fault.Form = (words ≢ codes "scan" ∷ []) × (words ≢ codes "status" ∷ [])
-    × (words ≢ codes "health" ∷ []) × ((mask : Text) → words ≢ codes "part" ∷ mask ∷ [])
-    × ((i k v : Text) → words ≢ codes "update" ∷ i ∷ k ∷ v ∷ [])
-IsNoRequest words fault.Mask = OfPart words (λ mask. IsNoPart mask fault.Mask)
-IsNoRequest words fault.NoSegment = OfPart words (λ mask. IsNoPart mask fault.NoSegment)
-IsNoRequest words why = OfUpdate words (λ segment number value. IsNoUpdate segment number value why)
+-- what is wrong with the word for a value: it doesn't fit an update
+abbrev pub IsLongValue : Option Text → (len : ℕ) → Type 0
+IsLongValue None len = ⊥
+IsLongValue (Some word) len = (length word ≡ len) × (MAX_UPDATE_VALUE < len)
+
+-- what is wrong with the words of a put
+abbrev pub IsNoPut : (segment : Text) (value after : Option Text) → RequestFault → Type 0
+IsNoPut segment value after fault.PutSegment = IsNoNumber (Some segment)
+IsNoPut segment value after fault.After = IsNoBehind after
+IsNoPut segment value after (fault.TooLong len) = IsLongValue value len
+IsNoPut segment value after why = ⊥
+
+-- the first word is that of a put or of a get, and there isn't one word behind it
+abbrev pub HasNoSegment : List Text → Type 0
+HasNoSegment words = (name : Text) × (rest : List Text) × (words ≡ name ∷ rest)
+    × ((name ≡ codes "put") ⊎ (name ≡ codes "get")) × (length rest ≢ 1)
+
+-- the words are of no form of a request
+pub record IsOfNoForm (words : List Text) : Type 0 where
+  pub scan : words ≢ codes "scan" ∷ []
+  pub status : words ≢ codes "status" ∷ []
+  pub health : words ≢ codes "health" ∷ []
+  pub part : (mask : Text) → words ≢ codes "part" ∷ mask ∷ []
+  pub update : (i k v : Text) → words ≢ codes "update" ∷ i ∷ k ∷ v ∷ []
+  pub put : (i : Text) → words ≢ codes "put" ∷ i ∷ []
+  pub get : (i : Text) → words ≢ codes "get" ∷ i ∷ []
+
+-- Why the words are no request: they are of no form, or those of one that is wrong, or have an option that
+-- is for a put alone.
+abbrev pub IsNoRequest : List Text → (value after : Option Text) → RequestFault → Type 0
+IsNoRequest words value after fault.Form = IsOfNoForm words
+IsNoRequest words value after fault.Mask = OfPart words (λ mask. IsNoPart mask fault.Mask)
+IsNoRequest words value after fault.NoSegment = OfPart words (λ mask. IsNoPart mask fault.NoSegment)
+IsNoRequest words value after fault.OneSegment = HasNoSegment words
+IsNoRequest words value after fault.GetSegment =
+    OfTwo (codes "get") words (λ segment. IsNoNumberBelow MAX_COUNT (Some segment))
+IsNoRequest words value after fault.NotPut =
+    ((i : Text) → words ≢ codes "put" ∷ i ∷ []) × (HasNoOption value after → ⊥)
+IsNoRequest words value after fault.PutSegment =
+    OfTwo (codes "put") words (λ segment. IsNoPut segment value after fault.PutSegment)
+IsNoRequest words value after fault.After =
+    OfTwo (codes "put") words (λ segment. IsNoPut segment value after fault.After)
+IsNoRequest words value after (fault.TooLong len) =
+    OfUpdate words (λ segment number value. IsNoUpdate segment number value (fault.TooLong len))
+    ⊎ OfTwo (codes "put") words (λ segment. IsNoPut segment value after (fault.TooLong len))
+IsNoRequest words value after why =
+    OfUpdate words (λ segment number value. IsNoUpdate segment number value why)
 
 -- the same, or memory was wanting
 abbrev pub IsUpdateFault : (segment number value : Text) → WordFault → Type 0
@@ -81,7 +148,21 @@ abbrev pub IsPartFault : (mask : Text) → WordFault → Type 0
 IsPartFault mask (word_fault.Request why) = IsNoPart mask why
 IsPartFault mask why = ⊥
 
-abbrev pub IsRequestFault : List Text → WordFault → Type 0
-IsRequestFault words (word_fault.Request why) = IsNoRequest words why
-IsRequestFault words word_fault.Memory = Unit {0}
-IsRequestFault words why = ⊥
+abbrev pub IsGetFault : (segment : Text) → WordFault → Type 0
+IsGetFault segment (word_fault.Request fault.GetSegment) = IsNoNumberBelow MAX_COUNT (Some segment)
+IsGetFault segment why = ⊥
+
+abbrev pub IsValueFault : (value : Option Text) → WordFault → Type 0
+IsValueFault value (word_fault.Request (fault.TooLong len)) = IsLongValue value len
+IsValueFault value word_fault.Memory = Unit {0}
+IsValueFault value why = ⊥
+
+abbrev pub IsPutFault : (segment : Text) (value after : Option Text) → WordFault → Type 0
+IsPutFault segment value after (word_fault.Request why) = IsNoPut segment value after why
+IsPutFault segment value after word_fault.Memory = Unit {0}
+IsPutFault segment value after why = ⊥
+
+abbrev pub IsRequestFault : List Text → (value after : Option Text) → WordFault → Type 0
+IsRequestFault words value after (word_fault.Request why) = IsNoRequest words value after why
+IsRequestFault words value after word_fault.Memory = Unit {0}
+IsRequestFault words value after why = ⊥

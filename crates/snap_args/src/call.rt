@@ -1,17 +1,19 @@
 //! The words of `call`.
-ghost use Rattle.std.specs.Prelude.{◌≡◌, IfErr, IfOk, Some, codes};
+ghost use Rattle.std.specs.Prelude.{◌≡◌, ◌↔◌, IfErr, IfOk, IsTrue, Some, codes};
 ghost use Rattle.clap.specs.Words.{first_value, found_of};
 ghost use Rattle.snap_order.specs.Order.{IsCallable};
 ghost use Rattle.snap_args.specs.Faults.{IsCallingFault};
+ghost use Rattle.snap_args.specs.Numbers.{IsGiven, IsLargeNumberOf, IsLayoutFault, IsLayoutOf};
 ghost use Rattle.snap_args.specs.Numbers.{IsNumberOf};
 ghost use Rattle.snap_args.specs.Requests.{IsQuestionOf};
 ghost use Rattle.snap_args.specs.Words.{all_values};
 
 use crate::WordFault;
-use crate::numbers::tries_of;
+use crate::numbers::{limit_of, tries_of};
 use crate::request::question_of;
+use crate::words::is;
 use clap::ArgMatches;
-use snap_order::Calling;
+use snap_order::{Calling, Layout, MAX_TIMEOUT};
 use std::alloc::Global;
 
 /// A server's address, what is asked of it, and the tries.
@@ -20,9 +22,15 @@ pub(crate) fn calling<'a>(alloc: Global, matches: &ArgMatches<'a>) -> Result<Cal
     ensures address { IfOk result
         (λ c. Some c.address.now ≡ first_value (found_of matches.now) (codes "address")) }
     ensures request { IfOk result
-        (λ c. IsQuestionOf (all_values (found_of matches.now) (codes "request")) c.question) }
+        (λ c. IsQuestionOf (all_values (found_of matches.now) (codes "request"))
+        (first_value (found_of matches.now) (codes "value"))
+        (first_value (found_of matches.now) (codes "after")) c.question) }
     ensures tries { IfOk result
         (λ c. IsNumberOf (first_value (found_of matches.now) (codes "tries")) c.tries) }
+    ensures timeout { IfOk result
+        (λ c. IsLargeNumberOf (first_value (found_of matches.now) (codes "timeout")) c.timeout) }
+    ensures layout { IfOk result (λ c. IsLayoutOf (first_value (found_of matches.now) (codes "text"))
+        (first_value (found_of matches.now) (codes "json")) c.layout) }
     ensures fault { IfErr result (IsCallingFault (first_value (found_of matches.now))
         (all_values (found_of matches.now))) }
 {
@@ -30,10 +38,42 @@ pub(crate) fn calling<'a>(alloc: Global, matches: &ArgMatches<'a>) -> Result<Cal
         return Err(WordFault::Missing { what: "address" });
     };
     let tries = tries_of(matches)?;
+    let timeout = limit_of(matches, "timeout", MAX_TIMEOUT, WordFault::Timeout)?;
+    let layout = layout_of(matches)?;
     let question = question_of(alloc, matches)?;
+    if layout != Layout::Lines && !question.lists_segments() {
+        return Err(WordFault::NoLayout);
+    }
     Ok(Calling {
         address,
         question,
         tries,
+        timeout,
+        layout,
     })
+}
+
+/// How the answer is printed.
+fn layout_of(matches: &ArgMatches<'_>) -> Result<Layout, WordFault>
+    ensures layout { IfOk result (IsLayoutOf (first_value (found_of matches.now) (codes "text"))
+        (first_value (found_of matches.now) (codes "json"))) }
+    ensures fault { IfErr result (IsLayoutFault (first_value (found_of matches.now) (codes "text"))
+        (first_value (found_of matches.now) (codes "json"))) }
+{
+    match (is_given(matches, "text"), is_given(matches, "json")) {
+        (false, false) => Ok(Layout::Lines),
+        (true, false) => Ok(Layout::Text),
+        (false, true) => Ok(Layout::Json),
+        (true, true) => Err(WordFault::TwoLayouts),
+    }
+}
+
+/// The flag is given.
+fn is_given(matches: &ArgMatches<'_>, name: &'static str) -> bool
+    ensures { IsTrue result ↔ IsGiven (first_value (found_of matches.now) name.now) }
+{
+    match matches.get_str(name) {
+        Some(word) => is(word, "true"),
+        None => false,
+    }
 }

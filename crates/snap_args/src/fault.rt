@@ -1,5 +1,5 @@
 //! Why words are no order.
-use snap_order::{MAX_CLIENTS, MAX_IDLE, MAX_UPDATE_VALUE};
+use snap_order::{MAX_CLIENTS, MAX_IDLE, MAX_TIMEOUT, MAX_UPDATE_VALUE};
 use std::alloc::AllocError;
 use thiserror::Error;
 
@@ -18,6 +18,21 @@ pub enum RequestFault {
     /// The mask of a scan of some segments names none.
     #[error("the part's mask names no segment")]
     NoSegment,
+    /// There isn't one word behind that of a put or a get.
+    #[error("a put is `put I`, and a get `get I`, of one segment")]
+    OneSegment,
+    /// A get's segment is none of those that a server may have.
+    #[error("the segment to get is not a number from 0 to 15")]
+    GetSegment,
+    /// A put's segment is no number from 0 to 255.
+    #[error("the segment to put is not a number from 0 to 255")]
+    PutSegment,
+    /// The number behind which a put's value is stored is none, or has no next one.
+    #[error("the number after which it is stored is not from 0 to {max}", max = u64::MAX - 1)]
+    After,
+    /// An option of a put stands with another request.
+    #[error("--value and --after are for `put I` alone")]
+    NotPut,
     /// An update's segment is no number from 0 to 255.
     #[error("the update's segment is not a number from 0 to 255")]
     Segment,
@@ -27,7 +42,7 @@ pub enum RequestFault {
     /// An update's value is no text of bytes.
     #[error("the update's value is not `-` or two hexadecimal digits for each byte")]
     Value,
-    /// An update's value doesn't fit a request.
+    /// The value of an update or a put doesn't fit a request.
     #[error("the update's value has {len} bytes, and a request holds at most {max}", max = MAX_UPDATE_VALUE)]
     TooLong { len: usize },
 }
@@ -48,9 +63,15 @@ pub enum WordFault {
     /// The index isn't below the count.
     #[error("error: the index {index} is not below the count {count}{more}", more = MORE)]
     Index { index: u8, count: u8 },
-    /// A server's files are none, or more than it may have.
+    /// A server's files are more than it may have.
     #[error("error: the number of files {count} is not from 1 to 16{more}", more = MORE)]
     Files { count: usize },
+    /// A server has no files, and no folder.
+    #[error("error: no FILE and no --dir is given{more}", more = MORE)]
+    NoFiles,
+    /// A server has both files and a folder.
+    #[error("error: FILEs and --dir are given, and a server has either{more}", more = MORE)]
+    FilesAndFolder,
     /// A server's scanners are none, or more than it may have.
     #[error("error: the number of scanners {scanners} is not from 1 to 16{more}", more = MORE)]
     Scanners { scanners: u8 },
@@ -69,6 +90,15 @@ pub enum WordFault {
     /// The tries are none, or more than there may be.
     #[error("error: the number of tries {tries} is not from 1 to 10{more}", more = MORE)]
     Tries { tries: u8 },
+    /// The word for how long an answer is waited for is no number of seconds that a call may have.
+    #[error("error: the seconds of the timeout are not from 1 to {max}{more}", max = MAX_TIMEOUT, more = MORE)]
+    Timeout,
+    /// An answer can't be printed in both ways.
+    #[error("error: --text and --json are given, and an answer is printed in one way{more}", more = MORE)]
+    TwoLayouts,
+    /// What is asked has no answer that can be printed so.
+    #[error("error: --text and --json are for scan, part, status and health{more}", more = MORE)]
+    NoLayout,
     /// The words for a request are none.
     #[error("error: {0}{more}", more = MORE)]
     Request(RequestFault),
@@ -78,6 +108,9 @@ pub enum WordFault {
     /// There is no word for this.
     #[error("error: no {what} is given{more}", more = MORE)]
     Missing { what: &'static str },
+    /// There are no completions for the shell that is named.
+    #[error("error: the shell is not `bash`, `zsh` or `fish`{more}", more = MORE)]
+    Shell,
     /// No command is named.
     #[error("error: no command is given{more}", more = MORE)]
     NoCommand,

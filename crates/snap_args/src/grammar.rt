@@ -3,13 +3,14 @@ ghost use Rattle.std.specs.Prelude.{◌≡◌, IfOk, codes, false};
 ghost use Rattle.clap.specs.Words.{App, Rule, app_of, new_app, rule_of, with_rule};
 ghost use Rattle.clap.specs.Words.{with_subcommand};
 ghost use Rattle.clap.specs.declared.builder.Command.TheViews.{out-Command};
-ghost use Rattle.snap_args.specs.Grammar.{IsCommandOf, addressed, called, filed, grammar_of};
-ghost use Rattle.snap_args.specs.Grammar.{choice_rule, large_number_rule, limited, number_rule};
-ghost use Rattle.snap_args.specs.Grammar.{paired, placed, program_of, served, versioned};
-ghost use Rattle.snap_args.specs.Grammar.{word_rule, words_rule};
+ghost use Rattle.snap_args.specs.Grammar.{IsCommandOf, addressed, called, choice_rule, filed};
+ghost use Rattle.snap_args.specs.Grammar.{flag_rule, founded, free_words_rule, grammar_of};
+ghost use Rattle.snap_args.specs.Grammar.{large_number_rule, limited, number_rule, paired, placed};
+ghost use Rattle.snap_args.specs.Grammar.{printed, program_of, served, stored, supplied, text_rule};
+ghost use Rattle.snap_args.specs.Grammar.{tried, versioned, word_rule, words_rule};
 
 use crate::help::{
-    CALL_HELP, CHECK_HELP, FORMAT_HELP, GET_HELP, MIGRATE_HELP, PROGRAM_HELP, PUT_HELP,
+    CALL_HELP, CHECK_HELP, FORMAT_HELP, GET_HELP, INIT_HELP, MIGRATE_HELP, PROGRAM_HELP, PUT_HELP,
     SCRIPT_HELP, SERVE_HELP,
 };
 use clap::{Arg, ArgAction, Command, value_parser};
@@ -22,6 +23,7 @@ pub(crate) fn grammar<'a>(alloc: Global) -> Result<Command<'a>, AllocError>
     ensures { IfOk result (λ command. app_of command ≡ grammar_of) }
 {
     let commands = with_command(segment_commands(alloc), migrate_command(alloc));
+    let commands = with_command(commands, init_command(alloc));
     let commands = with_command(commands, serve_command(alloc));
     let commands = with_command(commands, call_command(alloc));
     with_command(commands, Ok(script_command(alloc)))
@@ -106,14 +108,24 @@ fn migrate_command<'a>(alloc: Global) -> Result<Command<'a>, AllocError>
     with_place(alloc, with_arg(with_arg(Ok(command), old), new))
 }
 
+fn init_command<'a>(alloc: Global) -> Result<Command<'a>, AllocError>
+    ensures { IfOk result (IsCommandOf (founded (new_app (codes "init")))) }
+{
+    let about = "Make a folder with the file of each segment, and go on where that was cut off";
+    let help = "The path of the folder, which is made where it isn't there";
+    let folder = required_word(alloc, "folder", "DIR", help);
+    let command = described_command(alloc, "init", about, INIT_HELP);
+    let made = with_arg(Ok(command), folder);
+    let help = "How many segments there are to be, 1 to 16";
+    with_arg(made, number_option(alloc, "count", "1", "N", help))
+}
+
 fn serve_command<'a>(alloc: Global) -> Result<Command<'a>, AllocError>
     ensures { IfOk result (IsCommandOf (served (new_app (codes "serve")))) }
 {
     let about = "Serve segments to clients, safe from crashes";
     let command = addressed_command(alloc, "serve", about, SERVE_HELP);
-    let help = "The files, in order of segment: 1 to 16";
-    let command = with_arg(command, required_words(alloc, "files", "FILE", help));
-    with_limits(alloc, with_service(alloc, command))
+    with_limits(alloc, with_service(alloc, with_supply(alloc, command)))
 }
 
 fn call_command<'a>(alloc: Global) -> Result<Command<'a>, AllocError>
@@ -121,10 +133,9 @@ fn call_command<'a>(alloc: Global) -> Result<Command<'a>, AllocError>
 {
     let about = "Ask a server, and print its reply";
     let command = addressed_command(alloc, "call", about, CALL_HELP);
-    let help = "The request: update I NUMBER HEX, scan, part MASK, status or health";
+    let help = "The request: put I, get I, update I NUMBER HEX, scan, part MASK, status or health";
     let command = with_arg(command, required_words(alloc, "request", "WORD", help));
-    let help = "The most connections that are made, 1 to 10";
-    with_arg(command, number_option(alloc, "tries", "1", "T", help))
+    with_layouts(alloc, with_storing(alloc, with_patience(alloc, command)))
 }
 
 fn script_command<'a>(alloc: Global) -> Command<'a>
@@ -187,6 +198,20 @@ fn addressed_command<'a>(
     described_command(alloc, name, about, more).arg(address)
 }
 
+/// The command with a server's files, or their folder, where it was made.
+fn with_supply<'a>(
+    alloc: Global,
+    made: Result<Command<'a>, AllocError>,
+) -> Result<Command<'a>, AllocError>
+    ensures { (words : App) → IfOk made.entry (IsCommandOf words)
+        → IfOk result (IsCommandOf (supplied words)) }
+{
+    let help = "The files, in order of segment: 1 to 16";
+    let command = with_arg(made, free_words(alloc, "files", "FILE", help));
+    let help = "The folder of the files, in place of these";
+    with_arg(command, text_option(alloc, "dir", "DIR", help))
+}
+
 /// The command with the numbers of a server, where it was made.
 fn with_service<'a>(
     alloc: Global,
@@ -219,6 +244,51 @@ fn with_limits<'a>(
     let command = with_arg(command, large_number_option(alloc, "idle", "SECONDS", help));
     let help = "The least level of a line on standard error: error, warn, info or debug";
     with_arg(command, choice_option(alloc, "log", "info", "LEVEL", help))
+}
+
+/// The command with how often and how long an answer is waited for, where it was made.
+fn with_patience<'a>(
+    alloc: Global,
+    made: Result<Command<'a>, AllocError>,
+) -> Result<Command<'a>, AllocError>
+    ensures { (words : App) → IfOk made.entry (IsCommandOf words)
+        → IfOk result (IsCommandOf (tried words)) }
+{
+    let help = "The most connections that are made, 1 to 10";
+    let command = with_arg(made, number_option(alloc, "tries", "1", "T", help));
+    let help = "End where no answer came for so long, 1 to 86400";
+    with_arg(
+        command,
+        large_number_option(alloc, "timeout", "SECONDS", help),
+    )
+}
+
+/// The command with how an answer is printed, where it was made.
+fn with_layouts<'a>(
+    alloc: Global,
+    made: Result<Command<'a>, AllocError>,
+) -> Result<Command<'a>, AllocError>
+    ensures { (words : App) → IfOk made.entry (IsCommandOf words)
+        → IfOk result (IsCommandOf (printed words)) }
+{
+    let help = "Print each value as text, where it is";
+    let command = with_arg(made, flag(alloc, "text", help));
+    let help = "Print the answer as JSON, on one line";
+    with_arg(command, flag(alloc, "json", help))
+}
+
+/// The command with the options of a put, where it was made.
+fn with_storing<'a>(
+    alloc: Global,
+    made: Result<Command<'a>, AllocError>,
+) -> Result<Command<'a>, AllocError>
+    ensures { (words : App) → IfOk made.entry (IsCommandOf words)
+        → IfOk result (IsCommandOf (stored words)) }
+{
+    let help = "The value of a put, in place of standard input";
+    let command = with_arg(made, text_option(alloc, "value", "TEXT", help));
+    let help = "The number that a put stores behind, in place of the one that is there";
+    with_arg(command, large_number_option(alloc, "after", "K", help))
 }
 
 /// The command with the place of a segment, where it was made.
@@ -255,6 +325,25 @@ fn required_words<'a>(alloc: Global, name: &'a str, shown: &'a str, help: &'a st
     required_word(alloc, name, shown, help).action(ArgAction::Append)
 }
 
+/// Words of which there may be none.
+fn free_words<'a>(alloc: Global, name: &'a str, shown: &'a str, help: &'a str) -> Arg<'a>
+    ensures rule { rule_of result ≡ free_words_rule name.entry.now }
+    ensures local { result.global ≡ false }
+{
+    required_words(alloc, name, shown, help).required(false)
+}
+
+/// An option without a word.
+fn flag<'a>(alloc: Global, name: &'a str, help: &'a str) -> Arg<'a>
+    ensures rule { rule_of result ≡ flag_rule name.entry.now }
+    ensures local { result.global ≡ false }
+{
+    Arg::new(alloc, name)
+        .long(name)
+        .help(help)
+        .action(ArgAction::SetTrue)
+}
+
 /// An option for a number of 64 bits, which may be left out.
 fn large_number_option<'a>(alloc: Global, name: &'a str, shown: &'a str, help: &'a str) -> Arg<'a>
     ensures rule { rule_of result ≡ large_number_rule name.entry.now }
@@ -263,6 +352,17 @@ fn large_number_option<'a>(alloc: Global, name: &'a str, shown: &'a str, help: &
     Arg::new(alloc, name)
         .long(name)
         .value_parser(value_parser!(u64))
+        .value_name(shown)
+        .help(help)
+}
+
+/// An option for a word, which may be left out.
+fn text_option<'a>(alloc: Global, name: &'a str, shown: &'a str, help: &'a str) -> Arg<'a>
+    ensures rule { rule_of result ≡ text_rule name.entry.now }
+    ensures local { result.global ≡ false }
+{
+    Arg::new(alloc, name)
+        .long(name)
         .value_name(shown)
         .help(help)
 }

@@ -6,7 +6,8 @@ Example:
   echo 'step 100' | snapd put manifest.seg
   snapd get manifest.seg
 
-Many values for many readers: see `snapd serve --help` and `snapd call --help`.
+Many values for many readers: see `snapd init --help`, `snapd serve --help` and `snapd call --help`.
+All on one page: `snapd help --man | man -l -`.
 
 Exit status:
   0  done
@@ -50,7 +51,22 @@ Cut off before, it can be run again: NEW is then unformatted, or refused as
 Example:
   snapd migrate manifest.seg manifest.new && mv manifest.new manifest.seg";
 
+pub(crate) const INIT_HELP: &str = "\
+DIR gets the files segment-00.seg, segment-01.seg and so on, each formatted as one of N segments. DIR
+is made where it isn't there; the folder above it has to be. Prints `formatted I of N` for each.
+
+It may be run again, above all where it was cut off: a file that is whole is left as it is, which
+prints `kept I of N number K`, and what is missing is made. A file that is neither is refused, and
+keeps its bytes.
+
+Example:
+  snapd init board --count 4
+  snapd serve 127.0.0.1:7070 --dir board";
+
 pub(crate) const SERVE_HELP: &str = "\
+DIR is a folder made by `snapd init DIR --count N`. All that ends in .seg there is a file of a
+segment, and says itself of which; so a file may be renamed, and is refused where it is foreign.
+
 Each FILE is one segment, made before by `snapd format FILE --index I --count N`, where I counts
 from 0 in the order of the files and N is how many there are. All files are locked while it runs,
 so there is one server on its files, and `put` on one of them says that it is in use.
@@ -78,13 +94,18 @@ Exit status:
   2  the words can't be read
   3  a file was refused, or memory is wanting; the number and the name are on standard error
 
-Example:
+Examples:
+  snapd init board --count 2
+  snapd serve 127.0.0.1:7070 --dir board
+
   snapd format s0.seg --index 0 --count 2
   snapd format s1.seg --index 1 --count 2
   snapd serve 127.0.0.1:7070 s0.seg s1.seg";
 
 pub(crate) const CALL_HELP: &str = "\
 Requests:
+  put I                store standard input as the next value of segment I; prints `stored K`
+  get I                prints the value of segment I, byte for byte, and nothing else
   update I NUMBER HEX  store HEX as value NUMBER of segment I; prints `stored NUMBER`
   scan                 all values at one moment; prints `segment I number K value HEX` for each
   part MASK            the same of the segments that MASK names, and of no other one
@@ -97,19 +118,35 @@ MASK is four hexadecimal digits of a number whose bit I, worth 2 to the power I,
 0009 names segments 0 and 3, and 8000 names segment 15. It names one segment at least.
 A fenced segment takes no update until its server is started again, since a store of it failed.
 
+A put reads at most 4,080 bytes, or takes TEXT in place of standard input; a longer input is refused
+as 3 TooLong. Then it asks for the number that segment I has, and stores the next one; with K it asks
+for none and stores number K + 1. Whoever stores that number first with another value has it: then
+the put is refused as 4 Conflict or 5 OutOfStep, and isn't tried again. A get takes I from 0 to 15.
+
 A connection that fails is tried again up to T times in all, with the same request. That is safe:
-an update whose number is stored already isn't stored twice.
+an update whose number is stored already isn't stored twice. A put asks twice, each up to T times.
+A call has SECONDS for its answer, all tries together; without it waits for as long as it takes.
+
+With --text, scan and part print `text \"..\"` in place of `value HEX` where a value is printable:
+UTF-8 without control characters but tabs and line ends. It is quoted as in JSON, so each value is
+one line. With --json, they, status and health print one JSON document on one line: a value under
+\"text\" where it is UTF-8, and else under \"base64\".
 
 Exit status:
   0  done
-  1  no connection gave an answer, or standard output failed; an update may have been stored
+  1  no connection gave an answer, or standard output failed; an update may have been stored; or
+     standard input failed
   2  the words can't be read
   3  refused, with `snapd: refused CODE NAME DETAIL` on standard error, or memory is wanting; or
-     `health` found a fenced segment
+     `health` found a fenced segment; or a put's input is too long
 
 Examples:
+  echo 'step 100' | snapd call 127.0.0.1:7070 put 0
+  snapd call 127.0.0.1:7070 put 0 --value 'step 101' --after 1
+  snapd call 127.0.0.1:7070 get 0
   snapd call 127.0.0.1:7070 update 0 1 6869
-  snapd call 127.0.0.1:7070 scan --tries 3
+  snapd call 127.0.0.1:7070 scan --text
+  snapd call 127.0.0.1:7070 scan --tries 3 --timeout 5
   snapd call 127.0.0.1:7070 part 0009
   snapd call 127.0.0.1:7070 health";
 
@@ -175,3 +212,11 @@ Example: a crash after the gate of a stored value was written, and before it was
   called sync
   called read
   memory 6869";
+
+pub(crate) const HELP_HELP: &str = "\
+Each option stands alone. Both print what is made of the same commands and texts as help.
+
+Examples:
+  snapd help serve
+  snapd help --man | man -l -
+  . <(snapd help --completions bash)";

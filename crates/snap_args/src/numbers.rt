@@ -1,17 +1,17 @@
 //! The numbers among the words of a command, within their limits.
-ghost use Rattle.std.specs.Prelude.{◌≤◌, ℕ, IfErr, IfOk, IfSome, MatchOption, Some, codes};
+ghost use Rattle.std.specs.Prelude.{◌≡◌, ◌+◌, ◌^◌, ◌<◌, ◌≤◌, ℕ, IfErr, IfOk, IfSome, MatchOption, Some};
+ghost use Rattle.std.specs.Prelude.{codes};
 ghost use Rattle.clap.specs.Words.{first_value, found_of};
-ghost use Rattle.snap_order.specs.Limits.{MAX_SCANNERS, MAX_TRIES};
+ghost use Rattle.snap_order.specs.Limits.{MAX_COUNT, MAX_SCANNERS, MAX_TRIES};
 ghost use Rattle.snap_order.specs.Order.{IsOneTo, IsPlace};
-ghost use Rattle.snap_order.specs.declared.order.TheConstants.{MAX_CLIENTS, MAX_IDLE};
-ghost use Rattle.snap_args.specs.Numbers.{IsClientsFault, IsConnectionsFault, IsIdleFault};
+ghost use Rattle.snap_args.specs.Numbers.{IsAfterFault, IsConnectionsFault, IsCountFault};
 ghost use Rattle.snap_args.specs.Numbers.{IsLargeNumberOf, IsMask, IsNoNumberTo, IsNumberFault};
 ghost use Rattle.snap_args.specs.Numbers.{IsNumberOf, IsPlaceFault, IsScannersFault};
 ghost use Rattle.snap_args.specs.Numbers.{IsTriesFault};
 
-use crate::WordFault;
+use crate::{RequestFault, WordFault};
 use clap::ArgMatches;
-use snap_order::{MAX_CLIENTS, MAX_COUNT, MAX_IDLE, MAX_SCANNERS, MAX_TRIES};
+use snap_order::{MAX_COUNT, MAX_SCANNERS, MAX_TRIES};
 
 /// The place of a file's segment, within the limits.
 pub(crate) fn place(matches: &ArgMatches<'_>) -> Result<(u8, u8), WordFault>
@@ -25,14 +25,26 @@ pub(crate) fn place(matches: &ArgMatches<'_>) -> Result<(u8, u8), WordFault>
         (first_value (found_of matches.now) (codes "count"))) }
 {
     let index = number_of(matches, "index")?;
-    let count = number_of(matches, "count")?;
-    if count == 0 || count > MAX_COUNT {
-        return Err(WordFault::Count { count });
-    }
+    let count = count_of(matches)?;
     if index >= count {
         return Err(WordFault::Index { index, count });
     }
     Ok((index, count))
+}
+
+/// How many segments there are, 1 to 16.
+pub(crate) fn count_of(matches: &ArgMatches<'_>) -> Result<u8, WordFault>
+    ensures limits { IfOk result (IsOneTo MAX_COUNT) }
+    ensures number { IfOk result
+        (IsNumberOf (first_value (found_of matches.now) (codes "count"))) }
+    ensures fault { IfErr result
+        (IsCountFault (first_value (found_of matches.now) (codes "count"))) }
+{
+    let count = number_of(matches, "count")?;
+    if count == 0 || count > MAX_COUNT {
+        return Err(WordFault::Count { count });
+    }
+    Ok(count)
 }
 
 /// The number that stands for this, from 0 to 255.
@@ -98,37 +110,41 @@ pub(crate) fn connections_of(matches: &ArgMatches<'_>) -> Result<Option<u64>, Wo
     }
 }
 
-/// The most connections that a server is to have open at once, where that is said.
-pub(crate) fn clients_of(matches: &ArgMatches<'_>) -> Result<Option<u32>, WordFault>
-    ensures limits { IfOk result (λ most. IfSome most (IsOneTo MAX_CLIENTS)) }
-    ensures number { IfOk result
-        (IsLargeNumberOf (first_value (found_of matches.now) (codes "clients-max"))) }
-    ensures fault { IfErr result
-        (IsClientsFault (first_value (found_of matches.now) (codes "clients-max"))) }
+/// The number that an option says, 1 to `most`, where it is given. With another word it is this fault.
+pub(crate) fn limit_of(
+    matches: &ArgMatches<'_>,
+    what: &'static str,
+    most: u32,
+    fault: WordFault,
+) -> Result<Option<u32>, WordFault>
+    ensures limits { IfOk result (λ limit. IfSome limit (IsOneTo most)) }
+    ensures number { IfOk result (IsLargeNumberOf (first_value (found_of matches.now) what.now)) }
+    ensures fault { IfErr result (λ why. (why ≡ fault)
+        × IsNoNumberTo most (first_value (found_of matches.now) what.now)) }
 {
-    let Some(word) = matches.get_str("clients-max") else {
+    let Some(word) = matches.get_str(what) else {
         return Ok(None);
     };
-    match number_to(word, MAX_CLIENTS) {
+    match number_to(word, most) {
         Some(number) => Ok(Some(number)),
-        None => Err(WordFault::Clients),
+        None => Err(fault),
     }
 }
 
-/// For how many seconds a connection may say nothing, where that is said.
-pub(crate) fn idle_of(matches: &ArgMatches<'_>) -> Result<Option<u32>, WordFault>
-    ensures limits { IfOk result (λ most. IfSome most (IsOneTo MAX_IDLE)) }
+/// The number behind which a value is stored, where that is said: it has a next one.
+pub(crate) fn after_of(matches: &ArgMatches<'_>) -> Result<Option<u64>, WordFault>
+    ensures limits { IfOk result (λ after. IfSome after (λ k. k + 1 < 2 ^ 64)) }
     ensures number { IfOk result
-        (IsLargeNumberOf (first_value (found_of matches.now) (codes "idle"))) }
+        (IsLargeNumberOf (first_value (found_of matches.now) (codes "after"))) }
     ensures fault { IfErr result
-        (IsIdleFault (first_value (found_of matches.now) (codes "idle"))) }
+        (IsAfterFault (first_value (found_of matches.now) (codes "after"))) }
 {
-    let Some(word) = matches.get_str("idle") else {
+    let Some(word) = matches.get_str("after") else {
         return Ok(None);
     };
-    match number_to(word, MAX_IDLE) {
-        Some(number) => Ok(Some(number)),
-        None => Err(WordFault::Idle),
+    match word.parse::<u64>() {
+        Ok(number) if number < u64::MAX => Ok(Some(number)),
+        _ => Err(WordFault::Request(RequestFault::After)),
     }
 }
 

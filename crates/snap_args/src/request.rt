@@ -1,42 +1,76 @@
 //! The words of a request.
-ghost use Rattle.std.specs.Prelude.{◌≤◌, IfErr, IfOk, codes, length, map};
-ghost use Rattle.clap.specs.Words.{found_of};
+ghost use Rattle.std.specs.Prelude.{◌≢◌, ◌<◌, ◌≤◌, ◌∷◌, [], IfErr, IfOk, None, Some, codes, length, map};
+ghost use Rattle.clap.specs.Words.{Text, first_value, found_of};
 ghost use Rattle.snap_order.specs.Messages.{IsAskable, max_payload, payload};
-ghost use Rattle.snap_order.specs.Order.{request_of};
-ghost use Rattle.snap_args.specs.Requests.{IsPartFault, IsPartOf, IsQuestionOf};
-ghost use Rattle.snap_args.specs.Requests.{IsRequestFault, IsUpdateFault, IsUpdateOf};
+ghost use Rattle.snap_order.specs.Limits.{MAX_COUNT};
+ghost use Rattle.snap_order.specs.Order.{FitsUpdate, IsWithin, request_of};
+ghost use Rattle.snap_order.specs.declared.order.Question.TheVariants as question;
+ghost use Rattle.snap_args.specs.Numbers.{IsNumberOf};
+ghost use Rattle.snap_args.specs.Requests.{IsGetFault, IsNoRequest, IsOfNoForm, IsPartFault};
+ghost use Rattle.snap_args.specs.Requests.{IsPartOf, IsPutFault, IsPutOf, IsQuestionOf};
+ghost use Rattle.snap_args.specs.Requests.{IsRequestFault, IsSourceOf, IsUpdateFault, IsUpdateOf};
+ghost use Rattle.snap_args.specs.Requests.{IsValueFault};
 ghost use Rattle.snap_args.specs.Words.{all_values};
 
-use crate::numbers::mask_of;
+use crate::numbers::{after_of, mask_of};
 use crate::words::is;
 use crate::{RequestFault, WordFault};
 use bytes::Bytes;
 use clap::ArgMatches;
 use snap_hex::read_hex;
-use snap_order::{MAX_UPDATE_VALUE, Question, Request, SegmentSet};
+use snap_order::{MAX_COUNT, MAX_UPDATE_VALUE, Putting, Question, Request, SegmentSet, Source};
 use std::alloc::Global;
 
-/// What is asked of a server, whose request fits a frame and may be asked.
+/// What is asked of a server, within the limits.
 pub(crate) fn question_of(alloc: Global, matches: &ArgMatches<'_>) -> Result<Question, WordFault>
-    ensures question { IfOk result
-        (IsQuestionOf (all_values (found_of matches.now) (codes "request"))) }
+    ensures question { IfOk result (IsQuestionOf
+        (all_values (found_of matches.now) (codes "request"))
+        (first_value (found_of matches.now) (codes "value"))
+        (first_value (found_of matches.now) (codes "after"))) }
     ensures fits { IfOk result (λ q. length (payload (request_of q)) ≤ max_payload) }
     ensures askable { IfOk result (λ q. IsAskable (request_of q)) }
-    ensures fault { IfErr result
-        (IsRequestFault (all_values (found_of matches.now) (codes "request"))) }
+    ensures within { IfOk result IsWithin }
+    ensures fault { IfErr result (IsRequestFault
+        (all_values (found_of matches.now) (codes "request"))
+        (first_value (found_of matches.now) (codes "value"))
+        (first_value (found_of matches.now) (codes "after"))) }
 {
     match matches.get_strs("request") {
-        Some(words) => question(alloc, words),
+        Some(words) => question(alloc, words, matches),
         None => Err(WordFault::Request(RequestFault::Form)),
     }
 }
 
-/// What the words ask.
-fn question(alloc: Global, words: &[&str]) -> Result<Question, WordFault>
-    ensures question { IfOk result (IsQuestionOf (map (λ w. w.now) words.now)) }
+/// What the words ask, with the options of a put.
+fn question(alloc: Global, words: &[&str], matches: &ArgMatches<'_>) -> Result<Question, WordFault>
+    ensures question { IfOk result (IsQuestionOf (map (λ w. w.now) words.now)
+        (first_value (found_of matches.now) (codes "value"))
+        (first_value (found_of matches.now) (codes "after"))) }
     ensures fits { IfOk result (λ q. length (payload (request_of q)) ≤ max_payload) }
     ensures askable { IfOk result (λ q. IsAskable (request_of q)) }
-    ensures fault { IfErr result (IsRequestFault (map (λ w. w.now) words.now)) }
+    ensures within { IfOk result IsWithin }
+    ensures fault { IfErr result (IsRequestFault (map (λ w. w.now) words.now)
+        (first_value (found_of matches.now) (codes "value"))
+        (first_value (found_of matches.now) (codes "after"))) }
+{
+    if words.len() == 2 && is(words[0], "put") {
+        let put = put(alloc, words[1], matches)?;
+        return Ok(Question::Put(put));
+    }
+    if matches.get_str("value").is_some() || matches.get_str("after").is_some() {
+        return Err(WordFault::Request(RequestFault::NotPut));
+    }
+    plain_question(alloc, words)
+}
+
+/// What the words ask that aren't a put's and have no option of one.
+fn plain_question(alloc: Global, words: &[&str]) -> Result<Question, WordFault>
+    requires other { (i : Text) → map (λ w. w.now) words.now ≢ codes "put" ∷ i ∷ [] }
+    ensures question { IfOk result (IsQuestionOf (map (λ w. w.now) words.now) None None) }
+    ensures fits { IfOk result (λ q. length (payload (request_of q)) ≤ max_payload) }
+    ensures askable { IfOk result (λ q. IsAskable (request_of q)) }
+    ensures within { IfOk result IsWithin }
+    ensures fault { IfErr result (IsRequestFault (map (λ w. w.now) words.now) None None) }
 {
     if words.len() == 1 && is(words[0], "scan") {
         return Ok(Question::Request(Request::Scan));
@@ -51,11 +85,82 @@ fn question(alloc: Global, words: &[&str]) -> Result<Question, WordFault>
         let part = part(words[1])?;
         return Ok(Question::Request(part));
     }
+    if words.len() == 2 && is(words[0], "get") {
+        let segment = segment_to_get(words[1])?;
+        return Ok(Question::Get { segment });
+    }
     if words.len() == 4 && is(words[0], "update") {
         let update = update(alloc, words[1], words[2], words[3])?;
         return Ok(Question::Request(update));
     }
-    Err(WordFault::Request(RequestFault::Form))
+    Err(WordFault::Request(form_fault(words)))
+}
+
+/// Why words are no request that are of no form.
+fn form_fault(words: &[&str]) -> RequestFault
+    requires other { IsOfNoForm (map (λ w. w.now) words.now) }
+    ensures { IsNoRequest (map (λ w. w.now) words.now) None None result }
+{
+    let Some(&name) = words.first() else {
+        return RequestFault::Form;
+    };
+    if is(name, "put") || is(name, "get") {
+        return RequestFault::OneSegment;
+    }
+    RequestFault::Form
+}
+
+/// The segment that this word says, which a server may have.
+fn segment_to_get(word: &str) -> Result<u8, WordFault>
+    ensures segment { IfOk result (IsNumberOf (Some word.now)) }
+    ensures below { IfOk result (λ i. i < MAX_COUNT) }
+    ensures fault { IfErr result (IsGetFault word.now) }
+{
+    match word.parse::<u8>() {
+        Ok(segment) if segment < MAX_COUNT => Ok(segment),
+        _ => Err(WordFault::Request(RequestFault::GetSegment)),
+    }
+}
+
+/// The put of this segment, with its options.
+fn put(alloc: Global, segment: &str, matches: &ArgMatches<'_>) -> Result<Putting, WordFault>
+    ensures put { IfOk result (IsPutOf segment.now
+        (first_value (found_of matches.now) (codes "value"))
+        (first_value (found_of matches.now) (codes "after"))) }
+    ensures within { IfOk result (λ p. IsWithin (question.Put p)) }
+    ensures fault { IfErr result (IsPutFault segment.now
+        (first_value (found_of matches.now) (codes "value"))
+        (first_value (found_of matches.now) (codes "after"))) }
+{
+    let Ok(segment) = segment.parse::<u8>() else {
+        return Err(WordFault::Request(RequestFault::PutSegment));
+    };
+    let after = after_of(matches)?;
+    let value = source_of(alloc, matches)?;
+    Ok(Putting {
+        segment,
+        value,
+        after,
+    })
+}
+
+/// Where a put's value comes from.
+fn source_of(alloc: Global, matches: &ArgMatches<'_>) -> Result<Source, WordFault>
+    ensures source { IfOk result
+        (IsSourceOf (first_value (found_of matches.now) (codes "value"))) }
+    ensures fits { IfOk result FitsUpdate }
+    ensures fault { IfErr result
+        (IsValueFault (first_value (found_of matches.now) (codes "value"))) }
+{
+    let Some(text) = matches.get_str("value") else {
+        return Ok(Source::Input);
+    };
+    if text.len() > MAX_UPDATE_VALUE {
+        let len = text.len();
+        return Err(WordFault::Request(RequestFault::TooLong { len }));
+    }
+    let bytes = Bytes::copy_from_slice(alloc, text.as_bytes())?;
+    Ok(Source::Words(bytes))
 }
 
 /// The scan of the segments that this word names.

@@ -1,55 +1,78 @@
 //! The words of `serve`.
-ghost use Rattle.std.specs.Prelude.{◌≡◌, IfErr, IfOk, Some, codes, map};
+ghost use Rattle.std.specs.Prelude.{◌≡◌, [], IfErr, IfOk, codes, length, map};
 ghost use Rattle.clap.specs.Words.{first_value, found_of};
-ghost use Rattle.snap_order.specs.Order.{IsServable};
-ghost use Rattle.snap_args.specs.Faults.{IsServingFault};
-ghost use Rattle.snap_args.specs.Numbers.{IsLargeNumberOf, IsLevelFault, IsLevelOf, IsNumberOf};
+ghost use Rattle.snap_order.specs.Order.{IsServable, KeepsLimits};
+ghost use Rattle.snap_args.specs.Faults.{IsFolderFault, IsServiceFault, IsServingFault};
+ghost use Rattle.snap_args.specs.Numbers.{IsLevelFault, IsLevelOf};
+ghost use Rattle.snap_args.specs.Services.{IsServiceOf};
 ghost use Rattle.snap_args.specs.Words.{all_values};
 
 use crate::WordFault;
-use crate::numbers::{clients_of, connections_of, idle_of, scanners_of};
+use crate::numbers::{connections_of, limit_of, scanners_of};
 use crate::words::is;
 use clap::ArgMatches;
-use snap_order::{Level, MAX_COUNT, Serving};
+use snap_order::{Level, MAX_CLIENTS, MAX_COUNT, MAX_IDLE, Serving};
 use std::alloc::Global;
 
-/// A server's address, its files in order of segment, and its numbers.
+/// A server with the files that the words name, in order of segment.
 pub(crate) fn serving<'a>(alloc: Global, matches: &ArgMatches<'a>) -> Result<Serving<'a>, WordFault>
     ensures limits { IfOk result IsServable }
-    ensures address { IfOk result
-        (λ s. Some s.address.now ≡ first_value (found_of matches.now) (codes "address")) }
     ensures files { IfOk result (λ s. map (λ f. f.now) s.files.items
         ≡ all_values (found_of matches.now) (codes "files")) }
-    ensures scanners { IfOk result
-        (λ s. IsNumberOf (first_value (found_of matches.now) (codes "scanners")) s.scanners) }
-    ensures connections { IfOk result (λ s.
-        IsLargeNumberOf (first_value (found_of matches.now) (codes "connections"))
-        s.connections) }
-    ensures clients { IfOk result (λ s.
-        IsLargeNumberOf (first_value (found_of matches.now) (codes "clients-max")) s.clients) }
-    ensures idle { IfOk result (λ s.
-        IsLargeNumberOf (first_value (found_of matches.now) (codes "idle")) s.idle) }
-    ensures log { IfOk result
-        (λ s. IsLevelOf (first_value (found_of matches.now) (codes "log")) s.log) }
+    ensures service { IfOk result (IsServiceOf (first_value (found_of matches.now))) }
     ensures fault { IfErr result (IsServingFault (first_value (found_of matches.now))
         (all_values (found_of matches.now))) }
+{
+    let Some(files) = matches.get_strs("files") else {
+        return Err(WordFault::NoFiles);
+    };
+    let count = files.len();
+    if count == 0 {
+        return Err(WordFault::NoFiles);
+    }
+    if count > usize::from(MAX_COUNT) {
+        return Err(WordFault::Files { count });
+    }
+    let files = Vec::from_slice(alloc, files)?;
+    service_of(matches, files)
+}
+
+/// A server with the files of a folder, and so none that the words name.
+pub(crate) fn folder_serving<'a>(
+    alloc: Global,
+    matches: &ArgMatches<'a>,
+) -> Result<Serving<'a>, WordFault>
+    ensures limits { IfOk result KeepsLimits }
+    ensures none { IfOk result (λ s. length s.files.items ≡ 0) }
+    ensures unnamed { IfOk result (λ s. all_values (found_of matches.now) (codes "files") ≡ []) }
+    ensures service { IfOk result (IsServiceOf (first_value (found_of matches.now))) }
+    ensures fault { IfErr result (IsFolderFault (first_value (found_of matches.now))
+        (all_values (found_of matches.now))) }
+{
+    if matches
+        .get_strs("files")
+        .is_some_and(|files| !files.is_empty())
+    {
+        return Err(WordFault::FilesAndFolder);
+    }
+    service_of(matches, Vec::new(alloc))
+}
+
+/// A server with these files: its address, its numbers and the level of its log.
+fn service_of<'a>(matches: &ArgMatches<'a>, files: Vec<&'a str>) -> Result<Serving<'a>, WordFault>
+    ensures limits { IfOk result KeepsLimits }
+    ensures files { IfOk result (λ s. s.files.items ≡ files.entry.items) }
+    ensures service { IfOk result (IsServiceOf (first_value (found_of matches.now))) }
+    ensures fault { IfErr result (IsServiceFault (first_value (found_of matches.now))) }
 {
     let Some(address) = matches.get_str("address") else {
         return Err(WordFault::Missing { what: "address" });
     };
-    let Some(files) = matches.get_strs("files") else {
-        return Err(WordFault::Files { count: 0 });
-    };
-    let count = files.len();
-    if count == 0 || count > usize::from(MAX_COUNT) {
-        return Err(WordFault::Files { count });
-    }
     let scanners = scanners_of(matches)?;
     let connections = connections_of(matches)?;
-    let clients = clients_of(matches)?;
-    let idle = idle_of(matches)?;
+    let clients = limit_of(matches, "clients-max", MAX_CLIENTS, WordFault::Clients)?;
+    let idle = limit_of(matches, "idle", MAX_IDLE, WordFault::Idle)?;
     let log = level_of(matches)?;
-    let files = Vec::from_slice(alloc, files)?;
     Ok(Serving {
         address,
         files,

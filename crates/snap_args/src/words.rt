@@ -1,22 +1,30 @@
 //! Reads the words of the program.
-ghost use Rattle.std.specs.Prelude.{◌≡◌, ◌↔◌, IfErr, IfOk, IsTrue, Some, codes, map, true};
+ghost use Rattle.std.specs.Prelude.{◌≡◌, ◌↔◌, IfErr, IfOk, IsErrAnd, IsOkAnd, IsTrue, Some, codes, map};
+ghost use Rattle.std.specs.Prelude.{true};
 ghost use Rattle.clap.specs.Words.{first_value, found_of, takes};
-ghost use Rattle.snap_order.specs.Order.{IsFileWithinLimits, IsPlace, IsWithinLimits};
+ghost use Rattle.snap_order.specs.Limits.{MAX_COUNT};
+ghost use Rattle.snap_order.specs.Order.{IsFileWithinLimits, IsOneTo, IsPlace, IsWithinLimits};
+ghost use Rattle.snap_order.specs.declared.order.Explanation.{Explanation};
+ghost use Rattle.snap_order.specs.declared.order.Order.TheVariants as order;
+ghost use Rattle.snap_args.specs.Explanations.{IsExplanationOf, IsShellUnknown};
 ghost use Rattle.snap_args.specs.Faults.{AreFileNumbersOf, AreNumbersOf, IsFaultOf};
-ghost use Rattle.snap_args.specs.Faults.{IsLaterFault, IsMigrationFault, IsParseFault};
+ghost use Rattle.snap_args.specs.Faults.{IsFoundingFault, IsLaterFault, IsMigrationFault};
+ghost use Rattle.snap_args.specs.Faults.{IsParseFault};
 ghost use Rattle.snap_args.specs.Numbers.{IsNumberOf};
 ghost use Rattle.snap_args.specs.Grammar.{grammar_of};
 ghost use Rattle.snap_args.specs.Orders.{IsAskedBy, IsFileAskedBy, IsOtherCommand};
 ghost use Rattle.snap_args.specs.Words.{OfCommand};
+ghost use Rattle.snap_args.specs.declared.fault.WordFault.TheVariants as fault;
 
 use crate::WordFault;
 use crate::call::calling;
+use crate::explanation::explanation_of;
 use crate::grammar::grammar;
-use crate::numbers::place;
-use crate::serve::serving;
+use crate::numbers::{count_of, place};
+use crate::serve::{folder_serving, serving};
 use clap::ArgMatches;
 use clap::error::ErrorKind;
-use snap_order::{FileOrder, Migration, Order};
+use snap_order::{FileOrder, Founding, Migration, Order};
 use std::alloc::Global;
 use std::convert::AsStr;
 
@@ -24,8 +32,28 @@ use std::convert::AsStr;
 ///
 /// Where it answers Ok the order's words were given: its index and count are the numbers of their
 /// words, the count from 1 to 16 and the index below it. Each fault says what is wrong in the
-/// words, so good ones are refused for want of memory alone.
+/// words, so good ones are refused for want of memory alone. Words that ask for an explanation
+/// always get it, and those of an unknown shell their fault.
 pub fn order<'a, S: AsStr>(alloc: Global, words: &'a [S]) -> Result<Order<'a>, WordFault>
+    ensures limits { IfOk result IsWithinLimits }
+    ensures asked { IfOk result (IsAskedBy (map S.text words.entry.now)) }
+    ensures numbers { IfOk result (AreNumbersOf (map S.text words.entry.now)) }
+    ensures faults { IfErr result (IsFaultOf (map S.text words.entry.now)) }
+    ensures taken { takes grammar_of (map S.text words.entry.now) ≡ true
+        → IfErr result IsLaterFault }
+    ensures explained { (e : Explanation) → IsExplanationOf (map S.text words.entry.now) e
+        → IsOkAnd result (λ given. given ≡ order.Explain e) }
+    ensures unknown { IsShellUnknown (map S.text words.entry.now)
+        → IsErrAnd result (λ why. why ≡ fault.Shell) }
+{
+    if let Some(explanation) = explanation_of(words)? {
+        return Ok(Order::Explain(explanation));
+    }
+    command_order(alloc, words)
+}
+
+/// What words of the grammar ask for.
+fn command_order<'a, S: AsStr>(alloc: Global, words: &'a [S]) -> Result<Order<'a>, WordFault>
     ensures limits { IfOk result IsWithinLimits }
     ensures asked { IfOk result (IsAskedBy (map S.text words.entry.now)) }
     ensures numbers { IfOk result (AreNumbersOf (map S.text words.entry.now)) }
@@ -65,7 +93,7 @@ fn order_of<'a>(
         return Ok(Order::Script);
     }
     if is(command, "serve") {
-        return Ok(Order::Serve(serving(alloc, matches)?));
+        return server_order(alloc, command, matches);
     }
     if is(command, "call") {
         return Ok(Order::Call(calling(alloc, matches)?));
@@ -73,7 +101,33 @@ fn order_of<'a>(
     if is(command, "migrate") {
         return Ok(Order::Migrate(migration(matches)?));
     }
+    if is(command, "init") {
+        return Ok(Order::Init(founding(matches)?));
+    }
     Ok(Order::File(file_order(command, matches)?))
+}
+
+/// What the words of `serve` ask for: a server with the files that they name, or with a folder's.
+fn server_order<'a>(
+    alloc: Global,
+    command: &str,
+    matches: &ArgMatches<'a>,
+) -> Result<Order<'a>, WordFault>
+    requires named { command.now ≡ codes "serve" }
+    ensures limits { IfOk result IsWithinLimits }
+    ensures asked { IfOk result (λ order.
+        OfCommand command.now (found_of matches.now) (λ words. IsAskedBy words order)) }
+    ensures numbers { IfOk result (λ order.
+        OfCommand command.now (found_of matches.now) (λ words. AreNumbersOf words order)) }
+    ensures faults { IfErr result (λ why.
+        OfCommand command.now (found_of matches.now) (λ words. IsFaultOf words why)) }
+    ensures later { IfErr result IsLaterFault }
+{
+    let Some(folder) = matches.get_str("dir") else {
+        return Ok(Order::Serve(serving(alloc, matches)?));
+    };
+    let serving = folder_serving(alloc, matches)?;
+    Ok(Order::ServeFolder { folder, serving })
 }
 
 /// What a command about one segment's file asks for.
@@ -109,6 +163,22 @@ pub(crate) fn is(command: &str, name: &'static str) -> bool
     ensures { IsTrue result ↔ (command.now ≡ name.now) }
 {
     command == name
+}
+
+/// The folder that is to be made, and how many segments it is to have.
+fn founding<'a>(matches: &ArgMatches<'a>) -> Result<Founding<'a>, WordFault>
+    ensures count { IfOk result (λ f. IsOneTo MAX_COUNT f.count) }
+    ensures folder { IfOk result
+        (λ f. Some f.folder.now ≡ first_value (found_of matches.now) (codes "folder")) }
+    ensures number { IfOk result
+        (λ f. IsNumberOf (first_value (found_of matches.now) (codes "count")) f.count) }
+    ensures fault { IfErr result (IsFoundingFault (first_value (found_of matches.now))) }
+{
+    let Some(folder) = matches.get_str("folder") else {
+        return Err(WordFault::Missing { what: "folder" });
+    };
+    let count = count_of(matches)?;
+    Ok(Founding { folder, count })
 }
 
 /// The files of a migration, and the place of their segment.

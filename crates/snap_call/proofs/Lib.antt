@@ -1,2 +1,2 @@
 pub mod InPlace
-pub mod Lines
+pub mod Tried

@@ -1,13 +1,18 @@
 -- How a call ends.
-use Rattle.std.specs.Prelude.{◌≡◌, ◌⊎◌, ℕ, List, Option, None, Result, Ok, Err, true, if◌then◌else◌}
+use Rattle.std.specs.Prelude.{◌≡◌, ◌⊎◌, ℕ, List, length, slice_get, Option, Some, None, Result, Ok, Err}
+use Rattle.std.specs.Prelude.{true, if◌then◌else◌}
 use Rattle.std.specs.Io.KnownBytes.{Appends, Keeps}
+use Rattle.snap_client.specs.Again.{TriesUpTo}
 use Rattle.snap_client.specs.declared.fault.ClientFault.{ClientFault}
 use Rattle.snap_client.specs.declared.fault.ClientFault.TheVariants.{NoMemory}
+use Rattle.snap_frame.specs.declared.named.NamedValue.{NamedValue}
 use Rattle.snap_frame.specs.declared.reply.Reply.{Reply}
 use Rattle.snap_frame.specs.declared.reply.Reply.TheVariants.{Refused, Stored}
 use Rattle.snap_frame.specs.declared.reply.Reply.TheVariants as reply
+use Rattle.snap_order.specs.Order.{request_of}
+use Rattle.snap_order.specs.declared.order.Layout.{Layout}
 use Rattle.snap_order.specs.declared.order.Question.{Question}
-use Rattle.snap_order.specs.declared.order.Question.TheVariants.{Health}
+use Rattle.snap_order.specs.declared.order.Question.TheVariants.{Get, Health}
 use Rattle.snap_order.specs.declared.status.Status.{Status}
 use Rattle.snap_order.specs.declared.status.Exit.{Exit}
 use Rattle.snap_order.specs.declared.status.Status.TheVariants as status
@@ -59,6 +64,31 @@ abbrev pub Prints : (how : Status) → List ℕ → Exit → (out out' errs errs
 Prints how text ended out out' errs errs' = PrintsInPlace how text ended out out' errs errs'
     ⊎ (WantsMemory ended errs errs' × Keeps out out')
 
+-- there is no answer, which a complaint says
+pub record GivesUp (ended : Exit) (errs errs' : Option (List ℕ)) : Type 0 where
+  pub status : ended.status ≡ status.Failed
+  pub said : Complains None ended.is_told errs errs'
+
+-- the reply has this segment's value, and no other one
+abbrev pub IsOnlyValue : ℕ → List NamedValue → List ℕ → Type 0
+IsOnlyValue segment values x = (length values ≡ 1)
+    × ((v : NamedValue) × (slice_get values 0 ≡ Some v) × (v.segment ≡ segment) × (v.value ≡ x))
+
+-- the value of this segment was printed, byte for byte; a reply without it, or with another one, is no answer
+abbrev pub EndsGot : ℕ → List NamedValue → Exit → (out out' errs errs' : Option (List ℕ)) → Type 0
+EndsGot segment values ended out out' errs errs' =
+    ((x : List ℕ) × IsOnlyValue segment values x
+    × PrintsInPlace status.Done x ended out out' errs errs')
+    ⊎ (((x : List ℕ) → IsOnlyValue segment values x → ⊥) × GivesUp ended errs errs' × Keeps out out')
+
+-- how a call ends whose answer is the reply to a read
+abbrev pub EndsRead : Layout → Question → Reply → Exit → (out out' errs errs' : Option (List ℕ))
+    → Type 0
+EndsRead layout (Get segment) (reply.Part values) ended out out' errs errs' =
+    EndsGot segment values.items ended out out' errs errs'
+EndsRead layout question reply ended out out' errs errs' = Prints (answer_status question reply)
+    (answer_text layout question reply) ended out out' errs errs'
+
 -- the reply to a read: nothing was done that it tells of
 abbrev pub IsRead : Reply → Type 0
 IsRead (reply.Snapshot values) = Unit {0}
@@ -66,23 +96,27 @@ IsRead (reply.Part values) = Unit {0}
 IsRead (reply.Status statuses) = Unit {0}
 IsRead reply = ⊥
 
--- there is no answer, which a complaint says
-pub record GivesUp (ended : Exit) (errs errs' : Option (List ℕ)) : Type 0 where
-  pub status : ended.status ≡ status.Failed
-  pub said : Complains None ended.is_told errs errs'
-
--- How a call ends that asked this and is answered so: `out` and `out'` are what standard output held before and
+-- How a call ends that asked this, prints its answer so and is answered so: `out` and `out'` are what standard output held before and
 -- after, `errs` and `errs'` what standard error did. Memory is wanting only for the text of a read, and where the
 -- client itself found none. Behind the reply to an update, stored or refused, it never is.
-abbrev pub EndsAsked : Question → Result Reply ClientFault → Exit
+abbrev pub EndsAsked : Layout → Question → Result Reply ClientFault → Exit
     → (out out' errs errs' : Option (List ℕ)) → Type 0
-EndsAsked question (Ok (Refused why detail)) ended out out' errs errs' =
+EndsAsked layout question (Ok (Refused why detail)) ended out out' errs errs' =
     SaysRefused (detailed_line why detail) ended errs errs' × Keeps out out'
-EndsAsked question (Ok (Stored number)) ended out out' errs errs' =
+EndsAsked layout question (Ok (Stored number)) ended out out' errs errs' =
     PrintsInPlace status.Done (stored_line number) ended out out' errs errs'
-EndsAsked question (Ok reply) ended out out' errs errs' = Prints (answer_status question reply)
-    (answer_text question reply) ended out out' errs errs'
-EndsAsked question (Err NoMemory) ended out out' errs errs' =
+EndsAsked layout question (Ok reply) ended out out' errs errs' =
+    EndsRead layout question reply ended out out' errs errs'
+EndsAsked layout question (Err NoMemory) ended out out' errs errs' =
     WantsMemory ended errs errs' × Keeps out out'
-EndsAsked question (Err fault) ended out out' errs errs' =
+EndsAsked layout question (Err fault) ended out out' errs errs' =
     GivesUp ended errs errs' × Keeps out out'
+
+-- A request was sent on up to so many connections, and the end is that of the answer.
+abbrev pub Asks : {F R C : Type 0} → Layout → (tries : ℕ) → (F → Option (R × C) → F → Type 0)
+    → (R → Option (List ℕ)) → (C → Option (List ℕ)) → Question → F → Exit → F
+    → (out out' errs errs' : Option (List ℕ)) → Type 0
+Asks layout tries connects remaining contents question old ended new out out' errs errs' =
+    (answer : Result Reply ClientFault)
+    × TriesUpTo tries connects remaining contents (request_of question) old answer new
+    × EndsAsked layout question answer ended out out' errs errs'

@@ -1,76 +1,220 @@
 //! The order `call`, done.
-ghost use Rattle.std.specs.Prelude.{◌≡◌, Result, if◌then◌else◌};
+ghost use Rattle.std.specs.Prelude.{◌≡◌, ◌^◌, ◌<◌, ◌≤◌, ℕ, List, MatchOption, if◌then◌else◌, length};
 ghost use Rattle.snap_client.specs.Again.{TriesUpTo};
-ghost use Rattle.snap_client.specs.declared.fault.ClientFault.{ClientFault};
-ghost use Rattle.snap_frame.specs.declared.reply.Reply.{Reply};
-ghost use Rattle.snap_order.specs.Order.{IsCallable, request_of};
+ghost use Rattle.snap_frame.specs.Messages.{IsAskable, max_payload, payload};
+ghost use Rattle.snap_order.specs.Limits.{MAX_COUNT, MAX_TRIES};
+ghost use Rattle.snap_order.specs.Order.{IsCallable, IsWithin, request_of};
 ghost use Rattle.snap_order.specs.declared.status.Status.TheVariants as status;
-ghost use Rattle.snap_call.specs.Ends.{EndsAsked, GivesUp, IsRead, Prints, PrintsInPlace};
-ghost use Rattle.snap_call.specs.Ends.{SaysRefused, WantsMemory, answer_status};
+ghost use Rattle.snap_stream.specs.Streams.{refused_line};
+ghost use Rattle.snap_call.specs.Ends.{Asks, EndsAsked, EndsGot, EndsRead, GivesUp, IsOnlyValue};
+ghost use Rattle.snap_call.specs.Ends.{IsRead, Prints, PrintsInPlace, SaysRefused, WantsMemory};
+ghost use Rattle.snap_call.specs.Ends.{answer_status};
+ghost use Rattle.snap_call.specs.Puts.{Does, ReadsInput};
 ghost use Rattle.snap_call.specs.Text.{answer_text, detailed_line, stored_line};
 
 use crate::line::{detailed_line, stored_line};
 use crate::print::{answer_of, is_any_fenced};
+use crate::put::store;
 use snap_client::{ClientFault, call_again};
-use snap_frame::Reply;
-use snap_order::{Calling, Exit, Question, Request, Status};
+use snap_frame::{NamedValue, Reply};
+use snap_order::{Calling, Exit, Layout, Question, Request, SegmentSet, Status};
 use snap_stream::{Refusal, complain, complain_of_refusal, write_whole};
 use std::alloc::Global;
+use std::fmt::Display;
 use std::io::{Read, Write};
 
 /// Asks a server what the order says, prints the answer on `writer`, and says how the program
 /// ends: of a server's health as [`Status::Refused`] where a segment is fenced. `connect` gives a
-/// reader and a writer, or `None` where no connection can be made; it is called once at least and as
-/// often as the order has tries at most, and only again where the same request may be answered on
-/// another connection.
+/// reader and a writer, or `None` where no connection can be made; it is called once at least for
+/// each request and as often as the order has tries at most, and only again where the same request
+/// may be answered on another connection.
+///
+/// A put of `input` reads it to its end first, and makes no connection where it fails or is longer
+/// than a value may be. Then it sends two requests, the second one an update with the number behind
+/// the one that the first one was told; where the order has a number, the update alone.
 ///
 /// A refusal by the server and want of memory are a complaint on `errors`, and the status
 /// [`Status::Refused`]; nothing is printed then. What was answered of an update is said without
 /// memory, so that none is wanting behind a reply but for the values and fences of a read. A
-/// connection that fails and a `writer` that does are a complaint too, and the status
+/// connection that fails, a `writer` and an `input` that do are a complaint too, and the status
 /// [`Status::Failed`]; of a reply that couldn't be printed whole, `writer` got a beginning. A
 /// complaint is one line, but for line feeds in the address.
-pub fn ask<R: Read + Drop, C: Write + Drop, F: FnMut() -> Option<(R, C)>, W: Write, E: Write>(
+pub fn ask<
+    R: Read + Drop,
+    C: Write + Drop,
+    F: FnMut() -> Option<(R, C)>,
+    I: Read,
+    W: Write,
+    E: Write,
+>(
     alloc: Global,
     order: &Calling<'_>,
     connect: &mut F,
+    input: &mut I,
     writer: &mut W,
     errors: &mut E,
 ) -> Exit
     requires limits { IsCallable order.now }
     requires callable { F.IsAlwaysCallable connect.old }
 
-    // The request was sent on up to so many connections, and the end is that of the answer.
-    ensures { (answer : Result Reply ClientFault)
-        × TriesUpTo order.now.tries F.step R.remaining C.contents
-        (request_of order.now.question) connect.old answer connect.new
-        × EndsAsked order.now.question answer result (W.contents writer.old) (W.contents writer.new)
-        (E.contents errors.old) (E.contents errors.new) }
+    // Each request was sent on up to so many connections, and the end is that of the last answer.
+    ensures does { Does order.now.layout order.now.tries F.step R.remaining C.contents
+        order.now.question (I.remaining input.old) connect.old result connect.new
+        (W.contents writer.old) (W.contents writer.new) (E.contents errors.old)
+        (E.contents errors.new) }
+    ensures unread { (ReadsInput order.now.question → ⊥) → input.new ≡ input.old }
 {
-    match answer_from(alloc, order, connect) {
-        Ok(Reply::Refused { why, detail }) => refuse(why, detail, errors),
-        Ok(Reply::Stored(number)) => say_stored(alloc, number, writer, errors),
-        Ok(reply) => print(alloc, &order.question, &reply, writer, errors),
-        Err(ClientFault::NoMemory) => stop(errors),
-        Err(fault) => give_up(alloc, order.address, fault, errors),
+    match &order.question {
+        Question::Put(put) => store(alloc, order, put, connect, input, writer, errors),
+        question => ask_once(alloc, order, question, connect, writer, errors),
     }
 }
 
-/// The server's answer to what the order asks: of its health to a request for its status.
-fn answer_from<R: Read + Drop, C: Write + Drop, F: FnMut() -> Option<(R, C)>>(
+/// Asks one question, and ends by its answer. Of the order it takes the address, the tries and the
+/// layout.
+pub(crate) fn ask_once<
+    R: Read + Drop,
+    C: Write + Drop,
+    F: FnMut() -> Option<(R, C)>,
+    W: Write,
+    E: Write,
+>(
     alloc: Global,
     order: &Calling<'_>,
+    question: &Question,
+    connect: &mut F,
+    writer: &mut W,
+    errors: &mut E,
+) -> Exit
+    requires limits { IsCallable order.now }
+    requires fits { length (payload (request_of question.now)) ≤ max_payload }
+    requires askable { IsAskable (request_of question.now) }
+    requires within { IsWithin question.now }
+    requires callable { F.IsAlwaysCallable connect.old }
+    ensures { Asks order.now.layout order.now.tries F.step R.remaining C.contents question.now connect.old result
+        connect.new (W.contents writer.old) (W.contents writer.new) (E.contents errors.old)
+        (E.contents errors.new) }
+{
+    let answer = answer_from(alloc, question, order.tries, connect);
+    end(
+        alloc,
+        order.address,
+        question,
+        order.layout,
+        answer,
+        writer,
+        errors,
+    )
+}
+
+/// The server's answer to what is asked: of its health to a request for its status.
+pub(crate) fn answer_from<R: Read + Drop, C: Write + Drop, F: FnMut() -> Option<(R, C)>>(
+    alloc: Global,
+    question: &Question,
+    tries: u8,
     connect: &mut F,
 ) -> Result<Reply, ClientFault>
-    requires limits { IsCallable order.now }
+    requires fits { length (payload (request_of question.now)) ≤ max_payload }
+    requires askable { IsAskable (request_of question.now) }
+    requires within { IsWithin question.now }
+    requires some { 1 ≤ tries }
+    requires few { tries ≤ MAX_TRIES }
     requires callable { F.IsAlwaysCallable connect.old }
-    ensures { TriesUpTo order.now.tries F.step R.remaining C.contents
-        (request_of order.now.question) connect.old result connect.new }
+    ensures { TriesUpTo tries F.step R.remaining C.contents (request_of question.now) connect.old
+        result connect.new }
 {
-    match &order.question {
-        Question::Request(request) => call_again(alloc, connect, request, order.tries),
-        Question::Health => call_again(alloc, connect, &Request::Status, order.tries),
+    match question {
+        Question::Request(request) => call_again(alloc, connect, request, tries),
+        Question::Get { segment } => {
+            let request = Request::Part(set_of(*segment));
+            call_again(alloc, connect, &request, tries)
+        }
+        Question::Health => call_again(alloc, connect, &Request::Status, tries),
+        Question::Put(_) => call_again(alloc, connect, &Request::Status, tries),
     }
+}
+
+/// The set of this segment alone.
+fn set_of(segment: u8) -> SegmentSet
+    requires { segment < MAX_COUNT }
+    ensures { result.bits ≡ 2 ^ segment }
+{
+    SegmentSet {
+        bits: 1u16 << segment,
+    }
+}
+
+/// Ends a call by the answer to what it asked.
+pub(crate) fn end<W: Write, E: Write>(
+    alloc: Global,
+    address: &str,
+    question: &Question,
+    layout: Layout,
+    answer: Result<Reply, ClientFault>,
+    writer: &mut W,
+    errors: &mut E,
+) -> Exit
+    ensures { EndsAsked layout question.now answer result (W.contents writer.old)
+        (W.contents writer.new) (E.contents errors.old) (E.contents errors.new) }
+{
+    match answer {
+        Ok(Reply::Refused { why, detail }) => refuse(why, detail, errors),
+        Ok(Reply::Stored(number)) => say_stored(alloc, number, writer, errors),
+        Ok(reply) => print_read(alloc, address, question, layout, &reply, writer, errors),
+        Err(ClientFault::NoMemory) => stop(errors),
+        Err(fault) => give_up(alloc, address, fault, errors),
+    }
+}
+
+/// Prints the answer of a read: of one segment's value the value alone.
+fn print_read<W: Write, E: Write>(
+    alloc: Global,
+    address: &str,
+    question: &Question,
+    layout: Layout,
+    reply: &Reply,
+    writer: &mut W,
+    errors: &mut E,
+) -> Exit
+    requires { IsRead reply.now }
+    ensures { EndsRead layout question.now reply.now result (W.contents writer.old)
+        (W.contents writer.new) (E.contents errors.old) (E.contents errors.new) }
+{
+    match (question, reply) {
+        (Question::Get { segment }, Reply::Part(values)) => {
+            print_value(alloc, address, *segment, values, writer, errors)
+        }
+        _ => print(alloc, question, layout, reply, writer, errors),
+    }
+}
+
+/// Prints the value of this segment, which has to be the only one.
+fn print_value<W: Write, E: Write>(
+    alloc: Global,
+    address: &str,
+    segment: u8,
+    values: &[NamedValue],
+    writer: &mut W,
+    errors: &mut E,
+) -> Exit
+    ensures { EndsGot segment values.now result (W.contents writer.old) (W.contents writer.new)
+        (E.contents errors.old) (E.contents errors.new) }
+{
+    let Some(value) = only_value(segment, values) else {
+        return give_up(alloc, address, ClientFault::BadReply, errors);
+    };
+    print_whole(alloc, Status::Done, value, writer, errors)
+}
+
+/// The value of this segment, where it is the only one.
+fn only_value<'a>(segment: u8, values: &'a [NamedValue]) -> Option<&'a [u8]>
+    ensures { MatchOption result ((x : List ℕ) → IsOnlyValue segment values.now x → ⊥)
+        (λ x. IsOnlyValue segment values.now x.now) }
+{
+    if values.len() != 1 || values[0].segment != segment {
+        return None;
+    }
+    Some(values[0].value.as_slice())
 }
 
 /// How a call ends whose answer was printed.
@@ -127,21 +271,37 @@ fn say_stored<W: Write, E: Write>(
 fn print<W: Write, E: Write>(
     alloc: Global,
     question: &Question,
+    layout: Layout,
     reply: &Reply,
     writer: &mut W,
     errors: &mut E,
 ) -> Exit
     requires { IsRead reply.now }
-    ensures { Prints (answer_status question.now reply.now) (answer_text question.now reply.now)
-        result (W.contents writer.old) (W.contents writer.new)
-        (E.contents errors.old) (E.contents errors.new) }
+    ensures { Prints (answer_status question.now reply.now)
+        (answer_text layout question.now reply.now) result (W.contents writer.old)
+        (W.contents writer.new) (E.contents errors.old) (E.contents errors.new) }
 {
-    let Ok(text) = answer_of(alloc, question, reply) else {
+    let Ok(text) = answer_of(alloc, question, layout, reply) else {
         return stop(errors);
     };
-    let Err(error) = write_whole(writer, text.as_slice()) else {
+    let status = status_of(question, reply);
+    print_whole(alloc, status, text.as_slice(), writer, errors)
+}
+
+/// Prints the text, and ends so.
+fn print_whole<W: Write, E: Write>(
+    alloc: Global,
+    status: Status,
+    text: &[u8],
+    writer: &mut W,
+    errors: &mut E,
+) -> Exit
+    ensures { PrintsInPlace status text.now result (W.contents writer.old)
+        (W.contents writer.new) (E.contents errors.old) (E.contents errors.new) }
+{
+    let Err(error) = write_whole(writer, text) else {
         return Exit {
-            status: status_of(question, reply),
+            status,
             is_told: true,
         };
     };
@@ -153,7 +313,7 @@ fn print<W: Write, E: Write>(
 }
 
 /// Says that the server refused the request, with the refusal's detail. It takes no memory.
-fn refuse<E: Write>(why: Refusal, detail: u64, errors: &mut E) -> Exit
+pub(crate) fn refuse<E: Write>(why: Refusal, detail: u64, errors: &mut E) -> Exit
     ensures { SaysRefused (detailed_line why detail) result (E.contents errors.old)
         (E.contents errors.new) }
 {
@@ -169,12 +329,20 @@ fn refuse<E: Write>(why: Refusal, detail: u64, errors: &mut E) -> Exit
 }
 
 /// Says that memory was wanting. It takes none.
-fn stop<E: Write>(errors: &mut E) -> Exit
+pub(crate) fn stop<E: Write>(errors: &mut E) -> Exit
     ensures { WantsMemory result (E.contents errors.old) (E.contents errors.new) }
+{
+    refuse_here(Refusal::NoMemory, errors)
+}
+
+/// Says that the call is refused before the server is asked. It takes no memory.
+pub(crate) fn refuse_here<E: Write>(why: Refusal, errors: &mut E) -> Exit
+    ensures { SaysRefused (refused_line why) result (E.contents errors.old)
+        (E.contents errors.new) }
 {
     Exit {
         status: Status::Refused,
-        is_told: complain_of_refusal(errors, Refusal::NoMemory),
+        is_told: complain_of_refusal(errors, why),
     }
 }
 
@@ -183,7 +351,14 @@ fn give_up<E: Write>(alloc: Global, address: &str, fault: ClientFault, errors: &
     ensures { GivesUp result (E.contents errors.old) (E.contents errors.new) }
 {
     let remedy = remedy_of(fault);
-    let is_told = complain(alloc, errors, &format_args!("{address}: {fault}: {remedy}"));
+    fail(alloc, &format_args!("{address}: {fault}: {remedy}"), errors)
+}
+
+/// Says that something failed, and ends so.
+pub(crate) fn fail<T: Display, E: Write>(alloc: Global, text: &T, errors: &mut E) -> Exit
+    ensures { GivesUp result (E.contents errors.old) (E.contents errors.new) }
+{
+    let is_told = complain(alloc, errors, text);
     Exit {
         status: Status::Failed,
         is_told,

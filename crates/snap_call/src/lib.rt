@@ -1,11 +1,13 @@
-//! The command `call`: one request to a server, and its reply as text.
+//! The command `call`: one request to a server, and its reply as text; or a put, of two.
 //!
-//! [`ask`] works over any connections, writer and streams. `specs/Ends.antt` says how it ends
-//! after each answer, and `specs/Text.antt` has the lines of a reply (docs/FORMATS.md).
+//! [`ask`] works over any connections, reader and writers. `specs/Ends.antt` says how it ends
+//! after each answer, `specs/Puts.antt` what a put sends, and `specs/Text.antt` has the lines of a
+//! reply (docs/FORMATS.md).
 #![tactic(auto)]
 
 mod call;
 mod line;
 mod print;
+mod put;
 
 pub use call::ask;

@@ -1,28 +1,62 @@
 //! The text of the replies to reads.
-ghost use Rattle.std.specs.Prelude.{◌≡◌, ◌++◌, IfOk, OnOk, flat_map};
+ghost use Rattle.std.specs.Prelude.{◌≡◌, ◌++◌, IfOk, OnOk, flat_map, option_map};
+ghost use Rattle.snap_json.specs.Each.{each_from};
 ghost use Rattle.snap_call.specs.Ends.{IsRead};
-ghost use Rattle.snap_call.specs.Text.{answer_text, fence_line, health_text, is_any_fenced};
-ghost use Rattle.snap_call.specs.Text.{lines_from, named_line, reply_text, segment_text};
-ghost use Rattle.snap_call.specs.Text.{status_line, value_line, value_text};
+ghost use Rattle.snap_call.specs.Text.{answer_text, document_text, fence_line, health_text};
+ghost use Rattle.snap_call.specs.Text.{is_any_fenced, lines_text, named_line, reply_text};
+ghost use Rattle.snap_call.specs.Text.{segment_text, shown, status_line, text_for, value_line};
+ghost use Rattle.snap_call.specs.Text.{value_text};
 
 use itoa::Buffer;
 use snap_frame::{NamedValue, Reply, SegmentStatus, SegmentValue};
 use snap_hex::put_hex;
-use snap_order::Question;
+use snap_json::{health_document, part_document, quote, scan_document, status_document};
+use snap_order::{Layout, Question};
 use std::alloc::{AllocError, Global};
 
-/// The lines of the answer to what was asked.
+/// The text of the answer to what was asked, in this layout.
 pub(crate) fn answer_of(
     alloc: Global,
     question: &Question,
+    layout: Layout,
     reply: &Reply,
 ) -> Result<Vec<u8>, AllocError>
     requires { IsRead reply.now }
-    ensures { IfOk result (λ text. text.items ≡ answer_text question.now reply.now) }
+    ensures { IfOk result (λ text. text.items ≡ answer_text layout question.now reply.now) }
+{
+    match layout {
+        Layout::Json => document_of(alloc, question, reply),
+        Layout::Lines | Layout::Text => lines_of(alloc, question, layout, reply),
+    }
+}
+
+/// The document of the answer to what was asked.
+fn document_of(alloc: Global, question: &Question, reply: &Reply) -> Result<Vec<u8>, AllocError>
+    requires { IsRead reply.now }
+    ensures { IfOk result (λ text. text.items ≡ document_text question.now reply.now) }
+{
+    match (question, reply) {
+        (Question::Health, Reply::Status(statuses)) => health_document(alloc, statuses),
+        (_, Reply::Snapshot(values)) => scan_document(alloc, values),
+        (_, Reply::Part(values)) => part_document(alloc, values),
+        (_, Reply::Status(statuses)) => status_document(alloc, statuses),
+        (_, Reply::Stored(_) | Reply::Refused { .. }) => unreachable!(),
+    }
+}
+
+/// The lines of the answer to what was asked.
+fn lines_of(
+    alloc: Global,
+    question: &Question,
+    layout: Layout,
+    reply: &Reply,
+) -> Result<Vec<u8>, AllocError>
+    requires { IsRead reply.now }
+    ensures { IfOk result (λ text. text.items ≡ lines_text layout question.now reply.now) }
 {
     match (question, reply) {
         (Question::Health, Reply::Status(statuses)) => health_of(alloc, statuses),
-        _ => text_of(alloc, reply),
+        _ => text_of(alloc, layout, reply),
     }
 }
 
@@ -47,14 +81,14 @@ pub(crate) fn is_any_fenced(statuses: &[SegmentStatus]) -> bool
 }
 
 /// The lines of the reply to a read.
-fn text_of(alloc: Global, reply: &Reply) -> Result<Vec<u8>, AllocError>
+fn text_of(alloc: Global, layout: Layout, reply: &Reply) -> Result<Vec<u8>, AllocError>
     requires { IsRead reply.now }
-    ensures { IfOk result (λ text. text.items ≡ reply_text reply.now) }
+    ensures { IfOk result (λ text. text.items ≡ reply_text layout reply.now) }
 {
     let mut out = Vec::new(alloc);
     match reply {
-        Reply::Snapshot(values) => put_values(&mut out, values)?,
-        Reply::Part(values) => put_part(&mut out, values)?,
+        Reply::Snapshot(values) => put_values(alloc, &mut out, layout, values)?,
+        Reply::Part(values) => put_part(alloc, &mut out, layout, values)?,
         Reply::Status(statuses) => put_statuses(&mut out, statuses)?,
         Reply::Stored(_) | Reply::Refused { .. } => unreachable!(),
     }
@@ -62,23 +96,48 @@ fn text_of(alloc: Global, reply: &Reply) -> Result<Vec<u8>, AllocError>
 }
 
 /// Appends a line for each segment's value.
-fn put_values(out: &mut Vec<u8>, values: &[SegmentValue]) -> Result<(), AllocError>
+fn put_values(
+    alloc: Global,
+    out: &mut Vec<u8>,
+    layout: Layout,
+    values: &[SegmentValue],
+) -> Result<(), AllocError>
     ensures { OnOk result (out.new.items
-        ≡ out.old.items ++ lines_from value_line 0 values.now) }
+        ≡ out.old.items ++ each_from (value_line layout) 0 values.now) }
 {
     for (index, value) in values.iter().enumerate() {
-        put_value(out, index, value.number, value.value.as_slice())?;
+        put_value(
+            alloc,
+            out,
+            layout,
+            index,
+            value.number,
+            value.value.as_slice(),
+        )?;
     }
     Ok(())
 }
 
 /// Appends a line for each value, under the index of the segment that it names.
-fn put_part(out: &mut Vec<u8>, values: &[NamedValue]) -> Result<(), AllocError>
-    ensures { OnOk result (out.new.items ≡ out.old.items ++ flat_map named_line values.now) }
+fn put_part(
+    alloc: Global,
+    out: &mut Vec<u8>,
+    layout: Layout,
+    values: &[NamedValue],
+) -> Result<(), AllocError>
+    ensures { OnOk result (out.new.items
+        ≡ out.old.items ++ flat_map (named_line layout) values.now) }
 {
     for value in values {
         let index = usize::from(value.segment);
-        put_value(out, index, value.number, value.value.as_slice())?;
+        put_value(
+            alloc,
+            out,
+            layout,
+            index,
+            value.number,
+            value.value.as_slice(),
+        )?;
     }
     Ok(())
 }
@@ -86,7 +145,7 @@ fn put_part(out: &mut Vec<u8>, values: &[NamedValue]) -> Result<(), AllocError>
 /// Appends a line for each segment's fence.
 fn put_statuses(out: &mut Vec<u8>, statuses: &[SegmentStatus]) -> Result<(), AllocError>
     ensures { OnOk result (out.new.items
-        ≡ out.old.items ++ lines_from status_line 0 statuses.now) }
+        ≡ out.old.items ++ each_from status_line 0 statuses.now) }
 {
     for (index, status) in statuses.iter().enumerate() {
         put_status(out, index, status)?;
@@ -97,7 +156,7 @@ fn put_statuses(out: &mut Vec<u8>, statuses: &[SegmentStatus]) -> Result<(), All
 /// Appends a line for each segment that is fenced.
 fn put_fences(out: &mut Vec<u8>, statuses: &[SegmentStatus]) -> Result<(), AllocError>
     ensures { OnOk result (out.new.items
-        ≡ out.old.items ++ lines_from fence_line 0 statuses.now) }
+        ≡ out.old.items ++ each_from fence_line 0 statuses.now) }
 {
     for (index, status) in statuses.iter().enumerate() {
         put_fence(out, index, status)?;
@@ -119,14 +178,47 @@ fn put_fence(out: &mut Vec<u8>, index: usize, status: &SegmentStatus) -> Result<
 }
 
 /// Appends the line of one segment's value.
-fn put_value(out: &mut Vec<u8>, index: usize, number: u64, value: &[u8]) -> Result<(), AllocError>
+fn put_value(
+    alloc: Global,
+    out: &mut Vec<u8>,
+    layout: Layout,
+    index: usize,
+    number: u64,
+    value: &[u8],
+) -> Result<(), AllocError>
     ensures { OnOk result (out.new.items
-        ≡ out.old.items ++ value_text index number value.now) }
+        ≡ out.old.items ++ value_text layout index number value.now) }
 {
     put_segment(out, index, number)?;
-    out.extend_from_slice(b" value ")?;
-    put_hex(out, value)?;
+    put_shown(alloc, out, layout, value)?;
     out.extend_from_slice(b"\n")
+}
+
+/// Appends what a line says of a value.
+fn put_shown(
+    alloc: Global,
+    out: &mut Vec<u8>,
+    layout: Layout,
+    value: &[u8],
+) -> Result<(), AllocError>
+    ensures { OnOk result (out.new.items ≡ out.old.items ++ shown layout value.now) }
+{
+    if let Some(text) = text_for(alloc, layout, value)? {
+        out.extend_from_slice(b" text ")?;
+        return out.extend_from_slice(text.as_slice());
+    }
+    out.extend_from_slice(b" value ")?;
+    put_hex(out, value)
+}
+
+/// The value as quoted text, where this layout has it so.
+fn text_for(alloc: Global, layout: Layout, value: &[u8]) -> Result<Option<Vec<u8>>, AllocError>
+    ensures { IfOk result (λ text. option_map (λ t. t.items) text ≡ text_for layout value.now) }
+{
+    match layout {
+        Layout::Text => quote(alloc, value),
+        Layout::Lines | Layout::Json => Ok(None),
+    }
 }
 
 /// Appends the line of one segment's fence.

@@ -18,14 +18,18 @@ pub record ClientState (R W : Type 0) : Type 0 where
   pub held : List ℕ
   pub fault : Option ClientFault
 
--- a client that goes on
-abbrev pub talking : {R W : Type 0} → R → W → List ℕ → ClientState R W
-talking reader writer held = record {
+-- a client of this connection
+abbrev pub client_of : {R W : Type 0} → R → W → List ℕ → Option ClientFault → ClientState R W
+client_of reader writer held fault = record {
   reader = reader;
   writer = writer;
   held = held;
-  fault = None;
+  fault = fault;
 }
+
+-- one that goes on
+abbrev pub talking : {R W : Type 0} → R → W → List ℕ → ClientState R W
+talking reader writer held = client_of reader writer held None
 
 -- a client of a connection on which nothing was said
 abbrev pub fresh : {R W : Type 0} → R → W → ClientState R W

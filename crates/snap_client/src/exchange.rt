@@ -1,8 +1,9 @@
 //! The two halves of an exchange: a frame is written whole, and a reply is read.
-ghost use Rattle.std.specs.Prelude.{◌≡◌, ◌≤◌, ◌↔◌, IsTrue, length, None, OnOk};
+ghost use Rattle.std.specs.Prelude.{◌≡◌, ◌≤◌, ◌↔◌, IsTrue, length, Option, None, OnOk};
+ghost use Rattle.snap_client.specs.declared.fault.ClientFault.{ClientFault};
 ghost use Rattle.snap_frame.specs.Messages.{max_payload, payload, IsAskable};
 ghost use Rattle.snap_frame.specs.Stream.{empty, IsBytes};
-ghost use Rattle.snap_client.specs.Calls.{Answers, Reaches, talking};
+ghost use Rattle.snap_client.specs.Calls.{Answers, Reaches, client_of, talking};
 ghost use Rattle.snap_client.specs.Exchange.{Sends, Hears};
 
 use crate::fault::ClientFault;
@@ -91,9 +92,10 @@ pub(crate) fn exchange<R: Read, W: Write>(
     requires fits { length (payload request.now) ≤ max_payload }
     requires askable { IsAskable request.now }
     requires going { feed.old.failure ≡ None }
-    ensures reaches { Reaches R.remaining W.contents request.now
+    // It doesn't rest on the fault that the client keeps then.
+    ensures reaches { (fault : Option ClientFault) → Reaches R.remaining W.contents request.now
         (talking reader.old writer.old feed.old.bytes) result
-        (talking reader.new writer.new feed.new.bytes) }
+        (client_of reader.new writer.new feed.new.bytes fault) }
     ensures going { OnOk result (feed.new.failure ≡ None) }
 {
     if !feed.is_between() {

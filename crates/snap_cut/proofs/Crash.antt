@@ -1,6 +1,5 @@
 -- A crash of all devices: at a consistent cut, and at a moment of the registers.
-use Rattle.std.proofs.Common.{◌≡◌, ◌⊎◌, ⊎_elim, ℕ, zero, suc, ◌+◌, ◌<◌, ◌≤◌, inl, inr, List, [], ◌∷◌, length, map, Some, slice_get}
-use Rattle.std.proofs.Common.{refl, ap, sym, subst, ◌∙◌, arith}
+use Rattle.std.proofs.Common.{◌≡◌, ◌⊎◌, ⊎_elim, ℕ, zero, suc, ◌+◌, ◌<◌, ◌≤◌, inl, inr, List, [], ◌∷◌, length, map, Some, slice_get, refl, ap, sym, subst, ◌∙◌, arith}
 use Rattle.std.proofs.lemmas.List.{length-append, length-map}
 use Rattle.std.proofs.lemmas.Option.{same_Some, slice_get_within}
 use mathlib.Core.Option.{some}
@@ -19,8 +18,8 @@ use Rattle.snap_register.specs.Rule.{Kept}
 use Rattle.snap_register.proofs.Updates.{updates_count, beginning_is}
 use Rattle.snap_writer.specs.Writer.{number_of, value_of}
 use Rattle.snap_writer.specs.Life.{Place, HasBegun, seen_at, CrashLeaves, IsPlaceOf}
-use Rattle.snap_cut.specs.Crash.{all_seen, IsConsistent, Begun, IsRecovered, Recovers}
-use Rattle.snap_cut.specs.Laws.{IsLivedIn, IsSeatOf, IsSeenIn}
+use Rattle.snap_cut.specs.Crash.{all_seen, Begun, IsRecovered}
+use Rattle.snap_cut.specs.Laws.{CutLaw, ConsistentLaw, IsSeatOf, IsSeenIn}
 use Rattle.snap_cut.proofs.Order.{longest, has_early}
 use Rattle.snap_cut.proofs.Merge.{Found, merge}
 use Rattle.snap_cut.proofs.Placed.{crash_leaves}
@@ -37,19 +36,29 @@ module _ {D : Type 0} where
   seen_there (w ∷ ws) scanners zero p e = ap (λ (q : Place D). Some (seen_at q)) (same_Some w p e)
   seen_there (w ∷ ws) scanners (suc i) p e = seen_there ws scanners i p e
 
-  seen_by : (writers : List (Place D)) (scanners : List (List Update)) (j : ℕ) (x : List Update)
-      → slice_get (all_seen writers scanners) j ≡ Some x
-      → ((p : Place D) × (slice_get writers j ≡ Some p) × (seen_at p ≡ x))
-      ⊎ ((k : ℕ) × (slice_get scanners k ≡ Some x))
-  seen_by [] scanners j x e = inr (j, e)
-  seen_by (w ∷ ws) scanners zero x e = inl (w, refl, same_Some (seen_at w) x e)
-  seen_by (w ∷ ws) scanners (suc j) x e = seen_by ws scanners j x e
+  -- what holds of all that writers have seen, and of all that scanners have, holds of each of it
+  pub each_seen : (P : List Update → Type 0) (writers : List (Place D))
+      (scanners : List (List Update))
+      → ((i : ℕ) (p : Place D) → slice_get writers i ≡ Some p → P (seen_at p))
+      → ((k : ℕ) (x : List Update) → slice_get scanners k ≡ Some x → P x)
+      → (j : ℕ) (x : List Update) → slice_get (all_seen writers scanners) j ≡ Some x → P x
+  each_seen P [] scanners theirs others j x e = others j x e
+  each_seen P (w ∷ ws) scanners theirs others zero x e =
+      subst P (same_Some (seen_at w) x e) (theirs 0 w refl)
+  each_seen P (w ∷ ws) scanners theirs others (suc j) x e =
+      each_seen P ws scanners (λ i p at. theirs (suc i) p at) others j x e
 
 -- ---- what the rule of the registers says of a moment
 
 seat_saw : (plan : Plan) (s : Moment) (kept : Kept plan s) (j : ℕ) (v : SeatView)
     → get_elem? s.views j ≡ some v → IsBeginning (updates v.seen) (updates kept.history)
 seat_saw plan s kept j v at = beginning_is v.seen kept.history (kept.each_seat j v at).seen
+
+pub seen_saw : (plan : Plan) (s : Moment) (kept : Kept plan s) (seen : List Update)
+    → IsSeenIn s.views seen → IsBeginning seen (updates kept.history)
+seen_saw plan s kept seen (j, v, at, is) =
+    subst (λ (y : List Update). IsBeginning y (updates kept.history)) (sym is)
+    (seat_saw plan s kept j v at)
 
 -- a writer that has shown all of its updates that stand in the history
 pub record Agrees {D : Type 0} (plan : Plan) (h : List Update) (i : ℕ) (p : Place D)
@@ -72,25 +81,16 @@ seat_agrees plan s kept i p seat =
     ∙ sym counted ∙ sym (updates_count i v.seen)
     ∙ ap (λ (y : List Update). updates_of i y) (sym seat.4) in
     record {
-      saw = subst (λ (y : List Update). IsBeginning y h) (sym seat.4)
-          (seat_saw plan s kept seat.0 v seat.2);
+      saw = seen_saw plan s kept (seen_at p) (seat.0, v, seat.2, seat.4);
       whole = omega (arith, same);
     }
 
-pub moment_consistent : {D : Type 0} (plan : Plan) (s : Moment)
-    → Kept plan s → (writers : List (Place D)) (scanners : List (List Update))
-    → ((i : ℕ) (p : Place D) → slice_get writers i ≡ Some p → IsSeatOf s.views i p)
-    → ((k : ℕ) (seen : List Update) → slice_get scanners k ≡ Some seen → IsSeenIn s.views seen)
-    → IsConsistent (starts plan) writers scanners
+pub moment_consistent : {D : Type 0} → ConsistentLaw D
 moment_consistent plan s kept writers scanners seats seen j x e i p at =
     let h = updates kept.history in
-    let begins : IsBeginning x h = ⊎_elim
-    (λ one. subst (λ (y : List Update). IsBeginning y h) one.2
-    (seat_agrees plan s kept j one.0 (seats j one.0 one.1)).saw)
-    (λ other. (
-    let t = seen other.0 x other.1 in
-    subst (λ (y : List Update). IsBeginning y h) (sym t.3) (seat_saw plan s kept t.0 t.1 t.2)))
-    (seen_by writers scanners j x e) in
+    let begins = each_seen (λ (y : List Update). IsBeginning y h) writers scanners
+    (λ k q there. (seat_agrees plan s kept k q (seats k q there)).saw)
+    (λ k y there. seen_saw plan s kept y (seen k y there)) j x e in
     let below = number-beginning (starts plan) x h i begins in
     let whole = (seat_agrees plan s kept i p (seats i p at)).whole in
     omega (arith, below, whole)
@@ -156,14 +156,7 @@ module _ {D : Type 0} (disk : Disk.Ghosts D) where
 
   -- ---- a consistent cut
 
-  pub cut_recovers : (plan : Plan) (h : List Update) (writers : List (Place D))
-      (scanners : List (List Update)) (files : List (List ℕ)) → 0 < length writers
-      → ((i : ℕ) (p : Place D) → slice_get writers i ≡ Some p
-      → IsLivedIn disk plan (length writers) h i p)
-      → ((k : ℕ) (seen : List Update) → slice_get scanners k ≡ Some seen → IsBeginning seen h)
-      → IsConsistent (starts plan) writers scanners
-      → Pairs (λ _. CrashLeaves disk) writers files
-      → Recovers (length writers) (starts plan) h writers scanners files
+  pub cut_recovers : CutLaw disk
   cut_recovers plan h writers scanners files least lived saw consistent left =
       let start = starts plan in
       let n = length writers in
@@ -173,11 +166,8 @@ module _ {D : Type 0} (disk : Disk.Ghosts D) where
       let x = lived i p e in
       let f = life_fits disk plan n i x.0 x.1 x.2 p x.3 x.4 x.5 in
       (f.0, beginning-trans (seen_at p) x.1.seat.seen h f.2 x.6)) in
-      let begins : (j : ℕ) (x : List Update) → slice_get (all_seen writers scanners) j ≡ Some x
-      → IsBeginning x h = λ j x e. ⊎_elim
-      (λ one. subst (λ (y : List Update). IsBeginning y h) one.2 (fits j one.0 one.1).1)
-      (λ other. saw other.0 x other.1)
-      (seen_by writers scanners j x e) in
+      let begins = each_seen (λ (y : List Update). IsBeginning y h) writers scanners
+      (λ i p e. (fits i p e).1) saw in
       let long : 0 < length (all_seen writers scanners) =
       omega (
         arith,

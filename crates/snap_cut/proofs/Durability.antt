@@ -9,7 +9,9 @@ use Rattle.snap_segment.specs.Segment.{SegmentState}
 use Rattle.snap_register.specs.declared.plan.Plan.{Plan}
 use Rattle.snap_writer.specs.Writer.{WriterState}
 use Rattle.snap_writer.specs.Life.{Stores, Does, Lived, IsWriterOf}
+use Rattle.snap_writer.proofs.Crashes.{OnlyNow}
 use Rattle.snap_cut.specs.Durability.{Gave, Keeps, Stays}
+use Rattle.snap_cut.proofs.Placed.{same_file}
 use Rattle.snap_cut.proofs.Lives.{does_is}
 use Rattle.snap_disk.specs.declared.disk.Disk as Disk
 
@@ -57,11 +59,6 @@ module _ {D : Type 0} (disk : Disk.Ghosts D) (plan : Plan) (n i : ℕ) (a : Writ
     no_less : a.segment.number ≤ m.segment.number
     same_value : m.segment.number ≡ a.segment.number → m.segment.value ≡ a.segment.value
 
-  its_file : (m : WriterState D) → Is m → (k : ℕ) (v x : List ℕ)
-      → IsFileOf m.segment.index m.segment.count k v x → IsFileOf i n k v x
-  its_file m is k v x file = subst (λ (y : ℕ × ℕ). IsFileOf y.0 y.1 k v x)
-      (λ t. (is.index_is t, is.count_is t)) file
-
   -- what is stored
   stored : (m : WriterState D) → CameTo m → (x : List ℕ)
       → IsFileOf m.segment.index m.segment.count m.segment.number m.segment.value x
@@ -69,7 +66,7 @@ module _ {D : Type 0} (disk : Disk.Ghosts D) (plan : Plan) (n i : ℕ) (a : Writ
   stored m came x file = record {
     number = m.segment.number;
     value = m.segment.value;
-    file = its_file m came.is m.segment.number m.segment.value x file;
+    file = same_file came.is.index_is came.is.count_is refl refl file;
     no_less = came.no_less;
     same_value = came.same_value;
     given = (came.at.0, m, came.at.1, inl (refl, refl));
@@ -82,7 +79,7 @@ module _ {D : Type 0} (disk : Disk.Ghosts D) (plan : Plan) (n i : ℕ) (a : Writ
   begun m w v came there gave x file = record {
     number = m.segment.number + 1;
     value = v;
-    file = its_file m came.is (m.segment.number + 1) v x file;
+    file = same_file came.is.index_is came.is.count_is refl refl file;
     no_less = (let low = came.no_less in omega (arith, low));
     same_value = λ e. (let low = came.no_less in absurd (omega (arith, e, low)));
     given = (there.0, w, there.1, gave);
@@ -111,16 +108,15 @@ module _ {D : Type 0} (disk : Disk.Ghosts D) (plan : Plan) (n i : ℕ) (a : Writ
       ))
       s.ends
 
-  same_came : (m b : WriterState D) → CameTo m → Is b → InLife b → b.segment ≡ m.segment → CameTo b
-  same_came m b came is there same =
-      let number = ap (λ (x : SegmentState D). x.number) same in
-      record {
-        is = is;
-        at = there;
-        no_less = (let low = came.no_less in omega (arith, number, low));
-        same_value = λ e. ap (λ (x : SegmentState D). x.value) same
-            ∙ came.same_value (sym number ∙ e);
-      }
+  -- what was stored is stored still
+  still_came : (m b : WriterState D) → CameTo m → Is b → InLife b
+      → b.segment.number ≡ m.segment.number → b.segment.value ≡ m.segment.value → CameTo b
+  still_came m b came is there number value = record {
+    is = is;
+    at = there;
+    no_less = (let low = came.no_less in omega (arith, number, low));
+    same_value = λ e. value ∙ came.same_value (sym number ∙ e);
+  }
 
   stored_came : (m b : WriterState D) (v : List ℕ) → CameTo m → Is b → InLife b
       → Stores disk v m b → CameTo b
@@ -136,25 +132,22 @@ module _ {D : Type 0} (disk : Disk.Ghosts D) (plan : Plan) (n i : ℕ) (a : Writ
         no_less = omega (arith, number, low);
         same_value = λ e. absurd (omega (arith, number, low, e));
       }))
-      (λ failed. (
-      let number : b.segment.number ≡ m.segment.number =
-      ap (λ (x : SegmentState D). x.number) failed in
-      let low = came.no_less in
-      record {
-        is = is;
-        at = there;
-        no_less = omega (arith, number, low);
-        same_value = λ e. ap (λ (x : SegmentState D). x.value) failed
-            ∙ came.same_value (sym number ∙ e);
-      }))
+      (λ failed. still_came m b came is there (ap (λ (x : SegmentState D). x.number) failed)
+      (ap (λ (x : SegmentState D). x.value) failed))
       s.ends
 
   abbrev Left : WriterState D → Type 0
   Left m = LeavesOnly disk a.segment.device m.segment.device (Keeps n i a life)
 
-  same_left : (m b : WriterState D) → b.segment ≡ m.segment → Left m → Left b
-  same_left m b same left = subst (λ (s : SegmentState D).
-      LeavesOnly disk a.segment.device s.device (Keeps n i a life)) (sym same) left
+  -- its segment is as it was
+  same_on : (m b : WriterState D) → CameTo m → Is b → InLife b → b.segment ≡ m.segment → Left m
+      → CameTo b × Left b
+  same_on m b came is there same left = (
+    still_came m b came is there (ap (λ (x : SegmentState D). x.number) same)
+        (ap (λ (x : SegmentState D). x.value) same),
+    subst (λ (s : SegmentState D). LeavesOnly disk a.segment.device s.device (Keeps n i a life))
+        (sym same) left,
+  )
 
   stored_left : (m b : WriterState D) (v : List ℕ) → CameTo m → InLife b
       → Stores disk v m b → disk.is_honest b.segment.device → Left m → Left b
@@ -166,25 +159,15 @@ module _ {D : Type 0} (disk : Disk.Ghosts D) (plan : Plan) (n i : ℕ) (a : Writ
       (λ x either. ⊎_elim (stored m came x) (begun m b v came there (gave_next m b v s) x) either)
 
   -- one thing more that it did
-  step_left : (m b : WriterState D) → CameTo m → InLife b → disk.is_honest b.segment.device
+  step_left : (m b : WriterState D) → CameTo m → Is b → InLife b → disk.is_honest b.segment.device
       → Does disk m b → Left m → CameTo b × Left b
-  step_left m b came there hon (inl sees) left = (
-    same_came m b came (does_is disk plan n i m b came.is (inl sees))
-        there sees.segment_is,
-    same_left m b sees.segment_is left,
-  )
-  step_left m b came there hon (inr (inl stores)) left = (
-    stored_came m b stores.0 came
-        (does_is disk plan n i m b came.is (inr (inl stores)))
-        there stores.1,
+  step_left m b came is there hon (inl sees) left = same_on m b came is there sees.segment_is left
+  step_left m b came is there hon (inr (inl stores)) left = (
+    stored_came m b stores.0 came is there stores.1,
     stored_left m b stores.0 came there stores.1 hon left,
   )
-  step_left m b came there hon (inr (inr shows)) left = (
-    same_came m b came
-        (does_is disk plan n i m b came.is (inr (inr shows)))
-        there shows.segment_is,
-    same_left m b shows.segment_is left,
-  )
+  step_left m b came is there hon (inr (inr shows)) left =
+      same_on m b came is there shows.segment_is left
 
   -- the rest of its life
   walk : (m z : WriterState D) (rest : List (WriterState D))
@@ -199,14 +182,12 @@ module _ {D : Type 0} (disk : Disk.Ghosts D) (plan : Plan) (n i : ℕ) (a : Writ
       })
   walk m z (b ∷ rest) each lived hon came left =
       let b_honest = honest_all disk b z rest lived.1 hon in
-      let next = step_left m b came (each 1 b refl) b_honest lived.0 left in
+      let next = step_left m b came (does_is disk plan n i m b came.is lived.0) (each 1 b refl)
+      b_honest lived.0 left in
       walk b z rest (λ j w e. each (suc j) w e) lived.1 hon next.0 next.1
 
-  pub stays : (z : WriterState D)
-      → ((d : D) (b : List ℕ) → disk.is_honest d → disk.might_have_left d (disk.clock d) b
-      → MayLeave (disk.device d) b)
-      → Is a → Lived disk a life z → disk.is_honest z.segment.device
-      → Stays disk n i a life z
+  pub stays : (z : WriterState D) → OnlyNow disk → Is a → Lived disk a life z
+      → disk.is_honest z.segment.device → Stays disk n i a life z
   stays z only_now is lived hon =
       let first = honest_all disk a z life lived hon in
       let came : CameTo a = record {

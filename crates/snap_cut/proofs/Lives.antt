@@ -1,18 +1,16 @@
 -- Each place in the life of a writer is one at which its device and its seat are together.
-use Rattle.std.proofs.Common.{◌≡◌, ⊎_elim, ℕ, ◌+◌, inl, inr, List, [], ◌∷◌, ◌++◌, ap, sym, subst, ◌∙◌, arith}
+use Rattle.std.proofs.Common.{◌≡◌, ◌⊎◌, ⊎_elim, ℕ, ◌+◌, inl, inr, List, [], ◌∷◌, ◌++◌, Some, None, refl, ap, sym, subst, ◌∙◌}
 use Rattle.std.proofs.lemmas.List.{append_assoc}
 use Rattle.snap_disk.specs.Device.{MayLeave}
-use Rattle.snap_slot.specs.States.{IsEither}
 use Rattle.snap_segment.specs.Segment.{SegmentState}
 use Rattle.snap_history.specs.History.{IsBeginning}
 use Rattle.snap_history.proofs.Beginnings.{beginning-self, beginning-trans}
 use Rattle.snap_register.specs.declared.plan.Plan.{Plan}
-use Rattle.snap_register.specs.Seat.{Known, own_of, number_in}
+use Rattle.snap_register.specs.Seat.{Known, own_of}
 use Rattle.snap_writer.specs.Writer.{WriterState, number_of, value_of}
-use Rattle.snap_writer.specs.Update.{EndsWith}
-use Rattle.snap_writer.proofs.Shown.{number_grown, value_grown, number_shown, value_shown}
-use Rattle.snap_writer.specs.Life.{Place, seen_at, IsShown, IsAhead, HoldsOf, Rests, Sees, Stores, Shows, Does, Lived, IsAt, IsInStore}
-use Rattle.snap_writer.specs.Life.{IsIn, IsWriterOf, IsPlaceOf}
+use Rattle.snap_writer.specs.Update.{IsSameSeat, EndsWith}
+use Rattle.snap_writer.proofs.Shown.{same_grown, number_grown, value_grown, number_shown, value_shown}
+use Rattle.snap_writer.specs.Life.{Place, seen_at, IsShown, HoldsOf, Rests, Sees, Stores, Shows, Does, Lived, IsAt, IsInStore, IsIn, IsWriterOf, IsMidStore, IsPlaceOf}
 use Rattle.snap_disk.specs.declared.disk.Disk as Disk
 
 -- an update that a seat shows stands behind what it had seen
@@ -41,90 +39,64 @@ module _ {D : Type 0} (disk : Disk.Ghosts D) where
     abbrev Is : WriterState D → Type 0
     Is w = IsWriterOf disk plan n i w
 
+    -- what its segment holds, where it has shown this number and this value last
+    abbrev HasStored : SegmentState D → ℕ → List ℕ → Type 0
+    HasStored s k u = ((s.number ≡ k) × (s.value ≡ u)) ⊎ ((s.number ≡ k + 1) × (s.begun ≡ None))
+
+    -- its seat and its segment are the same ones
+    same_writer : (a b : WriterState D) (t : SegmentState D) → Is a → IsSameSeat a.seat b.seat
+        → b.segment ≡ t → t.index ≡ i → t.count ≡ n → HasStored t (number_of b) (value_of b)
+        → Rests disk b → Is b
+    same_writer a b t is seat same index count stored rests = record {
+      plan_is = seat.plan ∙ is.plan_is;
+      low_is = seat.low ∙ is.low_is;
+      high_is = seat.high ∙ is.high_is;
+      index_is = ap (λ (s : SegmentState D). s.index) same ∙ index;
+      count_is = ap (λ (s : SegmentState D). s.count) same ∙ count;
+      stored = subst (λ (s : SegmentState D). HasStored s (number_of b) (value_of b)) (sym same)
+          stored;
+      rests = rests;
+    }
+
+    -- what was shown last stays so while its seat sees more
+    seen_still : (P : ℕ → List ℕ → Type 0) (a b : WriterState D) → Is a → Sees disk a b
+        → P (number_of a) (value_of a) → P (number_of b) (value_of b)
+    seen_still P a b is s shown =
+        let alone : a.seat.high ≡ a.seat.low + 1 =
+        is.high_is ∙ ap (λ (k : ℕ). k + 1) (sym is.low_is) in
+        subst (λ (y : ℕ × List ℕ). P y.0 y.1)
+        (λ t. (
+          sym (number_grown a.seat b.seat s.grows alone) t,
+          sym (value_grown a.seat b.seat s.grows alone) t,
+        ))
+        shown
+
     sees_is : (a b : WriterState D) → Is a → Sees disk a b → Is b
-    sees_is a b is s =
-        let low : a.seat.low ≡ i = is.low_is in
-        let high : a.seat.high ≡ i + 1 = is.high_is in
-        let alone : a.seat.high ≡ a.seat.low + 1 = omega arith in
-        let number : number_of b ≡ number_of a = number_grown a.seat b.seat s.grows alone in
-        let value : value_of b ≡ value_of a = value_grown a.seat b.seat s.grows alone in
-        let seg = s.segment_is in
-        let stored_number : b.segment.number ≡ a.segment.number =
-        ap (λ (x : SegmentState D). x.number) seg in
-        record {
-          plan_is = s.grows.plan ∙ is.plan_is;
-          low_is = s.grows.low ∙ is.low_is;
-          high_is = s.grows.high ∙ is.high_is;
-          index_is = ap (λ (x : SegmentState D). x.index) seg ∙ is.index_is;
-          count_is = ap (λ (x : SegmentState D). x.count) seg ∙ is.count_is;
-          stored = ⊎_elim
-              (λ (shown : IsShown a). inl (
-                stored_number ∙ (shown.0 ∙ sym number),
-                ap (λ (x : SegmentState D). x.value) seg ∙ (shown.1 ∙ sym value),
-              ))
-              (λ (ahead : IsAhead a). inr (
-                stored_number ∙ (ahead.0 ∙ ap (λ (k : ℕ). k + 1) (sym number)),
-                ap (λ (x : SegmentState D). x.begun) seg ∙ ahead.1,
-              ))
-              is.stored;
-          rests = rests_same a b seg is.rests;
-        }
+    sees_is a b is s = same_writer a b a.segment is (same_grown a.seat b.seat s.grows) s.segment_is
+        is.index_is is.count_is (seen_still (HasStored a.segment) a b is s is.stored)
+        (rests_same a b s.segment_is is.rests)
 
     stores_is : (v : List ℕ) (a b : WriterState D) → Is a
         → Stores disk v a b → Is b
     stores_is v a b is s =
-        let seat = s.seat_is in
-        let number : number_of b ≡ number_of a =
-        ap (λ (k : Known). number_in k k.seen (own_of k)) seat in
-        let value : value_of b ≡ value_of a =
-        (λ t. value_of (record { segment = a.segment; seat = seat t })) in
+        let seat : IsSameSeat a.seat b.seat = subst (λ (k : Known). IsSameSeat a.seat k)
+        (sym s.seat_is) (record { table = refl; plan = refl; low = refl; high = refl }) in
+        let shown : (a.segment.number ≡ number_of b) × (a.segment.value ≡ value_of b) =
+        subst (λ (k : Known). IsShown {D = D} (record { segment = a.segment; seat = k }))
+        (sym s.seat_is) s.shown in
         ⊎_elim
-        (λ done. record {
-          plan_is = ap (λ (k : Known). k.plan) seat ∙ is.plan_is;
-          low_is = ap (λ (k : Known). k.low) seat ∙ is.low_is;
-          high_is = ap (λ (k : Known). k.high) seat ∙ is.high_is;
-          index_is = ap (λ (x : SegmentState D). x.index) done ∙ is.index_is;
-          count_is = ap (λ (x : SegmentState D). x.count) done ∙ is.count_is;
-          stored = inr (
-            ap (λ (x : SegmentState D). x.number) done
-                ∙ ap (λ (k : ℕ). k + 1) (s.shown.0 ∙ sym number),
-            ap (λ (x : SegmentState D). x.begun) done ∙ s.unfenced,
-          );
-          rests = s.rests;
-        })
-        (λ failed. record {
-          plan_is = ap (λ (k : Known). k.plan) seat ∙ is.plan_is;
-          low_is = ap (λ (k : Known). k.low) seat ∙ is.low_is;
-          high_is = ap (λ (k : Known). k.high) seat ∙ is.high_is;
-          index_is = ap (λ (x : SegmentState D). x.index) failed ∙ is.index_is;
-          count_is = ap (λ (x : SegmentState D). x.count) failed ∙ is.count_is;
-          stored = inl (
-            ap (λ (x : SegmentState D). x.number) failed ∙ (s.shown.0 ∙ sym number),
-            ap (λ (x : SegmentState D). x.value) failed ∙ (s.shown.1 ∙ sym value),
-          );
-          rests = s.rests;
-        })
+        (λ done. same_writer a b _ is seat done is.index_is is.count_is
+        (inr (ap (λ (k : ℕ). k + 1) shown.0, s.unfenced)) s.rests)
+        (λ failed. same_writer a b _ is seat failed is.index_is is.count_is (inl shown) s.rests)
         s.ends
 
     shows_is : (a b : WriterState D) → Is a → Shows disk a b → Is b
-    shows_is a b is s =
-        let seg = s.segment_is in
-        let number : number_of b ≡ number_of a + 1 =
-        number_shown a.seat b.seat a.segment.value s.same_seat s.shown in
-        let value : value_of b ≡ a.segment.value =
-        value_shown a.seat b.seat a.segment.value s.same_seat s.shown in
-        record {
-          plan_is = s.same_seat.plan ∙ is.plan_is;
-          low_is = s.same_seat.low ∙ is.low_is;
-          high_is = s.same_seat.high ∙ is.high_is;
-          index_is = ap (λ (x : SegmentState D). x.index) seg ∙ is.index_is;
-          count_is = ap (λ (x : SegmentState D). x.count) seg ∙ is.count_is;
-          stored = inl (
-            ap (λ (x : SegmentState D). x.number) seg ∙ (s.stored.0 ∙ sym number),
-            ap (λ (x : SegmentState D). x.value) seg ∙ sym value,
-          );
-          rests = rests_same a b seg is.rests;
-        }
+    shows_is a b is s = same_writer a b a.segment is s.same_seat s.segment_is is.index_is is.count_is
+        (inl (
+          s.stored.0 ∙ sym (number_shown a.seat b.seat a.segment.value s.same_seat s.shown),
+          sym (value_shown a.seat b.seat a.segment.value s.same_seat s.shown),
+        ))
+        (rests_same a b s.segment_is is.rests)
 
     pub does_is : (a b : WriterState D) → Is a → Does disk a b → Is b
     does_is a b is (inl sees) = sees_is a b is sees
@@ -150,31 +122,16 @@ module _ {D : Type 0} (disk : Disk.Ghosts D) where
         let v = at.1 in
         let sees = at.2 in
         let s = at.4 in
-        let now = sees_is a m is sees in
-        let low : a.seat.low ≡ i = is.low_is in
-        let high : a.seat.high ≡ i + 1 = is.high_is in
-        let alone : a.seat.high ≡ a.seat.low + 1 = omega arith in
-        let seg = sees.segment_is in
-        let shown : IsShown m = (
-          ap (λ (x : SegmentState D). x.number) seg
-              ∙ (s.shown.0 ∙ sym (number_grown a.seat m.seat sees.grows alone)),
-          ap (λ (x : SegmentState D). x.value) seg
-              ∙ (s.shown.1 ∙ sym (value_grown a.seat m.seat sees.grows alone)),
-        ) in
-        let d = b.segment.device in
-        let any_time : disk.is_honest d → (x : List ℕ)
-        → disk.might_have_left d (disk.clock a.segment.device) x
-        → IsEither a.segment.index a.segment.count a.segment.number a.segment.value v x =
-        λ hon x left. (s.any_time hon).each x left in
         subst (λ (q : Place D). Fits a z q) (sym at.5) (
           record {
-            writer_is = now;
-            storing_is = (
-              shown,
-              subst (λ (t : SegmentState D). disk.is_honest d → (x : List ℕ)
-                  → disk.might_have_left d (disk.clock t.device) x
-                  → IsEither t.index t.count t.number t.value v x) (sym seg) any_time,
-            );
+            writer_is = sees_is a m is sees;
+            storing_is = subst (λ (t : SegmentState D). IsMidStore disk
+                (record { segment = t; seat = m.seat }) (Some (v, b.segment.device)))
+                (sym sees.segment_is) (
+                  seen_still (λ k u. (a.segment.number ≡ k) × (a.segment.value ≡ u)) a m is sees
+                      s.shown,
+                  λ hon x left. (s.any_time hon).each x left,
+                );
           },
           sees.grows.later,
           at.3,

@@ -1,14 +1,14 @@
 -- The begun updates that made it to the devices, put behind the history, one segment after the
 -- other.
-use Rattle.std.proofs.Common.{◌≡◌, ◌≢◌, ◌⊎◌, ⊎_elim, ℕ, zero, suc, ◌+◌, ◌<◌, ◌≤◌, List, [], ◌∷◌, ◌++◌, Some, slice_get, refl, ap, sym, subst, ◌∙◌, arith}
+use Rattle.std.proofs.Common.{◌≡◌, ◌≢◌, ◌⊎◌, ⊎_elim, ℕ, zero, suc, ◌+◌, ◌<◌, ◌≤◌, List, [], ◌∷◌, ◌++◌, Some, slice_get, refl, ap, sym, subst, ◌∙◌, arith, below_more}
 use mathlib.Core.Logic.{dite}
 use native.Mathlib.Decide.{ℕ_discrete}
 use Rattle.std.proofs.lemmas.Bool.Decides.{nat_tests}
 use Rattle.std.proofs.lemmas.List.{append_assoc}
 use Rattle.snap_history.specs.History.{Update, Start, updates_of, number_after, value_after}
 use Rattle.snap_history.proofs.Lists.{get-push}
-use Rattle.snap_history.proofs.Moments.{updates-append, last-append, last_none, number-push, number-push_other, value-push}
-use Rattle.snap_history.proofs.Moments.{value-push_other}
+use Rattle.snap_history.proofs.Moments.{updates-append, number-push, number-push_other, value-push, value-push_other}
+use Rattle.snap_writer.proofs.Shown.{number_kept, value_kept}
 
 abbrev pub update : ℕ → List ℕ → Update
 update i v = record { segment = i; value = v }
@@ -21,10 +21,13 @@ no_update i j v ne = grind (arith, nat_tests)
 
 module _ (start : Start) (h : List Update) (begun : ℕ → List ℕ → Type 0)
     (Holds : ℕ → ℕ → List ℕ → Type 0) where
-  -- segment i has the number and the value of the history, or the next number and a begun value
+  -- segment i has the number and the value after these updates
+  abbrev HasAfter : List Update → ℕ → Type 0
+  HasAfter x i = Holds i (number_after start x i) (value_after start x i)
+
+  -- it has those of the history, or the next number and a begun value
   abbrev pub Found : ℕ → Type 0
-  Found i = Holds i (number_after start h i) (value_after start h i)
-      ⊎ ((v : List ℕ) × begun i v × Holds i (number_after start h i + 1) v)
+  Found i = HasAfter h i ⊎ ((v : List ℕ) × begun i v × Holds i (number_after start h i + 1) v)
 
   -- of the first m segments
   pub record Merged (m : ℕ) : Type 0 where
@@ -33,43 +36,28 @@ module _ (start : Start) (h : List Update) (begun : ℕ → List ℕ → Type 0)
         → (u.segment < m) × begun u.segment u.value
     pub once : (i : ℕ) → updates_of i more ≤ 1
     pub none : (i : ℕ) → m ≤ i → updates_of i more ≡ 0
-    pub holds : (i : ℕ) → i < m
-        → Holds i (number_after start (h ++ more) i) (value_after start (h ++ more) i)
+    pub holds : (i : ℕ) → i < m → HasAfter (h ++ more) i
 
   moved : (i k l : ℕ) (v w : List ℕ) → k ≡ l → v ≡ w → Holds i k v → Holds i l w
   moved i k l v w ek ev x = subst (λ (y : ℕ × List ℕ). Holds i y.0 y.1) (λ t. (ek t, ev t)) x
 
-  -- a segment without an update behind the history
-  number_still : (more : List Update) (i : ℕ) → updates_of i more ≡ 0
-      → number_after start (h ++ more) i ≡ number_after start h i
-  number_still more i none = let sum = updates-append i h more in omega (arith, sum)
+  with_none : (m : ℕ) → Merged m → HasAfter h m → Merged (suc m)
+  with_none m r here =
+      let none = r.none m (omega arith) in
+      record {
+        more = r.more;
+        were_begun = λ j u e. (let b = r.were_begun j u e in let l = b.0 in (omega arith, b.1));
+        once = r.once;
+        none = λ i l. r.none i (omega arith);
+        holds = λ i l. below_more (HasAfter (h ++ r.more)) m r.holds
+            (moved m _ _ _ _ (sym (number_kept start h r.more m none))
+            (sym (value_kept start h r.more m none)) here) i (omega arith);
+      }
 
-  value_still : (more : List Update) (i : ℕ) → updates_of i more ≡ 0
-      → value_after start (h ++ more) i ≡ value_after start h i
-  value_still more i none = last-append (start i).1 i h more
-      ∙ last_none _ i more none
-
-  stays : (m : ℕ) → Merged m → Holds m (number_after start h m) (value_after start h m)
+  with_begun : (m : ℕ) (v : List ℕ) → Merged m → begun m v → Holds m (number_after start h m + 1) v
       → Merged (suc m)
-  stays m r here = record {
-    more = r.more;
-    were_begun = λ j u e. (let b = r.were_begun j u e in let l = b.0 in (omega arith, b.1));
-    once = r.once;
-    none = λ i l. r.none i (omega arith);
-    holds = λ i l. dite (ℕ_discrete i m)
-        (λ same. subst (λ (j : ℕ). Holds j (number_after start (h ++ r.more) j)
-        (value_after start (h ++ r.more) j)) (sym same)
-        (let none = r.none m (omega arith) in
-        moved m _ _ _ _ (sym (number_still r.more m none)) (sym (value_still r.more m none)) here))
-        (λ other. r.holds i (omega arith));
-  }
-
-  grows : (m : ℕ) (v : List ℕ) → Merged m → begun m v → Holds m (number_after start h m + 1) v
-      → Merged (suc m)
-  grows m v r was here =
+  with_begun m v r was here =
       let u = update m v in
-      let all : h ++ (r.more ++ u ∷ []) ≡ (h ++ r.more) ++ u ∷ [] =
-      sym (append_assoc h r.more (u ∷ [])) in
       let none = r.none m (omega arith) in
       record {
         more = r.more ++ u ∷ [];
@@ -94,21 +82,16 @@ module _ (start : Start) (h : List Update) (begun : ℕ → List ℕ → Type 0)
             let zero_more = no_update i m v (λ e. absurd (omega (arith, e, l))) in
             let before = r.none i (omega arith) in
             omega (arith, sum, zero_more, before));
-        holds = λ i l. dite (ℕ_discrete i m)
-            (λ same. subst (λ (j : ℕ). Holds j (number_after start (h ++ (r.more ++ u ∷ [])) j)
-            (value_after start (h ++ (r.more ++ u ∷ [])) j)) (sym same)
+        holds = λ i l. subst (λ (x : List Update). HasAfter x i) (append_assoc h r.more (u ∷ []))
+            (below_more (HasAfter ((h ++ r.more) ++ u ∷ [])) m
+            (λ j low. moved j _ _ _ _
+            (sym (number-push_other start (h ++ r.more) u j (λ e. absurd (omega (arith, e, low)))))
+            (sym (value-push_other start (h ++ r.more) u j (λ e. absurd (omega (arith, e, low)))))
+            (r.holds j low))
             (moved m _ _ _ _
-            (sym (ap (λ (x : List Update). number_after start x m) all
-            ∙ (number-push start (h ++ r.more) u ∙ ap (λ (x : ℕ). x + 1) (number_still r.more m none))))
-            (sym (ap (λ (x : List Update). value_after start x m) all
-            ∙ value-push start (h ++ r.more) u))
-            here))
-            (λ other. moved i _ _ _ _
-            (sym (ap (λ (x : List Update). number_after start x i) all
-            ∙ number-push_other start (h ++ r.more) u i (λ e. other (sym e))))
-            (sym (ap (λ (x : List Update). value_after start x i) all
-            ∙ value-push_other start (h ++ r.more) u i (λ e. other (sym e))))
-            (r.holds i (omega arith)));
+            (sym (number-push start (h ++ r.more) u
+            ∙ ap (λ (x : ℕ). x + 1) (number_kept start h r.more m none)))
+            (sym (value-push start (h ++ r.more) u)) here) i (omega arith));
       }
 
   pub merge : (m : ℕ) → ((i : ℕ) → i < m → Found i) → Merged m
@@ -121,4 +104,4 @@ module _ (start : Start) (h : List Update) (begun : ℕ → List ℕ → Type 0)
   }
   merge (suc m) found =
       let r = merge m (λ i l. found i (omega arith)) in
-      ⊎_elim (λ here. stays m r here) (λ b. grows m b.0 r b.1 b.2) (found m (omega arith))
+      ⊎_elim (λ here. with_none m r here) (λ b. with_begun m b.0 r b.1 b.2) (found m (omega arith))

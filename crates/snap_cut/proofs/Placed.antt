@@ -10,10 +10,9 @@ use Rattle.snap_writer.specs.Life.{Place, HasBegun, IsShown, IsAhead, HoldsOf, L
 use Rattle.snap_disk.specs.declared.disk.Disk as Disk
 
 -- the same file, by other names
-same_file : (i j n m k l : ℕ) (v w b : List ℕ) → i ≡ j → n ≡ m → k ≡ l → v ≡ w → IsFileOf i n k v b
-    → IsFileOf j m l w b
-same_file i j n m k l v w b ei en ek ev is =
-    subst (λ (y : ℕ × ℕ × ℕ × List ℕ). IsFileOf y.0 y.1 y.2 y.3 b)
+pub same_file : {i j n m k l : ℕ} {v w b : List ℕ} → i ≡ j → n ≡ m → k ≡ l → v ≡ w
+    → IsFileOf i n k v b → IsFileOf j m l w b
+same_file {b = b} ei en ek ev is = subst (λ (y : ℕ × ℕ × ℕ × List ℕ). IsFileOf y.0 y.1 y.2 y.3 b)
     (λ t. (ei t, en t, ek t, ev t)) is
 
 -- of a segment without a fence a crash leaves just what is stored
@@ -29,28 +28,29 @@ module _ {D : Type 0} (disk : Disk.Ghosts D) (plan : Plan) (n i : ℕ) where
   LeftOf p b = IsFileOf i n (number_of p.writer) (value_of p.writer) b
       ⊎ ((v : List ℕ) × HasBegun p v × IsFileOf i n (number_of p.writer + 1) v b)
 
+  -- the file with the next number
+  next_file : (w : WriterState D) → IsWriterOf disk plan n i w → w.segment.number ≡ number_of w
+      → (v b : List ℕ) → IsFileOf w.segment.index w.segment.count (w.segment.number + 1) v b
+      → IsFileOf i n (number_of w + 1) v b
+  next_file w is shown v b file =
+      same_file is.index_is is.count_is (ap (λ (k : ℕ). k + 1) shown) refl file
+
+  -- between two stores
   resting_leaves : (w : WriterState D) (storing : Option (List ℕ × D))
       → IsWriterOf disk plan n i w → disk.is_honest w.segment.device
       → (b : List ℕ) → MayLeave (disk.device w.segment.device) b
       → LeftOf (record { writer = w; storing = storing }) b
   resting_leaves w storing is hon b left =
+      let holds = is.rests hon b left in
       ⊎_elim
-      (λ (shown : IsShown w).
-      ⊎_elim
-      (λ old. inl (same_file _ _ _ _ _ _ _ _ b is.index_is is.count_is shown.0 shown.1 old))
-      (λ new. inr (
-        new.0,
-        inr (inl new.1),
-        same_file _ _ _ _ _ _ _ _ b is.index_is is.count_is (ap (λ (k : ℕ). k + 1) shown.0) refl
-            new.2,
-      ))
-      (is.rests hon b left))
-      (λ (ahead : IsAhead w).
-      inr (
+      (λ (shown : IsShown w). ⊎_elim
+      (λ old. inl (same_file is.index_is is.count_is shown.0 shown.1 old))
+      (λ new. inr (new.0, inr (inl new.1), next_file w is shown.0 new.0 b new.2))
+      holds)
+      (λ (ahead : IsAhead w). inr (
         w.segment.value,
         inr (inr (ahead, refl)),
-        same_file _ _ _ _ _ _ _ _ b is.index_is is.count_is ahead.0 refl
-            (unfenced w.segment b ahead.1 (is.rests hon b left)),
+        same_file is.index_is is.count_is ahead.0 refl (unfenced w.segment b ahead.1 holds),
       ))
       is.stored
 
@@ -60,15 +60,9 @@ module _ {D : Type 0} (disk : Disk.Ghosts D) (plan : Plan) (n i : ℕ) where
       → Leaves disk w storing b
       → LeftOf (record { writer = w; storing = storing }) b
   left_at w None is mid b left = resting_leaves w None is left.0 b left.1
-  left_at w (Some s) is mid b left =
-      let shown = mid.0 in
-      ⊎_elim
-      (λ old. inl (same_file _ _ _ _ _ _ _ _ b is.index_is is.count_is shown.0 shown.1 old))
-      (λ new. inr (
-        s.0,
-        inl refl,
-        same_file _ _ _ _ _ _ _ _ b is.index_is is.count_is (ap (λ (k : ℕ). k + 1) shown.0) refl new,
-      ))
+  left_at w (Some s) is mid b left = ⊎_elim
+      (λ old. inl (same_file is.index_is is.count_is mid.0.0 mid.0.1 old))
+      (λ new. inr (s.0, inl refl, next_file w is mid.0.0 s.0 b new))
       (mid.1 left.0 b left.1)
 
   pub crash_leaves : (p : Place D) → IsPlaceOf disk plan n i p

@@ -1,8 +1,8 @@
 -- One history over a crash and the start behind it.
-use Rattle.std.proofs.Common.{◌≡◌, ℕ, zero, suc, ◌<◌, List, [], ◌∷◌, ◌++◌, map, Some, slice_get, refl, ap, sym, subst, ◌∙◌, arith}
-use Rattle.std.proofs.Common.{append_assoc}
+use Rattle.std.specs.Prelude.{option_map}
+use Rattle.std.proofs.Common.{◌≡◌, ℕ, ◌<◌, List, ◌++◌, map, refl, ap, sym, subst, ◌∙◌, arith, append_assoc}
 use Rattle.std.proofs.lemmas.List.{length-map}
-use Rattle.std.proofs.lemmas.Option.{same_Some, slice_get_within}
+use Rattle.std.proofs.lemmas.Option.{same_Some, slice_get_within, slice_get-map}
 use Rattle.snap_disk.specs.Device.{MayLeave}
 use Rattle.snap_slot.specs.Layout.{IsFileOf}
 use Rattle.snap_history.specs.History.{Update, Start, last_value, number_after, value_after}
@@ -54,20 +54,15 @@ module _ (n : ℕ) (start : Start) (base : List Update) (next : Start)
 -- ---- what devices hold now is what a crash may leave of them
 
 module _ {D : Type 0} (disk : Disk.Ghosts D) where
-  bytes_at : (devices : List D) (i : ℕ) (d : D) (b : List ℕ) → slice_get devices i ≡ Some d
-      → slice_get (map (λ (x : D). (disk.device x).bytes) devices) i ≡ Some b
-      → (disk.device d).bytes ≡ b
-  bytes_at [] i d b ed eb = absurd (cc ed)
-  bytes_at (x ∷ xs) zero d b ed eb = ap (λ (y : D). (disk.device y).bytes) (sym (same_Some x d ed))
-      ∙ same_Some (disk.device x).bytes b eb
-  bytes_at (x ∷ xs) (suc i) d b ed eb = bytes_at xs i d b ed eb
-
   pub bytes_left : (devices : List D) → Pairs (λ _ d b. MayLeave (disk.device d) b) devices
       (map (λ (x : D). (disk.device x).bytes) devices)
   bytes_left devices = record {
     size = sym (length-map devices (λ (x : D). (disk.device x).bytes));
-    each = λ i d b ed eb. subst (λ (y : List ℕ). MayLeave (disk.device d) y)
-        (bytes_at devices i d b ed eb) (record { size = refl; elsewhere = λ p _. refl });
+    each = λ i d b ed eb.
+        let f = λ (x : D). (disk.device x).bytes in
+        subst (λ (y : List ℕ). MayLeave (disk.device d) y)
+        (same_Some (f d) b (sym (slice_get-map f devices i ∙ ap (option_map f) ed) ∙ eb))
+        (record { size = refl; elsewhere = λ p _. refl });
   }
 
   pub kept_now : (n : ℕ) (start : Start) (h : List Update) (begun : ℕ → List ℕ → Type 0)

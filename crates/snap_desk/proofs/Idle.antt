@@ -1,4 +1,4 @@
--- A store's thread that did nothing.
+-- A storer that did nothing.
 use Rattle.std.proofs.Common.{◌≡◌, Option, Some, None, refl}
 use Rattle.std.specs.Prelude.{IfNone}
 

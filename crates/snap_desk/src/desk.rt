@@ -79,7 +79,7 @@ pub fn answer_outcome<R: Wait + Copy, M: Memory, D: Disk + Drop>(
     }
 }
 
-/// An update goes to its store, once. A look answers it where that can't be.
+/// An update goes to its storer, once. A look answers it where that can't be.
 fn ask<R: Wait + Copy + Clock, J: Asked>(
     outbox: &mut Outbox<R>,
     scanner: &mut Scanner,
@@ -129,7 +129,7 @@ impl<R: Wait + Copy + Clock, M: Memory, D: Disk + Drop> Desk<R, M, D> {
         }
     }
 
-    /// An update goes to its store. A look answers it where that can't be.
+    /// An update goes to its storer. A look answers it where that can't be.
     fn update(&mut self, segment: usize, number: u64, value: &Bytes, key: usize) -> Option<Reply>
         ensures answer { IfSome result (λ r.
             AnswersUpdate self.old segment number value.now r self.new) }
@@ -163,7 +163,7 @@ impl<R: Wait + Copy + Clock, M: Memory, D: Disk + Drop> Desk<R, M, D> {
         answer_outcome(&mut self.scanner, segment, number, value, outcome)
     }
 
-    /// A status: each segment as its store last told.
+    /// A status: each segment as its storer last told.
     fn status(&mut self) -> Reply
         ensures answer { AnswersStatus self.old result self.new }
         ensures limits { IsInLimits result }

@@ -1,13 +1,9 @@
 //! A writer on the heap.
-ghost use Rattle.std.specs.Prelude.{◌≡◌, ℕ, List, IfOk};
+ghost use Rattle.std.specs.Prelude.{◌≡◌, IfOk};
 ghost use Rattle.snap_frame.specs.Limits.{IsShort};
-ghost use Rattle.snap_memory.specs.Seat.{own_of, Meets};
-ghost use Rattle.snap_frame.specs.Messages.{IsInLimits};
-ghost use Rattle.snap_service.specs.Writer.{number_of};
 ghost use Rattle.snap_service.specs.Memory.{IsOf};
-ghost use Rattle.snap_service.specs.Settled.{IsSettledAt, IsTellable, reply_of};
-ghost use Rattle.snap_service.specs.Updated.{IsUpdated};
-ghost use Rattle.snap_service.specs.Updated.{HasMet};
+ghost use Rattle.snap_service.specs.Settled.{IsTellable};
+ghost use Rattle.snap_service.specs.Updated.{IsUpdated, RepliesTold};
 
 use snap_disk::{Disk, Refusal};
 use snap_frame::Reply;
@@ -68,13 +64,7 @@ impl<M: Memory, D: Disk + Drop> HeapWriter<M, D> {
     /// The reply that says what the writer told, as [`WriterOf::reply_told`] gives it.
     pub fn reply_told(&mut self, told: Result<u64, Refusal>, scanner: &mut Scanner) -> Reply
         requires memory { IsOf M.table M.plan scanner.old }
-        ensures told { result ≡ reply_of (number_of self.new) told }
-        ensures number { number_of self.new ≡ number_of self.old }
-        ensures settled { (k : ℕ) (v : List ℕ) → IsTellable self.old k v told
-            → IsSettledAt scanner.new (own_of self.old.seat) k v result }
-        ensures limits { (k : ℕ) (v : List ℕ) → IsTellable self.old k v told → IsInLimits result }
-        ensures scanner { Meets scanner.old scanner.new }
-        ensures writer { HasMet self.old self.new }
+        ensures { RepliesTold told self.old self.new scanner.old scanner.new result }
     {
         self.writer.as_mut().reply_told(told, scanner)
     }

@@ -8,7 +8,7 @@ use bytes::Bytes;
 use std::alloc::AllocError;
 use std::marker::{Brand, Model};
 
-/// A value that is on its way to its store. Its bytes are those of the request that brought it, so that
+/// A value that is on its way to its storer. Its bytes are those of the request that brought it, so that
 /// handing it on copies none of them.
 #[derive(Drop)]
 pub struct Payload {

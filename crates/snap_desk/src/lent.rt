@@ -7,7 +7,7 @@ ghost use Rattle.snap_service.specs.Writer.{number_of};
 ghost use Rattle.snap_service.specs.Memory.{IsOf};
 ghost use Rattle.snap_service.specs.Settled.{IsSettledAt, IsTellable, reply_of};
 ghost use Rattle.snap_desk.specs.Came.{Came};
-ghost use Rattle.snap_desk.specs.Store.{StandsAt};
+ghost use Rattle.snap_desk.specs.Storer.{StandsAt};
 
 use crate::heap_writer::HeapWriter;
 use crate::job::Job;
@@ -20,7 +20,7 @@ use snap_service::Memory;
 use std::marker::Model;
 use std::sync::Wait;
 
-/// A writer away from its store's thread, which waits for it. Wherever it is let go, it goes home.
+/// A writer away from its storer, which waits for it. Wherever it is let go, it goes home.
 pub struct Lent<R: Wait + Copy, M: Memory, D: Disk + Drop> {
     pub rt: R,
     pub home: Sender<HeapWriter<M, D>>,

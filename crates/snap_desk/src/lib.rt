@@ -2,7 +2,7 @@
 //! and finished when that has told.
 //!
 //! The relation is that of `snap_service`, word for word, and the two share all but the hand-over. A
-//! store's thread lends its writer with the outcome ([`Outcome`]): so the desk's scanner meets the
+//! storer lends its writer with the outcome ([`Outcome`]): so the desk's scanner meets the
 //! writer before anybody else updates the segment, and the reply is what the update told. Wherever
 //! the outcome is let go, also where nobody waits for it, the writer goes home.
 #![tactic(auto)]
@@ -14,7 +14,7 @@ mod lent;
 mod outbox;
 mod queue;
 mod standing;
-mod store;
+mod storer;
 
 pub use desk::{Desk, answer_outcome};
 pub use heap_writer::HeapWriter;
@@ -22,4 +22,4 @@ pub use job::{Job, Payload};
 pub use lent::{Lent, Outcome};
 pub use outbox::Window;
 pub use standing::Standing;
-pub use store::{StoreThread, store_one};
+pub use storer::{Storer, store_one};

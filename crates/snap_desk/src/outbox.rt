@@ -1,4 +1,4 @@
-//! What a desk sees of the stores, and how it hands updates over to them.
+//! What a desk sees of the storers, and how it hands updates over to them.
 ghost use Rattle.std.specs.Prelude.{◌≡◌, ◌<◌, length, All, IfOk, OnErr, IfSome, IfNone};
 ghost use Rattle.snap_frame.specs.Limits.{IsShort};
 ghost use Rattle.snap_frame.specs.Messages.{IsStatus};
@@ -29,7 +29,7 @@ const TRIES: u32 = 20;
 enum Unsent {
     /// No memory was left for it.
     NoMemory,
-    /// The store is another segment's, or gone.
+    /// The storer is another segment's, or gone.
     Gone,
 }
 
@@ -39,8 +39,8 @@ pub(crate) struct Handed<J: Asked> {
     of: PhantomData<J>,
 }
 
-/// What a desk sees of a segment's store: where its updates go, and where it stands. Its value is the
-/// segment. The store works until all its windows are gone.
+/// What a desk sees of a segment's storer: where its updates go, and where it stands. Its value is the
+/// segment. The storer works until all its windows are gone.
 #[derive(Drop)]
 pub struct Window {
     segment: usize,
@@ -68,7 +68,7 @@ impl Window {
         }
     }
 
-    /// Tries to hand this job, an update of this segment, over to its store.
+    /// Tries to hand this job, an update of this segment, over to its storer.
     fn send<R: Wait, J: Asked>(&self, rt: &R, segment: usize, job: Job) -> Result<Handed<J>, Unsent>
         requires { job ≡ J.job }
         ensures { IfOk result (λ _. self.now ≡ segment) }
@@ -83,7 +83,7 @@ impl Window {
         }
     }
 
-    /// Where its store stood when it last told.
+    /// Where its storer stood when it last told.
     fn status(&self) -> SegmentStatus
         ensures { IsStatus result }
     {
@@ -138,7 +138,7 @@ impl<R: Wait + Copy> Outbox<R> {
         }
     }
 
-    /// Where each segment stood as its store last told, with no look and no lock.
+    /// Where each segment stood as its storer last told, with no look and no lock.
     pub(crate) fn list_statuses(&self) -> Result<Vec<SegmentStatus>, AllocError>
         ensures count { IfOk result (λ s. length s.items ≡ length self.now.windows) }
         ensures limits { IfOk result (λ s. All IsStatus s.items) }
@@ -176,7 +176,7 @@ impl<R: Wait + Copy> Outbox<R> {
         Ok(handed)
     }
 
-    /// Tries to hand an update over to its store's thread.
+    /// Tries to hand an update over to its storer.
     fn offer<J: Asked>(
         &mut self,
         segment: usize,
@@ -198,7 +198,7 @@ impl<R: Wait + Copy> Outbox<R> {
 }
 
 impl<R: Wait + Copy + Clock> Outbox<R> {
-    /// Hands an update over to its store's thread, once. None where that is gone, or no memory is left
+    /// Hands an update over to its storer, once. None where that is gone, or no memory is left
     /// for a tenth of a second.
     pub(crate) fn hand_over<J: Asked>(
         &mut self,

@@ -1,7 +1,7 @@
-//! What was handed over to a store and isn't taken yet.
+//! What was handed over to a storer and isn't taken yet.
 ghost use Rattle.std.specs.Prelude.{◌≡◌, true, false, OnOk, OnErr};
 ghost use Rattle.snap_service.specs.Counted.{next_count};
-ghost use Rattle.snap_desk.specs.Store.{IsWaiting};
+ghost use Rattle.snap_desk.specs.Storer.{IsWaiting};
 
 use crate::job::Job;
 use crossbeam_channel::{Receiver, TryRecvError};
@@ -10,10 +10,10 @@ use std::marker::Model;
 use std::sync::Wait;
 use std::thread;
 
-/// How often a store's thread asks for an update before it sleeps: for about half a millisecond.
+/// How often a storer asks for an update before it sleeps: for about half a millisecond.
 const SPINS: u32 = 2_000;
 
-/// The updates that come to a store. Its value is how many came and how many of them were taken, each
+/// The updates that come to a storer. Its value is how many came and how many of them were taken, each
 /// from 0 again behind the largest number: all of them, or all but one, which waits here. So a contract
 /// can say that none is let go.
 #[derive(Drop)]
@@ -27,7 +27,7 @@ pub(crate) struct Queue {
 
 impl Model for Queue {
     ghost use Rattle.std.specs.Prelude.{◌≡◌, is_some};
-    ghost use Rattle.snap_desk.specs.Store.{Queued, came_by};
+    ghost use Rattle.snap_desk.specs.Storer.{Queued, came_by};
 
     ghost Value = { Queued };
 

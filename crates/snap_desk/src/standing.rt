@@ -3,7 +3,7 @@
 ghost use Rattle.std.specs.Prelude.{◌≡◌, ◌+◌, ◌*◌, true, false, None, IsSome};
 ghost use Rattle.snap_frame.specs.Messages.{IsStatus};
 ghost use Rattle.snap_service.specs.Writer.{number_of};
-ghost use Rattle.snap_desk.specs.Store.{StandsAt};
+ghost use Rattle.snap_desk.specs.Storer.{StandsAt};
 
 use snap_disk::Disk;
 use snap_frame::SegmentStatus;

@@ -12,10 +12,10 @@ use std::path::Path;
 use std::rt::{Clock, Files};
 use std::time::Instant;
 
-/// How long a look at the file counts while its folder stays as it was, in seconds. Where a file system
+/// How long a check of the name counts while its folder stays as it was, in seconds. Where a file system
 /// doesn't tell that a folder has changed, or another one was put over it, that is how late it is
 /// found.
-const LOOK_COUNTS: u64 = 1;
+const CHECK_COUNTS: u64 = 1;
 
 /// How long a folder has to have had its time before each later change gives it another one, in
 /// seconds. Some file systems count in steps of two.
@@ -54,36 +54,36 @@ struct Folder {
     nanoseconds: i64,
 }
 
-/// A glance at a folder.
+/// A folder, read at this time.
 #[derive(Clone, Copy)]
-struct Glance {
+struct FolderReading {
     folder: Folder,
     at: Instant,
 }
 
-/// A glance at a folder, with a look at the file behind it.
+/// A reading of a folder, and a check behind it that found the file under its name.
 #[derive(Clone, Copy)]
-struct Look {
-    glance: Glance,
+struct NameCheck {
+    reading: FolderReading,
     /// When the folder was first seen as it was then.
     since: Instant,
 }
 
-impl Look {
-    /// A look behind this glance, and behind an earlier one where there was one.
-    fn behind(glance: Glance, earlier: Option<Look>) -> Look {
+impl NameCheck {
+    /// A check behind this reading, and behind an earlier check where there was one.
+    fn behind(reading: FolderReading, earlier: Option<NameCheck>) -> NameCheck {
         let since = match earlier {
-            Some(earlier) if earlier.glance.folder == glance.folder => earlier.since,
-            _ => glance.at,
+            Some(earlier) if earlier.reading.folder == reading.folder => earlier.since,
+            _ => reading.at,
         };
-        Look { glance, since }
+        NameCheck { reading, since }
     }
 
-    /// Whether this later glance shows that the name that was looked at is there still.
-    fn counts_at(&self, later: Glance) -> bool {
-        later.folder == self.glance.folder
-            && self.glance.at.duration_since(self.since).as_secs() >= STEP
-            && later.at.duration_since(self.glance.at).as_secs() < LOOK_COUNTS
+    /// Whether this later reading shows that the name that was checked is there still.
+    fn counts_at(&self, later: FolderReading) -> bool {
+        later.folder == self.reading.folder
+            && self.reading.at.duration_since(self.since).as_secs() >= STEP
+            && later.at.duration_since(self.reading.at).as_secs() < CHECK_COUNTS
     }
 }
 
@@ -92,8 +92,8 @@ impl Look {
 pub struct Name<'p> {
     path: &'p str,
     id: FileId,
-    /// The last look that found the file under its own name, and not under that of a link to it.
-    look: Option<Look>,
+    /// The last check that found the file under its own name, and not under that of a link to it.
+    last: Option<NameCheck>,
     /// Whether it was asked for behind the last sync, and held.
     is_fresh: bool,
 }
@@ -104,7 +104,7 @@ impl<'p> Name<'p> {
         Name {
             path,
             id,
-            look: None,
+            last: None,
             is_fresh: false,
         }
     }
@@ -129,17 +129,17 @@ impl<'p> Name<'p> {
     /// Whether it names that file now.
     fn holds<R: Files<File = fs::File> + Clock>(&mut self, rt: &R) -> io::Result<bool> {
         // Before the file, so that a change between the two isn't taken for one before them.
-        let glance = self.glance(rt).ok();
-        let last = self.look.take();
-        if let (Some(last), Some(glance)) = (last, glance) {
-            if last.counts_at(glance) {
-                self.look = Some(last);
+        let reading = self.read_folder(rt).ok();
+        let last = self.last.take();
+        if let (Some(last), Some(reading)) = (last, reading) {
+            if last.counts_at(reading) {
+                self.last = Some(last);
                 return Ok(true);
             }
         }
         if let Ok(own) = fs::symlink_metadata(rt, self.path) {
             if FileId::of(&own) == self.id {
-                self.look = glance.map(|glance| Look::behind(glance, last));
+                self.last = reading.map(|reading| NameCheck::behind(reading, last));
                 return Ok(true);
             }
         }
@@ -150,15 +150,15 @@ impl<'p> Name<'p> {
         }
     }
 
-    /// Looks at the folder and at the clock.
-    fn glance<R: Files<File = fs::File> + Clock>(&self, rt: &R) -> io::Result<Glance> {
+    /// Reads the folder, and the clock.
+    fn read_folder<R: Files<File = fs::File> + Clock>(&self, rt: &R) -> io::Result<FolderReading> {
         let found = fs::metadata(rt, folder_of(self.path))?;
         let folder = Folder {
             id: FileId::of(&found),
             seconds: found.ctime(),
             nanoseconds: found.ctime_nsec(),
         };
-        Ok(Glance {
+        Ok(FolderReading {
             folder,
             at: Instant::now(rt)?,
         })

@@ -2,3 +2,4 @@ pub mod Refused
 pub mod Stored
 pub mod SecondLine
 pub mod Carried
+pub mod Founded

@@ -5,3 +5,4 @@ pub mod Effects
 pub mod Migration
 pub mod Calls
 pub mod Acts
+pub mod Foundation

@@ -107,7 +107,7 @@ fn carry_out<D: Disk, R: Read, W: Write>(
 }
 
 /// Formats the device and says so.
-fn format_file<D: Disk, W: Write>(
+pub(crate) fn format_file<D: Disk, W: Write>(
     alloc: Global,
     disk: &mut D,
     index: u8,

@@ -1,6 +1,6 @@
 -- What the codec's cuts mean for the bytes held.
 use Rattle.std.proofs.Common.{◌≡◌, ℕ, ◌+◌, ◌<◌, ◌≤◌, ◌^◌, List, ◌∷◌, ◌++◌, [], length, take, drop, Some, inl, inr, refl, sym, ◌∙◌, ap}
-use Rattle.std.proofs.Common.{subst, arith, append_assoc, length-append, length-take, pos}
+use Rattle.std.proofs.Common.{subst, arith, append_assoc, length-append, length-take, length-drop, pos}
 use Rattle.std.specs.Int.{w32, to_be_bytes}
 use Rattle.std.proofs.lemmas.List.{take-append-drop}
 use Rattle.std.proofs.lemmas.Bool.{cases_lt, cond-true, lt-ltb}
@@ -35,6 +35,18 @@ short_is_partial n ys fits short =
           absurd (omega (arith, same.0, long.2));
     }
 
+-- a whole frame behind one
+frame_first : (n : ℕ) (ys : List ℕ) → n ≤ messages.max_payload → n ≤ length ys
+    → HasFrame (to_be_bytes w32 n ++ ys) (take n ys) (drop n ys)
+frame_first n ys fits whole =
+    let len : length (take n ys) ≡ n = omega (arith, length-take n ys) in
+    record {
+      fits = omega (arith, len);
+      split = ap (λ zs. to_be_bytes w32 n ++ zs) (sym (take-append-drop n ys))
+          ∙ sym (append_assoc (to_be_bytes w32 n) (take n ys) (drop n ys))
+          ∙ ap (λ k. to_be_bytes w32 k ++ take n ys ++ drop n ys) (sym len);
+    }
+
 pub payload_means : (n : ℕ) (ys : List ℕ) → n ≤ messages.max_payload
     → Means (to_be_bytes w32 n ++ ys) (cut_payload n ys)
 payload_means n ys fits =
@@ -45,17 +57,11 @@ payload_means n ys fits =
         fits,
         short_is_partial n ys fits short,
       )
-      | inr whole ↦
-          let len : length (take n ys) ≡ n = omega (arith, length-take n ys) in
-          subst (Means held) (sym (cut_payload_whole n ys whole)) record {
-            fits = omega (arith, len);
-            split = ap (λ zs. to_be_bytes w32 n ++ zs) (sym (take-append-drop n ys))
-                ∙ sym (append_assoc (to_be_bytes w32 n) (take n ys) (drop n ys))
-                ∙ ap (λ k. to_be_bytes w32 k ++ take n ys ++ drop n ys) (sym len);
-          }
+      | inr whole ↦ subst (Means held) (sym (cut_payload_whole n ys whole))
+          (frame_first n ys fits whole)
     ]
 
-tiny_is_partial : (xs : List ℕ) → length xs < 4 → IsPartial xs
+pub tiny_is_partial : (xs : List ℕ) → length xs < 4 → IsPartial xs
 tiny_is_partial xs tiny =
     record {
       no_frame = λ x rest has.
@@ -73,17 +79,40 @@ tiny_is_partial xs tiny =
     }
 
 -- the length in the first four bytes
-pub four_again : (xs : List ℕ) → IsBytes xs → 4 ≤ length xs
-    → (to_be_bytes w32 (field_value feed_layout xs) ≡ take 4 xs)
+first_four : (xs : List ℕ) → IsBytes xs → 4 ≤ length xs
+    → (to_be_bytes w32 (field_value feed_layout xs) ++ drop 4 xs ≡ xs)
     × (field_value feed_layout xs < 2 ^ 32)
-four_again [] bytes long = absurd (omega arith)
-four_again (a ∷ []) bytes long = absurd (omega arith)
-four_again (a ∷ b ∷ []) bytes long = absurd (omega arith)
-four_again (a ∷ b ∷ c ∷ []) bytes long = absurd (omega arith)
-four_again (a ∷ b ∷ c ∷ d ∷ xs) bytes long =
+first_four [] bytes long = absurd (omega arith)
+first_four (a ∷ []) bytes long = absurd (omega arith)
+first_four (a ∷ b ∷ []) bytes long = absurd (omega arith)
+first_four (a ∷ b ∷ c ∷ []) bytes long = absurd (omega arith)
+first_four (a ∷ b ∷ c ∷ d ∷ xs) bytes long =
     let front = a ∷ b ∷ c ∷ d ∷ [] in
-    let each : IsBytes front = bytes-take 4 (a ∷ b ∷ c ∷ d ∷ xs) bytes in
-    (be_bytes_4 front _ refl each (omega arith), omega (arith, each 0, each 1, each 2, each 3))
+    let each : IsBytes front = bytes-take 4 (a ∷ b ∷ c ∷ d ∷ xs) bytes in (
+      ap (λ zs. zs ++ xs) (be_bytes_4 front _ refl each (omega arith)),
+      omega (arith, each 0, each 1, each 2, each 3),
+    )
+
+-- with no whole frame first, and no length above the limit, fewer bytes are held than a frame may
+-- have
+pub partial_is_short : (xs : List ℕ) → IsBytes xs → IsPartial xs
+    → length xs < 4 + messages.max_payload
+partial_is_short xs bytes part =
+    elim (cases_lt (length xs) (4 + messages.max_payload)) [
+      | inl short ↦ short
+      | inr long ↦
+          let n = field_value feed_layout xs in
+          let first = first_four xs bytes (omega arith) in
+          elim (cases_lt messages.max_payload n) [
+            | inl big ↦ absurd (part.no_long (n, drop 4 xs, big, first.1, sym first.0))
+            | inr fits ↦
+                let ys = drop 4 xs in
+                let whole : n ≤ length ys = omega (arith, length-drop 4 xs) in
+                absurd (part.no_frame (take n ys) (drop n ys)
+                (subst (λ held. HasFrame held (take n ys) (drop n ys)) first.0
+                (frame_first n ys fits whole)))
+          ]
+    ]
 
 pub head_means : (xs : List ℕ) → IsBytes xs → Means xs (cut_frame feed_layout xs)
 head_means xs bytes =
@@ -95,15 +124,14 @@ head_means xs bytes =
       )
       | inr long ↦
           let v = field_value feed_layout xs in
-          let split : to_be_bytes w32 v ++ drop 4 xs ≡ xs =
-          ap (λ zs. zs ++ drop 4 xs) (four_again xs bytes long).0 ∙ take-append-drop 4 xs in
+          let first = first_four xs bytes long in
           elim (cases_lt messages.max_payload v) [
             | inl big ↦ subst (Means xs) (sym (cut_frame_big feed_layout xs long big)) (
               v,
               drop 4 xs,
               big,
-              (four_again xs bytes long).1,
-              sym split,
+              first.1,
+              sym first.0,
             )
             | inr small ↦
                 let fits : add_adjustment v (pos 0) ≡ Some v =
@@ -113,7 +141,7 @@ head_means xs bytes =
                 cut_frame_head feed_layout xs long small
                 ∙ ap (λ o. cut_adjusted o (drop 4 xs)) fits in
                 subst (Means xs) (sym is)
-                (subst (λ held. Means held (cut_payload v (drop 4 xs))) split
+                (subst (λ held. Means held (cut_payload v (drop 4 xs))) first.0
                 (payload_means v (drop 4 xs) small))
           ]
     ]

@@ -67,7 +67,7 @@ IsDone (unfinished s k) = ⊥
 payload_done : (n : ℕ) (xs : List ℕ) → n ≤ length xs → IsDone (cut_payload n xs)
 payload_done n xs whole = subst IsDone (sym (cut_payload_whole n xs whole)) tt
 
-bytes-append : (xs ys : List ℕ) → IsBytes xs → IsBytes ys → IsBytes (xs ++ ys)
+pub bytes-append : (xs ys : List ℕ) → IsBytes xs → IsBytes ys → IsBytes (xs ++ ys)
 bytes-append xs ys one two i =
     elim (cases_lt i (length xs)) [
       | inl below ↦ rw (get_or_append_left xs ys 0 i below) (one i)
@@ -166,6 +166,12 @@ input_kind : error_kind (error_of 20) ≡ InvalidInput
 unfolding kind_at
 input_kind = refl
 
+not_data : InvalidData ≡ OutOfMemory → ⊥
+not_data wrong = absurd cc
+
+not_input : InvalidInput ≡ OutOfMemory → ⊥
+not_input wrong = absurd cc
+
 heard_frame : (c t : LengthDelimitedCodec) (zs held : List ℕ) (v : Cut) (b : Filled) (r : List ℕ)
     → Means held v → Answers c zs v (Ok b) t r → HasFrame held b.items r × (t ≡ with_state c Head)
 heard_frame c t zs held (frame p rest) b r means heard = (
@@ -238,20 +244,12 @@ waits c t xs ys ready bytes_xs bytes_ys told =
                 ∙ sym heard.0.split ∙ pending-append c.state xs more),
             record { layout = laid; fits = fits },
           )
-      | too_big ↦ λ e _. fails (error_of 21) (λ m. let wrong : InvalidData ≡ OutOfMemory =
-          sym data_kind ∙ m in cc)
-          (subst (λ (v : Cut). Answers t zs v (Err (error_of 21)) t zs) (sym e) (
-            data_kind,
-            refl,
-            refl,
-          ))
-      | overflows ↦ λ e _. fails (error_of 20) (λ m. let wrong : InvalidInput ≡ OutOfMemory =
-          sym input_kind ∙ m in cc)
-          (subst (λ (v : Cut). Answers t zs v (Err (error_of 20)) t zs) (sym e) (
-            input_kind,
-            refl,
-            refl,
-          ))
+      | too_big ↦ λ e _. fails (error_of 21) (λ m. not_data (sym data_kind ∙ m))
+          (subst (λ (v : Cut). Answers t zs v (Err (error_of 21)) t zs) (sym e)
+          (data_kind, refl, refl))
+      | overflows ↦ λ e _. fails (error_of 20) (λ m. not_input (sym input_kind ∙ m))
+          (subst (λ (v : Cut). Answers t zs v (Err (error_of 20)) t zs) (sym e)
+          (input_kind, refl, refl))
       | unfinished s k ↦ λ _ none. absurd none
     ] refl end.done
 
@@ -273,8 +271,7 @@ refused_by : (c t : LengthDelimitedCodec) (xs ys held : List ℕ) (v : Cut) (e :
 refused_by c t xs ys held (frame p r) e means heard =
     (λ _. (p, r, means), λ never. absurd (never heard.0))
 refused_by c t xs ys held too_big e means heard = (
-  λ m. let wrong : InvalidData ≡ OutOfMemory = sym heard.0 ∙ m in
-      absurd cc,
+  λ m. absurd (not_data (sym heard.0 ∙ m)),
   λ _. (means, heard.1, heard.2),
 )
 refused_by c t xs ys held overflows e means heard = absurd means

@@ -89,25 +89,22 @@ none_bytes i = omega arith
 pub at_end : (c t : LengthDelimitedCodec) (ys : List ℕ) (r : Result (Option Filled) Error) → Ready c
     → DecodesAtEnd gives_frames c [] r t ys → (r ≡ Ok None → pending c [] ≡ [])
     × (pending c [] ≡ [] → r ≡ Ok None)
-at_end c t ys (Ok None) ready told =
-    end_by c.state c t ys (cut c []) (Ok None) (means c [] ready.layout ready.fits none_bytes) told
-at_end c t ys (Ok (Some b)) ready (inl told) = (
-  λ wrong. absurd cc,
-  λ none.
-      absurd (done_by c.state c t [] ys (cut c []) (Ok b)
-      (means c [] ready.layout ready.fits none_bytes) told none),
-)
-at_end c t ys (Ok (Some b)) ready (inr told) =
-    end_by c.state c t ys (cut c []) (Ok (Some b))
-    (means c [] ready.layout ready.fits none_bytes) told
-at_end c t ys (Err e) ready (inl told) = (
-  λ wrong. absurd cc,
-  λ none.
-      absurd (done_by c.state c t [] ys (cut c []) (Err e)
-      (means c [] ready.layout ready.fits none_bytes) told none),
-)
-at_end c t ys (Err e) ready (inr told) =
-    end_by c.state c t ys (cut c []) (Err e) (means c [] ready.layout ready.fits none_bytes) told
+at_end c t ys r ready = by (means c [] ready.layout ready.fits none_bytes) r
+  where
+    by : Means (pending c []) (cut c []) → (r : Result (Option Filled) Error)
+        → DecodesAtEnd gives_frames c [] r t ys → (r ≡ Ok None → pending c [] ≡ [])
+        × (pending c [] ≡ [] → r ≡ Ok None)
+    by means (Ok None) told = end_by c.state c t ys (cut c []) (Ok None) means told
+    by means (Ok (Some b)) (inl told) = (
+      λ wrong. absurd cc,
+      λ none. absurd (done_by c.state c t [] ys (cut c []) (Ok b) means told none),
+    )
+    by means (Ok (Some b)) (inr told) = end_by c.state c t ys (cut c []) (Ok (Some b)) means told
+    by means (Err e) (inl told) = (
+      λ wrong. absurd cc,
+      λ none. absurd (done_by c.state c t [] ys (cut c []) (Err e) means told none),
+    )
+    by means (Err e) (inr told) = end_by c.state c t ys (cut c []) (Err e) means told
 
 -- no frame is a beginning of another frame
 pub no_frame_begins_another : NoFrameBeginsAnother

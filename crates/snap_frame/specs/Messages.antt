@@ -3,7 +3,7 @@ use Rattle.std.specs.Prelude.{◌≡◌, ℕ, ◌+◌, ◌^◌, ◌<◌, ◌≤�
 use Rattle.std.specs.Int.{w16, w32, w64, to_be_bytes}
 use Rattle.snap_disk.specs.Refusal.{code_of}
 use Rattle.snap_history.specs.Limits.{IsNumber, IsShort}
-use Rattle.snap_history.specs.declared.limits.TheConstants.{MAX_COUNT}
+use Rattle.snap_history.specs.declared.limits.TheConstants.{MAX_COUNT, MAX_VALUE_LEN}
 use Rattle.snap_frame.specs.declared.frame.TheConstants.{MAX_PAYLOAD}
 use Rattle.snap_frame.specs.declared.request.Request.{Request}
 use Rattle.snap_frame.specs.declared.request.Request.TheVariants.{Update, Scan, Status, Part}
@@ -84,6 +84,15 @@ abbrev pub Ascend : List NamedValue → Type 0
 Ascend vs =
     (p : ℕ) (a b : NamedValue) → slice_get vs p ≡ Some a → slice_get vs (p + 1) ≡ Some b
     → a.segment < b.segment
+
+-- no entry's bytes are a beginning of another's
+pub record Separate {E : Type 0} (bytes : E → List ℕ) (MayStand : E → Type 0) : Type 0 where
+  pub each : (d e : E) (a b : List ℕ) → MayStand d → MayStand e → bytes d ++ a ≡ bytes e ++ b
+      → (d ≡ e) × (a ≡ b)
+
+-- the most bytes of an entry: the segment, the number, the length and the value
+abbrev pub longest_entry : ℕ
+longest_entry = 13 + MAX_VALUE_LEN
 
 -- one entry or more, each of which may stand in a reply, and no more than a file can speak of
 pub record AreEntries {E : Type 0} (MayStand : E → Type 0) (es : List E) : Type 0 where

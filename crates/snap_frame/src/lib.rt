@@ -14,6 +14,7 @@ mod entries;
 mod feed;
 mod frame;
 mod frame_buffer;
+mod list;
 mod named;
 mod numbers;
 mod reply;

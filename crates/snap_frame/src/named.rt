@@ -1,13 +1,14 @@
 //! The entries of a scan of some segments: one for each of them, which it names, in ascending order.
-ghost use Rattle.std.specs.Prelude.{◌≡◌, ◌+◌, ◌<◌, ◌≤◌, ◌^◌, ◌↔◌, ℕ, List, ◌∷◌, ◌++◌, length};
-ghost use Rattle.std.specs.Prelude.{flat_map, All, OnOk, IfOk, IfSome, IfNone, IsTrue};
-ghost use Rattle.snap_history.specs.declared.limits.TheConstants.{MAX_COUNT};
-ghost use Rattle.snap_frame.specs.Messages.{max_payload, named_bytes, IsNamedValue, Ascend};
+ghost use Rattle.std.specs.Prelude.{◌≡◌, ◌↔◌, ℕ, List, ◌∷◌, length, flat_map, slice_index};
+ghost use Rattle.std.specs.Prelude.{IfOk, IfSome, IfNone, IsTrue};
+ghost use Rattle.snap_frame.specs.Messages.{named_bytes, IsNamedValue, Ascend, AreEntries};
 
-use crate::entries::{VALUE_HEAD_LEN, put_value, take_value};
+use crate::entries::{VALUE_HEAD_LEN, put_value};
+use crate::list::{Entry, read_list};
 use bytes::{Bytes, BytesMut};
 use snap_history::MAX_COUNT;
-use std::alloc::{AllocError, Global};
+use snap_scan::SegmentValue;
+use std::alloc::AllocError;
 
 /// A segment with its number and value.
 #[derive(Debug, PartialEq, Eq, Drop)]
@@ -24,53 +25,39 @@ pub struct NamedValue {
 /// with.
 const NAMED_HEAD_LEN: usize = 1 + VALUE_HEAD_LEN;
 
-/// Takes the first entry off, or answers `None` where none stands first.
-fn take_named(rest: &mut Bytes) -> Result<Option<NamedValue>, AllocError>
-    ensures some { IfOk result (λ o. IfSome o (λ v. IsNamedValue v
-        × (rest.old ≡ named_bytes v ++ rest.new))) }
-    ensures none { IfOk result (λ o. IfNone o ((v : NamedValue) → (tail : List ℕ)
-        → IsNamedValue v → rest.old ≡ named_bytes v ++ tail → ⊥)) }
-{
-    let Some(&segment) = rest.as_slice().first() else {
-        return Ok(None);
-    };
-    if segment >= MAX_COUNT {
-        return Ok(None);
-    }
-    rest.advance(1);
-    let Some(entry) = take_value(rest)? else {
-        return Ok(None);
-    };
-    Ok(Some(NamedValue {
-        segment,
-        number: entry.number,
-        value: entry.value,
-    }))
-}
+impl Entry for NamedValue {
+    ghost use Rattle.snap_frame.specs.Messages.{named_bytes, IsNamedValue};
 
-/// The entries of a scan, `count` of them in any order and nothing behind, or `None` where they
-/// aren't so.
-fn read_entries(
-    alloc: Global,
-    count: u8,
-    mut rest: Bytes,
-) -> Result<Option<Vec<NamedValue>>, AllocError>
-    ensures some { IfOk result (λ o. IfSome o (λ vs. (length vs.items ≡ count)
-        × All IsNamedValue vs.items × (rest ≡ flat_map named_bytes vs.items))) }
-    ensures none { IfOk result (λ o. IfNone o ((vs : List NamedValue) → length vs ≡ count
-        → All IsNamedValue vs → rest ≡ flat_map named_bytes vs → ⊥)) }
-{
-    let mut values = Vec::new(alloc);
-    for _ in 0..count {
-        match take_named(&mut rest)? {
-            Some(value) => values.push(value)?,
-            None => return Ok(None),
+    ghost bytes = { named_bytes };
+
+    ghost may_stand = { IsNamedValue };
+
+    fn take_first(rest: &mut Bytes) -> Result<Option<NamedValue>, AllocError> {
+        let Some(&segment) = rest.as_slice().first() else {
+            return Ok(None);
+        };
+        if segment >= MAX_COUNT {
+            return Ok(None);
         }
+        rest.advance(1);
+        let Some(entry) = SegmentValue::take_first(rest)? else {
+            return Ok(None);
+        };
+        Ok(Some(NamedValue {
+            segment,
+            number: entry.number,
+            value: entry.value,
+        }))
     }
-    if !rest.is_empty() {
-        return Ok(None);
+
+    fn len(&self) -> usize {
+        NAMED_HEAD_LEN + self.value.len()
     }
-    Ok(Some(values))
+
+    fn put(&self, out: &mut BytesMut) {
+        out.extend_reserved(&[self.segment]);
+        put_value(self.number, &self.value, out);
+    }
 }
 
 /// Whether each entry's segment is above that of the one before it.
@@ -85,59 +72,22 @@ fn ascend(values: &[NamedValue]) -> bool
     true
 }
 
-/// The entries of a scan of some segments, `count` of them in ascending order and nothing behind,
-/// or `None` where they aren't so.
-pub(crate) fn read_named(
-    alloc: Global,
-    count: u8,
-    rest: Bytes,
-) -> Result<Option<Vec<NamedValue>>, AllocError>
-    ensures some { IfOk result (λ o. IfSome o (λ vs. (length vs.items ≡ count)
-        × All IsNamedValue vs.items × Ascend vs.items
-        × (rest ≡ flat_map named_bytes vs.items))) }
-    ensures none { IfOk result (λ o. IfNone o ((vs : List NamedValue) → length vs ≡ count
-        → All IsNamedValue vs → Ascend vs → rest ≡ flat_map named_bytes vs → ⊥)) }
+/// The entries of the payload of a scan of some segments, or `None` where it has none, or they aren't
+/// so or don't ascend.
+#[tactic(auto, using(crate::proofs::Behind::named_apart))]
+pub(crate) fn read_named(payload: BytesMut) -> Result<Option<Vec<NamedValue>>, AllocError>
+    ensures some { IfOk result (λ o. IfSome o (λ vs. AreEntries IsNamedValue vs.items
+        × Ascend vs.items × (payload.items
+        ≡ slice_index payload.items 0 ∷ length vs.items ∷ flat_map named_bytes vs.items))) }
+    ensures none { IfOk result (λ o. IfNone o ((kind : ℕ) → (vs : List NamedValue)
+        → AreEntries IsNamedValue vs → Ascend vs
+        → payload.items ≡ kind ∷ length vs ∷ flat_map named_bytes vs → ⊥)) }
 {
-    let Some(values) = read_entries(alloc, count, rest)? else {
+    let Some(values) = read_list(payload)? else {
         return Ok(None);
     };
     if !ascend(&values) {
         return Ok(None);
     }
     Ok(Some(values))
-}
-
-/// How many bytes the entries have together.
-pub(crate) fn named_len(values: &[NamedValue]) -> usize
-    requires few { length values.now ≤ MAX_COUNT }
-    requires each { All IsNamedValue values.now }
-    ensures len { result ≡ length (flat_map named_bytes values.now) }
-    ensures fits { 2 + result ≤ max_payload }
-{
-    let mut len = 0;
-    for entry in values {
-        len += NAMED_HEAD_LEN + entry.value.len();
-    }
-    len
-}
-
-/// Writes the entries of a scan of some segments. There is room for them.
-pub(crate) fn put_named(values: &[NamedValue], out: &mut BytesMut)
-    requires each { All IsNamedValue values.now }
-    requires room { length (flat_map named_bytes values.now) ≤ out.old.spare }
-    ensures { out.new.items ≡ out.old.items ++ flat_map named_bytes values.now }
-{
-    for entry in values {
-        put_entry(entry, out);
-    }
-}
-
-fn put_entry(entry: &NamedValue, out: &mut BytesMut)
-    requires fits { length entry.now.value < 2 ^ 32 }
-    requires room { length (named_bytes entry.now) ≤ out.old.spare }
-    ensures items { out.new.items ≡ out.old.items ++ named_bytes entry.now }
-    ensures room { out.new.spare + length (named_bytes entry.now) ≡ out.old.spare }
-{
-    out.extend_reserved(&[entry.segment]);
-    put_value(entry.number, &entry.value, out);
 }

@@ -9,7 +9,6 @@ ghost use Rattle.std.specs.Prelude.{
   ◌++◌,
   ◌∷◌,
   length,
-  drop,
   slice_index,
   IsOk,
   OnOk,
@@ -20,7 +19,6 @@ ghost use Rattle.std.specs.Prelude.{
   IfNone,
 };
 ghost use Rattle.std.specs.Int.{w64, to_be_bytes};
-ghost use Rattle.snap_history.specs.declared.limits.TheConstants.{MAX_COUNT};
 ghost use Rattle.snap_frame.specs.Messages.{
   max_payload,
   frame,
@@ -30,15 +28,14 @@ ghost use Rattle.snap_frame.specs.Messages.{
   IsInLimits,
 };
 
-use crate::entries::{
-    SegmentStatus, put_statuses, put_values, read_statuses, read_values, statuses_len, values_len,
-};
+use crate::entries::SegmentStatus;
 use crate::frame::start_frame;
-use crate::named::{NamedValue, named_len, put_named, read_named};
+use crate::list::{append_list, read_list};
+use crate::named::{NamedValue, read_named};
 use crate::numbers::first_u64;
-use bytes::{Bytes, BytesMut};
+use bytes::BytesMut;
 use snap_disk::Refusal;
-use snap_history::{LAST_NUMBER, MAX_COUNT};
+use snap_history::LAST_NUMBER;
 use snap_scan::SegmentValue;
 use std::alloc::AllocError;
 
@@ -48,12 +45,12 @@ pub enum Reply {
     /// The segment holds this number, with the value of the update. At most
     /// [`LAST_NUMBER`].
     Stored(u64),
-    /// All segments at one moment, in order, 1 to [`MAX_COUNT`] of them.
+    /// All segments at one moment, in order, 1 to [`MAX_COUNT`](snap_history::MAX_COUNT) of them.
     Snapshot(Vec<SegmentValue>),
-    /// All segments, each as it was when the server looked, in order, 1 to [`MAX_COUNT`] of
+    /// All segments, each as it was when the server looked, in order, 1 to [`MAX_COUNT`](snap_history::MAX_COUNT) of
     /// them.
     Status(Vec<SegmentStatus>),
-    /// The segments that were asked for, at one moment, in ascending order, 1 to [`MAX_COUNT`] of
+    /// The segments that were asked for, at one moment, in ascending order, 1 to [`MAX_COUNT`](snap_history::MAX_COUNT) of
     /// them.
     Part(Vec<NamedValue>),
     /// Refused, with the number that the refusal has to tell.
@@ -75,9 +72,6 @@ const STORED_LEN: usize = 9;
 
 /// The bytes of a payload that says a refusal.
 const REFUSED_LEN: usize = 10;
-
-/// The bytes of a payload before its entries: the kind and the count.
-const LIST_HEAD_LEN: usize = 2;
 
 /// The number of a payload whose kind is that of a stored number.
 fn read_stored(payload: &[u8]) -> Option<Reply>
@@ -113,65 +107,25 @@ fn read_refused(payload: &[u8]) -> Option<Reply>
     }
 }
 
-/// How many entries a payload says that it has, or `None` where it may not.
-fn entry_count(payload: &[u8]) -> Option<u8>
-    ensures some { IfSome result (λ n. (1 ≤ n) × (n ≤ MAX_COUNT)
-        × (payload.now ≡ slice_index payload.now 0 ∷ n ∷ drop 2 payload.now)) }
-    ensures none { IfNone result ((kind n : ℕ) → (tail : List ℕ) → 1 ≤ n → n ≤ MAX_COUNT
-        → payload.now ≡ kind ∷ n ∷ tail → ⊥) }
-{
-    if payload.len() < LIST_HEAD_LEN {
-        return None;
-    }
-    let count = payload[1];
-    if count == 0 || count > MAX_COUNT {
-        return None;
-    }
-    Some(count)
-}
-
-/// The count of a payload's entries and the bytes behind it, or `None` where it may not be.
-fn split_list(mut payload: BytesMut) -> Result<Option<(u8, Bytes)>, AllocError>
-    ensures some { IfOk result (λ o. IfSome o (λ list. (1 ≤ list.0) × (list.0 ≤ MAX_COUNT)
-        × (payload.items ≡ slice_index payload.items 0 ∷ list.0 ∷ list.1))) }
-    ensures none { IfOk result (λ o. IfNone o ((kind n : ℕ) → (tail : List ℕ) → 1 ≤ n
-        → n ≤ MAX_COUNT → payload.items ≡ kind ∷ n ∷ tail → ⊥)) }
-{
-    let Some(count) = entry_count(payload.as_slice()) else {
-        return Ok(None);
-    };
-    payload.advance(LIST_HEAD_LEN);
-    match payload.freeze() {
-        Ok(entries) => Ok(Some((count, entries))),
-        Err(_) => Err(AllocError),
-    }
-}
-
+#[tactic(auto, using(crate::proofs::Behind::values_apart))]
 fn read_snapshot(payload: BytesMut) -> Result<Option<Reply>, AllocError>
     requires { slice_index payload.items 0 ≡ 0x82 }
     ensures reply { IfOk result (λ r. IfSome r (Says payload.items)) }
     ensures nothing { IfOk result (λ r. IfNone r (SaysNothing payload.items)) }
 {
-    let alloc = *payload.allocator();
-    let Some((count, entries)) = split_list(payload)? else {
-        return Ok(None);
-    };
-    match read_values(alloc, count, entries)? {
+    match read_list(payload)? {
         Some(values) => Ok(Some(Reply::Snapshot(values))),
         None => Ok(None),
     }
 }
 
+#[tactic(auto, using(crate::proofs::Behind::statuses_apart))]
 fn read_status(payload: BytesMut) -> Result<Option<Reply>, AllocError>
     requires { slice_index payload.items 0 ≡ 0x83 }
     ensures reply { IfOk result (λ r. IfSome r (Says payload.items)) }
     ensures nothing { IfOk result (λ r. IfNone r (SaysNothing payload.items)) }
 {
-    let alloc = *payload.allocator();
-    let Some((count, entries)) = split_list(payload)? else {
-        return Ok(None);
-    };
-    match read_statuses(alloc, count, entries)? {
+    match read_list(payload)? {
         Some(statuses) => Ok(Some(Reply::Status(statuses))),
         None => Ok(None),
     }
@@ -182,11 +136,7 @@ fn read_part(payload: BytesMut) -> Result<Option<Reply>, AllocError>
     ensures reply { IfOk result (λ r. IfSome r (Says payload.items)) }
     ensures nothing { IfOk result (λ r. IfNone r (SaysNothing payload.items)) }
 {
-    let alloc = *payload.allocator();
-    let Some((count, entries)) = split_list(payload)? else {
-        return Ok(None);
-    };
-    match read_named(alloc, count, entries)? {
+    match read_named(payload)? {
         Some(values) => Ok(Some(Reply::Part(values))),
         None => Ok(None),
     }
@@ -243,21 +193,9 @@ fn append_reply(reply: &Reply, out: &mut BytesMut) -> Result<(), AllocError>
             out.extend_reserved(&[STORED]);
             out.extend_reserved(&number.to_be_bytes());
         }
-        Reply::Snapshot(values) => {
-            start_frame(LIST_HEAD_LEN + values_len(values), out)?;
-            out.extend_reserved(&[SNAPSHOT, values.len() as u8]);
-            put_values(values, out);
-        }
-        Reply::Status(statuses) => {
-            start_frame(LIST_HEAD_LEN + statuses_len(statuses), out)?;
-            out.extend_reserved(&[STATUS, statuses.len() as u8]);
-            put_statuses(statuses, out);
-        }
-        Reply::Part(values) => {
-            start_frame(LIST_HEAD_LEN + named_len(values), out)?;
-            out.extend_reserved(&[PART, values.len() as u8]);
-            put_named(values, out);
-        }
+        Reply::Snapshot(values) => append_list(SNAPSHOT, values, out)?,
+        Reply::Status(statuses) => append_list(STATUS, statuses, out)?,
+        Reply::Part(values) => append_list(PART, values, out)?,
         Reply::Refused { why, detail } => {
             start_frame(REFUSED_LEN, out)?;
             out.extend_reserved(&[REFUSED, why.code()]);

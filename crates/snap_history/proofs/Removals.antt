@@ -1,8 +1,8 @@
 -- Lists whose items are taken one after another.
-use Rattle.std.proofs.Common.{◌≡◌, ℕ, zero, suc, ◌+◌, ◌<◌, ◌≤◌, List, [], ◌∷◌, ◌++◌, length, map, take, drop, slice_get, Some, refl, ap}
+use Rattle.std.proofs.Common.{◌≡◌, ℕ, zero, suc, ◌+◌, ◌<◌, ◌≤◌, List, [], ◌∷◌, ◌++◌, length, map, take, drop, slice_get, Some, ap}
 use Rattle.std.proofs.Common.{sym, ◌∙◌, arith}
 use Rattle.std.proofs.lemmas.Option.{slice_get_within}
-use Rattle.std.proofs.lemmas.List.{drop-drop, take-append-drop, take-take, drop-take, map-append}
+use Rattle.std.proofs.lemmas.List.{drop-drop, take-append-drop, take-take, drop-take, map-append, length-drop, take_all}
 
 get_dropped : {A : Type 0} (k : ℕ) (xs : List A) (x : A) (rest : List A) → drop k xs ≡ x ∷ rest
     → slice_get xs k ≡ Some x
@@ -43,16 +43,10 @@ map_front f k xs x rest next n on =
     ap (map f) (next.front n on) ∙ map-append f (take k xs) (x ∷ [])
 
 -- none is left, so all are taken
-pub all_taken : {A : Type 0} (k : ℕ) (xs rest : List A) → rest ≡ drop k xs → length rest ≡ 0
-    → take k xs ≡ xs
-all_taken zero [] rest is none = refl
-all_taken (suc k) [] rest is none = refl
-all_taken zero (x ∷ xs) rest is none = absurd (let long = ap length is in omega arith)
-all_taken (suc k) (x ∷ xs) rest is none = ap (λ l. x ∷ l) (all_taken k xs rest is none)
-
 pub none_after : {A : Type 0} (k : ℕ) (xs rest : List A) → rest ≡ drop k xs → length rest ≡ 0
     → length xs ≤ k
-none_after zero [] rest is none = omega arith
-none_after (suc k) [] rest is none = omega arith
-none_after zero (x ∷ xs) rest is none = absurd (let long = ap length is in omega arith)
-none_after (suc k) (x ∷ xs) rest is none = let h = none_after k xs rest is none in omega arith
+none_after k xs rest is none = let e = ap length is ∙ length-drop k xs in omega arith
+
+pub all_taken : {A : Type 0} (k : ℕ) (xs rest : List A) → rest ≡ drop k xs → length rest ≡ 0
+    → take k xs ≡ xs
+all_taken k xs rest is none = take_all k xs (none_after k xs rest is none)

@@ -1,7 +1,7 @@
 -- What was kept of a scan is of what the seat has seen since then.
-use Rattle.std.proofs.Common.{◌≡◌, ℕ, ◌<◌, inl, inr, List, Option, Some, length, slice_get, slice_set, ap, sym, subst, ◌∙◌}
+use Rattle.std.proofs.Common.{◌≡◌, ℕ, ◌<◌, inl, inr, List, Option, Some, length, slice_get, slice_set, get_or, refl, ap, sym, subst, ◌∙◌, arith}
 use Rattle.std.proofs.lemmas.Bool.{cases_eq}
-use Rattle.std.proofs.lemmas.Option.{same_Some}
+use Rattle.std.proofs.lemmas.Option.{same_Some, slice_get_read}
 use Rattle.snap_history.specs.History.{number_after, value_after}
 use Rattle.snap_history.proofs.Beginnings.{beginning-trans}
 use Rattle.snap_history.proofs.Lists.{get-set_same, get-set_other}
@@ -33,12 +33,12 @@ fits_grown a b (Kept room) g f =
     (f.0 ∙ ap (λ (p : Plan). segments p) (sym g.plan), kept_grown a b room.items g f.1)
 
 -- what is kept of one segment, and the room with something else of one
-pub kept_at : (seat : Known) (room : List (Option SegmentValue)) (i : ℕ)
+kept_at : (seat : Known) (room : List (Option SegmentValue)) (i : ℕ)
     (kept : Option SegmentValue) → AreKept seat room → slice_get room i ≡ Some kept
     → IsKeptOf seat i kept
 kept_at seat room i kept all at x e = all i x (at ∙ ap (λ v. Some v) e)
 
-pub kept_set : (seat : Known) (room : List (Option SegmentValue)) (k : ℕ)
+kept_set : (seat : Known) (room : List (Option SegmentValue)) (k : ℕ)
     (kept : Option SegmentValue) → AreKept seat room → k < length room → IsKeptOf seat k kept
     → AreKept seat (slice_set room k kept)
 kept_set seat room k kept all inside new i x at = elim (cases_eq i k) [
@@ -47,3 +47,16 @@ kept_set seat room k kept all inside new i x at = elim (cases_eq i k) [
       ∙ ap (slice_get (slice_set room k kept)) (sym is) ∙ at)))
   | inr other ↦ all i x (sym (get-set_other room k i kept other) ∙ at)
 ]
+
+-- the same of a place within, by a call that left the seat as it was
+module _ (a b : Known) (room : List (Option SegmentValue)) (n i end : ℕ) (long : length room ≡ n)
+    (fits : n ≡ segments a.plan) (count : end ≡ segments a.plan) (test : i < end) where
+  pub kept_in : (kept : Option SegmentValue) → b ≡ a → AreKept a room → IsKeptOf b i kept
+      → AreKept a (slice_set room i kept)
+  kept_in kept same all new = kept_set a room i kept all (omega arith)
+      (subst (λ (z : Known). IsKeptOf z i kept) same new)
+
+  pub kept_of : (kept : Option SegmentValue) → b ≡ a → AreKept a room → kept ≡ get_or room i kept
+      → IsKeptOf b i kept
+  kept_of kept same all at = subst (λ (z : Known). IsKeptOf z i kept) (sym same)
+      (kept_at a room i kept all (slice_get_read room (length room) i kept refl (omega arith) at))

@@ -12,9 +12,9 @@ use Rattle.snap_register.specs.declared.view.View.TheVariants.{Collected, Borrow
 use Rattle.snap_register.specs.History.{starts}
 use Rattle.snap_register.specs.Seat.{Known, looked, own_of, number_in, value_in, Grows, IsValue, IsView, MayPublish}
 use Rattle.snap_register.specs.Rule.{segments}
-use Rattle.snap_scan.specs.Sets.{Names, named, size, IsAt}
+use Rattle.snap_scan.specs.Sets.{Names, named, size}
 use Rattle.snap_scan.proofs.Sets.{at_named, at_some, at_below, all_at, all_size}
-use Rattle.snap_memory.specs.Scans.{IsCleanScan, IsBorrowedScan, IsScan, IsSnapshot, IsPart, HasPart, AreLooked, IsSetOf, all_of}
+use Rattle.snap_memory.specs.Scans.{BeginsFresh, IsCleanScan, IsBorrowedScan, IsScan, IsSnapshot, IsPart, HasPart, AreLooked, IsSetOf, all_of}
 use Rattle.snap_history.specs.Limits.{IsShort}
 use Rattle.snap_scan.specs.Values.{pair_of}
 use Rattle.snap_scan.specs.declared.segment_value.SegmentValue.{SegmentValue}
@@ -63,29 +63,20 @@ seen_value b i x part was within is =
     was.value_is ∙ same_value (starts b.plan) b.seen was.part part i was.within within
     (sym was.number_is ∙ is)
 
--- what the last look at a segment found was seen
-pub value_seen : (b : Known) (i k : ℕ) (value : List ℕ) → IsValue b i value → looked b i ≡ Some k
-    → WasSeen b i (k, value)
-value_seen b i k value v told = record {
-  part = v.part;
-  within = v.beginning;
-  number_is = same_Some k _ (sym told ∙ v.number);
-  value_is = v.value_is;
-}
+-- what a view has of a named segment, and that it was seen
+module _ (b : Known) (j set : ℕ) (xs : List (ℕ × List ℕ)) (i : ℕ) (v : IsView b j set xs)
+    (l : i < segments b.plan) (named : Names set i) where
+  view_entry : get_or xs i (0, []) ≡ (number_in b v.part i, value_in b v.part i)
+  view_entry = same_Some _ _ (sym (slice_get-get_or xs i (0, []) (omega (arith, v.memory.size)))
+      ∙ v.memory.each i l named)
 
--- what a view has of a named segment was seen
-pub view_seen : (b : Known) (j set : ℕ) (xs : List (ℕ × List ℕ)) (i : ℕ) → IsView b j set xs
-    → i < segments b.plan → Names set i → WasSeen b i (get_or xs i (0, []))
-view_seen b j set xs i v l named =
-    let size = v.memory.size in
-    let e : get_or xs i (0, []) ≡ (number_in b v.part i, value_in b v.part i) =
-    same_Some _ _ (sym (slice_get-get_or xs i (0, []) (omega arith)) ∙ v.memory.each i l named) in
-    record {
-      part = v.part;
-      within = v.beginning;
-      number_is = ap (λ (x : ℕ × List ℕ). x.0) e;
-      value_is = ap (λ (x : ℕ × List ℕ). x.1) e;
-    }
+  pub view_seen : WasSeen b i (get_or xs i (0, []))
+  view_seen = record {
+    part = v.part;
+    within = v.beginning;
+    number_is = ap (λ (x : ℕ × List ℕ). x.0) view_entry;
+    value_is = ap (λ (x : ℕ × List ℕ). x.1) view_entry;
+  }
 
 module _ (set : ℕ) (a b : Known) where
   pub part_clean : (memory : List (ℕ × List ℕ)) → IsCleanScan set a b → AreLooked set b memory
@@ -107,28 +98,26 @@ module _ (set : ℕ) (a b : Known) where
     };
   }
 
-  pub part_borrowed : (j : ℕ) (memory : List (ℕ × List ℕ)) → IsBorrowedScan a b j
-      → IsView b j set memory → HasPart set a b memory
-  part_borrowed j memory s v = record {
-    part = v.part;
-    begins = s.begins v.part v.beginning v.before;
-    fresh = s.fresh v.part v.beginning v.before;
-    within = v.beginning;
-    is_memory = v.memory;
-  }
-
   -- the entries found have the numbers of such a list, so its values too
-  entries_are : (found : Found) (values : List (ℕ × List ℕ)) (part : List Update)
-      → set < 2 ^ segments b.plan → AreEntries (named set) b found values → IsBeginning part b.seen
+  listed : (found : Found) (values : List (ℕ × List ℕ)) (part : List Update)
+      → set < 2 ^ segments b.plan → AreEntries (named set) b found values
       → ((i : ℕ) → i < segments b.plan → Names set i → number_of found i ≡ number_in b part i)
-      → (p i : ℕ) → IsAt set p i → slice_get values p ≡ Some (number_in b part i, value_in b part i)
-  entries_are found values part among e within numbers p i at =
-      let x = e.each p i at in
-      let low : i < segments b.plan = at_below set (segments b.plan) p i among at in
-      let number : x.0.0 ≡ number_in b part i =
-      x.2.0 ∙ numbers i low (at_named set p i at).1 in
-      let value : x.0.1 ≡ value_in b part i = seen_value b i x.0 part x.2.1.0 within number in
-      x.1 ∙ ap (λ (z : ℕ × List ℕ). Some z) (λ t. (number t, value t))
+      → IsBeginning a.seen part → BeginsFresh a b part → IsBeginning part b.seen
+      → IsPart set a b values
+  listed found values part among e numbers begins fresh within = record {
+    part = part;
+    begins = begins;
+    fresh = fresh;
+    within = within;
+    size = e.count;
+    each = λ p i at. (
+        let x = e.each p i at in
+        let low : i < segments b.plan = at_below set (segments b.plan) p i among at in
+        let number : x.0.0 ≡ number_in b part i =
+        x.2.0 ∙ numbers i low (at_named set p i at).1 in
+        let value : x.0.1 ≡ value_in b part i = seen_value b i x.0 part x.2.1.0 within number in
+        x.1 ∙ ap (λ (z : ℕ × List ℕ). Some z) (λ t. (number t, value t)));
+  }
 
   -- and can be answered
   pub entries_short : (found : Found) (values : List SegmentValue)
@@ -148,33 +137,19 @@ module _ (set : ℕ) (a b : Known) where
       → IsCleanScan set a b → AreEntries (named set) b found values
       → ((i : ℕ) → i < segments b.plan → Names set i → looked b i ≡ Some (number_of found i))
       → IsPart set a b values
-  list_clean found values among s e told = record {
-    part = s.part;
-    begins = s.begins;
-    fresh = s.fresh;
-    within = s.within;
-    size = e.count;
-    each = entries_are found values s.part among e s.within (λ i l named.
-        same_Some (number_of found i) _ (sym (told i l named) ∙ s.each i l named));
-  }
+  list_clean found values among s e told =
+      listed found values s.part among e (λ i l named.
+      same_Some (number_of found i) _ (sym (told i l named) ∙ s.each i l named))
+      s.begins s.fresh s.within
 
   pub list_borrowed : (j : ℕ) (view : List (ℕ × List ℕ)) (found : Found)
       (values : List (ℕ × List ℕ)) → set < 2 ^ segments b.plan
       → IsBorrowedScan a b j → IsView b j set view → AreEntries (named set) b found values
       → ((i : ℕ) → number_of found i ≡ (get_or view i (0, [])).0) → IsPart set a b values
-  list_borrowed j view found values among s v e are = record {
-    part = v.part;
-    begins = s.begins v.part v.beginning v.before;
-    fresh = s.fresh v.part v.beginning v.before;
-    within = v.beginning;
-    size = e.count;
-    each = entries_are found values v.part among e v.beginning (λ i l named. (
-        let size = v.memory.size in
-        let x : get_or view i (0, []) ≡ (number_in b v.part i, value_in b v.part i) =
-        same_Some _ _ (sym (slice_get-get_or view i (0, []) (omega arith))
-        ∙ v.memory.each i l named) in
-        are i ∙ ap (λ (x : ℕ × List ℕ). x.0) x));
-  }
+  list_borrowed j view found values among s v e are =
+      listed found values v.part among e (λ i l named.
+      are i ∙ ap (λ (x : ℕ × List ℕ). x.0) (view_entry b j set view i v l named))
+      (s.begins v.part v.beginning v.before) (s.fresh v.part v.beginning v.before) v.beginning
 
 -- what follows from two facts about a call that went well holds of it
 pub both_ok : {T E : Type 0} (r : Result T E) (P Q R : Type 0) → (P → Q → R) → OnOk r P → OnOk r Q
@@ -248,17 +223,13 @@ module _ (a b : Known) (g : Grows a b) (alone : a.high ≡ a.low + 1)
   has_all : (part : List Update) → IsBeginning a.seen part → IsBeginning part b.seen
       → number_in b part (own_of b) ≡ number_in b b.seen (own_of b)
   has_all part begins within =
-      let low : b.low ≡ a.low = g.low in
-      let own : number_in a b.seen a.low ≡ number_in a a.seen a.low =
-      g.own a.low (omega arith) (omega arith) in
+      let own = g.own a.low (omega arith) (omega arith) in
       let same : (h : List Update) → number_in b h b.low ≡ number_in a h a.low =
       λ h t. number_after (starts (g.plan t)) h (g.low t) in
-      let x : number_in b a.seen b.low ≤ number_in b part b.low =
-      number-beginning (starts b.plan) a.seen part b.low begins in
-      let y : number_in b part b.low ≤ number_in b b.seen b.low =
-      number-beginning (starts b.plan) part b.seen b.low within in
-      let u : number_in b a.seen b.low ≡ number_in a a.seen a.low = same a.seen in
-      let v : number_in b b.seen b.low ≡ number_in a b.seen a.low = same b.seen in
+      let early = same a.seen in
+      let late = same b.seen in
+      let low = number-beginning (starts b.plan) a.seen part b.low begins in
+      let high = number-beginning (starts b.plan) part b.seen b.low within in
       omega arith
 
   pub may_publish : (view : View) → IsScan (all_of b) a b view → MayPublish b view

@@ -113,10 +113,3 @@ pub record AreLooked (set : ℕ) (seat : Known) (memory : List (ℕ × List ℕ)
   pub each : (i : ℕ) → i < segments seat.plan → Names set i
       → (x : ℕ × List ℕ) × (slice_get memory i ≡ Some x) × (looked seat i ≡ Some x.0)
       × IsValue seat i x.1
-
--- the number and the value of the segment i after a beginning of what the seat has seen
-pub record WasSeen (seat : Known) (i : ℕ) (x : ℕ × List ℕ) : Type 0 where
-  pub part : List Update
-  pub within : IsBeginning part seat.seen
-  pub number_is : x.0 ≡ number_in seat part i
-  pub value_is : x.1 ≡ value_in seat part i

@@ -165,6 +165,7 @@ fn list<L: Looker>(
     requires kept { AreKept (L.known seat.old) room.old.items }
     ensures entries { IfOk result (λ values. AreEntries (named set.bits) (L.known seat.old) found.entry
         (map pair_of values.items)) }
+    ensures short { IfOk result (λ values. All (λ v. IsShort v.value) values.items) }
     ensures room { length room.new.items ≡ length room.old.items }
     ensures kept { AreKept (L.known seat.old) room.new.items }
     ensures same { L.known seat.new ≡ L.known seat.old }

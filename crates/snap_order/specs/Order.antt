@@ -1,17 +1,20 @@
 -- What holds of an order.
-use Rattle.std.specs.Prelude.{ℕ, ◌<◌, ◌≤◌, List, length, IfSome}
+use Rattle.std.specs.Prelude.{◌≡◌, ◌⊎◌, Bool, false, true, ℕ, ◌+◌, ◌^◌, ◌<◌, ◌≤◌, List, length, IfSome}
 use Rattle.snap_frame.specs.Messages.{max_payload, payload, IsAskable}
 use Rattle.snap_frame.specs.declared.request.Request.{Request}
 use Rattle.snap_frame.specs.declared.request.Request.TheVariants as request
-use Rattle.snap_order.specs.Limits.{MAX_COUNT, MAX_SCANNERS, MAX_TRIES}
+use Rattle.snap_order.specs.Limits.{MAX_COUNT, MAX_SCANNERS, MAX_TRIES, MAX_UPDATE_VALUE}
 use Rattle.snap_order.specs.declared.order.Order.{Order}
 use Rattle.snap_order.specs.declared.order.Order.TheVariants as order
 use Rattle.snap_order.specs.declared.order.FileOrder.{FileOrder}
 use Rattle.snap_order.specs.declared.order.Serving.{Serving}
 use Rattle.snap_order.specs.declared.order.Calling.{Calling}
+use Rattle.snap_order.specs.declared.order.Layout.TheVariants.{Lines}
 use Rattle.snap_order.specs.declared.order.Question.{Question}
 use Rattle.snap_order.specs.declared.order.Question.TheVariants as question
-use Rattle.snap_order.specs.declared.order.TheConstants.{MAX_CLIENTS, MAX_IDLE}
+use Rattle.snap_order.specs.declared.order.Source.{Source}
+use Rattle.snap_order.specs.declared.order.Source.TheVariants as source
+use Rattle.snap_order.specs.declared.order.TheConstants.{MAX_CLIENTS, MAX_IDLE, MAX_TIMEOUT}
 use Rattle.snap_order.specs.declared.order.FileOrder.TheVariants.{Format, Put, Get, Check}
 
 -- there are 1 to 16 segments, and this is one of them
@@ -29,34 +32,65 @@ IsFileWithinLimits (Check file) = Unit {0}
 abbrev pub IsOneTo : ℕ → ℕ → Type 0
 IsOneTo most n = (1 ≤ n) × (n ≤ most)
 
--- there are files and scanners, and no more than a server may have; the limits that are given are
--- within theirs
-pub record IsServable (s : Serving) : Type 0 where
-  pub files : 1 ≤ length s.files.items
-  pub few_files : length s.files.items ≤ MAX_COUNT
+-- there are scanners, and no more than a server may have; the limits that are given are within theirs
+pub record KeepsLimits (s : Serving) : Type 0 where
   pub scanners : 1 ≤ s.scanners
   pub few_scanners : s.scanners ≤ MAX_SCANNERS
   pub clients : IfSome s.clients (IsOneTo MAX_CLIENTS)
   pub idle : IfSome s.idle (IsOneTo MAX_IDLE)
 
--- the request that is sent for it
+-- the same, and there are files, and no more than a server may have
+pub record IsServable (s : Serving) : Type 0 where
+  pub files : 1 ≤ length s.files.items
+  pub few_files : length s.files.items ≤ MAX_COUNT
+  pub limits : KeepsLimits s
+
+-- The request that is sent for it. Of a put it is the one that asks for the number that is there.
 abbrev pub request_of : Question → Request
 request_of (question.Request r) = r
 request_of question.Health = request.Status
+request_of (question.Get segment) = request.Part (record { bits = 2 ^ segment })
+request_of (question.Put p) = request.Status
 
--- its request fits a frame and is one that may be asked, and it is tried once or more
+-- the value that the words gave fits an update
+abbrev pub FitsUpdate : Source → Type 0
+FitsUpdate source.Input = Unit {0}
+FitsUpdate (source.Words bytes) = length bytes ≤ MAX_UPDATE_VALUE
+
+-- a segment that is named in a set can be, and a put's value fits, with a number behind the one it is given
+abbrev pub IsWithin : Question → Type 0
+IsWithin (question.Request r) = Unit {0}
+IsWithin question.Health = Unit {0}
+IsWithin (question.Get segment) = segment < MAX_COUNT
+IsWithin (question.Put p) = FitsUpdate p.value × IfSome p.after (λ k. k + 1 < 2 ^ 64)
+
+-- the answer lists segments
+abbrev pub lists_segments : Question → Bool
+lists_segments (question.Request (request.Update i k bytes)) = false
+lists_segments (question.Request r) = true
+lists_segments question.Health = true
+lists_segments asked = false
+
+-- its request fits a frame and is one that may be asked, and it is tried once or more, within a time that
+-- may be given; the answer is printed in lines of hexadecimal text where it lists no segments
 pub record IsCallable (c : Calling) : Type 0 where
   pub fits : length (payload (request_of c.question)) ≤ max_payload
   pub askable : IsAskable (request_of c.question)
+  pub within : IsWithin c.question
   pub tries : 1 ≤ c.tries
   pub few_tries : c.tries ≤ MAX_TRIES
+  pub timeout : IfSome c.timeout (IsOneTo MAX_TIMEOUT)
+  pub layout : (c.layout ≡ Lines) ⊎ (lists_segments c.question ≡ true)
 
 abbrev pub IsWithinLimits : Order → Type 0
 IsWithinLimits (order.File o) = IsFileWithinLimits o
 IsWithinLimits (order.Migrate m) = IsPlace m.index m.count
+IsWithinLimits (order.Init f) = IsOneTo MAX_COUNT f.count
 IsWithinLimits (order.Serve s) = IsServable s
+IsWithinLimits (order.ServeFolder folder s) = (length s.files.items ≡ 0) × KeepsLimits s
 IsWithinLimits (order.Call c) = IsCallable c
 IsWithinLimits order.Script = Unit {0}
+IsWithinLimits (order.Explain e) = Unit {0}
 
 -- the path of its file
 abbrev pub file_of : FileOrder → List ℕ

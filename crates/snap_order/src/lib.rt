@@ -9,11 +9,12 @@ mod remedy;
 mod status;
 
 pub use order::{
-    Calling, FileOrder, Level, MAX_CLIENTS, MAX_IDLE, Migration, Order, Question, Serving,
+    Calling, Explanation, FileOrder, Founding, Layout, Level, MAX_CLIENTS, MAX_IDLE, MAX_TIMEOUT,
+    Migration, Order, Putting, Question, Serving, Shell, Source,
 };
 pub use remedy::{empty_remedy, format_command, old_format_remedy, unformatted_remedy};
 pub use snap_client::MAX_TRIES;
 pub use snap_frame::{MAX_UPDATE_VALUE, Request, SegmentSet};
-pub use snap_history::{MAX_COUNT, MAX_SCANNERS};
+pub use snap_history::{MAX_COUNT, MAX_SCANNERS, MAX_VALUE_LEN};
 pub use snap_old_slot::OLD_FILE_LEN;
 pub use status::{Exit, Status};

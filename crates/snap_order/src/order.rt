@@ -1,5 +1,6 @@
 //! What the program can be asked to do.
 
+use bytes::Bytes;
 use snap_frame::Request;
 
 /// The most connections that a server can be told to have open at once.
@@ -16,12 +17,38 @@ pub enum Order<'a> {
     File(FileOrder<'a>),
     /// Carry a file of the old format over to a new file.
     Migrate(Migration<'a>),
+    /// Make the files of a folder.
+    Init(Founding<'a>),
     /// Serve segments to clients.
     Serve(Serving<'a>),
+    /// Serve the segments of a folder to clients: `serving` has no files of its own.
+    ServeFolder {
+        folder: &'a str,
+        serving: Serving<'a>,
+    },
     /// Ask a server.
     Call(Calling<'a>),
     /// Run the script on standard input.
     Script,
+    /// Print what explains the program.
+    Explain(Explanation),
+}
+
+/// What explains the program and its words, to a reader or to a shell.
+#[derive(Clone, Copy, Debug, PartialEq, Eq)]
+pub enum Explanation {
+    /// The page of the manual.
+    Manual,
+    /// What completes the program's words in this shell.
+    Completions(Shell),
+}
+
+/// A shell that can complete words.
+#[derive(Clone, Copy, Debug, PartialEq, Eq)]
+pub enum Shell {
+    Bash,
+    Zsh,
+    Fish,
 }
 
 /// A command on one file. `index` and `count` are the place of the file's segment among the
@@ -46,6 +73,15 @@ pub struct Migration<'a> {
     pub old: &'a str,
     pub new: &'a str,
     pub index: u8,
+    pub count: u8,
+}
+
+/// Makes the file of each segment in a folder.
+#[derive(Clone, Copy, Debug, PartialEq, Eq)]
+pub struct Founding<'a> {
+    /// The path of the folder, which is made where it isn't there.
+    pub folder: &'a str,
+    /// How many segments there are to be: 1 to 16.
     pub count: u8,
 }
 
@@ -84,6 +120,20 @@ pub enum Level {
     Debug,
 }
 
+/// How the answer of a call is printed.
+#[derive(Clone, Copy, Debug, PartialEq, Eq)]
+pub enum Layout {
+    /// In lines, with each value in hexadecimal digits.
+    Lines,
+    /// In lines, with each value as text where it is printable.
+    Text,
+    /// As one JSON document.
+    Json,
+}
+
+/// The longest that a call can be told to wait for an answer, in seconds: a day.
+pub const MAX_TIMEOUT: u32 = 86_400;
+
 /// Asks a server, and prints its answer.
 #[derive(Debug, PartialEq, Eq, Drop)]
 pub struct Calling<'a> {
@@ -91,8 +141,13 @@ pub struct Calling<'a> {
     pub address: &'a str,
     /// What is asked.
     pub question: Question,
-    /// The most connections that are made for it: 1 to [`snap_client::MAX_TRIES`].
+    /// The most connections that are made for each request of it: 1 to [`snap_client::MAX_TRIES`].
     pub tries: u8,
+    /// After how many seconds without an answer it ends, all tries together: 1 to [`MAX_TIMEOUT`].
+    /// `None` where it doesn't.
+    pub timeout: Option<u32>,
+    /// How the answer to a read is printed.
+    pub layout: Layout,
 }
 
 /// What a call asks of its server, and so how the answer is told.
@@ -103,6 +158,48 @@ pub enum Question {
     Request(Request),
     /// Whether a segment is fenced, by a request for the status. The answer is the exit status too.
     Health,
+    /// The value of this segment, by a scan of it alone: what is printed is the value, byte for byte. The
+    /// segment is below [`snap_history::MAX_COUNT`].
+    Get { segment: u8 },
+    /// To store a value as a segment's next number.
+    Put(Putting),
+}
+
+/// Stores a value as the next number of a segment.
+#[derive(Debug, PartialEq, Eq, Drop)]
+pub struct Putting {
+    /// The segment, which the server may not have.
+    pub segment: u8,
+    /// Where the value comes from.
+    pub value: Source,
+    /// The number behind which it is stored, at most `u64::MAX - 1`. `None` where the server is asked for
+    /// the number that is there.
+    pub after: Option<u64>,
+}
+
+/// Where the value of a put comes from.
+#[derive(Debug, PartialEq, Eq, Drop)]
+pub enum Source {
+    /// Standard input, up to its end.
+    Input,
+    /// The words of the order: at most [`snap_frame::MAX_UPDATE_VALUE`] bytes.
+    Words(Bytes),
+}
+
+impl Question {
+    ghost use Rattle.std.specs.Prelude.{◌≡◌};
+    ghost use Rattle.snap_order.specs.Order.{lists_segments};
+
+    /// The answer lists segments: that of a scan, a part, the status or the health does.
+    pub fn lists_segments(&self) -> bool
+        ensures { result ≡ lists_segments self.now }
+    {
+        match self {
+            Question::Request(Request::Update { .. }) => false,
+            Question::Request(_) | Question::Health => true,
+            Question::Get { .. } | Question::Put(_) => false,
+        }
+    }
 }
 
 impl<'a> FileOrder<'a> {

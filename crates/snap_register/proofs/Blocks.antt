@@ -53,21 +53,15 @@ pub block_same : (d w : List ℕ) (a b : ℕ) → IsWhole w b
     → ((q : ℕ) → q < size_at w b → get_or d (a + q) 0 ≡ get_or w (b + q) 0)
     → a + size_at w b ≤ length d → Copied d w a b
 block_same d w a b whole each fits =
-    let size_w : size_at w b ≡ 2 + words_for (length_at w b) = refl in
+    let k : ℕ = words_for (length_at w b) in
+    let at : (x y q : ℕ) → q < size_at w b → x ≡ a + q → y ≡ b + q → get_or d x 0 ≡ get_or w y 0 =
+    λ x y q lq from to. ap (λ (z : ℕ). get_or d z 0) from
+    ∙ (each q lq ∙ ap (λ (z : ℕ). get_or w z 0) (sym to)) in
+    let number = at a b 0 (omega arith) (omega arith) (omega arith) in
     let len : length_at d a ≡ length_at w b = each 1 (omega arith) in
     let size : size_at d a ≡ size_at w b = ap (λ (n : ℕ). 2 + words_for n) len in
-    let k : ℕ = words_for (length_at w b) in
-    let size_k : size_at w b ≡ 2 + k = refl in
-    let zero_d : a + 0 ≡ a = omega arith in
-    let zero_w : b + 0 ≡ b = omega arith in
-    let number : get_or d a 0 ≡ get_or w b 0 = ap (λ (z : ℕ). get_or d z 0) (sym zero_d)
-    ∙ (each 0 (omega arith) ∙ ap (λ (z : ℕ). get_or w z 0) zero_w) in
     let bytes : bytes_at d (a + 2) k ≡ bytes_at w (b + 2) k = bytes_same d w (a + 2) (b + 2) k
-    (λ q lq.
-    let x : a + 2 + q ≡ a + (2 + q) = omega arith in
-    let y : b + (2 + q) ≡ b + 2 + q = omega arith in
-    ap (λ (z : ℕ). get_or d z 0) x
-    ∙ (each (2 + q) (omega arith) ∙ ap (λ (z : ℕ). get_or w z 0) y)) in
+    (λ q lq. at (a + 2 + q) (b + 2 + q) (2 + q) (omega arith) (omega arith) (omega arith)) in
     let value : value_at d a ≡ value_at w b =
     ap (λ (n : ℕ). take n (bytes_at d (a + 2) (words_for n))) len
     ∙ ap (take (length_at w b)) bytes in
@@ -124,8 +118,7 @@ blocks_push d w at from k f old whole is =
       each = λ i li. dite (ℕ_discrete i k)
           (λ same. subst (λ (z : ℕ). IsBlock e (behind e at z) (f z).0 (f z).1) (sym same)
           (subst (λ (z : ℕ). IsBlock e z (f k).0 (f k).1) (sym behind_k) (record {
-            whole =
-                new.whole;
+            whole = new.whole;
             is = new.block ∙ is;
           })))
           (λ before.
@@ -135,8 +128,7 @@ blocks_push d w at from k f old whole is =
           behind_stays d e at i pre (λ j lj. (old.each j (omega arith)).whole) in
           subst (λ (z : ℕ). IsBlock e z (f i).0 (f i).1) (sym same) (record {
             whole = s.whole;
-            is =
-                s.block ∙ b.is;
+            is = s.block ∙ b.is;
           }));
       last =
           let m : behind e at (k + 1) ≡ behind e at k + size_at e (behind e at k) =
@@ -207,8 +199,7 @@ first_block d value k le fits number len bytes =
     record {
       whole = record {
         short = let e : length_at d 0 ≡ length value = len in omega arith;
-        inside =
-            let s : size_at d 0 ≡ 2 + words_for (length value) = size in omega arith;
+        inside = let s : size_at d 0 ≡ 2 + words_for (length value) = size in omega arith;
       };
       is = λ t. (number t, val t);
     }

@@ -1,7 +1,8 @@
 -- What a beginning of a history, and one more update, do to a segment's line.
 use Rattle.std.proofs.Common.{◌≡◌, ◌≢◌, ℕ, zero, suc, ◌+◌, ◌<◌, ◌≤◌, ◌==◌, ◌⊎◌, inl, inr, ⊎_elim, Bool, true, false, cond, List, []}
-use Rattle.std.proofs.Common.{◌∷◌, ◌++◌, length, get_or, refl, ap, sym, subst, ◌∙◌, arith, append_assoc, length-append, eq-eqb, ne_eqb}
+use Rattle.std.proofs.Common.{◌∷◌, ◌++◌, length, get_or, refl, ap, sym, subst, ◌∙◌, arith, append_assoc, length-append}
 use Rattle.std.proofs.lemmas.List.{same_from_push, get_or_append_left, get_or_push, nil_from_length, append-nil}
+use Rattle.std.proofs.lemmas.Bool.Decides.{nat_tests}
 use mathlib.Core.List.{IsPrefix}
 use mathlib.Core.Logic.{dite}
 use native.Mathlib.Decide.{ℕ_discrete}
@@ -18,10 +19,6 @@ pub prefix_trans : {A : Type 0} (xs ys zs : List A) → IsPrefix xs ys → IsPre
 prefix_trans xs ys zs p q =
     (p.0 ++ q.0, sym (append_assoc xs p.0 q.0) ∙ (ap (λ w. w ++ q.0) p.1 ∙ q.1))
 
-pub prefix_push : {A : Type 0} (xs ys : List A) (y : A) → IsPrefix xs ys
-    → IsPrefix xs (ys ++ y ∷ [])
-prefix_push xs ys y p = prefix_trans xs ys (ys ++ y ∷ []) p (y ∷ [], refl)
-
 both : {A : Type 0} (t : Bool) (x : A) (a b c : List A) → a ≡ b ++ c
     → cond t (x ∷ a) a ≡ cond t (x ∷ b) b ++ c
 both true x a b c e = ap (λ w. x ∷ w) e
@@ -31,20 +28,22 @@ pub only-append : (i : ℕ) (a b : List Entry) → only i (a ++ b) ≡ only i a 
 only-append i [] b = refl
 only-append i (x ∷ xs) b = both (x.segment == i) x _ _ _ (only-append i xs b)
 
-pub only_same : (i : ℕ) (e : Entry) → e.segment ≡ i → only i (e ∷ []) ≡ e ∷ []
-only_same i e is = ap (λ t. cond t (e ∷ []) []) (eq-eqb e.segment i is)
+-- one entry in front, of the segment or of another
+only_first : (i : ℕ) (x : Entry) (h : List Entry) → x.segment ≡ i → only i (x ∷ h) ≡ x ∷ only i h
+only_first i x h same = grind (arith, nat_tests)
 
-pub only_other : (i : ℕ) (e : Entry) → e.segment ≢ i → only i (e ∷ []) ≡ []
-only_other i e is = ap (λ t. cond t (e ∷ []) []) (ne_eqb e.segment i is)
+only_behind : (i : ℕ) (x : Entry) (h : List Entry) → x.segment ≢ i → only i (x ∷ h) ≡ only i h
+only_behind i x h other = grind (arith, nat_tests)
 
 pub only_push_same : (i : ℕ) (h : List Entry) (e : Entry) → e.segment ≡ i
     → only i (h ++ e ∷ []) ≡ only i h ++ e ∷ []
-only_push_same i h e is = only-append i h (e ∷ []) ∙ ap (λ w. only i h ++ w) (only_same i e is)
+only_push_same i h e is = only-append i h (e ∷ []) ∙ ap (λ w. only i h ++ w) (only_first i e [] is)
 
 pub only_push_other : (i : ℕ) (h : List Entry) (e : Entry) → e.segment ≢ i
     → only i (h ++ e ∷ []) ≡ only i h
 only_push_other i h e is =
-    only-append i h (e ∷ []) ∙ (ap (λ w. only i h ++ w) (only_other i e is) ∙ append-nil (only i h))
+    only-append i h (e ∷ [])
+    ∙ (ap (λ w. only i h ++ w) (only_behind i e [] is) ∙ append-nil (only i h))
 
 pub count_push_same : (i : ℕ) (h : List Entry) (e : Entry) → e.segment ≡ i
     → count i (h ++ e ∷ []) ≡ count i h + 1
@@ -54,10 +53,14 @@ pub count_push_other : (i : ℕ) (h : List Entry) (e : Entry) → e.segment ≢ 
     → count i (h ++ e ∷ []) ≡ count i h
 count_push_other i h e is = ap length (only_push_other i h e is)
 
+pub count-append : (i : ℕ) (a b : List Entry) → count i (a ++ b) ≡ count i a + count i b
+count-append i a b = ap length (only-append i a b) ∙ length-append (only i a) (only i b)
+
+count_rest : (i : ℕ) (a h : List Entry) (p : IsPrefix a h) → count i h ≡ count i a + count i p.0
+count_rest i a h p = ap (count i) (sym p.1) ∙ count-append i a p.0
+
 pub count_prefix : (i : ℕ) (a h : List Entry) → IsPrefix a h → count i a ≤ count i h
-count_prefix i a h p = let e : count i h ≡ count i a + count i p.0 =
-    ap (count i) (sym p.1) ∙ (ap length (only-append i a p.0)
-    ∙ length-append (only i a) (only i p.0)) in omega arith
+count_prefix i a h p = omega (arith, count_rest i a h p)
 
 -- what a record of a beginning's line has, the whole's has
 pub record_prefix : (p : Plan) (a h : List Entry) (i r : ℕ) → IsPrefix a h → r ≤ count i a
@@ -79,19 +82,7 @@ record_last p h i ws = ap (λ (l : List Entry).
 
 pub none_between : (i : ℕ) (a h : List Entry) (p : IsPrefix a h) → count i a ≡ count i h
     → only i p.0 ≡ []
-none_between i a h p same =
-    nil_from_length (only i p.0) (let e : count i h ≡ count i a + count i p.0 =
-    ap (count i) (sym p.1) ∙ (ap length (only-append i a p.0)
-    ∙ length-append (only i a) (only i p.0)) in omega arith)
-
--- a beginning that has no fewer of a segment has all of it
-pub all_only : (i : ℕ) (a h : List Entry) → IsPrefix a h → count i h ≤ count i a
-    → only i a ≡ only i h
-all_only i a h p le =
-    let same : count i a ≡ count i h = let c = count_prefix i a h p in omega arith in
-    let none = none_between i a h p same in
-    sym (append-nil (only i a))
-    ∙ (ap (λ w. only i a ++ w) (sym none) ∙ (sym (only-append i a p.0) ∙ ap (only i) p.1))
+none_between i a h p same = nil_from_length (only i p.0) (omega (arith, count_rest i a h p))
 
 -- a list is empty or has a last element
 last_view : {A : Type 0} (b : List A) → (b ≡ []) ⊎ ((c : List A) × (y : A) × (b ≡ c ++ y ∷ []))
@@ -129,21 +120,18 @@ pub record Found (i r : ℕ) (h : List Entry) : Type 0 where
 found_more : (i r : ℕ) (x : Entry) (h : List Entry) → x.segment ≢ i → Found i r h
     → Found i r (x ∷ h)
 found_more i r x h other f =
-    let e : only i (x ∷ h) ≡ only i h =
-    ap (λ t. cond t (x ∷ only i h) (only i h)) (ne_eqb x.segment i other) in
+    let e = only_behind i x h other in
     record {
       before = x ∷ f.before;
       after = f.after;
       is = ap (λ l. x ∷ (f.before ++ get_or l r (entry i []) ∷ f.after)) e ∙ ap (λ w. x ∷ w) f.is;
-      place = ap (λ t. length (cond t (x ∷ only i f.before) (only i f.before)))
-          (ne_eqb x.segment i other) ∙ f.place;
+      place = ap length (only_behind i x f.before other) ∙ f.place;
       its = ap (λ l. (get_or l r (entry i [])).segment) e ∙ f.its;
     }
 
 found_first : (i : ℕ) (x : Entry) (h : List Entry) → x.segment ≡ i → Found i zero (x ∷ h)
 found_first i x h same =
-    let e : only i (x ∷ h) ≡ x ∷ only i h =
-    ap (λ t. cond t (x ∷ only i h) (only i h)) (eq-eqb x.segment i same) in
+    let e = only_first i x h same in
     record {
       before = [];
       after = h;
@@ -155,34 +143,24 @@ found_first i x h same =
 found_next : (i r : ℕ) (x : Entry) (h : List Entry) → x.segment ≡ i → Found i r h
     → Found i (suc r) (x ∷ h)
 found_next i r x h same f =
-    let e : only i (x ∷ h) ≡ x ∷ only i h =
-    ap (λ t. cond t (x ∷ only i h) (only i h)) (eq-eqb x.segment i same) in
+    let e = only_first i x h same in
     record {
       before = x ∷ f.before;
       after = f.after;
       is = ap (λ l. x ∷ (f.before ++ get_or l (suc r) (entry i []) ∷ f.after)) e
           ∙ ap (λ w. x ∷ w) f.is;
-      place = ap (λ t. length (cond t (x ∷ only i f.before) (only i f.before)))
-          (eq-eqb x.segment i same) ∙ ap suc f.place;
+      place = ap length (only_first i x f.before same) ∙ ap suc f.place;
       its = ap (λ l. (get_or l (suc r) (entry i [])).segment) e ∙ f.its;
     }
-
-fewer : (i r : ℕ) (x : Entry) (h : List Entry) → x.segment ≡ i → suc r < count i (x ∷ h)
-    → r < count i h
-fewer i r x h same lt = let e : count i (x ∷ h) ≡ suc (count i h) =
-    ap (λ t. length (cond t (x ∷ only i h) (only i h))) (eq-eqb x.segment i same) in omega arith
-
-same_count : (i : ℕ) (x : Entry) (h : List Entry) → x.segment ≢ i → count i (x ∷ h) ≡ count i h
-same_count i x h other = ap (λ t. length (cond t (x ∷ only i h) (only i h)))
-    (ne_eqb x.segment i other)
 
 pub find : (i r : ℕ) (h : List Entry) → r < count i h → Found i r h
 find i r [] lt = absurd (omega arith)
 find i zero (x ∷ h) lt = dite (ℕ_discrete x.segment i)
     (λ same. found_first i x h same)
-    (λ other. found_more i zero x h other (find i zero h (let e = same_count i x h other in
-    omega arith)))
+    (λ other. found_more i zero x h other
+    (find i zero h (omega (arith, ap length (only_behind i x h other)))))
 find i (suc r) (x ∷ h) lt = dite (ℕ_discrete x.segment i)
-    (λ same. found_next i r x h same (find i r h (fewer i r x h same lt)))
-    (λ other. found_more i (suc r) x h other (find i (suc r) h (let e = same_count i x h other in
-    omega arith)))
+    (λ same. found_next i r x h same
+    (find i r h (omega (arith, ap length (only_first i x h same)))))
+    (λ other. found_more i (suc r) x h other
+    (find i (suc r) h (omega (arith, ap length (only_behind i x h other)))))

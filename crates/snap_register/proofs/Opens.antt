@@ -1,14 +1,14 @@
 -- The words at the start keep the rule, and the first seat hands out the others.
-use Rattle.std.proofs.Common.{◌≡◌, ℕ, zero, suc, ◌+◌, ◌-◌, ◌*◌, ◌^◌, ◌<◌, ◌≤◌, ◌⊎◌, inl, inr, ⊎_elim, List, [], ◌∷◌, ◌++◌, map, length}
-use Rattle.std.proofs.Common.{get_or, refl, ap, sym, subst, ◌∙◌, arith, length-append, suc-mul, mul_assoc, one-mul, mul-le-mul_right}
-use Rattle.std.proofs.Common.{Some, slice_get}
+use Rattle.std.proofs.Common.{◌≡◌, ℕ, zero, suc, ◌+◌, ◌-◌, ◌*◌, ◌<◌, ◌≤◌, ⊎_elim, List, [], ◌∷◌, ◌++◌, map, length}
+use Rattle.std.proofs.Common.{get_or, refl, ap, sym, subst, ◌∙◌, arith, length-append, suc-mul, mul-le-mul_right}
+use Rattle.std.proofs.lemmas.Bool.Decides.{nat_tests}
 use Rattle.std.specs.Prelude.{replicate}
 use Rattle.std.specs.List.{flat_map}
 use Rattle.std.proofs.lemmas.List.{length-map, length-replicate, get_or_append_left, get_or-append-add, get_or-append_right}
 use Rattle.std.proofs.lemmas.List.{get_or-replicate, get_or_past}
 use mathlib.Core.Logic.{dite}
 use mathlib.Core.Option.{some, some-injective, some-ne-none}
-use native.Mathlib.Decide.{dec_le, ℕ_discrete}
+use native.Mathlib.Decide.{dec_le}
 use lib.ListN.{get_elem?}
 use Rattle.atomic_table.specs.Table.{Me, opening}
 use Rattle.atomic_table.specs.Seated.{TableId}
@@ -17,44 +17,43 @@ use Rattle.snap_register.specs.declared.plan.Plan.{Plan}
 use Rattle.snap_register.specs.declared.plan.Start.{Start}
 use Rattle.snap_register.specs.declared.plan.SeatView.{SeatView}
 use Rattle.snap_register.specs.History.{no_start, start_at, updates}
-use Rattle.snap_register.specs.Rule.{segments, seats, buffers, width, given, cell, size, other, pins_of, Knows, Kept}
+use Rattle.snap_register.specs.Rule.{segments, seats, buffers, width, given, cell, size, IsLegal, other, pins_of, Knows, Kept}
 use Rattle.snap_register.specs.Setup.{first_view, first_pool, start_of, plan_with, unused, opening_words, IsReady, IsSized, IsFirst}
 use Rattle.snap_register.specs.Seat.{Known, known}
 use Rattle.snap_register.specs.Parts.{IsNewSeat, AreWriters, AreReaders}
 use Rattle.snap_register.specs.Held.{Readable}
 use Rattle.snap_register.proofs.Views.{readable}
+use Rattle.snap_register.proofs.Pairs.{get_pushed}
 use Rattle.snap_register.proofs.Places.{below_product}
 use Rattle.snap_register.proofs.Sums.{on_not, far_none}
-use Rattle.snap_register.proofs.Keeps.{pins_at, pins_else}
 
 fewer_looks : (l looks : ℕ) → 0 < l → (looks ≤ l * looks) × (l * looks - looks ≡ (l - 1) * looks)
 fewer_looks zero looks any = absurd (omega arith)
 fewer_looks (suc l) looks any =
-    let x : ℕ = l * looks in
-    let e : suc l * looks ≡ x + looks = suc-mul l looks in
-    let y : ℕ = suc l * looks in
-    let f : y ≡ x + looks = e in
-    let g : suc l - 1 ≡ l = omega arith in (
-      let goal : looks ≤ y = omega arith in goal,
-      (let goal : y - looks ≡ x = omega arith in goal)
-          ∙ ap (λ (z : ℕ). z * looks) (sym g),
-    )
+    let same : l ≡ suc l - 1 = omega arith in
+    let less : suc l * looks - looks ≡ l * looks = omega (arith, suc-mul l looks) in
+    (omega arith, less ∙ ap (λ (z : ℕ). z * looks) same)
+
+legal_none : (p : Plan) → IsLegal p []
+legal_none p a b e is = absurd (omega (arith, ap length is, length-append a (e ∷ b)))
+
+-- zeros alone
+none_at : (n i : ℕ) → get_or {A = ℕ} (replicate n 0) i 0 ≡ 0
+none_at n i = dite (dec_le n i)
+    (λ past. get_or_past (replicate n 0) i 0 (omega (arith, length-replicate {A = ℕ} n 0)))
+    (λ here. get_or-replicate n i 0 0 (omega arith))
 
 module _ (S : Type 0) where
   pub enough : (words l : ℕ) (m : Me S SeatView) → IsFirst words l m → 0 < l
       → (m.0.plan.looks ≤ m.0.left) × (1 ≤ m.0.pin_quota)
-  enough words l m f any = let e = (fewer_looks l m.0.plan.looks any).0 in let x : ℕ =
-      l * m.0.plan.looks in let a : m.0.left ≡ x = f.left_is in let e' : m.0.plan.looks ≤ x = e in
-      let s = f.pin_quota_is in (omega arith, omega arith)
+  enough words l m f any = (
+    omega (arith, (fewer_looks l m.0.plan.looks any).0, f.left_is),
+    omega (arith, f.pin_quota_is),
+  )
 
   pub bare : (words l : ℕ) (m : Me S SeatView) → IsFirst words l m → (i : ℕ)
       → get_or m.0.pins i 0 ≡ 0
-  bare words l m f i = ap (λ (z : List ℕ). get_or z i 0) f.pins_are
-      ∙ dite (dec_le (segments m.0.plan) i)
-      (λ past. get_or_past (replicate (segments m.0.plan) 0) i 0 (let e : length (replicate {A =
-      ℕ} (segments m.0.plan) 0) ≡ segments m.0.plan = length-replicate (segments m.0.plan) 0 in
-      omega arith))
-      (λ here. get_or-replicate (segments m.0.plan) i 0 0 (omega arith))
+  bare words l m f i = ap (λ (z : List ℕ). get_or z i 0) f.pins_are ∙ none_at (segments m.0.plan) i
 
   -- once a seat was handed out, which takes the segments below `low`
   pub first_after : (words words' l k low : ℕ) (m n : Me S SeatView) → IsFirst words l m → k + 1 ≡ l
@@ -62,8 +61,7 @@ module _ (S : Type 0) where
         record m.0 {
           low = low;
           pin_quota = m.0.pin_quota - 1;
-          left =
-              m.0.left - m.0.plan.looks;
+          left = m.0.left - m.0.plan.looks;
         },
         m.1,
       ) → IsFirst words' k n
@@ -87,51 +85,41 @@ module _ (S : Type 0) where
         records_are = f.records_are;
       })
 
-get_at_end : {A : Type 0} (l : List A) (a b : A) (j : ℕ) → slice_get (l ++ a ∷ []) j ≡ Some b
-    → (slice_get l j ≡ Some b) ⊎ ((j ≡ length l) × (a ≡ b))
-get_at_end [] a b zero e = inr (refl, cc)
-get_at_end [] a b (suc j) e = absurd cc
-get_at_end (x ∷ xs) a b zero e = inl e
-get_at_end (x ∷ xs) a b (suc j) e =
-    ⊎_elim (λ z. inl z) (λ t. inr (ap suc t.0, t.1)) (get_at_end xs a b j e)
-
 pub writers_more : (z : TableId) (p : Plan) (xs : List Known) (a : Known) → AreWriters z p xs
     → IsNewSeat z p (length xs) (length xs + 1) a → AreWriters z p (xs ++ a ∷ [])
 writers_more z p xs a old new i b at =
     ⊎_elim (λ e. old i b e) (λ t. subst (λ (y : ℕ × Known). IsNewSeat z p y.0 (y.0 + 1) y.1) (λ k.
-    (sym t.0 k, t.1 k)) new) (get_at_end xs a b i at)
+    (sym t.0 k, t.1 k)) new) (get_pushed xs a b i at)
 
 pub readers_more : (z : TableId) (p : Plan) (xs : List Known) (a : Known) → AreReaders z p xs
     → IsNewSeat z p 0 0 a → AreReaders z p (xs ++ a ∷ [])
 readers_more z p xs a old new i b at =
     ⊎_elim (λ e. old i b e) (λ t. subst (λ (y : Known). IsNewSeat z p 0 0 y) t.1 new)
-    (get_at_end xs a b i at)
+    (get_pushed xs a b i at)
 
 pub new_seat : (S : Type 0) (z : TableId) (p : Plan) (low high : ℕ) (a : Known) (t : TableId)
     (m n : Me S SeatView) → m ≡ n → a ≡ known t m.0 → t ≡ z → n.0.plan ≡ p → n.0.seen ≡ []
     → n.0.low ≡ low → n.0.high ≡ high → n.0.left ≡ n.0.plan.looks → IsNewSeat z p low high a
 new_seat S z p low high a t m n me is te pe se le he fe =
-    let is' : a ≡ known t n.0 = is ∙ ap (λ (x : Me S SeatView). known t x.0) me in
-    record {
-      table_is = ap (λ (x : Known). x.table) is' ∙ te;
-      plan_is = ap (λ (x : Known). x.plan) is' ∙ pe;
-      seen_is = ap (λ (x : Known). x.seen) is' ∙ ap updates se;
-      low_is = ap (λ (x : Known). x.low) is' ∙ le;
-      high_is = ap (λ (x : Known). x.high) is' ∙ he;
-      left_is = ap (λ (x : Known). x.left) is' ∙ (fe ∙ ap (λ (x : Plan). x.looks) pe);
-    }
+    subst (IsNewSeat z p low high) (sym (is ∙ ap (λ (x : Me S SeatView). known t x.0) me)) (record {
+      table_is = te;
+      plan_is = pe;
+      seen_is = ap updates se;
+      low_is = le;
+      high_is = he;
+      left_is = fe ∙ ap (λ (x : Plan). x.looks) pe;
+    })
 
 module _ {X : Type 0} (f : X → List ℕ) (d : X) (b : ℕ) where
   even_length : (xs : List X) → ((i : ℕ) → i < length xs → length (f (get_or xs i d)) ≡ b)
       → length (flat_map f xs) ≡ length xs * b
   even_length [] even = omega arith
-  even_length (x ∷ xs) even =
-      let rest = even_length xs (λ i li. even (suc i) (omega arith)) in
-      let this : length (f x) ≡ b = even 0 (omega arith) in
-      let y : ℕ = length xs * b in
-      let r : length (flat_map f xs) ≡ y = rest in
-      let z : suc (length xs) * b ≡ y + b = suc-mul (length xs) b in
-      length-append (f x) (flat_map f xs) ∙ (omega arith ∙ sym z)
+  even_length (x ∷ xs) even = omega (
+    arith,
+    even 0 (omega arith),
+    even_length xs (λ i li. even (suc i) (omega arith)),
+    length-append (f x) (flat_map f xs),
+  )
 
   even_get : (xs : List X) (i j : ℕ) → ((i : ℕ) → i < length xs → length (f (get_or xs i d)) ≡ b)
       → i < length xs → j < b → get_or (flat_map f xs) (i * b + j) 0
@@ -144,11 +132,9 @@ module _ {X : Type 0} (f : X → List ℕ) (d : X) (b : ℕ) where
       ∙ get_or_append_left (f x) (flat_map f xs) 0 j (omega arith)
   even_get (x ∷ xs) (suc i) j even li lj =
       let this : length (f x) ≡ b = even 0 (omega arith) in
-      let y : ℕ = i * b in
-      let z : suc i * b ≡ y + b = suc-mul i b in
-      let at : suc i * b + j ≡ length (f x) + (y + j) = omega arith in
+      let at : suc i * b + j ≡ length (f x) + (i * b + j) = omega arith in
       ap (λ (z : ℕ). get_or (f x ++ flat_map f xs) z 0) at
-      ∙ (get_or-append-add (f x) (flat_map f xs) (y + j) 0
+      ∙ (get_or-append-add (f x) (flat_map f xs) (i * b + j) 0
       ∙ even_get xs i j (λ k lk. even (suc k) (omega arith)) (omega arith) lj)
 
 module _ (p : Plan) (ready : IsReady p) where
@@ -164,103 +150,50 @@ module _ (p : Plan) (ready : IsReady p) where
   abbrev block : ℕ
   block = buffers p * width p
 
-  block_is : p.block_words + unused p ≡ block
-  block_is =
-      let n : ℕ = segments p in
-      let w : ℕ = width p in
-      let x : ℕ = n * p.block_words in
-      let z : ℕ = n + p.scanners + 1 in
-      let y : ℕ = z * w in
-      let a : suc n * p.block_words ≡ x + p.block_words = suc-mul n p.block_words in
-      let e : n + 1 ≡ suc n = omega arith in
-      let w_is : w ≡ x + p.block_words = ap (λ (t : ℕ). t * p.block_words) e ∙ a in
-      let c : suc z * w ≡ y + w = suc-mul z w in
-      let g : buffers p ≡ suc z = omega arith in
-      let d : block ≡ y + w = ap (λ (t : ℕ). t * w) g ∙ c in
-      let goal : p.block_words + (x + y) ≡ y + w = omega arith in goal ∙ sym d
-
   even : (i : ℕ) → i < length p.start → length (piece (get_or p.start i no_start)) ≡ block
-  even i li =
-      let r = (ready.each i li).0 in
-      let words : List ℕ = (start_at p i).words in
-      let rest : List ℕ = replicate (unused p) 0 in
-      let e : length (words ++ rest) ≡ length words + length rest = length-append words rest in
-      let u : ℕ = unused p in
-      let l : length rest ≡ u = length-replicate (unused p) 0 in
-      let w : length words ≡ p.block_words = r in
-      let t : ℕ = block in
-      let k : p.block_words + u ≡ t = block_is in
-      let goal : length (words ++ rest) ≡ t = omega arith in
-      goal
+  even i li = length-append (start_at p i).words (replicate (unused p) 0)
+      ∙ omega (arith, (ready.each i li).0.0, length-replicate {A = ℕ} (unused p) 0)
 
   count_zeros : length zeros ≡ front
   count_zeros = length-replicate front 0
 
   pub wide : length (opening_words p) ≡ size p
-  wide =
-      let e = even_length piece no_start block p.start even in
-      let x : ℕ = segments p * block in
-      let a : length (flat_map piece p.start) ≡ x = e in
-      let m : segments p * buffers p * width p ≡ x = mul_assoc (segments p) (buffers p) (width p) in
-      let c = count_zeros in
-      length-append zeros (flat_map piece p.start) ∙ omega arith
+  wide = length-append zeros (flat_map piece p.start)
+      ∙ omega (arith, count_zeros, even_length piece no_start block p.start even)
 
   zero_at : (i : ℕ) → i < front → get_or (opening_words p) i 0 ≡ 0
-  zero_at i li = let c = count_zeros in
-      get_or_append_left zeros (flat_map piece p.start) 0 i (omega arith)
+  zero_at i li =
+      get_or_append_left zeros (flat_map piece p.start) 0 i (omega (arith, count_zeros))
       ∙ get_or-replicate front i 0 0 li
 
   zero_given : (i b : ℕ) → i < segments p → b < buffers p
       → get_or (opening_words p) (given p i b) 0 ≡ 0
   zero_given i b li lb =
-      let l = below_product i (segments p) (buffers p) b li lb in
-      let x : ℕ = i * buffers p in
-      let g : ℕ = segments p * buffers p in
-      let l' : x + b < g = l in
-      zero_at (given p i b) (let goal : segments p + (x + b) < segments p + g = omega arith in goal)
+      zero_at (given p i b) (omega (arith, below_product i (segments p) (buffers p) b li lb))
 
   record_at : (i q : ℕ) → i < segments p → q < width p
       → get_or (opening_words p) (cell p i 0 q) 0 ≡ get_or (start_at p i).words q 0
   record_at i q li lq =
-      let c = count_zeros in
-      let x : ℕ = i * block in
-      let g : ℕ = segments p * buffers p in
-      let m : (i * buffers p + 0) * width p ≡ x =
-      ap (λ (z : ℕ). z * width p) (let y : ℕ = i * buffers p in let e : y + 0 ≡ y =
-      omega arith in e) ∙ mul_assoc i (buffers p) (width p) in
-      let y : ℕ = (i * buffers p + 0) * width p in
-      let m' : y ≡ x = m in
-      let c' : length zeros ≡ segments p + g = c in
-      let at : cell p i 0 q ≡ length zeros + (x + q) =
-      (let goal : segments p + (g + (y + q)) ≡ length zeros + (x + q) = omega arith in goal) in
-      let w : 1 * width p ≤ block = mul-le-mul_right (width p) (omega arith) in
       let words : List ℕ = (start_at p i).words in
-      let r = (ready.each i li).0 in
-      let o : 1 * width p ≡ width p = one-mul (width p) in
-      let t : ℕ = block in
-      let v : ℕ = width p in
-      let o' : v ≤ t = subst (λ (z : ℕ). z ≤ block) o w in
-      let short : q < v = lq in
-      let u : ℕ = unused p in
-      let k : p.block_words + u ≡ t = block_is in
-      let lw : length words ≡ p.block_words = r in
+      let long : length words ≡ p.block_words = (ready.each i li).0.0 in
+      let at : cell p i 0 q ≡ length zeros + (i * block + q) = omega (arith, count_zeros) in
+      let some : 1 ≤ buffers p = omega arith in
+      let in_block : q < block = omega (arith, mul-le-mul_right (width p) some) in
       ap (λ (z : ℕ). get_or (opening_words p) z 0) at
-      ∙ (get_or-append-add zeros (flat_map piece p.start) (x + q) 0
-      ∙ (even_get piece no_start block p.start i q even li (omega arith)
+      ∙ (get_or-append-add zeros (flat_map piece p.start) (i * block + q) 0
+      ∙ (even_get piece no_start block p.start i q even li in_block
       ∙ dite (dec_le (length words) q)
       (λ past. get_or-append_right words (replicate (unused p) 0) (length words) q 0 refl past
       ∙ (get_or-replicate (unused p) (q - length words) 0 0 (omega arith)
       ∙ sym (get_or_past words q 0 past)))
       (λ here. get_or_append_left words (replicate (unused p) 0) 0 q (omega arith))))
 
-  no_pin : (i : ℕ) → i < segments p → get_or (first_view p).pins i 0 ≡ 0
-  no_pin i li = get_or-replicate (segments p) i 0 0 li
+  no_pin : (i : ℕ) → get_or (first_view p).pins i 0 ≡ 0
+  no_pin = none_at (segments p)
 
-  none_counted : (b : ℕ) → b < buffers p → pins_of (first_pool p) 0 b ≡ 0
-  none_counted b lb = let z : get_or (first_pool p).counted b 0 ≡ 0 =
-      get_or-replicate (buffers p) b 0 0 lb in
-      dite (ℕ_discrete (first_pool p).current b) (λ e. let a = pins_at (first_pool p) 0 b e in
-      omega arith) (λ ne. let a = pins_else (first_pool p) 0 b ne in omega arith)
+  none_counted : (b : ℕ) → pins_of (first_pool p) 0 b ≡ 0
+  none_counted b = let z = none_at (buffers p) b in
+      grind (arith, nat_tests)
 
   seated : (j : ℕ) (v : SeatView) → get_elem? (first_view p ∷ []) j ≡ some v
       → Knows p [] (opening_words p) (λ _. 0) (λ _. first_pool p) j v
@@ -275,15 +208,10 @@ module _ (p : Plan) (ready : IsReady p) where
           own = refl;
           all = λ _. refl;
           given = λ _. refl;
-          pool =
-              λ _. refl;
+          pool = λ _. refl;
         };
-        pins = λ i b li pin. let n = no_pin i li in absurd (omega arith);
-        pin_quota = λ i pin. dite (dec_le (segments p) i)
-            (λ past. let n : get_or (first_view p).pins i 0 ≡ 0 =
-            get_or_past (first_view p).pins i 0 (let e : length (first_view p).pins ≡ segments p =
-            length-replicate (segments p) 0 in omega arith) in absurd (omega arith))
-            (λ here. let n = no_pin i (omega arith) in absurd (omega arith));
+        pins = λ i b li pin. let n = no_pin i in absurd (omega arith);
+        pin_quota = λ i pin. let n = no_pin i in absurd (omega arith);
       }
   seated (suc j) v e = absurd (some-ne-none v (sym e))
 
@@ -296,21 +224,17 @@ module _ (p : Plan) (ready : IsReady p) where
     wide = wide;
     shares = omega arith;
     few = ready.few;
-    legal = λ a b e is. let l : length (a ++ e ∷ b) ≡ 0 = ap length is in let m =
-        length-append a (e ∷ b) in absurd (omega arith);
+    legal = legal_none p;
     registers = λ i li. record {
-      word = zero_at i (let g : ℕ = segments p * buffers p in let goal : i < segments p + g =
-          omega arith in goal);
+      word = zero_at i (omega arith);
       current = omega arith;
-      number = let r = (ready.each i li).2 in omega arith;
-      balance = λ b lb. let a = none_counted b lb in let g = zero_given i b li lb in let o =
-          on_not i b (first_view p) (λ z. let n = no_pin i li in absurd (omega arith)) in
+      number = let r = (ready.each i li).1 in omega arith;
+      balance = λ b lb. let a = none_counted b in let g = zero_given i b li lb in let o =
+          on_not i b (first_view p) (λ z. let n = no_pin i in absurd (omega arith)) in
           omega arith;
-      wears = λ b lb. let a = none_counted b lb in let y : ℕ = seats p * p.looks in
-          let l : y < 2 ^ 56 = ready.looks in
-          let goal : pins_of (first_pool p) 0 b + (y + 0) < 2 ^ 56 = omega arith in goal;
+      wears = λ b lb. omega (arith, none_counted b, ready.looks);
       free_buffer = λ lt. absurd (omega arith);
-      found_pinned = let n = no_pin i li in let f =
+      found_pinned = let n = no_pin i in let f =
           far_none (other 0 0) 0 (get_or (first_view p).pins i 0) (omega arith) in omega arith;
       counts = length-replicate (buffers p) 0;
       short = omega arith;
@@ -335,14 +259,12 @@ pub opening_words_are : (n scanners looks block_words : ℕ) (xs : List Opening)
     ++ replicate (n * block_words + (n + scanners + 1) * ((n + 1) * block_words)) 0) xs
     ≡ opening_words (plan_with scanners looks block_words xs)
 opening_words_are n scanners looks block_words xs e =
-    let c : n ≡ segments (plan_with scanners looks block_words xs) = e ∙ count_of xs in
+    let p : Plan = plan_with scanners looks block_words xs in
+    let c : n ≡ segments p = e ∙ count_of xs in
     (λ i. replicate (c i + c i * (c i + scanners + 2)) 0
     ++ flat_map (λ (x : Opening). x.words.items
     ++ replicate (c i * block_words + (c i + scanners + 1) * ((c i + 1) * block_words)) 0) xs)
-    ∙ (λ i. replicate (segments (plan_with scanners looks block_words xs)
-    + segments (plan_with scanners looks block_words xs) * buffers
-    (plan_with scanners looks block_words xs)) 0
-    ++ pieces_of (unused (plan_with scanners looks block_words xs)) xs i)
+    ∙ (λ i. replicate (segments p + segments p * buffers p) 0 ++ pieces_of (unused p) xs i)
 
 pub base_of : (xs : List Opening) (i : ℕ) → i < length xs
     → get_or (map (λ (x : Opening). x.number) xs) i 0 ≡ (get_or (map start_of xs) i no_start).number
@@ -368,18 +290,15 @@ sized_is n scanners looks block_words xs e any few few_scanners ready =
       few = omega arith;
       few_scanners = few_scanners;
       block_words_is = ready.block_words_is;
-      starts = λ i li. ((ready.each i li).0, (ready.each i li).1);
+      starts = λ i li. (ready.each i li).0;
     }
 
 -- at the start a seat may read each record
 start_readable : (p : Plan) → IsReady p → (i : ℕ) → i < segments p
     → Readable p [] i (get_or (replicate (segments p) 0) i 0)
 start_readable p ready i li =
-    let r = ready.each i li in
-    let none : get_or (replicate (segments p) 0) i 0 ≡ 0 = get_or-replicate (segments p) i 0 0 li in
-    subst (λ (z : ℕ). Readable p [] i z) (sym none)
-    (readable p [] i 0 (λ a b e is. let l : length (a ++ e ∷ b) ≡ 0 = ap length is in let m =
-    length-append a (e ∷ b) in absurd (omega arith)) ready.block_words_is r.0 r.1 (omega arith))
+    subst (λ (z : ℕ). Readable p [] i z) (sym (none_at (segments p) i))
+    (readable p [] i 0 (legal_none p) ready.block_words_is (ready.each i li).0 (omega arith))
 
 pub first_is : (S : Type 0) (p : Plan) (words : ℕ) (m : Me S SeatView) → IsReady p → words ≡ size p
     → m ≡ (first_view p, []) → IsFirst words (seats m.0.plan) m

@@ -1,5 +1,5 @@
 -- Registers that open with packed values.
-use Rattle.std.proofs.Common.{◌≡◌, ℕ, ◌*◌, ◌^◌, ◌<◌, ◌≤◌, List, length, map, take, slice_get, Some, refl, ap, sym, subst, ◌∙◌, arith}
+use Rattle.std.proofs.Common.{◌≡◌, ℕ, ◌^◌, ◌≤◌, List, length, map, take, slice_get, Some, refl, ap, sym, subst, ◌∙◌, arith}
 use Rattle.std.proofs.Common.{mul-le-mul_right}
 use Rattle.std.proofs.lemmas.List.{length-map, take_all}
 use Rattle.std.proofs.lemmas.Option.{get_or_from_slice_get, slice_get-map}
@@ -25,14 +25,10 @@ pub ready_is : (scanners looks : ℕ) (vs : List (ℕ × List ℕ)) (os : List O
     → length os ≤ 16 → looks ≤ 2 ^ 50 → Pairs (λ _. IsPacked) vs os
     → IsReady (plan_with scanners looks 512 os)
 ready_is scanners looks vs os few_scanners few some p =
-    let long : length (map start_of os) ≡ length os = length-map os start_of in
     let size : length vs ≡ length os = p.size in
     let q : Plan = plan_with scanners looks 512 os in
-    let n : segments q ≡ length os = long in
+    let n : segments q ≡ length os = length-map os start_of in
     let most : seats q ≤ 32 = omega arith in
-    let product : seats q * looks ≤ 32 * looks = mul-le-mul_right looks most in
-    let all : ℕ = seats q * looks in
-    let product' : all ≤ 32 * looks = product in
     record {
       each = λ i low.
           let x = element vs i (omega arith) in
@@ -49,13 +45,15 @@ ready_is scanners looks vs os few_scanners few some p =
                 ap (λ (z : ℕ × List ℕ). z.0) block.is in
                 λ t. ((first ∙ sym is) t, value_at o.0.words.items 0);
           } in (
-            ap (λ (z : Start). length z.words) s ∙ o.2.wide,
-            subst (λ (z : Start). IsBlock z.words 0 z.number (value_at z.words 0)) (sym s) own,
+            (
+              ap (λ (z : Start). length z.words) s ∙ o.2.wide,
+              subst (λ (z : Start). IsBlock z.words 0 z.number (value_at z.words 0)) (sym s) own,
+            ),
             omega arith,
           );
       block_words_is = refl;
       few = omega arith;
-      looks = let goal : all < 2 ^ 56 = omega arith in goal;
+      looks = omega (arith, mul-le-mul_right looks most);
     }
 
 pub opening_is : (scanners looks : ℕ) (vs : List (ℕ × List ℕ)) (os : List Opening)

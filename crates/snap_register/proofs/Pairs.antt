@@ -1,8 +1,8 @@
 -- Two lists with a fact at each place, which grow at their ends.
 use Rattle.std.proofs.Common.{◌≡◌, ◌⊎◌, inl, inr, ⊎_elim, ℕ, zero, suc, ◌+◌, List, [], ◌∷◌, ◌++◌, length, map, take, slice_get, Some}
 use Rattle.std.proofs.Common.{refl, ap, sym, subst, ◌∙◌, arith}
-use Rattle.std.proofs.lemmas.List.{length_push, map-append}
-use Rattle.std.proofs.lemmas.Option.{slice_get_within, same_Some}
+use Rattle.std.proofs.lemmas.List.{length_push, map-append, take_more}
+use Rattle.std.proofs.lemmas.Option.{slice_get_within, get_or_from_slice_get, same_Some}
 use Rattle.snap_history.specs.Pairs.{Pairs}
 
 -- an element of a list with one more at its end
@@ -37,11 +37,8 @@ Pairs-push R xs ys x y p here =
 -- the first k elements and the next one
 pub take_next : {A : Type 0} (k : ℕ) (xs : List A) (x : A) → slice_get xs k ≡ Some x
     → take (k + 1) xs ≡ take k xs ++ x ∷ []
-take_next zero [] x e = absurd cc
-take_next zero (y ∷ xs) x e = ap (λ z. z ∷ []) (same_Some y x e)
-take_next (suc k) [] x e = absurd cc
-take_next (suc k) (y ∷ xs) x e = let at : suc k + 1 ≡ suc (k + 1) = omega arith in
-    ap (λ n. take n (y ∷ xs)) at ∙ ap (λ l. y ∷ l) (take_next k xs x e)
+take_next k xs x e = take_more xs k x (slice_get_within xs k x e)
+    ∙ ap (λ z. take k xs ++ z ∷ []) (get_or_from_slice_get xs k x x e)
 
 pub map_next : {A B : Type 0} (f : A → B) (k : ℕ) (xs : List A) (x : A) → slice_get xs k ≡ Some x
     → map f (take (k + 1) xs) ≡ map f (take k xs) ++ f x ∷ []

@@ -1,13 +1,12 @@
--- Sums over all views.
-use Rattle.std.proofs.Common.{◌≡◌, ◌≢◌, ℕ, zero, suc, ◌+◌, ◌-◌, ◌<◌, ◌≤◌, ◌==◌, cond, List, [], ◌∷◌, ◌++◌, set, get_or, refl, ap, sym}
-use Rattle.std.proofs.Common.{◌∙◌, arith, eq-eqb, ne_eqb}
-use Rattle.std.proofs.lemmas.Bool.{lt-ltb, le-ltb}
-use mathlib.Core.Logic.{dite}
+-- Sums over all views, and the pins that a pool has counted.
+use Rattle.std.proofs.Common.{◌≡◌, ◌≢◌, ℕ, zero, suc, ◌+◌, ◌<◌, ◌≤◌, ◌==◌, cond, List, [], ◌∷◌, ◌++◌, set, get_or, refl, ap, sym}
+use Rattle.std.proofs.Common.{arith, length, get_or-set_same, get_or-set_other}
+use Rattle.std.proofs.lemmas.Bool.Decides.{nat_tests}
 use mathlib.Core.Option.{some, some-injective, some-ne-none}
-use native.Mathlib.Decide.{dec_le, ℕ_discrete}
 use lib.ListN.{get_elem?}
+use Rattle.snap_register.specs.declared.plan.Pool.{Pool}
 use Rattle.snap_register.specs.declared.plan.SeatView.{SeatView}
-use Rattle.snap_register.specs.Rule.{total, on, far, beyond, other}
+use Rattle.snap_register.specs.Rule.{total, on, far, beyond, other, pins_of}
 
 -- the sum after one view has changed
 pub total_set : (f : SeatView → ℕ) (vs : List SeatView) (k : ℕ) (v w : SeatView)
@@ -44,10 +43,10 @@ total_add f g h [] e = refl
 total_add f g h (x ∷ xs) e = let a = e x in let r = total_add f g h xs e in omega arith
 
 pub on_here : (i b : ℕ) (v : SeatView) → get_or v.pins i 0 ≡ b + 1 → on i b v ≡ 1
-on_here i b v e = ap (λ t. cond t 1 0) (eq-eqb (get_or v.pins i 0) (b + 1) e)
+on_here i b v e = grind (arith, nat_tests)
 
 pub on_not : (i b : ℕ) (v : SeatView) → get_or v.pins i 0 ≢ b + 1 → on i b v ≡ 0
-on_not i b v e = ap (λ t. cond t 1 0) (ne_eqb (get_or v.pins i 0) (b + 1) e)
+on_not i b v e = grind (arith, nat_tests)
 
 -- no view pins where the sum is 0
 pub none_on : (i b : ℕ) (vs : List SeatView) (k : ℕ) (v : SeatView) → total (on i b) vs ≡ 0
@@ -56,78 +55,43 @@ none_on i b vs k v none at e = let a = on_here i b v e in let t = total_one (on 
     absurd (omega arith)
 
 pub far_none : (t c x : ℕ) → x ≤ t → far t c x ≡ 0
-far_none t c x le = ap (λ y. cond y (cond (x == c + 1) 0 1) 0) (le-ltb t x le)
+far_none t c x le = grind (arith, nat_tests)
 
 pub far_here : (t c x : ℕ) → x ≡ c + 1 → far t c x ≡ 0
-far_here t c x e = dite (dec_le x t)
-    (λ le. far_none t c x le)
-    (λ nle. ap (λ y. cond y (cond (x == c + 1) 0 1) 0) (lt-ltb t x (omega arith))
-    ∙ ap (λ y. cond y 0 1) (eq-eqb x (c + 1) e))
-
-pub far_some : (t c x : ℕ) → t < x → x ≢ c + 1 → far t c x ≡ 1
-far_some t c x lt ne = ap (λ y. cond y (cond (x == c + 1) 0 1) 0) (lt-ltb t x lt)
-    ∙ ap (λ y. cond y 0 1) (ne_eqb x (c + 1) ne)
+far_here t c x e = grind (arith, nat_tests)
 
 pub far_le : (t c x : ℕ) → far t c x ≤ 1
-far_le t c x = dite (dec_le x t)
-    (λ le. let e = far_none t c x le in omega arith)
-    (λ nle. dite (ℕ_discrete x (c + 1))
-    (λ e. let a = far_here t c x e in omega arith)
-    (λ ne. let a = far_some t c x (omega arith) ne in omega arith))
-
-pub other_low : (c k : ℕ) → k < c → other c k ≡ k
-other_low c k lt = ap (λ y. cond y k (k + 1)) (lt-ltb k c lt)
-
-pub other_high : (c k : ℕ) → c ≤ k → other c k ≡ k + 1
-other_high c k le = ap (λ y. cond y k (k + 1)) (le-ltb k c le)
+far_le t c x = grind (arith, nat_tests)
 
 pub other_ne : (c k : ℕ) → other c k ≢ c
-other_ne c k e = dite (dec_le c k)
-    (λ le. let a = other_high c k le in absurd (omega arith))
-    (λ nle. let a = other_low c k (omega arith) in absurd (omega arith))
-
-abbrev hit : ℕ → ℕ → ℕ
-hit x t = cond (x == t) 1 0
-
-hit_here : (x t : ℕ) → x ≡ t → hit x t ≡ 1
-hit_here x t e = ap (λ y. cond y 1 0) (eq-eqb x t e)
-
-hit_not : (x t : ℕ) → x ≢ t → hit x t ≡ 0
-hit_not x t e = ap (λ y. cond y 1 0) (ne_eqb x t e)
+other_ne c k e = grind (arith, nat_tests)
 
 -- the next other buffer's pins are no longer among those further on
-far_steps : (t u c x : ℕ) → t ≢ c → t < u → ((y : ℕ) → t < y → y < u → y ≡ c)
-    → hit x (t + 1) + far u c x ≡ far t c x
-far_steps t u c x ne lt only_c = dite (ℕ_discrete x (t + 1))
-    (λ is. let a = hit_here x (t + 1) is in
-    let b = far_none u c x (omega arith) in
-    let d = far_some t c x (omega arith) (λ e. ne (omega arith)) in omega arith)
-    (λ not. let a = hit_not x (t + 1) not in dite (dec_le x t)
-    (λ le. let b = far_none u c x (omega arith) in let d = far_none t c x le in omega arith)
-    (λ nle. dite (ℕ_discrete x (c + 1))
-    (λ e. let b = far_here u c x e in let d = far_here t c x e in omega arith)
-    (λ other_one. dite (dec_le x u)
-    (λ le. let z : ℕ = x - 1 in let w = only_c z (omega arith) (omega arith) in
-    absurd (other_one (omega arith)))
-    (λ beyond_u. let b = far_some u c x (omega arith) other_one in let d =
-    far_some t c x (omega arith) other_one in omega arith))))
-
-pub far_next : (c k x : ℕ) → hit x (other c k + 1) + far (other c (k + 1)) c x ≡ far (other c k) c x
-far_next c k x = far_steps (other c k) (other c (k + 1)) c x (other_ne c k)
-    (dite (dec_le c k)
-    (λ le. let a = other_high c k le in let b = other_high c (k + 1) (omega arith) in omega arith)
-    (λ nle. let a = other_low c k (omega arith) in dite (dec_le c (k + 1))
-    (λ le. let b = other_high c (k + 1) le in omega arith)
-    (λ n. let b = other_low c (k + 1) (omega arith) in omega arith)))
-    (λ y above below. dite (dec_le c k)
-    (λ le. let a = other_high c k le in let b = other_high c (k + 1) (omega arith) in
-    absurd (omega arith))
-    (λ nle. let a = other_low c k (omega arith) in dite (dec_le c (k + 1))
-    (λ le. let b = other_high c (k + 1) le in omega arith)
-    (λ n. let b = other_low c (k + 1) (omega arith) in absurd (omega arith))))
+far_next : (c k x : ℕ)
+    → cond (x == other c k + 1) 1 0 + far (other c (k + 1)) c x ≡ far (other c k) c x
+far_next c k x = grind (arith, nat_tests)
 
 pub beyond_next : (i c k : ℕ) (vs : List SeatView)
     → total (on i (other c k)) vs + total (beyond i (other c (k + 1)) c) vs
     ≡ total (beyond i (other c k) c) vs
 beyond_next i c k vs = total_add (on i (other c k)) (beyond i (other c (k + 1)) c)
     (beyond i (other c k) c) vs (λ v. far_next c k (get_or v.pins i 0))
+
+-- pins that the current word counts, at its buffer and elsewhere
+pub pins_at : (d : Pool) (x b : ℕ) → d.current ≡ b → pins_of d x b ≡ get_or d.counted b 0 + x
+pins_at d x b e = grind (arith, nat_tests)
+
+pub pins_else : (d : Pool) (x b : ℕ) → d.current ≢ b → pins_of d x b ≡ get_or d.counted b 0
+pins_else d x b e = grind (arith, nat_tests)
+
+-- one pin more on the current buffer, which this view has
+pub pin_more : (d : Pool) (x b j : ℕ) (w : SeatView) → get_or w.pins j 0 ≡ d.current + 1
+    → (pins_of d (x + 1) b ≡ pins_of d x b + on j b w) × (pins_of d (x + 1) b ≤ pins_of d x b + 1)
+pin_more d x b j w pin = (grind (arith, nat_tests), grind (arith, nat_tests))
+
+-- the pins on each buffer, once the current word's were added and the buffer f is current
+pub pins_moved : (d : Pool) (x c f : ℕ) → d.current < length d.counted
+    → get_or d.counted d.current 0 + x ≡ c
+    → (b : ℕ) → get_or (set d.counted d.current c) b 0 + cond (f == b) 0 0 ≡ pins_of d x b
+pins_moved d x c f inside sum b =
+    grind (arith, nat_tests, get_or-set_same {A = ℕ}, get_or-set_other {A = ℕ})

@@ -1,9 +1,10 @@
 -- The registers' history as updates of a memory: what a seat knows, in a caller's words.
-use Rattle.std.proofs.Common.{◌≡◌, ◌≢◌, ℕ, zero, suc, ◌+◌, ◌<◌, ◌≤◌, ◌==◌, Bool, true, false, cond, List, [], ◌∷◌, ◌++◌, length, get_or}
-use Rattle.std.proofs.Common.{Some, None, slice_get, refl, ap, sym, subst, ◌∙◌, arith, append_assoc, eq-eqb, ne_eqb}
+use Rattle.std.proofs.Common.{◌≡◌, ℕ, zero, suc, ◌+◌, ◌<◌, ◌≤◌, ◌==◌, Bool, true, false, cond, List, [], ◌∷◌, ◌++◌, length, get_or}
+use Rattle.std.proofs.Common.{Some, None, slice_get, refl, ap, sym, subst, ◌∙◌, arith, append_assoc}
 use Rattle.std.specs.Prelude.{if◌then◌else◌}
 use Rattle.std.proofs.lemmas.List.{map-append, append-nil}
 use Rattle.std.proofs.lemmas.Option.{same_Some}
+use Rattle.std.proofs.lemmas.Bool.Decides.{nat_tests}
 use mathlib.Core.List.{IsPrefix}
 use mathlib.Core.Logic.{dite}
 use native.Mathlib.Decide.{ℕ_discrete}
@@ -111,28 +112,19 @@ moment h j (suc r) le =
 -- what the last look told
 
 pub looked_some : (z : TableId) (v : SeatView) (j : ℕ) → 0 < get_or v.pins j 0
-    → looked (known z v) j ≡ Some (number v.plan [] j + get_or v.records j 0)
-looked_some z v j some = let n : get_or v.pins j 0 ≢ 0 = λ e. absurd (omega arith) in
-    let s : (start_at v.plan j).number + get_or v.records j 0
-    ≡ number v.plan [] j + get_or v.records j 0 = omega arith in
-    ap (λ (b : Bool). cond b None (Some ((start_at v.plan j).number + get_or v.records j 0)))
-    (ne_eqb (get_or v.pins j 0) 0 n) ∙ ap (λ (x : ℕ). Some x) s
+    → looked (known z v) j ≡ Some ((start_at v.plan j).number + get_or v.records j 0)
+looked_some z v j some = grind (arith, nat_tests)
 
 pub pinned_looked : (z : TableId) (v : SeatView) (j : ℕ) → HasLooked (known z v) j
     → 0 < get_or v.pins j 0
 pinned_looked z v j some = dite (ℕ_discrete (get_or v.pins j 0) 0)
-    (λ e. absurd (some (ap (λ (b : Bool).
-    cond b None (Some ((start_at v.plan j).number + get_or v.records j 0)))
-    (eq-eqb (get_or v.pins j 0) 0 e))))
-    (λ ne. omega arith)
+    (λ e. absurd (some (grind (arith, nat_tests)))) (λ ne. omega arith)
 
 pub last_look_is : (z : TableId) (v : SeatView) (j k : ℕ) → looked (known z v) j ≡ Some k
     → (0 < get_or v.pins j 0) × ((start_at v.plan j).number + get_or v.records j 0 ≡ k)
 last_look_is z v j k is =
     let some : 0 < get_or v.pins j 0 = pinned_looked z v j (λ none. absurd (cc (none, is))) in
-    let e : number v.plan [] j + get_or v.records j 0 ≡ k =
-    same_Some _ _ (sym (looked_some z v j some) ∙ is) in
-    (some, omega arith)
+    (some, same_Some _ _ (sym (looked_some z v j some) ∙ is))
 
 pub update_found : (z : TableId) (v : SeatView) (j : ℕ) → HasFoundUpdate (known z v) j
     → (0 < get_or v.pins j 0) × (0 < get_or v.records j 0)
@@ -179,9 +171,7 @@ below_is z v b i li = let n = number_is v.plan v.seen i in let l = b i li in ome
 pub looks_is : (z z' : TableId) (v w : SeatView) (j k : ℕ) → w.plan ≡ v.plan → IsPinned v w j
     → k ≡ number w.plan w.seen j → Looks (known z v) (known z' w) j k
 looks_is z z' v w j k plan pin is = record {
-  here = looked_some z' w j pin.pinned ∙ (let l = pin.last in
-      let e : number w.plan [] j + get_or w.records j 0 ≡ k = omega arith in
-      ap (λ (x : ℕ). Some x) e);
+  here = looked_some z' w j pin.pinned ∙ ap (λ (x : ℕ). Some x) (let l = pin.last in omega arith);
   others = λ i ne. let o = pin.others i ne in
       λ t. cond (o.0 t == 0) None (Some ((start_at (plan t) i).number + o.1 t));
 }
@@ -193,7 +183,7 @@ value_shown z v j value has le is =
     let m = moment v.seen j (get_or v.records j 0) le in
     let c = m.count_is in
     let n = number_is v.plan m.part j in
-    let e : number v.plan [] j + get_or v.records j 0
+    let e : (start_at v.plan j).number + get_or v.records j 0
     ≡ number_after (starts v.plan) (updates m.part) j = omega arith in
     let words : held v j ≡ record_words v.plan m.part j (count j m.part) =
     ap (record_words v.plan v.seen j) (sym c)
@@ -281,58 +271,57 @@ may_take z v (Borrowed j) read m = λ part pre before.
     omega arith
 
 -- and then the update may follow
+follows_of : (v : SeatView) (i k : ℕ) (view : View) (value d e : List ℕ) (part : List Entry)
+    → IsPrefix part v.seen → count i part ≡ count i v.seen
+    → ((j : ℕ) → j < segments v.plan → taken v view j ≡ memory v.plan part j)
+    → k ≡ number v.plan v.seen i + 1 → IsBlock d 0 k value → length d ≡ size_at d 0 → IsPrefix d e
+    → AreBlocks e (length d) (segments v.plan) (taken v view)
+    → Follows v.plan v.seen (entry i e)
+follows_of v i k view value d e part beginning whole each next own long pre blocks =
+    let n : k ≡ number v.plan part i + 1 = omega arith in
+    let r = record_of d e (segments v.plan) k value (taken v view) (memory v.plan part) own long pre
+    blocks each in
+    let val : value ≡ value_at e 0 = sym (ap (λ (x : ℕ × List ℕ). x.1) r.own.is) in (
+      part,
+      beginning,
+      whole,
+      subst (λ (x : ℕ × List ℕ). IsRecord (segments v.plan) x.0 x.1 (memory v.plan part) e)
+          (λ t. (n t, val t)) r,
+    )
+
 pub follows_is : (v : SeatView) (i k : ℕ) (view : View) (value d e : List ℕ) → CanTake v view
     → MayTake v i view → ((j : ℕ) → j < segments v.plan → get_or v.records j 0 ≤ count j v.seen)
-    → k ≡ number v.plan v.seen i + 1
-    → IsBlock d 0 k value → length d ≡ size_at d 0 → IsPrefix d e
+    → k ≡ number v.plan v.seen i + 1 → IsBlock d 0 k value → length d ≡ size_at d 0 → IsPrefix d e
     → AreBlocks e (length d) (segments v.plan) (taken v view) → IsLegal v.plan v.seen
     → Follows v.plan v.seen (entry i e)
 follows_is v i k Collected value d e can may old next own long pre blocks legal =
-    let n : k ≡ number v.plan may.0 i + 1 = let c = may.2 in omega arith in
-    let r = record_of d e (segments v.plan) k value (taken v Collected)
-    (memory v.plan may.0) own long pre blocks may.3 in
-    let val : value ≡ value_at e 0 = sym (ap (λ (x : ℕ × List ℕ). x.1) r.own.is) in (
-      may.0,
-      may.1,
-      may.2,
-      subst (λ (x : ℕ
-          × List ℕ). IsRecord (segments v.plan) x.0 x.1 (memory v.plan may.0) e) (λ t.
-          (n t, val t)) r,
-    )
+    follows_of v i k Collected value d e may.0 may.1 may.2 may.3 next own long pre blocks
 follows_is v i k (Borrowed j) value d e can may old next own long pre blocks legal =
     let u = viewed v.plan v.seen j (get_or v.records j 0) legal can.2 (old j can.0) in
-    let whole = may u.part u.beginning u.before in
-    let n : k ≡ number v.plan u.part i + 1 = omega arith in
-    let r = record_of d e (segments v.plan) k value (taken v (Borrowed j))
-    (memory v.plan u.part) own long pre blocks (λ x lx. (u.view.each x lx).is) in
-    let val : value ≡ value_at e 0 = sym (ap (λ (x : ℕ × List ℕ). x.1) r.own.is) in (
-      u.part,
-      u.beginning,
-      whole,
-      subst (λ (x : ℕ × List ℕ). IsRecord (segments v.plan) x.0 x.1 (memory v.plan u.part) e)
-          (λ t. (n t, val t)) r,
-    )
+    follows_of v i k (Borrowed j) value d e u.part u.beginning (may u.part u.beginning u.before)
+    (λ x lx. (u.view.each x lx).is) next own long pre blocks
 
 abbrev the_update : ℕ → List ℕ → Update
 the_update i l = record { segment = i; value = l }
 
 -- what a publication leaves
-pub shown_is : (z z' : TableId) (v w : SeatView) (k : ℕ) (value : List ℕ) → z' ≡ z
-    → IsShown v w v.low k value → Shows (known z v) (known z' w) value
-shown_is z z' v w k value same s =
-    let e : Entry = entry v.low s.words in
+pub shown_is : (z z' : TableId) (v w : SeatView) (i k : ℕ) (value : List ℕ) → z' ≡ z → v.low ≡ i
+    → IsShown v w i k value → Shows (known z v) (known z' w) value
+shown_is z z' v w i k value same low s =
+    let e : Entry = entry i s.words in
     let last : update_of e ≡ record { segment = v.low; value = value } =
-    ap (λ (l : List ℕ). the_update v.low l) s.value_is in
+    λ t. the_update (sym low t) (s.value_is t) in
     record {
       table = same;
       plan = ap (λ (u : SeatView). u.plan) s.same;
       low = ap (λ (u : SeatView). u.low) s.same;
       high = ap (λ (u : SeatView). u.high) s.same;
-      looks = λ i. ap (λ (u : SeatView). looked (known z' u) i) s.same;
+      looks = λ j. ap (λ (u : SeatView). looked (known z' u) j) s.same;
       left = ap (λ (u : SeatView). u.left) s.same;
       sights = ap (λ (u : SeatView). (known z' u).sights) s.same;
       between = updates s.between;
       seen = ap updates s.seen ∙ (map-append update_of (v.seen ++ s.between) (e ∷ [])
           ∙ (λ t. map-append update_of v.seen s.between t ++ last t ∷ []));
-      others = updates_count v.low s.between ∙ ap length s.others;
+      others = ap (λ (j : ℕ). updates_of j (updates s.between)) low
+          ∙ (updates_count i s.between ∙ ap length s.others);
     }

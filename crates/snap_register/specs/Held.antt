@@ -1,15 +1,14 @@
 -- What the buffers hold that a seat pins.
-use Rattle.std.specs.Prelude.{◌≡◌, ◌≢◌, ℕ, ◌+◌, ◌<◌, ◌≤◌, ◌++◌, List, [], ◌∷◌, slice_index, slice_set, length}
+use Rattle.std.specs.Prelude.{◌≡◌, ◌≢◌, ℕ, ◌+◌, ◌<◌, ◌≤◌, ◌++◌, List, [], ◌∷◌, slice_index, length}
 use mathlib.Core.List.{IsPrefix}
 use Rattle.snap_register.specs.declared.plan.Entry.{Entry}
 use Rattle.snap_register.specs.declared.plan.Plan.{Plan}
-use Rattle.snap_register.specs.declared.plan.Pool.{Pool}
 use Rattle.snap_register.specs.declared.plan.SeatView.{SeatView}
 use Rattle.snap_register.specs.declared.view.View.{View}
 use Rattle.snap_register.specs.declared.view.View.TheVariants.{Collected, Borrowed}
 use Rattle.snap_register.specs.History.{entry, sight, only, start_at, record_words, memory, number, count}
 use Rattle.snap_register.specs.Words.{block_at, size_at, value_at, behind, IsBlock}
-use Rattle.snap_register.specs.Rule.{segments, buffers, width, IsBelow}
+use Rattle.snap_register.specs.Rule.{segments, width, IsBelow}
 
 -- the words of the record that the seat pins on the register j
 abbrev pub held : SeatView → ℕ → List ℕ
@@ -73,14 +72,4 @@ HasLookedFrom v w = w ≡ record v {
   pins = w.pins;
   records = w.records;
   sights = v.sights ++ sight w.seen ∷ [];
-}
-
--- the pool once the buffer b is current, where the word before counted x pins
-abbrev pub moved_pool : SeatView → ℕ → ℕ → Pool
-moved_pool v b x = record {
-  current = b;
-  found_pinned = 0;
-  free_buffer = buffers v.plan;
-  counted = slice_set v.pool.counted v.pool.current (slice_index v.pool.counted v.pool.current + x);
-  draft = [];
 }

@@ -1,7 +1,7 @@
 -- Which registers are meant, and what they are between two steps.
 use Rattle.std.specs.Prelude.{[]}
 use Rattle.atomic_table.specs.Seated.{TableId}
-use Rattle.atomic_table.specs.Table.{State}
+use Rattle.atomic_table.specs.Table.{State, Me}
 use Rattle.snap_register.specs.declared.plan.SeatView.{SeatView}
 
 -- the registers of one opening
@@ -19,6 +19,10 @@ no_registers = record {
   offset = 0;
   slot_names = [];
 }
+
+-- what a seat knows, with the slots that it holds, of which there are none
+abbrev pub Mine : Type 0
+Mine = Me (Unit {0}) SeatView
 
 -- a moment of the registers, between two steps: their words, and what each seat knows
 abbrev pub Moment : Type 0

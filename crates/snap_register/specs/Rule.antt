@@ -84,6 +84,11 @@ other c k = cond (ltb k c) k (k + 1)
 abbrev pub pins_of : Pool → ℕ → ℕ → ℕ
 pins_of d x b = slice_index d.counted b + cond (d.current == b) x 0
 
+-- the buffer b of the register i holds the words l, as far as it reaches
+abbrev pub Holds : Plan → List ℕ → ℕ → ℕ → List ℕ → Type 0
+Holds p words i b l = (q : ℕ) → q < width p → q < length l
+    → slice_index words (cell p i b q) ≡ slice_index l q
+
 -- The register i, whose current word counts x pins. Its pins are those given back and those held;
 -- the buffer noted as free has none; the buffers noted as held, with the pins elsewhere than on
 -- these and on the current one, are no more than the seats; and no count comes near 2^56.
@@ -103,15 +108,13 @@ module _ (p : Plan) (h : List Entry) (words : List ℕ) (views : List SeatView) 
     pub short : length d.draft ≤ width p
     pub draft : (q : ℕ) → d.free_buffer < buffers p → q < length d.draft
         → slice_index words (cell p i d.free_buffer q) ≡ slice_index d.draft q
-    pub latest : (q : ℕ) → q < width p → q < length (record_words p h i (count i h))
-        → slice_index words (cell p i d.current q) ≡ slice_index (record_words p h i (count i h)) q
+    pub latest : Holds p words i d.current (record_words p h i (count i h))
 
 -- the view's pin x on the register i is of a buffer which holds the record r
 pub record Pinned (p : Plan) (h : List Entry) (words : List ℕ) (i b r : ℕ) : Type 0 where
   pub inside : b < buffers p
   pub old : r ≤ count i h
-  pub holds : (q : ℕ) → q < width p → q < length (record_words p h i r)
-      → slice_index words (cell p i b q) ≡ slice_index (record_words p h i r) q
+  pub holds : Holds p words i b (record_words p h i r)
 
 module _ (p : Plan) (h : List Entry) (words : List ℕ) (writer : ℕ → ℕ) (pools : ℕ → Pool)
     (seat : ℕ) (v : SeatView) where
@@ -157,21 +160,20 @@ pub record Learns (v w : SeatView) : Type 0 where
   pub legal : IsLegal v.plan w.seen
   pub below : IsBelow v.plan w.seen
 
+-- the pool once the buffer b is current, where the word before counted x pins
+abbrev pub moved_pool : SeatView → ℕ → ℕ → Pool
+moved_pool v b x = record {
+  current = b;
+  found_pinned = 0;
+  free_buffer = buffers v.plan;
+  counted = slice_set v.pool.counted v.pool.current (slice_index v.pool.counted v.pool.current + x);
+  draft = [];
+}
+
 -- the seat's update, of what it had drafted, stands at the end of what it has seen, and the free
 -- buffer is the current one
 pub record Publishes (v w : SeatView) (i x : ℕ) : Type 0 where
-  pub same : w ≡ record v {
-    seen = w.seen;
-    pool =
-        record {
-          current = v.pool.free_buffer;
-          found_pinned = 0;
-          free_buffer = buffers v.plan;
-          counted = slice_set v.pool.counted v.pool.current
-              (slice_index v.pool.counted v.pool.current + x);
-          draft = [];
-        };
-  }
+  pub same : w ≡ record v { seen = w.seen; pool = moved_pool v v.pool.free_buffer x }
   pub between : List Entry
   pub seen : w.seen ≡ (v.seen ++ between) ++ entry i v.pool.draft ∷ []
   pub others : only i between ≡ []
@@ -185,8 +187,7 @@ no_pool = record { current = 0; found_pinned = 0; free_buffer = 0; counted = [];
 abbrev pub spent : SeatView
 spent = record {
   plan = record { scanners = 0; looks = 0; block_words = 0; start = [] };
-  spent =
-      true;
+  spent = true;
   seen = [];
   received = [];
   low = 0;
@@ -207,8 +208,7 @@ first_role v = record v {
   high = v.low + 1;
   seen_end = v.low + 1;
   pool_end = v.low + 1;
-  pin_quota =
-      1;
+  pin_quota = 1;
   left = v.plan.looks;
 }
 
@@ -216,8 +216,7 @@ abbrev pub without_first_role : SeatView → SeatView
 without_first_role v = record v {
   low = v.low + 1;
   pin_quota = v.pin_quota - 1;
-  left =
-      v.left - v.plan.looks;
+  left = v.left - v.plan.looks;
 }
 
 -- a seat with a pin a register and the looks of a seat, that writes nothing
@@ -243,8 +242,7 @@ messenger v = record v {
   high = 0;
   seen_end = 0;
   pool_end = 0;
-  pin_quota =
-      0;
+  pin_quota = 0;
   left = 0;
   pins = [];
   records = [];
@@ -253,10 +251,6 @@ messenger v = record v {
 -- the first view, told of what the second has seen
 abbrev pub with_received : SeatView → SeatView → SeatView
 with_received v u = record v { received = u.seen }
-
--- the same, and it writes the second's segments too, which follow its own
-abbrev pub with_segments_of : SeatView → SeatView → SeatView
-with_segments_of v u = record v { received = u.seen; high = u.high }
 
 -- the first view, which has seen what the second has
 abbrev pub with_seen_of : SeatView → SeatView → SeatView
@@ -278,11 +272,9 @@ module _ {S : Type 0} where
         seen = m'.0.seen;
         received = [];
         seen_end = m.0.high;
-        left =
-            m.0.left - 1;
+        left = m.0.left - 1;
         pins = slice_set m.0.pins st.word (found / 2 ^ 56 + 1);
-        records =
-            slice_set m.0.records st.word (count st.word m'.0.seen);
+        records = slice_set m.0.records st.word (count st.word m'.0.seen);
         sights = m.0.sights ++ sight m'.0.seen ∷ [];
       })
 
@@ -292,8 +284,8 @@ module _ {S : Type 0} where
       → m' ≡ (record m.0 { pins = slice_set m.0.pins i 0 }, m.1)
 
   -- a load of a current word, which does not pin
-  abbrev pub glanced : Step S → Me S SeatView → ℕ → Me S SeatView → Type 0
-  glanced st m found m' = Learns m.0 m'.0 × (m'.1 ≡ m.1)
+  abbrev pub heard : Step S → Me S SeatView → ℕ → Me S SeatView → Type 0
+  heard st m found m' = Learns m.0 m'.0 × (m'.1 ≡ m.1)
       × (m'.0 ≡ record m.0 { seen = m'.0.seen; received = []; seen_end = m.0.high })
 
   -- a load of a word of a pinned buffer
@@ -311,8 +303,7 @@ module _ {S : Type 0} where
         record m.0 {
           pool = record m.0.pool {
             free_buffer = next_other m.0.pool;
-            draft =
-                [];
+            draft = [];
           };
         },
         m.1,

@@ -11,6 +11,7 @@ use Rattle.snap_register.specs.declared.plan.Plan.{Plan}
 use Rattle.snap_register.specs.declared.plan.Start.{Start}
 use Rattle.snap_register.specs.declared.plan.Pool.{Pool}
 use Rattle.snap_register.specs.declared.plan.SeatView.{SeatView}
+use Rattle.snap_register.specs.declared.tables.Sizes.{Sizes}
 use Rattle.atomic_table.specs.Table.{Me}
 use Rattle.snap_register.specs.History.{start_at, count, number}
 use Rattle.snap_register.specs.Words.{value_at, IsBlock}
@@ -24,8 +25,7 @@ abbrev pub plan_with : ℕ → ℕ → ℕ → List Opening → Plan
 plan_with scanners looks block_words xs = record {
   scanners = scanners;
   looks = looks;
-  block_words =
-      block_words;
+  block_words = block_words;
   start = map start_of xs;
 }
 
@@ -37,8 +37,7 @@ first_pool p = record {
   current = 0;
   found_pinned = 0;
   free_buffer = buffers p;
-  counted =
-      replicate (buffers p) 0;
+  counted = replicate (buffers p) 0;
   draft = [];
 }
 
@@ -60,6 +59,11 @@ first_view p = record {
   sights = [];
 }
 
+-- the record of the segment i at the start fills the first words of a buffer
+abbrev pub HasStart : Plan → ℕ → Type 0
+HasStart p i = (length (start_at p i).words ≡ p.block_words)
+    × IsBlock (start_at p i).words 0 (start_at p i).number (value_at (start_at p i).words 0)
+
 -- the counts are those of the plan
 pub record IsSized (segments' scanners block_words words : ℕ) (p : Plan) : Type 0 where
   pub segments_are : segments' ≡ segments p
@@ -70,8 +74,11 @@ pub record IsSized (segments' scanners block_words words : ℕ) (p : Plan) : Typ
   pub few : segments' ≤ MAX_COUNT
   pub few_scanners : scanners ≤ MAX_SCANNERS
   pub block_words_is : p.block_words ≡ BLOCK_WORDS
-  pub starts : (i : ℕ) → i < segments p → (length (start_at p i).words ≡ p.block_words)
-      × IsBlock (start_at p i).words 0 (start_at p i).number (value_at (start_at p i).words 0)
+  pub starts : (i : ℕ) → i < segments p → HasStart p i
+
+-- the sizes of a table that is made are those of the plan, and so are a seat's looks
+abbrev pub HasSizes : Sizes → Plan → Type 0
+HasSizes s p = IsSized s.segments s.scanners s.block_words s.words p × (s.looks ≡ p.looks)
 
 -- the seat is of a table of the plan's size and holds no slot, and its pins are these
 pub record IsSeated {S : Type 0} (words : ℕ) (pins : List ℕ) (left : ℕ)
@@ -117,9 +124,7 @@ opening_words p = replicate (segments p + segments p * buffers p) 0
 -- the values fill the first words, which begin with the number, and no number of looks comes near
 -- 2^56
 pub record IsReady (p : Plan) : Type 0 where
-  pub each : (i : ℕ) → i < segments p → (length (start_at p i).words ≡ p.block_words)
-      × IsBlock (start_at p i).words 0 (start_at p i).number (value_at (start_at p i).words 0)
-      × IsNumber (start_at p i).number
+  pub each : (i : ℕ) → i < segments p → HasStart p i × IsNumber (start_at p i).number
   pub block_words_is : p.block_words ≡ BLOCK_WORDS
   pub few : buffers p ≤ 128
   pub looks : seats p * p.looks < 2 ^ 56

@@ -11,8 +11,11 @@ use Rattle.snap_register.specs.Setup.{IsSeated}
 use Rattle.snap_register.specs.Seat.{Known, known}
 
 -- what the seat knows
+abbrev pub view_at : Seat (Unit {0}) SeatView → SeatView
+view_at s = s.me.0
+
 abbrev pub view_of : Access → SeatView
-view_of a = a.seat.me.0
+view_of a = view_at a.seat
 
 -- the same, as its callers see it
 abbrev pub known_of : Access → Known

@@ -37,10 +37,10 @@
 //! | `Check` | writer | loads the given-back count of an own buffer that isn't current | the buffer is free, or held | access/publications.rt, `check` |
 //! | `Reuse`, `Redraft` | writer | loads the next word of the free buffer; stores another in its place | one word more of the draft | access/draft.rt, `draft` |
 //! | `Publish` | writer | swaps the free buffer in as the current one | the history, and the update behind it; the pins of the old buffer | access/publications.rt, `swap` |
-//! | `Glance`, and joins and splits | any two | loads a word, once one seat's knowledge was joined into the other's | the whole history, for both | access/meetings.rt, `meet` |
+//! | `Hear`, and joins and splits | any two | loads a word, once one seat's knowledge was joined into the other's | the whole history, for both | access/meetings.rt, `meet` |
 //!
 //! What a step tells is a function of the view (`pinning`, `read`, `giving`, `checked`, `reused`,
-//! `redrafted`, `published`, `glanced`), named where the step is (setup.rt); that it keeps the rule is
+//! `redrafted`, `published`, `heard`), named where the step is (setup.rt); that it keeps the rule is
 //! proved in proofs/Keeps.antt and beside it. An opening makes the table with all of it in one view,
 //! and splits a seat off for each writer and scanner (tables.rt).
 #![tactic(auto)]

@@ -97,13 +97,14 @@ pub struct ReadSeat {
 
 impl Model for ReadSeat {
     ghost use Rattle.std.specs.Prelude.{◌≡◌, []};
-    ghost use Rattle.snap_register.specs.Seat.{Known, known};
+    ghost use Rattle.snap_register.specs.Seat.{Known};
+    ghost use Rattle.snap_register.specs.Steps.{view_of, known_of};
 
     ghost Value = { Known };
 
-    ghost view = { λ s. known s.access.seat.table_id s.access.seat.me.0 };
+    ghost view = { λ s. known_of s.access };
 
-    ghost invariant = { λ s. (s.access.seat.me.0.low ≡ 0) × (s.access.seat.me.0.high ≡ 0) };
+    ghost invariant = { λ s. ((view_of s.access).low ≡ 0) × ((view_of s.access).high ≡ 0) };
 }
 
 impl Looker for ReadSeat {
@@ -173,11 +174,12 @@ pub struct WriteSeat {
 
 impl Model for WriteSeat {
     ghost use Rattle.snap_register.specs.Setup.{IsPool};
-    ghost use Rattle.snap_register.specs.Seat.{Known, known};
+    ghost use Rattle.snap_register.specs.Seat.{Known};
+    ghost use Rattle.snap_register.specs.Steps.{known_of};
 
     ghost Value = { Known };
 
-    ghost view = { λ s. known s.access.seat.table_id s.access.seat.me.0 };
+    ghost view = { λ s. known_of s.access };
 
     ghost invariant = { λ s. IsPool s.segment s.number s.current s.counted s.access.seat.me };
 }

@@ -1,5 +1,5 @@
 //! The table of the registers' words, its rule (specs/Rule.antt), and what each step on it tells.
-ghost use Rattle.snap_register.specs.Rule.{Kept, pinning, giving, glanced, read, checked};
+ghost use Rattle.snap_register.specs.Rule.{Kept, pinning, giving, heard, read, checked};
 ghost use Rattle.snap_register.specs.Rule.{
   reused,
   redrafted,
@@ -54,10 +54,10 @@ impl Play<(), SeatView> for GiveBack {
 }
 
 // A load of a current word.
-pub(crate) struct Glance;
+pub(crate) struct Hear;
 
-impl Play<(), SeatView> for Glance {
-    ghost then = { glanced };
+impl Play<(), SeatView> for Hear {
+    ghost then = { heard };
 }
 
 // A load of a word of a pinned buffer.

@@ -17,7 +17,8 @@ ghost use Rattle.snap_register.specs.Setup.{
   opening_words,
   IsReady,
 };
-ghost use Rattle.snap_register.specs.Setup.{IsSized, IsFirst, IsFresh};
+ghost use Rattle.snap_register.specs.Setup.{IsFirst, IsFresh, HasSizes};
+ghost use Rattle.snap_register.specs.Steps.{view_at};
 
 use crate::access::Access;
 use crate::plan::Opening;
@@ -83,9 +84,7 @@ fn access_of(
     sizes: Sizes,
 ) -> Result<Access, AllocError>
     requires own { seat.table_id ≡ (arc_value table.now).shared.table_id }
-    requires sized { IsSized sizes.segments sizes.scanners sizes.block_words sizes.words
-        seat.me.0.plan
-        × (sizes.looks ≡ seat.me.0.plan.looks) }
+    requires sized { HasSizes sizes (view_at seat).plan }
     requires fresh { IsFresh seat.table_id.words seat.me }
     ensures { IfOk result (λ c. (c.seat.table_id ≡ seat.table_id) × (c.seat.me ≡ seat.me)) }
 {
@@ -120,22 +119,20 @@ fn seat_writers(
     values: &Vec<Opening>,
 ) -> Result<Vec<WriteSeat>, AllocError>
     requires own { first_seat.old.table_id ≡ (arc_value table.now).shared.table_id }
-    requires sized { IsSized sizes.segments sizes.scanners sizes.block_words sizes.words
-        first_seat.old.me.0.plan
-        × (sizes.looks ≡ first_seat.old.me.0.plan.looks) }
+    requires sized { HasSizes sizes (view_at first_seat.old).plan }
     requires first { IsFirst first_seat.old.table_id.words
-        (seats first_seat.old.me.0.plan) first_seat.old.me
-        × (first_seat.old.me.0.low ≡ 0) × (first_seat.old.me.0.high ≡ sizes.segments) }
+        (seats (view_at first_seat.old).plan) first_seat.old.me
+        × ((view_at first_seat.old).low ≡ 0) × ((view_at first_seat.old).high ≡ sizes.segments) }
     requires numbers { (length values.now.items ≡ sizes.segments) × ((i : ℕ)
-        → i < segments first_seat.old.me.0.plan
+        → i < segments (view_at first_seat.old).plan
         → slice_index (map (λ x. x.number) values.now.items) i
-        ≡ (start_at first_seat.old.me.0.plan i).number) }
+        ≡ (start_at (view_at first_seat.old).plan i).number) }
     ensures first_seat { IfOk result (λ _.
         IsFirst first_seat.new.table_id.words sizes.scanners first_seat.new.me
         × (first_seat.new.table_id ≡ first_seat.old.table_id)
-        × (first_seat.new.me.0.plan ≡ first_seat.old.me.0.plan)) }
+        × ((view_at first_seat.new).plan ≡ (view_at first_seat.old).plan)) }
     ensures seats { IfOk result (λ v. (length v.items ≡ sizes.segments)
-        × AreWriters first_seat.old.table_id first_seat.old.me.0.plan v.items) }
+        × AreWriters first_seat.old.table_id (view_at first_seat.old).plan v.items) }
 {
     let mut writers = Vec::new(alloc);
     for i in 0..sizes.segments {
@@ -154,12 +151,10 @@ fn seat_readers(
     sizes: Sizes,
 ) -> Result<Vec<ReadSeat>, AllocError>
     requires own { first_seat.old.table_id ≡ (arc_value table.now).shared.table_id }
-    requires sized { IsSized sizes.segments sizes.scanners sizes.block_words sizes.words
-        first_seat.old.me.0.plan
-        × (sizes.looks ≡ first_seat.old.me.0.plan.looks) }
+    requires sized { HasSizes sizes (view_at first_seat.old).plan }
     requires first { IsFirst first_seat.old.table_id.words sizes.scanners first_seat.old.me }
     ensures { IfOk result (λ v. (length v.items ≡ sizes.scanners)
-        × AreReaders first_seat.old.table_id first_seat.old.me.0.plan v.items) }
+        × AreReaders first_seat.old.table_id (view_at first_seat.old).plan v.items) }
 {
     let mut readers = Vec::new(alloc);
     for k in 0..sizes.scanners {

@@ -1,10 +1,8 @@
 -- What is told of a crash at any moment from an opening on, and at any cut once all are back.
-use Rattle.std.proofs.Common.{◌≡◌, ℕ, zero, suc, ◌<◌, inl, List, [], ◌∷◌, ◌++◌, length, map, Some, slice_get, refl, sym, subst, ◌∙◌}
-use Rattle.std.proofs.Common.{arith}
+use Rattle.std.proofs.Common.{◌≡◌, ℕ, zero, suc, inl, List, [], ◌∷◌, ◌++◌, length, map, Some, slice_get, refl, sym, subst, ◌∙◌, arith}
 use Rattle.std.proofs.lemmas.List.{length-map}
 use Rattle.std.proofs.lemmas.Option.{slice_get_within, same_Some}
 use Rattle.snap_disk.specs.declared.refusal.Refusal.{Refusal}
-use Rattle.snap_slot.specs.Layout.{IsFileOf}
 use Rattle.snap_slot.proofs.Readings.{holds_same}
 use Rattle.snap_slot.proofs.Rest.{at_rest_leaves}
 use Rattle.snap_segment.specs.Segment.{SegmentState}
@@ -12,17 +10,19 @@ use Rattle.snap_history.specs.History.{Update, Start, number_after, value_after}
 use Rattle.snap_history.specs.Pairs.{Pairs}
 use Rattle.snap_history.proofs.Beginnings.{beginning-trans}
 use Rattle.snap_history.proofs.Pairs.{element, partner, Pairs-map}
+use Rattle.snap_register.specs.declared.plan.Plan.{Plan}
 use Rattle.snap_register.specs.History.{starts, updates}
 use Rattle.snap_register.specs.Seat.{Known}
 use Rattle.snap_writer.specs.Writer.{WriterState, number_of, value_of, IsPaired}
 use Rattle.snap_writer.specs.Life.{IsWriterOf}
 use Rattle.snap_cut.specs.Crash.{Begun, IsRecovered}
 use Rattle.snap_cut.proofs.Starts.{StartsAfter, recovered_on}
+use Rattle.snap_cut.proofs.Placed.{same_file}
 use Rattle.snap_cut.proofs.Lives.{life_fits}
 use Rattle.snap_cut.proofs.Crash.{cut_recovers, moment_recovers}
 use Rattle.snap_restart.specs.Closed.{AreBack, IsHistory}
 use Rattle.snap_restart.specs.Opened.{IsBack, IsOpened, IsStopped, AreFresh}
-use Rattle.snap_restart.specs.Crash.{AnyMoment, AreOpened, StayKept, AnyCut}
+use Rattle.snap_restart.specs.Crash.{AnyMoment, AllHonest, AreOpened, StayKept, AnyCut}
 use Rattle.snap_restart.proofs.Removals.{get_map}
 use Rattle.snap_disk.specs.declared.disk.Disk as Disk
 
@@ -32,46 +32,67 @@ unmap f [] i y e = absurd (cc e)
 unmap f (x ∷ xs) zero y e = (x, refl, same_Some (f x) y e)
 unmap f (x ∷ xs) (suc i) y e = unmap f xs i y e
 
+abbrev pub its_segment : {D : Type 0} → WriterState D → SegmentState D
+its_segment w = w.segment
+
+abbrev pub its_device : {D : Type 0} → WriterState D → D
+its_device w = w.segment.device
+
+-- the registers start with what the writers have, and these with the memory after the base
+pub starts_after : {D : Type 0} (writers : List (WriterState D)) (plan : Plan) (start : Start)
+    (base : List Update)
+    → ((i : ℕ) (w : WriterState D) → slice_get writers i ≡ Some w
+    → (w.segment.number ≡ (starts plan i).0) × (w.segment.value ≡ (starts plan i).1))
+    → ((i : ℕ) (w : WriterState D) → slice_get writers i ≡ Some w
+    → (w.segment.number ≡ number_after start base i)
+    × (w.segment.value ≡ value_after start base i))
+    → StartsAfter (length writers) start base (starts plan)
+starts_after writers plan start base firsts bases i low =
+    let w = element writers i low in
+    let first = firsts i w.0 w.1 in
+    let then = bases i w.0 w.1 in (sym first.0 ∙ then.0, sym first.1 ∙ then.1)
+
 module _ {D : Type 0} (disk : Disk.Ghosts D) where
   -- ---- an opening
 
+  -- the device on which a writer's segment was opened
+  pub opened_on : (devices : List D) (writers : List (WriterState D))
+      → Pairs (IsOpened disk (length devices)) devices (map its_segment writers)
+      → (i : ℕ) (w : WriterState D) → slice_get writers i ≡ Some w
+      → (d : D) × (slice_get devices i ≡ Some d) × IsOpened disk (length devices) i d w.segment
+  opened_on devices writers were i w at =
+      let within = slice_get_within writers i w at in
+      let size = were.size in
+      let d = element devices i (omega (arith, within, size, length-map writers its_segment)) in
+      (d.0, d.1, were.each i d.0 w.segment d.1 (get_map its_segment writers i w at))
+
   -- it starts with what the files hold
   starts_with : (devices : List D) (writers : List (WriterState D))
-      → Pairs (IsOpened disk (length devices)) devices
-      (map (λ (w : WriterState D). w.segment) writers)
+      → Pairs (IsOpened disk (length devices)) devices (map its_segment writers)
       → (start : Start) (h : List Update) (begun : ℕ → List ℕ → Type 0)
       → (r : IsRecovered (length devices) start h begun (map (λ (d : D). (disk.device d).bytes)
       devices))
-      → (i : ℕ) (w : WriterState D) → slice_get writers i ≡ Some w → disk.is_honest w.segment.device
+      → AllHonest disk writers → (i : ℕ) (w : WriterState D) → slice_get writers i ≡ Some w
       → (w.segment.number ≡ number_after start (h ++ r.begun_too) i)
       × (w.segment.value ≡ value_after start (h ++ r.begun_too) i)
-  starts_with devices writers were start h begun r i w at hon =
-      let segment_of : WriterState D → SegmentState D = λ w. w.segment in
+  starts_with devices writers were start h begun r hon i w at =
       let bytes_of : D → List ℕ = λ d. (disk.device d).bytes in
-      let within : i < length writers = slice_get_within writers i w at in
-      let size : length devices ≡ length writers = were.size ∙ length-map writers segment_of in
-      let d = element devices i (omega (arith, within, size)) in
-      let is = (were.each i d.0 w.segment d.1 (get_map segment_of writers i w at)).found hon in
-      holds_same (bytes_of d.0) w.segment.number _ w.segment.value _ is.1
+      let d = opened_on devices writers were i w at in
+      holds_same (bytes_of d.0) w.segment.number _ w.segment.value _ (d.2.found (hon i w at)).1
       (r.holds i (bytes_of d.0) (get_map bytes_of devices i d.0 d.1)).holds
 
   pub opened : (devices : List D) (writers : List (WriterState D))
       (scanners : List Known) → AreFresh writers scanners
-      → Pairs (IsOpened disk (length devices)) devices
-      (map (λ (w : WriterState D). w.segment) writers)
+      → Pairs (IsOpened disk (length devices)) devices (map its_segment writers)
       → ((i : ℕ) (w : WriterState D) → slice_get writers i ≡ Some w → IsPaired w)
       → AreBack writers scanners
       → AreOpened disk devices writers
   opened devices writers scanners fresh were paired back =
-      let segment_of : WriterState D → SegmentState D = λ w. w.segment in
-      let size : length devices ≡ length writers = were.size ∙ length-map writers segment_of in
+      let size : length devices ≡ length writers = were.size ∙ length-map writers its_segment in
       let all_are : (i : ℕ) (w : WriterState D) → slice_get writers i ≡ Some w
       → IsWriterOf disk back.plan (length writers) i w = λ i w at. (
       let seat = back.writers_are i w at in
-      let there = get_map segment_of writers i w at in
-      let low : i < length writers = slice_get_within writers i w at in
-      let d = element devices i (omega (arith, low, size)) in
-      let is = were.each i d.0 w.segment d.1 there in
+      let is = (opened_on devices writers were i w at).2 in
       let pair = paired i w at in
       record {
         plan_is = seat.plan_is;
@@ -80,9 +101,7 @@ module _ {D : Type 0} (disk : Disk.Ghosts D) where
         index_is = is.index_is;
         count_is = is.count_is ∙ size;
         stored = inl (pair.number_is, pair.value_is);
-        rests = λ hon x left. inl (subst (λ (y : ℕ × ℕ). IsFileOf y.0 y.1
-            w.segment.number w.segment.value x)
-            (λ t. (sym is.index_is t, sym is.count_is t))
+        rests = λ hon x left. inl (same_file (sym is.index_is) (sym is.count_is) refl refl
             (at_rest_leaves i (length devices) w.segment.number w.segment.value
             w.segment.spare_open (disk.device w.segment.device) (is.rests hon) x left));
       }) in
@@ -118,16 +137,8 @@ module _ {D : Type 0} (disk : Disk.Ghosts D) where
         starts_are = starts_are;
         any_moment = any_moment;
         again = λ start h crashed r hon. (
-            let with : (i : ℕ) (w : WriterState D) → slice_get writers i ≡ Some w
-            → (w.segment.number ≡ number_after start (h ++ r.begun_too) i)
-            × (w.segment.value ≡ value_after start (h ++ r.begun_too) i) = λ i w at.
-            starts_with devices writers were start h (Begun crashed) r i w at
-            (hon i w at) in
-            let after : StartsAfter (length writers) start (h ++ r.begun_too) (starts back.plan) =
-            λ i low. (
-            let w = element writers i low in
-            let now = starts_are i w.0 w.1 in
-            let before = with i w.0 w.1 in (sym now.0 ∙ before.0, sym now.1 ∙ before.1)) in
+            let with = starts_with devices writers were start h (Begun crashed) r hon in
+            let after = starts_after writers back.plan start (h ++ r.begun_too) starts_are with in
             record {
               more = r.begun_too;
               were_begun = λ j u e. (
@@ -144,7 +155,7 @@ module _ {D : Type 0} (disk : Disk.Ghosts D) where
 
   -- ---- a crash during an opening
 
-  stay_kept : (olds news : List D)
+  pub stay_kept : (olds news : List D)
       → Pairs (λ _. IsBack disk) olds news
       → StayKept disk olds news
   stay_kept olds news back n start h crashed files kept size left = kept files (record {
@@ -155,27 +166,21 @@ module _ {D : Type 0} (disk : Disk.Ghosts D) where
         (e.2.any_time was.0).each b was.1);
   })
 
-  pub kept_opened : (devices : List D) (writers : List (WriterState D))
-      → Pairs (IsOpened disk (length devices)) devices
-      (map (λ (w : WriterState D). w.segment) writers)
-      → StayKept disk devices
-      (map (λ (w : WriterState D). w.segment.device) writers)
-  kept_opened devices writers were =
-      let segment_of : WriterState D → SegmentState D = λ w. w.segment in
-      let device_of : WriterState D → D = λ w. w.segment.device in
-      stay_kept devices (map device_of writers) (record {
-        size = were.size ∙ length-map writers segment_of ∙ sym (length-map writers device_of);
-        each = λ i d e ed ee. (
-            let w = unmap device_of writers i e ee in
-            subst (λ (x : D). IsBack disk d x) w.2
-            (were.each i d w.0.segment ed (get_map segment_of writers i w.0 w.1)).back);
-      })
+  pub backs_opened : (devices : List D) (writers : List (WriterState D))
+      → Pairs (IsOpened disk (length devices)) devices (map its_segment writers)
+      → Pairs (λ _. IsBack disk) devices (map its_device writers)
+  backs_opened devices writers were = record {
+    size = were.size ∙ length-map writers its_segment ∙ sym (length-map writers its_device);
+    each = λ i d e ed ee. (
+        let w = unmap its_device writers i e ee in
+        subst (λ (x : D). IsBack disk d x) w.2
+        (were.each i d w.0.segment ed (get_map its_segment writers i w.0 w.1)).back);
+  }
 
-  pub kept_stopped : (olds news : List D) (why : Refusal) (k : ℕ)
-      → IsStopped disk olds news why k
-      → StayKept disk olds news
-  kept_stopped olds news why k is = stay_kept olds news
-      (Pairs-map _ _ olds news (λ i d e returned. returned.back) is.returned)
+  pub backs_stopped : (olds news : List D) (why : Refusal) (k : ℕ)
+      → IsStopped disk olds news why k → Pairs (λ _. IsBack disk) olds news
+  backs_stopped olds news why k is =
+      Pairs-map _ _ olds news (λ i d e returned. returned.back) is.returned
 
   -- ---- all are back
 
@@ -191,8 +196,7 @@ module _ {D : Type 0} (disk : Disk.Ghosts D) where
         x.0,
         x.1,
         x.2,
-        subst (λ (n : ℕ). IsWriterOf disk plan n i x.0)
-            (sym size) x.4,
+        subst (λ (n : ℕ). IsWriterOf disk plan n i x.0) (sym size) x.4,
         x.5,
         x.6,
         (history.writers_saw i x.1 x.3).0,

@@ -1,20 +1,15 @@
 -- What the writers of an opening have stored stays.
-use Rattle.std.proofs.Common.{ℕ, List, length}
-use Rattle.snap_disk.specs.Device.{MayLeave}
+use Rattle.std.proofs.Common.{List, length}
 use Rattle.snap_writer.specs.Writer.{WriterState}
+use Rattle.snap_writer.proofs.Crashes.{OnlyNow}
 use Rattle.snap_cut.proofs.Durability.{lived_is, stays}
 use Rattle.snap_restart.specs.Crash.{AreOpened}
 use Rattle.snap_restart.specs.Durability.{AllStays}
 use Rattle.snap_disk.specs.declared.disk.Disk as Disk
 
-module _ {D : Type 0} (disk : Disk.Ghosts D)
-    (only_now : (d : D) (b : List ℕ) → disk.is_honest d → disk.might_have_left d (disk.clock d) b
-    → MayLeave (disk.device d) b) where
-  pub stay_stored : (devices : List D) (writers : List (WriterState D))
-      → AreOpened disk devices writers
-      → AllStays disk writers
-  stay_stored devices writers opened i w a z before life at first lived hon =
-      stays disk opened.plan (length writers) i a life z only_now
-      (lived_is disk opened.plan (length writers) i w a before
-      (opened.writers_are i w at) first)
-      lived hon
+pub stay_stored : {D : Type 0} (disk : Disk.Ghosts D) → OnlyNow disk → (devices : List D)
+    (writers : List (WriterState D)) → AreOpened disk devices writers → AllStays disk writers
+stay_stored disk only_now devices writers opened i w a z before life at first lived hon =
+    stays disk opened.plan (length writers) i a life z only_now
+    (lived_is disk opened.plan (length writers) i w a before (opened.writers_are i w at) first)
+    lived hon

@@ -1,14 +1,13 @@
 -- What a scanner knows that meets all writers twice, and what their devices then hold.
-use Rattle.std.proofs.Common.{◌≡◌, ℕ, suc, ◌+◌, ◌<◌, ◌≤◌, List, [], ◌∷◌, length, map, slice_get, slice_set, Some, refl, ap, sym, subst}
-use Rattle.std.proofs.Common.{◌∙◌, arith}
+use Rattle.std.proofs.Common.{◌≡◌, ℕ, ◌+◌, ◌<◌, ◌≤◌, List, length, slice_get, slice_set, Some, refl, ap, sym, subst, ◌∙◌, arith}
 use mathlib.Core.Logic.{dite}
 use native.Mathlib.Decide.{ℕ_discrete}
-use Rattle.std.proofs.lemmas.Option.{same_Some, slice_get_within}
+use Rattle.std.proofs.lemmas.Option.{slice_get_within}
 use Rattle.snap_segment.specs.Segment.{SegmentState, IsKept}
 use Rattle.snap_history.specs.History.{Update, IsBeginning, updates_of}
 use Rattle.snap_history.specs.Pairs.{Pairs}
 use Rattle.snap_history.proofs.Beginnings.{beginning-self, beginning-trans, number-beginning}
-use Rattle.snap_history.proofs.Pairs.{partner, element, Pairs-right}
+use Rattle.snap_history.proofs.Pairs.{partner, element}
 use Rattle.snap_register.specs.History.{starts}
 use Rattle.snap_register.specs.Seat.{Known, Grows, AreTogether, number_in, value_in}
 use Rattle.snap_memory.proofs.Collects.{grows_self, grows_more}
@@ -16,42 +15,16 @@ use Rattle.snap_memory.proofs.ScanAnswer.{same_value}
 use Rattle.snap_writer.specs.Writer.{WriterState, number_of, value_of}
 use Rattle.snap_writer.proofs.Shown.{number_grown, value_grown}
 use Rattle.snap_restart.specs.Closed.{AreBack, IsHistory, HoldsAfter, HasMet, IsTold, Rests}
+use Rattle.snap_restart.proofs.Pairs.{pairs_self, pairs_moved}
 use Rattle.snap_disk.specs.declared.disk.Disk as Disk
 
--- ---- lists side by side
-
-pub pairs_self : {A : Type 0} (R : A → A → Type 0) → ((a : A) → R a a) → (xs : List A)
-    → Pairs (λ _. R) xs xs
-pairs_self R same xs = record {
-  size = refl;
-  each = λ i a b ea eb. subst (R a) (same_Some a b (sym ea ∙ eb)) (same a);
-}
-
-pub pairs_more : {A : Type 0} (R : A → A → Type 0)
-    → ((a b c : A) → R a b → R b c → R a c) → (xs ys zs : List A) → Pairs (λ _. R) xs ys
-    → Pairs (λ _. R) ys zs → Pairs (λ _. R) xs zs
-pairs_more R more xs ys zs p q = record {
-  size = p.size ∙ q.size;
-  each = λ i a c ea ec. (
-      let b = partner (λ _. R) xs ys i a p ea in
-      more a b.0 c b.2 (q.each i b.0 c b.1 ec));
-}
-
-pub pairs_mapped : {A B : Type 0} (R : A → A → Type 0) (f : A → B)
-    → ((a b : A) → R a b → f a ≡ f b) → (xs ys : List A) → Pairs (λ _. R) xs ys
-    → map f xs ≡ map f ys
-pairs_mapped R f same [] [] p = refl
-pairs_mapped R f same [] (y ∷ ys) p = let s = p.size in absurd (omega arith)
-pairs_mapped R f same (x ∷ xs) [] p = let s = p.size in absurd (omega arith)
-pairs_mapped R f same (x ∷ xs) (y ∷ ys) p =
-    let s = p.size in
-    let rest : Pairs (λ _. R) xs ys = record {
-      size = omega arith;
-      each = λ i a b ea eb. p.each (suc i) a b ea eb;
-    } in
-    let first : f x ≡ f y = same x y (p.each 0 x y refl refl) in
-    let others = pairs_mapped R f same xs ys rest in
-    λ t. first t ∷ others t
+-- what holds of the items before place k, and now of the one there
+pub one_more : {A : Type 0} (P : A → Type 0) (xs : List A) (k : ℕ) (x : A) → slice_get xs k ≡ Some x
+    → ((i : ℕ) (y : A) → slice_get xs i ≡ Some y → i < k → P y) → P x → (i : ℕ) (y : A)
+    → slice_get xs i ≡ Some y → i < k + 1 → P y
+one_more P xs k x there before this i y at low = dite (ℕ_discrete i k)
+    (λ e. let same : x ≡ y = cc (at, there, e) in subst P same this)
+    (λ other. before i y at (omega arith))
 
 -- ---- meetings
 
@@ -66,11 +39,10 @@ pub heard_step : (olds : List Known) (k : ℕ) (b met seat grown : Known) → sl
     → ((i : ℕ) (x : Known) → slice_get olds i ≡ Some x → i < k → IsBeginning x.seen seat.seen)
     → Grows b met → Grows seat grown → met.seen ≡ grown.seen
     → (i : ℕ) (x : Known) → slice_get olds i ≡ Some x → i < k + 1 → IsBeginning x.seen grown.seen
-heard_step olds k b met seat grown there before g more is i x at low = dite (ℕ_discrete i k)
-    (λ e. let same : b ≡ x = cc (at, there, e) in
-    subst (λ (z : Known). IsBeginning z.seen grown.seen) same
-    (subst (IsBeginning b.seen) is g.later))
-    (λ other. beginning-trans x.seen seat.seen grown.seen (before i x at (omega arith)) more.later)
+heard_step olds k b met seat grown there before g more is =
+    one_more (λ (x : Known). IsBeginning x.seen grown.seen) olds k b there
+    (λ i x at low. beginning-trans x.seen seat.seen grown.seen (before i x at low) more.later)
+    (subst (IsBeginning b.seen) is g.later)
 
 -- the scanner met this writer now
 pub told_now : (start scanner met a grown : Known) → Grows start scanner → Grows scanner met
@@ -103,17 +75,13 @@ module _ {D : Type 0} where
       → IsTold x.seat start scanner) → Grows start scanner → Grows scanner met
       → Grows w.seat grown → met.seen ≡ grown.seen → (i : ℕ) (x : WriterState D)
       → slice_get olds i ≡ Some x → i < k + 1 → IsTold x.seat start met
-  told_step olds k w start scanner met grown there before first more g is i x at low =
-      dite (ℕ_discrete i k)
-      (λ e. let same : w ≡ x = cc (at, there, e) in
-      subst (λ (z : WriterState D). IsTold z.seat start met) same
-      (told_now start scanner met w.seat grown first more g is))
-      (λ other.
-      let t = before i x at (omega arith) in
-      record {
+  told_step olds k w start scanner met grown there before first more g is =
+      one_more (λ (x : WriterState D). IsTold x.seat start met) olds k w there
+      (λ i x at low. let t = before i x at low in record {
         heard = beginning-trans x.seat.seen scanner.seen met.seen t.heard more.later;
         no_more = t.no_more;
       })
+      (told_now start scanner met w.seat grown first more g is)
 
   -- the seats of one opening are together, also after they have seen more
   pub together_after : (w0 w1 : List (WriterState D)) (scanners : List Known) (b s : Known)
@@ -132,9 +100,8 @@ module _ {D : Type 0} where
   -- the first writer alone took part
   pub first_met : (w0 : List (WriterState D)) (x y : WriterState D) → slice_get w0 0 ≡ Some x
       → HasMet x y → Pairs (λ _. HasMet) w0 (slice_set w0 0 y)
-  first_met w0 x y at met = Pairs-right (λ _. HasMet) w0 w0 0 y (slice_get_within w0 0 x at)
-      (λ a ea. subst (λ (z : WriterState D). HasMet z y) (same_Some x a (sym at ∙ ea)) met)
-      (pairs_self HasMet met_self w0)
+  first_met w0 x y at met =
+      pairs_moved HasMet met_more w0 w0 0 x y at met (pairs_self (λ _. HasMet) (λ _. met_self) w0)
 
   -- after the first round the scanner has seen it all, which the second one shows
   pub history_told : (w0 w1 w2 : List (WriterState D)) (scanners : List Known)
@@ -234,13 +201,3 @@ module _ {D : Type 0} (disk : Disk.Ghosts D) where
             → IsKept s.index s.count s.number
             s.value s.begun s.spare_open (disk.device s.device)) same here;
       }
-
-  -- one writer more
-  pub rests_more : (ws : List (WriterState D)) (k : ℕ) (w : WriterState D)
-      → slice_get ws k ≡ Some w → ((i : ℕ) (x : WriterState D) → slice_get ws i ≡ Some x → i < k
-      → Rests disk x) → Rests disk w → (i : ℕ) (x : WriterState D)
-      → slice_get ws i ≡ Some x → i < k + 1 → Rests disk x
-  rests_more ws k w there before this i x at low = dite (ℕ_discrete i k)
-      (λ e. let same : w ≡ x = cc (at, there, e) in
-      subst (λ (y : WriterState D). Rests disk y) same this)
-      (λ other. before i x at (omega arith))

@@ -1,5 +1,5 @@
 -- What an opening that was refused leaves of the devices.
-use Rattle.std.proofs.Common.{◌≡◌, ℕ, ◌<◌, ◌≤◌, List, ◌∷◌, ◌++◌, length, map, take, drop, refl, ap, sym, subst, ◌∙◌, arith}
+use Rattle.std.proofs.Common.{◌≡◌, ℕ, ◌<◌, List, ◌∷◌, ◌++◌, length, map, take, drop, refl, ap, sym, subst, ◌∙◌, arith}
 use Rattle.std.proofs.lemmas.List.{length-take-le, take-append-drop}
 use Rattle.snap_disk.specs.declared.refusal.Refusal.{Refusal}
 use Rattle.snap_disk.specs.declared.refusal.Refusal.TheVariants.{NoMemory}
@@ -11,15 +11,14 @@ use Rattle.snap_segment.specs.Segment.{SegmentState}
 use Rattle.snap_segment.specs.Open.{CountsFailed}
 use Rattle.snap_segment.specs.Refusals.{IsOpenRefusal}
 use Rattle.snap_history.specs.Pairs.{Pairs}
-use Rattle.snap_restart.proofs.Pairs.{Pairs-mapped, Pairs-spliced}
+use Rattle.snap_writer.proofs.Crashes.{CountsNow, OnlyNow}
+use Rattle.snap_restart.proofs.Pairs.{pairs_self, Pairs-mapped, Pairs-spliced}
 use Rattle.snap_restart.specs.Opened.{IsBack, IsOpened, IsReturned, IsStopped}
 use Rattle.snap_disk.specs.declared.disk.Disk as Disk
 
 module _ {D : Type 0} (disk : Disk.Ghosts D) where
   -- a device that was not touched
-  pub back_same : ((d : D) (b : List ℕ) → disk.is_honest d
-      → disk.might_have_left d (disk.clock d) b → MayLeave (disk.device d) b) → (d : D)
-      → IsBack disk d d
+  pub back_same : OnlyNow disk → (d : D) → IsBack disk d d
   back_same only_now d = record {
     honest_then = λ h. h;
     any_time = λ h. started disk d (MayLeave (disk.device d)) (λ b l. only_now d b h l);
@@ -27,9 +26,7 @@ module _ {D : Type 0} (disk : Disk.Ghosts D) where
   }
 
   -- what a crash may leave now is among what one since then might have left
-  pub back_later : ((d : D) (t : ℕ) (b : List ℕ) → disk.is_honest d → t ≤ disk.clock d
-      → MayLeave (disk.device d) b → disk.might_have_left d t b) → (d e : D) → (disk.is_honest e
-      → disk.is_honest d)
+  pub back_later : CountsNow disk → (d e : D) → (disk.is_honest e → disk.is_honest d)
       → (disk.is_honest e → LeavesOnly disk d e (MayLeave (disk.device d))) → IsBack disk d e
   back_later counts_now d e then any = record {
     honest_then = then;
@@ -47,9 +44,7 @@ module _ {D : Type 0} (disk : Disk.Ghosts D) where
       behind = λ l. absurd (omega arith);
     }
 
-    pub returned_same : ((d : D) (b : List ℕ) → disk.is_honest d
-        → disk.might_have_left d (disk.clock d) b → MayLeave (disk.device d) b) → (i : ℕ) (d : D)
-        → k < i → IsReturned disk n k why i d d
+    pub returned_same : OnlyNow disk → (i : ℕ) (d : D) → k < i → IsReturned disk n k why i d d
     returned_same only_now i d low = record {
       back = back_same only_now d;
       before = λ l. absurd (omega arith);
@@ -68,11 +63,8 @@ module _ {D : Type 0} (disk : Disk.Ghosts D) where
     }
 
   -- the segments before were opened, this one was refused, and the others were not touched
-  pub stopped_at : ((d : D) (b : List ℕ) → disk.is_honest d
-      → disk.might_have_left d (disk.clock d) b → MayLeave (disk.device d) b)
-      → (why : Refusal) (olds news : List D) (ss : List (SegmentState D)) (d e : D) (rest : List D)
-      (k : ℕ)
-      → k ≡ length ss → drop k olds ≡ d ∷ rest → k < length olds
+  pub stopped_at : OnlyNow disk → (why : Refusal) (olds news : List D) (ss : List (SegmentState D)) (d e : D) (rest : List D)
+      (k : ℕ) → k ≡ length ss → drop k olds ≡ d ∷ rest → k < length olds
       → Pairs (IsOpened disk (length olds)) (take k olds) ss
       → IsOpenRefusal why → IsReturned disk (length olds) k why k d e
       → news ≡ map (λ s. s.device) ss ++ e ∷ rest
@@ -92,20 +84,17 @@ module _ {D : Type 0} (disk : Disk.Ghosts D) where
       }
 
   -- no memory at once: nothing was touched
-  pub stopped_first : ((d : D) (b : List ℕ) → disk.is_honest d
-      → disk.might_have_left d (disk.clock d) b → MayLeave (disk.device d) b) → (olds : List D)
-      → IsStopped disk olds olds NoMemory 0
+  pub stopped_first : OnlyNow disk → (olds : List D) → IsStopped disk olds olds NoMemory 0
   stopped_first only_now olds = record {
     kind = tt;
     within = omega arith;
     refused = λ ne. absurd (ne refl);
-    returned = record {
-      size = refl;
-      each = λ i a b ea eb.
-          let R : D → Type 0 = IsReturned disk (length olds) 0 NoMemory i a in
-          let same : a ≡ b = cc (ea, eb) in
-          subst R same (record { back = back_same only_now a; before = λ l. absurd (omega arith); here = λ _. (refl, λ ne. absurd (ne refl)); behind = λ _. refl });
-    };
+    returned = pairs_self (IsReturned disk (length olds) 0 NoMemory) (λ i d. record {
+      back = back_same only_now d;
+      before = λ l. absurd (omega arith);
+      here = λ _. (refl, λ ne. absurd (ne refl));
+      behind = λ _. refl;
+    }) olds;
   }
 
   -- no memory once all were opened

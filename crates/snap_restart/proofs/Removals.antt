@@ -1,20 +1,23 @@
 -- Lists whose items are taken one after another.
-use Rattle.std.proofs.Common.{◌≡◌, ℕ, zero, suc, ◌+◌, List, [], ◌∷◌, ◌++◌, length, map, take, Some, slice_get, Option, None, Result, Ok, Err, IfOk, refl, ap, subst, ◌∙◌, arith}
-use Rattle.std.specs.Prelude.{◌<◌, All, IsSome, IsErr}
-use Rattle.std.proofs.lemmas.Option.{get_or_from_slice_get}
+use Rattle.std.proofs.Common.{◌≡◌, ℕ, zero, suc, ◌+◌, List, ◌∷◌, ◌++◌, length, map, take, Some, slice_get, Option, None, Result, Ok, Err, IfOk, refl, ap, subst, ◌∙◌, arith}
+use Rattle.std.specs.Prelude.{◌<◌, All, IsSome, IsErr, option_map}
+use Rattle.std.proofs.lemmas.Option.{get_or_from_slice_get, slice_get-map}
 use Rattle.std.proofs.lemmas.List.{length-append, length-map, length-take-le}
 use Rattle.snap_history.proofs.Removals.{Taken}
 
 pub get_map : {A B : Type 0} (f : A → B) (ws : List A) (k : ℕ) (x : A) → slice_get ws k ≡ Some x → slice_get (map f ws) k ≡ Some (f x)
-get_map f [] k x e = absurd cc
-get_map f (w ∷ ws) zero x e = let h : w ≡ x = cc in ap (λ y. Some (f y)) h
-get_map f (w ∷ ws) (suc k) x e = get_map f ws k x e
+get_map f ws k x e = slice_get-map f ws k ∙ ap (option_map f) e
 
 -- what holds of each item holds of the next one
 pub all_dropped : {A : Type 0} (P : A → Type 0) (k : ℕ) (ws : List A) (x : A) (rest : List A)
     → All P ws → Taken k ws x rest → P x
 all_dropped P k ws x rest all next =
     subst P (get_or_from_slice_get ws k x x next.at) (all k x next.inside)
+
+-- one item more was taken, and as many are left as the iterator says
+pub one_fewer : {A : Type 0} {x : A} {left rest : List A} {m n : ℕ} → m ≡ length left
+    → left ≡ x ∷ rest → n + 1 ≡ m → n ≡ length rest
+one_fewer was next gone = let short = ap length next in omega arith
 
 -- none comes where none is left
 pub none_comes : {A : Type 0} (next : Option A) (n : ℕ) → (0 < n → IsSome next)

@@ -8,12 +8,29 @@ use Rattle.snap_register.specs.History.{starts, updates}
 use Rattle.snap_writer.specs.Writer.{WriterState}
 use Rattle.snap_cut.specs.Crash.{Begun, IsRecovered}
 use Rattle.snap_cut.proofs.Starts.{kept_now}
-use Rattle.snap_restart.specs.Crash.{GoesOn, AreOpened}
+use Rattle.snap_restart.specs.Crash.{AllHonest, GoesOn, AreOpened}
 use Rattle.snap_restart.specs.Restarts.{Restarts, First, Crashed, Interrupted, Last}
 use Rattle.snap_disk.specs.declared.disk.Disk as Disk
 
 module _ {D : Type 0} (disk : Disk.Ghosts D) (n : ℕ) (start : Start) where
-  pub last : (moments : List (List Update)) (devices : List D)
+  -- files that keep the memory after a history are opened
+  module _ (moments : List (List Update)) (devices : List D) (l : Last disk n start moments devices)
+    where
+      now : IsRecovered n start l.history (Begun l.crashed) (map (λ (d : D). (disk.device d).bytes) devices)
+      now = kept_now disk n start l.history (Begun l.crashed) devices l.kept
+
+      pub all_devices : length devices ≡ n
+      all_devices = sym (length-map devices (λ (d : D). (disk.device d).bytes)) ∙ now.size
+
+      -- and it goes on
+      pub history_on : (writers : List (WriterState D)) (opened : AreOpened disk devices writers)
+          → AllHonest disk writers
+          → GoesOn disk opened.plan start l.history l.crashed writers
+      history_on writers opened hon = opened.again start l.history l.crashed
+          (subst (λ (k : ℕ). IsRecovered k start l.history (Begun l.crashed)
+          (map (λ (d : D). (disk.device d).bytes) devices)) (sym all_devices) now) hon
+
+  unfoldable pub last : (moments : List (List Update)) (devices : List D)
       → Restarts disk n start moments devices
       → Last disk n start moments devices
   last [] _ (First devices kept) = record {
@@ -24,12 +41,7 @@ module _ {D : Type 0} (disk : Disk.Ghosts D) (n : ℕ) (start : Start) where
   }
   last (_ ∷ _) _ (Crashed moments devices nexts writers crashed s past opened hon kept count each follow) =
       let l = last moments devices past in
-      let bytes_of : D → List ℕ = λ d. (disk.device d).bytes in
-      let now = kept_now disk n start l.history (Begun l.crashed) devices l.kept in
-      let size : length devices ≡ n = sym (length-map devices bytes_of) ∙ now.size in
-      let on = opened.again start l.history l.crashed
-      (subst (λ (k : ℕ). IsRecovered k start l.history (Begun l.crashed) (map bytes_of devices))
-      (sym size) now) hon in
+      let on = history_on moments devices l writers opened hon in
       let h = (l.history ++ on.more) ++ updates kept.history in
       record {
         history = h;
@@ -37,7 +49,7 @@ module _ {D : Type 0} (disk : Disk.Ghosts D) (n : ℕ) (start : Start) where
         joined = (l.history, on.more, l.joined, on.once, refl);
         kept = λ files left.
             subst (λ (k : ℕ). IsRecovered k start h (Begun crashed) files)
-            (opened.one_each ∙ size)
+            (opened.one_each ∙ all_devices moments devices l)
             (on.any_moment s kept crashed files count each (record {
               size = follow.size ∙ left.size;
               each = λ i p b ep eb. (

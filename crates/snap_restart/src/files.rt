@@ -41,7 +41,7 @@ pub struct Stopped<D> {
 }
 
 /// Opens each file as that of its segment, in order, up to the first refusal. The second list is
-/// empty, with room for the devices of any store.
+/// empty, with room for the devices of any `Store`.
 pub(crate) fn open_segments<D: Disk + Drop>(
     alloc: Global,
     devices: Vec<D>,

@@ -34,8 +34,9 @@ pub(crate) fn hear_everybody<D: Disk>(writers: &mut Vec<Writer<D>>, scanners: &m
     ensures history { (h : List Update) × IsHistory h writers.old.items scanners.old.items }
 {
     hear_all(&mut writers[0], scanners);
-    meet_all(writers, &mut scanners[0]);
-    meet_all(writers, &mut scanners[0]);
+    let scanner = &mut scanners[0];
+    meet_all(writers, scanner);
+    meet_all(writers, scanner);
 }
 
 // The writer hears all scanners.

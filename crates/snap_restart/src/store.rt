@@ -1,4 +1,4 @@
-//! A store: the writers and scanners of all files that were opened at once.
+//! A [`Store`]: the writers and scanners of all files that were opened at once.
 ghost use Rattle.std.specs.Prelude.{
   ◌≡◌,
   ℕ,
@@ -50,8 +50,8 @@ pub const LOOKS: u64 = 1 << 50;
 
 /// The writers and the scanners of one opening.
 ///
-/// They may be taken out. Once all of them are back, the writers in order of their segments, the
-/// store can be closed.
+/// They may be taken out. Once all of them are back, the writers in order of their segments, it can
+/// be closed.
 #[derive(Drop)]
 pub struct Store<D: Disk> {
     pub writers: Vec<Writer<D>>,
@@ -93,7 +93,7 @@ impl<D: Disk + Drop> Store<D> {
         release_all(writers, devices)
     }
 
-    /// The writers in order of their segments and the scanners, for who never closes the store.
+    /// The writers in order of their segments and the scanners, for who never closes it.
     pub fn into_parts(self) -> (Vec<Writer<D>>, Vec<Scanner>)
         ensures writers { result.0.items ≡ self.writers.items }
         ensures scanners { result.1.items ≡ self.scanners.items }
@@ -129,7 +129,7 @@ pub fn open_all<D: Disk + Drop>(
     ensures starts { IfOk result (λ r. (i : ℕ) (w : _)
         → slice_get r.0.writers.items i ≡ Some w → IsPaired w) }
 
-    // Nobody has seen an update or taken a look, and the store can be closed as it is.
+    // Nobody has seen an update or taken a look, and the `Store` can be closed as it is.
     ensures fresh { IfOk result (λ r. AreFresh r.0.writers.items r.0.scanners.items) }
     ensures scanners { IfOk result (λ r. length r.0.scanners.items ≡ scanners) }
     ensures back { IfOk result (λ r. AreBack r.0.writers.items r.0.scanners.items) }
@@ -190,7 +190,7 @@ pub fn open_all<D: Disk + Drop>(
     }
 }
 
-/// All memory that an open store has but that of its files.
+/// All memory that a [`Store`] has but that of its files.
 #[derive(Drop)]
 struct Ready<D: Disk> {
     parts: Parts,
@@ -202,6 +202,7 @@ struct Ready<D: Disk> {
 }
 
 // Takes it.
+#[tactic(auto, using(crate::proofs::Removals::no_ok))]
 fn take_memory<D: Disk + Drop>(
     alloc: Global,
     segments: &Vec<Segment<D>>,
@@ -234,6 +235,7 @@ fn take_memory<D: Disk + Drop>(
 }
 
 // The numbers and the values, in order.
+#[tactic(auto, using(crate::proofs::Removals::no_ok))]
 fn values_of<D: Disk>(
     alloc: Global,
     segments: &Vec<Segment<D>>,

@@ -1,27 +1,16 @@
 -- What one look adds, and why the end of a scan tells one moment.
-use Rattle.std.proofs.Common.{◌≡◌, ℕ, ◌+◌, ◌-◌, ◌*◌, ◌<◌, ◌≤◌, inl, inr, true, false, List, [], ◌∷◌, ◌++◌, length, Some, slice_index}
+use Rattle.std.proofs.Common.{◌≡◌, ℕ, ◌+◌, ◌-◌, ◌*◌, ◌<◌, ◌≤◌, inl, inr, List, [], ◌∷◌, ◌++◌, length, Some, slice_index}
 use Rattle.std.proofs.Common.{slice_get, slice_set, ap, sym, ◌∙◌, subst, arith}
 use Rattle.std.specs.Prelude.{nat_lt, if◌then◌else◌}
 use Rattle.std.proofs.Math.Nat.{mul-le-mul_left}
 use Rattle.std.proofs.lemmas.List.{length_push, get_or_push, get_or_append_left}
 use Rattle.std.proofs.lemmas.Bool.{cases_lt, cases_eq}
-use Rattle.std.proofs.lemmas.Bool.Decides.{nat_tests}
 use Rattle.snap_history.proofs.Lists.{get-set_same, get-set_other}
 use Rattle.snap_scan.specs.Looks.{IsClean, IsBorrow, IsTurn, IsNoFall}
+use Rattle.snap_scan.proofs.Choices.{if_lt, if_ge}
 use Rattle.snap_scan.proofs.Places.{same_segment}
+use Rattle.snap_scan.proofs.Verdict.{Same-from_clean}
 use Rattle.snap_scan.specs.Collects.{Numbers, Entries, IsRising, IsKept, Collects, IsMoment, IsThen}
-
--- a function with one more value
-abbrev more_at : (ℕ → ℕ) → ℕ → ℕ → ℕ → ℕ
-more_at f end v t = if nat_lt t end then f t else v
-
-at_old : (f : ℕ → ℕ) (end v t : ℕ) → t < end → more_at f end v t ≡ f t
-at_old f end v t l = let e : nat_lt t end ≡ true = grind (arith, nat_tests) in
-    ap (λ b. if b then f t else v) e
-
-at_new : (f : ℕ → ℕ) (end v t : ℕ) → t ≡ end → more_at f end v t ≡ v
-at_new f end v t l = let e : nat_lt t end ≡ false = grind (arith, nat_tests) in
-    ap (λ b. if b then f t else v) e
 
 -- a borrow is from the segment of the last look
 pub same_turn : (n : ℕ) (L : List ℕ) (k i j : ℕ) → IsTurn n L j → IsBorrow n (L ++ k ∷ []) i → i ≡ j
@@ -81,50 +70,42 @@ module _ (A : Type 0) (n : ℕ) (number : Numbers) (entry : Entries A) (b e : �
       len = length_push L k
 
       moment2 : ℕ → ℕ
-      moment2 = more_at c.moment (length L) t
+      moment2 s = if nat_lt s (length L) then c.moment s else t
 
       was : (s : ℕ) → s < length L → moment2 s ≡ c.moment s
       unfolding moment2
-      was s l = at_old c.moment (length L) t s l
+      was s l = if_lt s (length L) (c.moment s) t l
 
-      is : (s : ℕ) → s ≡ length L → moment2 s ≡ t
+      is : (s : ℕ) → length L ≤ s → moment2 s ≡ t
       unfolding moment2
-      is s x = at_new c.moment (length L) t s x
+      is s l = if_ge s (length L) (c.moment s) t l
 
       -- one look more
       pub Collects-push : b ≤ t → length latest ≡ n
           → Collects A n number entry b t (L ++ k ∷ []) (slice_set latest j (entry t j))
       Collects-push start size = record {
         moment = moment2;
-        after = λ s l. (
-            let x : length (L ++ k ∷ []) ≡ length L + 1 = len in
-            elim (cases_lt s (length L)) [
-              | inl lt ↦ (let y : moment2 s ≡ c.moment s = was s lt in let z : b ≤ c.moment s =
-                  c.after s lt in omega arith)
-              | inr ge ↦ (let y : moment2 s ≡ t = is s (omega arith) in omega arith)
-            ]);
-        until = λ s l. (
-            let x : length (L ++ k ∷ []) ≡ length L + 1 = len in
-            elim (cases_lt s (length L)) [
-              | inl lt ↦ (let y : moment2 s ≡ c.moment s = was s lt in let z : c.moment s ≤ e =
-                  c.until s lt in omega arith)
-              | inr ge ↦ (let y : moment2 s ≡ t = is s (omega arith) in omega arith)
-            ]);
-        order = λ r s rs l. (
-            let x : length (L ++ k ∷ []) ≡ length L + 1 = len in
-            elim (cases_lt s (length L)) [
-              | inl lt ↦ (
-                  let y : moment2 s ≡ c.moment s = was s lt in
-                  let y2 : moment2 r ≡ c.moment r = was r (omega arith) in
-                  let z : c.moment r ≤ c.moment s = c.order r s rs lt in omega arith)
-              | inr ge ↦ (
-                  let y : moment2 s ≡ t = is s (omega arith) in
-                  elim (cases_lt r (length L)) [
-                    | inl sl ↦ (let y2 : moment2 r ≡ c.moment r = was r sl in
-                        let z : c.moment r ≤ e = c.until r sl in omega arith)
-                    | inr sg ↦ (let y2 : moment2 r ≡ t = is r (omega arith) in omega arith)
-                  ])
-            ]);
+        after = λ s l. elim (cases_lt s (length L)) [
+          | inl lt ↦ (let x = was s lt in let y = c.after s lt in omega arith)
+          | inr ge ↦ (let x = is s ge in omega arith)
+        ];
+        until = λ s l. elim (cases_lt s (length L)) [
+          | inl lt ↦ (let x = was s lt in let y = c.until s lt in omega arith)
+          | inr ge ↦ (let x = is s ge in omega arith)
+        ];
+        order = λ r s rs l. elim (cases_lt s (length L)) [
+          | inl lt ↦ (
+              let x = was s lt in
+              let y = was r (omega arith) in
+              let z = c.order r s rs lt in
+              omega arith)
+          | inr ge ↦ (
+              let x = is s ge in
+              elim (cases_lt r (length L)) [
+                | inl lt ↦ (let y = was r lt in let z = c.until r lt in omega arith)
+                | inr late ↦ (let y = is r late in omega arith)
+              ])
+        ];
         numbers = λ p i hi l. (
             let x : length (L ++ k ∷ []) ≡ length L + 1 = len in
             elim (cases_lt (p * n + i) (length L)) [
@@ -134,7 +115,7 @@ module _ (A : Type 0) (n : ℕ) (number : Numbers) (entry : Entries A) (b e : �
                   let at : p * n + i ≡ length L = omega arith in
                   let same : j ≡ i = sym (same_segment n p i m j hi within (omega arith)) in
                   get_or_push L k 0 (p * n + i) (sym at) ∙ ap (number t) same
-                  ∙ ap (λ s. number s i) (sym (is (p * n + i) at)))
+                  ∙ ap (λ s. number s i) (sym (is (p * n + i) ge)))
             ]);
         entries = λ p i hi l late. (
             let x : length (L ++ k ∷ []) ≡ length L + 1 = len in
@@ -149,14 +130,13 @@ module _ (A : Type 0) (n : ℕ) (number : Numbers) (entry : Entries A) (b e : �
                     ∙ ap (λ s. Some (entry s i)) (sym (was (p * n + i) lt))
               ]
               | inr ge ↦ (
-                  let at : p * n + i ≡ length L = omega arith in
                   let same : j ≡ i = sym (same_segment n p i m j hi within (omega arith)) in
                   let mem : slice_get (slice_set latest j (entry t j)) j ≡ Some (entry t j) =
                   get-set_same latest j _ (omega arith) in
                   let mem2 : slice_get (slice_set latest j (entry t j)) i ≡ Some (entry t i) =
                   subst (λ v. slice_get (slice_set latest j (entry t j)) v
                   ≡ Some (entry t v)) same mem in
-                  mem2 ∙ ap (λ s. Some (entry s i)) (sym (is (p * n + i) at)))
+                  mem2 ∙ ap (λ s. Some (entry s i)) (sym (is (p * n + i) ge)))
             ]);
       }
 
@@ -171,39 +151,36 @@ module _ (A : Type 0) (n : ℕ) (number : Numbers) (entry : Entries A) (b e : �
           rising j (c.moment (m * n + j)) t (omega arith) in
           omega arith
 
+      -- the first number told for a segment isn't below the one that it had when the scan began
+      pub first_low : (j : ℕ) → j < n → j < length L → number b j ≤ slice_index L j
+      first_low j within early =
+          let at : 0 * n + j ≡ j = omega arith in
+          let first = ap (slice_index L) at in
+          let seen = c.numbers 0 j within (omega arith) in
+          let low = rising j b (c.moment (0 * n + j)) (c.after (0 * n + j) (omega arith)) in
+          omega arith
+
       module _ (t j : ℕ) (end : e ≤ t) (turn : IsTurn n L j) (borrowed : IsBorrow n (L
           ++ number t j ∷ []) j) where
         last_is : slice_index (L ++ number t j ∷ []) (length (L ++ number t j ∷ []) - 1)
             ≡ number t j
-        last_is =
-            let x : length (L ++ number t j ∷ []) ≡ length L + 1 = length_push L (number t j) in
-            get_or_push L (number t j) 0 (length (L ++ number t j ∷ []) - 1) (omega arith)
+        last_is = get_or_push L (number t j) 0 (length (L ++ number t j ∷ []) - 1)
+            (omega (arith, length_push L (number t j)))
 
         -- a segment that rose by two since the scan's first look did so after the scan began
         pub rose : number b j + 2 ≤ number t j
         rose =
-            let within : j < n = turn.0 in
-            let x : length (L ++ number t j ∷ []) ≡ length L + 1 = length_push L (number t j) in
-            let moved : slice_index (L ++ number t j ∷ []) j + 2 ≤ slice_index (L
-            ++ number t j ∷ []) (length (L ++ number t j ∷ []) - 1) = borrowed.moved in
-            let last : slice_index (L ++ number t j ∷ []) (length (L ++ number t j ∷ []) - 1)
-            ≡ number t j = last_is in
+            let last = last_is in
+            let moved = borrowed.moved in
             let early : j < length L = elim (cases_lt j (length L)) [
               | inl lt ↦ lt
               | inr ge ↦ (
-                  let place : length L ≡ turn.1.0 * n + j = turn.1.1 in
-                  let z : slice_index (L ++ number t j ∷ []) j ≡ number t j =
-                  get_or_push L (number t j) 0 j (omega arith) in
+                  let place = turn.1.1 in
+                  let only = get_or_push L (number t j) 0 j (omega arith) in
                   absurd (omega arith))
             ] in
-            let first : slice_index (L ++ number t j ∷ []) j ≡ slice_index L j =
-            get_or_append_left L (number t j ∷ []) 0 j early in
-            let at : 0 * n + j ≡ j = omega arith in
-            let seen : slice_index L (0 * n + j) ≡ number (c.moment (0 * n + j)) j =
-            c.numbers 0 j within (omega arith) in
-            let seen2 : slice_index L j ≡ slice_index L (0 * n + j) = ap (slice_index L) (sym at) in
-            let low : number b j ≤ number (c.moment (0 * n + j)) j =
-            rising j b (c.moment (0 * n + j)) (c.after (0 * n + j) (omega arith)) in
+            let first = get_or_append_left L (number t j ∷ []) 0 j early in
+            let low = first_low j turn.0 early in
             omega arith
 
         -- so the moment of its view lies inside the scan
@@ -235,29 +212,18 @@ module _ (A : Type 0) (n : ℕ) (number : Numbers) (entry : Entries A) (b e : �
           let long : length L ≡ (d + 2) * n = clean.rounds.1 in
           let mid = (d + 1) * n + 0 in
           let p = c.moment mid in
-          let first : (i : ℕ) → i < n
-          → slice_index L (d * n + i) ≡ number (c.moment (d * n + i)) i =
-          λ i l. c.numbers d i l (omega arith) in
           let second : (i : ℕ) → i < n
           → slice_index L ((d + 1) * n + i) ≡ number (c.moment ((d + 1) * n + i)) i =
           λ i l. c.numbers (d + 1) i l (omega arith) in
           let equal : (i : ℕ) → i < n → number p i ≡ number (c.moment ((d + 1) * n + i)) i =
           λ i l. (
-          let s : slice_index L (length L - 2 * n + i) ≡ slice_index L (length L - n + i) =
-          clean.same i l in
-          let at : length L - 2 * n + i ≡ d * n + i = omega arith in
-          let at2 : length L - n + i ≡ (d + 1) * n + i = omega arith in
-          let same : slice_index L (d * n + i) ≡ slice_index L ((d + 1) * n + i) =
-          sym (ap (slice_index L) at) ∙ s ∙ ap (slice_index L) at2 in
-          let a : number (c.moment (d * n + i)) i ≤ number p i =
-          rising i (c.moment (d * n + i)) p
+          let same = Same-from_clean n L clean i l in
+          let a = rising i (c.moment (d * n + i)) p
           (c.order (d * n + i) mid (omega arith) (omega arith)) in
-          let z : number p i ≤ number (c.moment ((d + 1) * n + i)) i =
-          rising i p (c.moment ((d + 1) * n + i))
+          let z = rising i p (c.moment ((d + 1) * n + i))
           (c.order mid ((d + 1) * n + i) (omega arith) (omega arith)) in
-          let f : slice_index L (d * n + i) ≡ number (c.moment (d * n + i)) i = first i l in
-          let g : slice_index L ((d + 1) * n + i) ≡ number (c.moment ((d + 1) * n + i)) i =
-          second i l in
+          let f = c.numbers d i l (omega arith) in
+          let g = second i l in
           omega arith) in (
             p,
             record {

@@ -5,7 +5,8 @@ use Rattle.std.specs.Int.{bit_at}
 use Rattle.std.proofs.lemmas.Bool.{cases_eq, cases_lt, cases_order, eq-eqb, ne_eqb, cond-true, cond-false}
 use Rattle.std.proofs.Math.Nat.{pow-le-pow_right}
 use Rattle.std.proofs.lemmas.List.{length_push, take_more_set}
-use Rattle.std.proofs.lemmas.Nat.Bits.{bit_at_above, bit_at_ones, bit_at_ones_above, same_from_bits_below, bit_at-zero, bit_at-lt}
+use Rattle.std.proofs.lemmas.Nat.{pow_pos}
+use Rattle.std.proofs.lemmas.Nat.Bits.{bit_at_above, bit_at_ones, same_from_bits_below, bit_at-zero, bit_at-lt}
 use Rattle.std.proofs.lemmas.Option.{slice_get_within, slice_get-get_or, same_Some, get_or_from_slice_get}
 use Rattle.snap_history.proofs.Lists.{get-push, get-append_left, get-append_last}
 use Rattle.snap_scan.specs.Sets.{Names, named_below, named, size, IsAt}
@@ -115,34 +116,10 @@ all_below n (suc k) l =
     subst (IsUpTo (suc k)) (sym (with (2 ^ n - 1) k (bit_at_ones n k (omega arith))))
     (up_to_push k (named_below (2 ^ n - 1) k) (all_below n k (omega arith)))
 
-all_of : (n k : ℕ) → n ≤ k → IsUpTo n (named_below (2 ^ n - 1) k)
-all_of n zero l = (let same : 0 ≡ n = omega arith in
-    subst (λ v. IsUpTo v (named_below (2 ^ n - 1) zero)) same (all_below n zero (omega arith)))
-all_of n (suc k) l = elim (cases_lt k n) [
-  | inl lt ↦ (let same : suc k ≡ n = omega arith in
-      subst (λ v. IsUpTo v (named_below (2 ^ n - 1) (suc k))) same (all_below n (suc k) (omega arith)))
-  | inr ge ↦ subst (IsUpTo n) (sym (without (2 ^ n - 1) k
-      (λ is. (let none : bit_at (2 ^ n - 1) k ≡ 0 = bit_at_ones_above n k ge in
-      absurd (cc)))))
-      (all_of n k ge)
-]
-
 up : (k : ℕ) → suc k ≡ k + 1
 up k = omega arith
 
--- how many there are, one segment further
-pub size_with : (set k n : ℕ) → n ≡ length (named_below set k) → Names set k
-    → n + 1 ≡ length (named_below set (k + 1))
-size_with set k n e is = (let f = ap length (with set k is) in
-    let g = length_push (named_below set k) k in
-    subst (λ v. n + 1 ≡ length (named_below set v)) (up k) (omega arith))
-
-pub size_without : (set k n : ℕ) → n ≡ length (named_below set k) → (Names set k → ⊥)
-    → n ≡ length (named_below set (k + 1))
-size_without set k n e un =
-    subst (λ v. n ≡ length (named_below set v)) (up k) (e ∙ sym (ap length (without set k un)))
-
--- and as the front of a list
+-- the list one segment further, as the front of a longer one
 pub listed_with : (set k n : ℕ) (xs : List ℕ) → take n xs ≡ named_below set k → n < length xs
     → Names set k → take (n + 1) (slice_set xs n k) ≡ named_below set (k + 1)
 listed_with set k n xs e l is =
@@ -181,14 +158,14 @@ module _ (set : ℕ) where
   at_is p j at = get_or_from_slice_get (named set) p j 0 at
 
   -- a set with a number below 2 ^ n names no segment from n on
-  pub at_below : (n p j : ℕ) → set < 2 ^ n → IsAt set p j → j < n
-  at_below n p j l at = elim (cases_lt j n) [
+  named_low : (n j : ℕ) → set < 2 ^ n → Names set j → j < n
+  named_low n j l is = elim (cases_lt j n) [
     | inl lt ↦ lt
-    | inr ge ↦ (
-        let is : bit_at set j ≡ 1 = (at_named p j at).1 in
-        let none : bit_at set j ≡ 0 = bit_at_above set n j l ge in
-        absurd (omega arith))
+    | inr ge ↦ (let none : bit_at set j ≡ 0 = bit_at_above set n j l ge in absurd (cc))
   ]
+
+  pub at_below : (n p j : ℕ) → set < 2 ^ n → IsAt set p j → j < n
+  at_below n p j l at = named_low n j l (at_named p j at).1
 
   -- and a set whose number isn't 0 names one
   pub some : set < 2 ^ 16 → 0 < set → 0 < size set
@@ -206,20 +183,6 @@ module _ (set : ℕ) where
         absurd (omega arith))
   ]
 
--- the set of all of n segments has each at the place of its number
-module _ (n : ℕ) (most : n ≤ 16) where
-  pub all_size : size (2 ^ n - 1) ≡ n
-  all_size = (all_of n 16 most).count
-
-  pub all_at : (p : ℕ) → p < n → IsAt (2 ^ n - 1) p p
-  all_at p l = (all_of n 16 most).each p l
-
-  pub all_is : (p j : ℕ) → IsAt (2 ^ n - 1) p j → j ≡ p
-  all_is p j at =
-      let inside : p < size (2 ^ n - 1) = at_within (2 ^ n - 1) p j at in
-      let e = all_size in
-      same_Some j p (sym at ∙ all_at p (omega arith))
-
 -- a set among n segments, at most 16, has 16 bits, and each of them has a name below n
 below_most : (set n : ℕ) → n ≤ 16 → set < 2 ^ n → set < 2 ^ 16
 below_most set n few among =
@@ -231,12 +194,7 @@ module _ (set n : ℕ) (few' : n ≤ 16) (among : set < 2 ^ n) where
   some_among = some set (below_most set n few' among)
 
   pub names_below : (j : ℕ) → Names set j → j < n
-  names_below j is = elim (cases_lt j n) [
-    | inl lt ↦ lt
-    | inr ge ↦ (let none : bit_at set j ≡ 0 = bit_at_above set n j among ge in
-        let one : bit_at set j ≡ 1 = is in
-        absurd (omega arith))
-  ]
+  names_below j is = named_low set n j among is
 
   -- so those below n are all
   all_named : (d : ℕ) → named_below set (n + d) ≡ named_below set n
@@ -249,6 +207,24 @@ module _ (set n : ℕ) (few' : n ≤ 16) (among : set < 2 ^ n) where
 
   pub named_all : named_below set n ≡ named set
   named_all = sym (all_named (16 - n)) ∙ ap (named_below set) (let same : n + (16 - n) ≡ 16 = omega arith in same)
+
+-- the set of all of n segments has each at the place of its number
+module _ (n : ℕ) (most : n ≤ 16) where
+  all_up_to : IsUpTo n (named (2 ^ n - 1))
+  all_up_to = subst (IsUpTo n) (named_all (2 ^ n - 1) n most (omega (arith, pow_pos n)))
+      (all_below n n (omega arith))
+
+  pub all_size : size (2 ^ n - 1) ≡ n
+  all_size = all_up_to.count
+
+  pub all_at : (p : ℕ) → p < n → IsAt (2 ^ n - 1) p p
+  all_at p l = all_up_to.each p l
+
+  pub all_is : (p j : ℕ) → IsAt (2 ^ n - 1) p j → j ≡ p
+  all_is p j at =
+      let inside : p < size (2 ^ n - 1) = at_within (2 ^ n - 1) p j at in
+      let e = all_size in
+      same_Some j p (sym at ∙ all_at p (omega arith))
 
 -- what holds of the entry at each place of a list holds at each place of the list with one more
 module _ {A : Type 0} (P : ℕ → A → Type 0) (set k : ℕ) (xs : List A) where

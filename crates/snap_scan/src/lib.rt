@@ -39,11 +39,11 @@ mod laws;
 mod limits;
 mod machine;
 mod next;
+mod number_list;
 mod scan;
 mod segment_value;
 mod segments;
 mod set;
-mod told;
 
 pub use laws::collect_laws;
 pub use limits::{MAX_SEGMENTS, most_looks};

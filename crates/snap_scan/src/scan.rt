@@ -7,9 +7,9 @@ ghost use Rattle.snap_scan.specs.Course.{IsNext};
 use crate::limits::MAX_SEGMENTS;
 use crate::machine::Machine;
 use crate::next::Next;
+use crate::number_list::NumberList;
 use crate::segments::Segments;
 use crate::set::SegmentSet;
-use crate::told::Told;
 use std::marker::Model;
 
 /// One scan of some segments, from its beginning to its answer.
@@ -23,7 +23,7 @@ pub struct Scan {
     set: SegmentSet,
     segments: Segments,
     machine: Machine,
-    told: Told,
+    numbers: NumberList,
 }
 
 impl Model for Scan {
@@ -35,11 +35,11 @@ impl Model for Scan {
 
     ghost view = { λ s. record {
       set = s.set.bits;
-      told = s.told.numbers;
+      told = s.numbers.list;
       next = next_at s.set.bits s.machine.next;
     } };
 
-    ghost invariant = { λ s. StandsFor s.machine s.told.numbers × IsOf s.segments s.machine s.set };
+    ghost invariant = { λ s. StandsFor s.machine s.numbers.list × IsOf s.segments s.machine s.set };
 }
 
 impl Scan {
@@ -56,7 +56,7 @@ impl Scan {
             set,
             machine: Machine::new(segments.count),
             segments,
-            told: Told::none(),
+            numbers: NumberList::none(),
         }
     }
 
@@ -103,6 +103,6 @@ impl Scan {
     {
         let _segment = segment;
         self.machine.told(self.machine.place(), number);
-        self.told = self.told.then(&number);
+        self.numbers = self.numbers.then(&number);
     }
 }

@@ -3,7 +3,7 @@ ghost use Rattle.std.specs.Prelude.{◌≡◌, ◌-◌, ◌^◌, ◌<◌, ◌≤
 ghost use Rattle.snap_history.specs.declared.limits.TheConstants.{MAX_COUNT};
 ghost use Rattle.snap_scan.specs.Sets.{Names, size};
 
-use crate::limits::MAX_SEGMENTS;
+use crate::segments::Segments;
 
 /// Some of the segments 0 to 15: bit i of its number names segment i.
 #[derive(Clone, Copy, Debug, PartialEq, Eq, Drop)]
@@ -12,7 +12,7 @@ pub struct SegmentSet {
 }
 
 impl SegmentSet {
-    /// The set of all of this many segments, at most [`MAX_SEGMENTS`].
+    /// The set of all of this many segments, at most [`MAX_SEGMENTS`](crate::MAX_SEGMENTS).
     pub fn all(segments: usize) -> SegmentSet
         requires most { segments ≤ MAX_COUNT }
         ensures all { result.bits ≡ 2 ^ segments - 1 }
@@ -22,7 +22,7 @@ impl SegmentSet {
         }
     }
 
-    /// Whether it names this segment, which is below [`MAX_SEGMENTS`].
+    /// Whether it names this segment, which is below [`MAX_SEGMENTS`](crate::MAX_SEGMENTS).
     pub fn has(self, segment: usize) -> bool
         requires segment { segment < MAX_COUNT }
         ensures names { IsTrue result ↔ Names self.bits segment }
@@ -37,7 +37,7 @@ impl SegmentSet {
         self.bits == 0
     }
 
-    /// Whether all that it names are among the first so many segments, at most [`MAX_SEGMENTS`].
+    /// Whether all that it names are among the first so many segments, at most [`MAX_SEGMENTS`](crate::MAX_SEGMENTS).
     pub fn is_among(self, segments: usize) -> bool
         requires most { segments ≤ MAX_COUNT }
         ensures below { IsTrue result ↔ (self.bits < 2 ^ segments) }
@@ -49,12 +49,6 @@ impl SegmentSet {
     pub fn len(self) -> usize
         ensures size { result ≡ size self.bits }
     {
-        let mut named = 0;
-        for segment in 0..MAX_SEGMENTS {
-            if self.has(segment) {
-                named += 1;
-            }
-        }
-        named
+        Segments::of(self).count
     }
 }

@@ -1,11 +1,12 @@
 -- The words of a crash's line, as they are read.
 use Rattle.std.proofs.Common.{◌≡◌, ℕ, ◌≤◌, Option, Some, None, List, [], ◌∷◌, ◌++◌, length, Bor}
-use Rattle.std.proofs.Common.{refl, sym, ap, ◌∙◌, subst, append_assoc, append-nil, arith}
+use Rattle.std.proofs.Common.{refl, sym, ap, ◌∙◌, append_assoc, append-nil, arith}
 use Rattle.std.specs.Prelude.{◌==◌, MatchOption}
+use Rattle.std.specs.List.{AllZip}
 use Rattle.std.proofs.lemmas.List.Splits.{length-slice_split}
 use Rattle.snap_disk.specs.declared.fill.Fill.{Fill}
 use Rattle.snap_script.specs.Words.{words_of, IsFill}
-use Rattle.snap_script.specs.Line.{AreFills}
+use Rattle.snap_script.proofs.Zip.{AllZip-push}
 
 -- the words of what is left of a line
 abbrev pub words_behind : Option (Bor (List ℕ)) → List (List ℕ)
@@ -16,46 +17,37 @@ words_behind (Some text) = words_of text.now
 pub record IsRead (line : List ℕ) (fills : List Fill) (rest : Option (Bor (List ℕ))) : Type 0 where
   pub words : List (List ℕ)
   pub whole : words_of line ≡ words ++ words_behind rest
-  pub are : AreFills words fills
-
-pub AreFills-push : (words : List (List ℕ)) (fills : List Fill) (word : List ℕ) (fill : Fill)
-    → AreFills words fills → IsFill word fill → AreFills (words ++ word ∷ []) (fills ++ fill ∷ [])
-AreFills-push [] [] word fill h f = (f, tt)
-AreFills-push [] (x ∷ fills) word fill h f = absurd h
-AreFills-push (w ∷ words) [] word fill h f = absurd h
-AreFills-push (w ∷ words) (x ∷ fills) word fill h f =
-    (h.0, AreFills-push words fills word fill h.1 f)
+  pub are : AllZip IsFill words fills
 
 -- each word is a fill
-pub AreFills-at : (words rest : List (List ℕ)) (word : List ℕ) (fills : List Fill)
-    → AreFills (words ++ word ∷ rest) fills → (f : Fill) × IsFill word f
-AreFills-at [] rest word [] h = absurd h
-AreFills-at [] rest word (f ∷ fills) h = (f, h.0)
-AreFills-at (w ∷ words) rest word [] h = absurd h
-AreFills-at (w ∷ words) rest word (x ∷ fills) h = AreFills-at words rest word fills h.1
+fill_at : (words rest : List (List ℕ)) (word : List ℕ) (fills : List Fill)
+    → AllZip IsFill (words ++ word ∷ rest) fills → (f : Fill) × IsFill word f
+fill_at [] rest word (f ∷ fills) h = (f, h.0)
+fill_at (w ∷ words) rest word (f ∷ fills) h = fill_at words rest word fills h.1
+fill_at words rest word fills h = absurd h
 
 -- a line has a word
 pub some_word : (line : List ℕ) → 1 ≤ length (words_of line)
 some_word line = omega (arith, length-slice_split (λ b. b == 32) line)
 
-pub cut-words : (text word : List ℕ) (o : Option (Bor (List ℕ)))
+cut-words : (text word : List ℕ) (o : Option (Bor (List ℕ)))
     → MatchOption o (words_of text ≡ word ∷ []) (λ rest. words_of text ≡ word ∷ words_of rest.now)
     → words_of text ≡ word ∷ words_behind o
 cut-words text word None h = h
 cut-words text word (Some rest) h = h
 
-pub nothing_behind : (o : Option (Bor (List ℕ))) → ((x : Bor (List ℕ)) → o ≡ Some x → ⊥)
+nothing_behind : (o : Option (Bor (List ℕ))) → ((x : Bor (List ℕ)) → o ≡ Some x → ⊥)
     → words_behind o ≡ []
 nothing_behind None h = refl
 nothing_behind (Some x) h = absurd (h x refl)
 
 -- one word on
-module _ (line : List ℕ) (fills : List Fill) (now behind : Option (Bor (List ℕ)))
-    (text : Bor (List ℕ)) (word : List ℕ)
+module _ {line : List ℕ} {fills : List Fill} {now : Option (Bor (List ℕ))} {text : Bor (List ℕ)}
+    (behind : Option (Bor (List ℕ))) (word : List ℕ)
     (read : IsRead line fills now) (is : now ≡ Some text)
     (cut : MatchOption behind (words_of text.now ≡ word ∷ []) (λ rest. words_of text.now ≡ word
     ∷ words_of rest.now)) where
-  pub whole_on : words_of line ≡ read.words ++ word ∷ words_behind behind
+  whole_on : words_of line ≡ read.words ++ word ∷ words_behind behind
   whole_on = read.whole ∙ ap (λ o. read.words ++ words_behind o) is
       ∙ ap (λ ws. read.words ++ ws) (cut-words text.now word behind cut)
 
@@ -63,19 +55,18 @@ module _ (line : List ℕ) (fills : List Fill) (now behind : Option (Bor (List �
   read_on fill f = record {
     words = read.words ++ word ∷ [];
     whole = whole_on ∙ sym (append_assoc read.words (word ∷ []) (words_behind behind));
-    are = AreFills-push read.words fills word fill read.are f;
+    are = AllZip-push IsFill read.words fills word fill read.are f;
   }
 
-  pub no_fills : ((f : Fill) → IsFill word f → ⊥) → (all : List Fill) → AreFills (words_of line) all
-      → ⊥
-  no_fills none all are = let some =
-      AreFills-at read.words (words_behind behind) word all
-      (subst (λ ws. AreFills ws all) whole_on are) in none some.0 some.1
+  pub no_fills : ((f : Fill) → IsFill word f → ⊥) → (all : List Fill)
+      → AllZip IsFill (words_of line) all → ⊥
+  no_fills none all are =
+      let some = fill_at read.words (words_behind behind) word all (rw whole_on at are) in
+      none some.0 some.1
 
 -- nothing is left
-pub read_whole : (line : List ℕ) (fills : List Fill) (now : Option (Bor (List ℕ)))
+pub read_whole : {line : List ℕ} {fills : List Fill} {now : Option (Bor (List ℕ))}
     → IsRead line fills now → ((x : Bor (List ℕ)) → now ≡ Some x → ⊥)
-    → AreFills (words_of line) fills
-read_whole line fills now read none =
-    subst (λ ws. AreFills ws fills) (sym (read.whole
-    ∙ ap (λ ws. read.words ++ ws) (nothing_behind now none) ∙ append-nil read.words)) read.are
+    → AllZip IsFill (words_of line) fills
+read_whole {line} {fills} {now} read none =
+    rw (read.whole, nothing_behind now none, append-nil read.words) read.are

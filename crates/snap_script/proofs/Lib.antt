@@ -1,3 +1,4 @@
+pub mod Zip
 pub mod Parts
 pub mod Operands
 pub mod Crashes

@@ -66,14 +66,14 @@ pub record BeginsBy (start text : List ℕ) : Type 0 where
   pub behind : List (List ℕ)
   pub lines : lines_of text ≡ (start ++ more) ∷ behind
 
-begins_by : (start : List ℕ) (ls : List (List ℕ)) → 0 < length ls → (m : List ℕ)
-    × (ms : List (List ℕ)) × (ls ≡ m ∷ ms)
-begins_by start [] some = absurd (omega arith)
-begins_by start (m ∷ ms) some = (m, ms, refl)
+first_and_rest : (ls : List (List ℕ)) → 0 < length ls → (m : List ℕ) × (ms : List (List ℕ))
+    × (ls ≡ m ∷ ms)
+first_and_rest [] some = absurd (omega arith)
+first_and_rest (m ∷ ms) some = (m, ms, refl)
 
 pub goes_on : (start ys : List ℕ) → lines_of start ≡ start ∷ [] → BeginsBy start (start ++ ys)
 goes_on start ys e =
-    let first = begins_by start (lines_of ys) (some_line ys) in
+    let first = first_and_rest (lines_of ys) (some_line ys) in
     record {
       more = first.0;
       behind = first.1;

@@ -64,3 +64,8 @@ pub where_none : {A : Type 0} (P : A → Type 0) (o : Option A) → Finds o P
     → ((x : A) → o ≡ Some x → ⊥) → (x : A) → P x → ⊥
 where_none P None h no_value = h
 where_none P (Some x) h no_value = absurd (no_value x refl)
+
+-- of two words the second is one
+pub second_same : {a b x y : List ℕ} {words : List (List ℕ)} → words ≡ a ∷ b ∷ []
+    → words ≡ x ∷ y ∷ [] → b ≡ y
+second_same is also = let same = sym is ∙ also in cc

@@ -1,12 +1,10 @@
 -- One line more.
-use Rattle.std.proofs.Common.{◌≡◌, ℕ, Some, List, [], ◌∷◌, ◌++◌, sym, ap, ◌∙◌, subst, append_assoc}
+use Rattle.std.proofs.Common.{◌≡◌, ℕ, Some, List, [], ◌∷◌, ◌++◌, refl, sym, ap, ◌∙◌, append_assoc}
 use Rattle.std.proofs.Common.{append-nil}
+use Rattle.snap_script.proofs.Zip.{AllZip-push}
 use Rattle.snap_script.specs.Line.{IsWorldLine, IsEventLine}
 use Rattle.snap_script.specs.Player.{Played}
-use Rattle.snap_script.specs.Script.{Plays, AreEvents}
 use Rattle.snap_script.specs.Text.{world_text, line_text, reply_text, replies_text}
-use Rattle.snap_world.specs.NodePhases.{WorldPhases}
-use Rattle.snap_world.specs.Runs.{Configuration}
 use Rattle.snap_world.proofs.Runs.{Run-append}
 use Rattle.snap_world.specs.Start.{start_state, start_world_phases, AreFormatted}
 use Rattle.snap_world.specs.Surface.{StandsFor, IsRun, configuration, segments_of, phases_of}
@@ -14,15 +12,6 @@ use Rattle.snap_world.specs.Surface.{devices_of}
 use Rattle.snap_world.specs.declared.event.Event.{Event}
 use Rattle.snap_world.specs.declared.event.Reply.{Reply}
 use Rattle.snap_world.specs.declared.world.World.{World}
-
-AreEvents-push : (lines : List (List ℕ)) (events : List Event) (line : List ℕ) (e : Event)
-    → AreEvents lines events → IsEventLine line e
-    → AreEvents (lines ++ line ∷ []) (events ++ e ∷ [])
-AreEvents-push [] [] line e h is = (is, tt)
-AreEvents-push [] (x ∷ events) line e h is = absurd h
-AreEvents-push (l ∷ lines) [] line e h is = absurd h
-AreEvents-push (l ∷ lines) (x ∷ events) line e h is =
-    (h.0, AreEvents-push lines events line e h.1 is)
 
 replies_text-push : (replies : List Reply) (reply : Reply)
     → replies_text (replies ++ reply ∷ []) ≡ replies_text replies ++ line_text (reply_text reply)
@@ -40,54 +29,43 @@ pub played_on : (old new : World) (lines : List (List ℕ)) (text line : List �
 played_on old new [] text line e reply out h is run printed = absurd h
 played_on old new (first ∷ lines) text line e reply out (x, stands, plays) is run printed =
     let step = run.run x stands in
-    let n = segments_of old in
-    let more : Plays first (lines ++ line ∷ []) (text ++ out) n (configuration new step.0) =
-    record {
-      s = plays.s;
-      is_world = plays.is_world;
-      devices = plays.devices;
-      formatted = plays.formatted;
-      events = plays.events ++ e ∷ [];
-      are_events = AreEvents-push lines plays.events line e plays.are_events is;
-      replies = plays.replies ++ reply ∷ [];
-      run = Run-append n _ plays.events plays.replies (configuration old x) (e ∷ []) (reply
-          ∷ []) (configuration new step.0) plays.run step.1;
-      printed = ap (λ t. t ++ out) plays.printed
-          ∙ append_assoc (line_text (world_text n plays.s)) (replies_text plays.replies) out
-          ∙ ap (λ t. line_text (world_text n plays.s)
-          ++ t) (ap (λ o. replies_text plays.replies ++ o) printed
-          ∙ sym (replies_text-push plays.replies reply));
-    } in (
+    let n = segments_of old in (
       step.0,
       step.2,
-      subst (λ m. Plays first (lines ++ line ∷ []) (text
-          ++ out) m (configuration new step.0)) (sym run.segments) more,
+      rw run.segments record {
+        s = plays.s;
+        is_world = plays.is_world;
+        devices = plays.devices;
+        formatted = plays.formatted;
+        events = plays.events ++ e ∷ [];
+        are_events = AllZip-push IsEventLine lines plays.events line e plays.are_events is;
+        replies = plays.replies ++ reply ∷ [];
+        run = Run-append n _ plays.events plays.replies (configuration old x) (e ∷ [])
+            (reply ∷ []) (configuration new step.0) plays.run step.1;
+        printed = ap (λ t. t ++ out) plays.printed
+            ∙ append_assoc (line_text (world_text n plays.s)) (replies_text plays.replies) out
+            ∙ ap (λ t. line_text (world_text n plays.s) ++ t)
+            (ap (λ o. replies_text plays.replies ++ o) printed
+            ∙ sym (replies_text-push plays.replies reply));
+      },
     )
 
 pub played_first : (w : World) (line out : List ℕ) (n s : ℕ) → IsWorldLine line n s
     → segments_of w ≡ n → phases_of w ≡ start_world_phases n s → AreFormatted n (devices_of w)
     → StandsFor w (start_state n s)
     → out ≡ line_text (world_text n s) → Played (line ∷ []) out (Some w)
-played_first w line out n s is segments phases formatted stands printed =
-    let begun : Configuration = record {
-      state = start_state n s;
-      phases = phases_of w;
-      devices =
-          devices_of w;
-    } in
-    let plays : Plays line [] out n begun = record {
-      s = s;
-      is_world = is;
-      devices = devices_of w;
-      formatted = formatted;
-      events = [];
-      are_events = tt;
-      replies = [];
-      run = ap (λ (q : WorldPhases). let m : Configuration =
-          record { state = start_state n s; phases = q; devices = devices_of w } in m) phases;
-      printed = printed ∙ sym (append-nil (line_text (world_text n s)));
-    } in
-    (start_state n s, stands, subst (λ m. Plays line [] out m begun) (sym segments) plays)
-
-pub from_empty : (old out text : List ℕ) → old ≡ [] → out ≡ old ++ text → out ≡ text
-from_empty old out text e h = h ∙ ap (λ o. o ++ text) e
+played_first w line out n s is segments phases formatted stands printed = (
+  start_state n s,
+  stands,
+  rw segments record {
+    s = s;
+    is_world = is;
+    devices = devices_of w;
+    formatted = formatted;
+    events = [];
+    are_events = tt;
+    replies = [];
+    run = rw phases refl;
+    printed = printed ∙ sym (append-nil (line_text (world_text n s)));
+  },
+)

@@ -1,26 +1,23 @@
 -- A script, line by line.
-use Rattle.std.proofs.Common.{◌≡◌, ◌≢◌, ℕ, ◌+◌, ◌-◌, ◌^◌, ◌<◌, min, Option, Some, None, List, [], ◌∷◌, ◌++◌, length, take, refl, sym, ap, ◌∙◌, subst, length-append, arith}
+use Rattle.std.proofs.Common.{◌≡◌, ◌≢◌, ℕ, ◌+◌, ◌-◌, ◌^◌, ◌<◌, min, Option, Some, None, List, [], ◌∷◌, ◌++◌, length, take, refl, ap, length-append, arith}
 use Rattle.std.specs.Io.KnownBytes.{Appends}
 use Rattle.std.proofs.KnownBytes.{Appends-nil, Appends-trans}
 use Rattle.std.proofs.Math.Seq.{take-append-add}
 use Rattle.std.proofs.lemmas.List.Elements.{All-push}
-use Rattle.snap_script.specs.Fault.{IsUnreadable}
-use Rattle.snap_script.specs.Player.{Played, HaltsAt}
+use Rattle.snap_script.specs.Player.{Played}
 use Rattle.snap_script.specs.Progress.{HasDone}
 use Rattle.snap_script.specs.Script.{full_lines, IsShort, IsNumberBehind, MayPrint, Prints}
 use Rattle.snap_script.specs.Script.{PrintsPart}
-use Rattle.snap_script.specs.declared.fault.LineFault.{LineFault}
-use Rattle.snap_script.specs.declared.player.Halt.TheVariants.{Fault}
 use Rattle.snap_world.specs.declared.world.World.{World}
 
 -- nothing was done
-pub done_none : (old : Option (List ℕ)) (world : Option World) (number : ℕ) → world ≡ None
+pub done_none : {old : Option (List ℕ)} {world : Option World} {number : ℕ} → world ≡ None
     → number ≡ 0 → HasDone [] old old world number
-done_none old world number none zero = record {
+done_none {old} none zero = record {
   short = λ k d l. absurd (omega arith);
   count = zero;
   text = [];
-  played = subst (Played [] []) (sym none) refl;
+  played = rw none refl;
   wrote = Appends-nil old;
 }
 
@@ -44,13 +41,6 @@ may_print [] text (Some w) h = absurd h
 may_print (first ∷ lines) text None h = absurd h
 may_print (first ∷ lines) text (Some w) h = (_, _, h.2)
 
-unreadable : (lines : List (List ℕ)) (text line : List ℕ) (world : Option World) (fault : LineFault)
-    → Played lines text world → HaltsAt world line (Fault fault) → IsUnreadable lines line fault
-unreadable [] text line None fault h k = k
-unreadable [] text line (Some w) fault h k = absurd h
-unreadable (first ∷ lines) text line None fault h k = absurd h
-unreadable (first ∷ lines) text line (Some w) fault h k = k
-
 pub empty_list : (line : List ℕ) → length line ≡ 0 → line ≡ []
 empty_list [] e = refl
 empty_list (b ∷ line) e = absurd (omega arith)
@@ -58,14 +48,12 @@ empty_list (b ∷ line) e = absurd (omega arith)
 pub some_list : (line : List ℕ) → 0 < length line → line ≢ []
 some_list line some e = omega (arith, ap length e)
 
--- the next number
-pub next_number : (done : List (List ℕ)) (number next : ℕ) → number ≡ min (length done) (2 ^ 64 - 1)
-    → next ≡ min (number + 1) (2 ^ 64 - 1) → IsNumberBehind done next
-next_number done number next count e = omega (arith, count, e)
-
 -- behind the lines that were done
-module _ (done : List (List ℕ)) (old now : Option (List ℕ)) (world : Option World) (number : ℕ)
+module _ {done : List (List ℕ)} {old now : Option (List ℕ)} {world : Option World} {number : ℕ}
     (h : HasDone done old now world number) where
+  pub next_number : (next : ℕ) → next ≡ min (number + 1) (2 ^ 64 - 1) → IsNumberBehind done next
+  next_number next e = omega (arith, h.count, e)
+
   pub prints : Prints old now (full_lines done)
   prints = (h.text, may_print (full_lines done) h.text world h.played, h.wrote)
 
@@ -75,10 +63,6 @@ module _ (done : List (List ℕ)) (old now : Option (List ℕ)) (world : Option 
         → next ≡ min (length (done ++ line ∷ [])) (2 ^ 64 - 1)
     counted next e = omega (arith, h.count, e, length-append done (line ∷ []))
 
-    pub bad_line : (fault : LineFault) → HaltsAt world line (Fault fault)
-        → IsUnreadable (full_lines done) line fault
-    bad_line fault = unreadable (full_lines done) h.text line world fault h.played
-
     -- an empty line is skipped
     pub done_empty : (next : ℕ) → next ≡ min (number + 1) (2 ^ 64 - 1) → length line ≡ 0
         → IsShort line → HasDone (done ++ line ∷ []) old now world next
@@ -86,9 +70,7 @@ module _ (done : List (List ℕ)) (old now : Option (List ℕ)) (world : Option 
       short = All-push IsShort done line h.short short;
       count = counted next e;
       text = h.text;
-      played = subst (λ ls. Played ls h.text world)
-          (sym (ap (λ l. full_lines (done ++ l ∷ [])) (empty_list line none)
-          ∙ full_lines-push_empty done)) h.played;
+      played = rw (empty_list line none, full_lines-push_empty done) h.played;
       wrote = h.wrote;
     }
 
@@ -97,8 +79,7 @@ module _ (done : List (List ℕ)) (old now : Option (List ℕ)) (world : Option 
         (on : (lines : List (List ℕ)) (text : List ℕ) → Played lines text world
         → Played (lines ++ line ∷ []) (text ++ out) new) where
       played : Played (full_lines (done ++ line ∷ [])) (h.text ++ out) new
-      played = subst (λ ls. Played ls (h.text ++ out) new)
-          (sym (full_lines-push done line (some_list line some)))
+      played = rw (full_lines-push done line (some_list line some))
           (on (full_lines done) h.text h.played)
 
       pub done_on : (next : ℕ) (after : Option (List ℕ)) → next ≡ min (number + 1) (2 ^ 64 - 1)
@@ -117,6 +98,6 @@ module _ (done : List (List ℕ)) (old now : Option (List ℕ)) (world : Option 
         h.text ++ out,
         may_print (full_lines (done ++ line ∷ [])) (h.text ++ out) new played,
         length h.text + m,
-        subst (Appends old after) (sym (take-append-add h.text out m))
+        rw (take-append-add h.text out m)
             (Appends-trans old now after h.text (take m out) h.wrote wrote),
       )

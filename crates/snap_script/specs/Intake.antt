@@ -4,8 +4,7 @@ use Rattle.snap_script.specs.Progress.{HasDone}
 use Rattle.snap_script.specs.Script.{IsShort}
 use Rattle.snap_script.specs.Words.{lines_of}
 use Rattle.snap_script.specs.declared.run.ScriptEnd.{ScriptEnd}
-use Rattle.snap_script.specs.declared.run.ScriptEnd.TheVariants.{Done, BadLine, TooLong, NoMemory}
-use Rattle.snap_script.specs.declared.run.ScriptEnd.TheVariants.{ReadFailed, WriteFailed}
+use Rattle.snap_script.specs.declared.run.ScriptEnd.TheVariants.{TooLong, NoMemory}
 use Rattle.snap_script.specs.declared.run.TheConstants.{MAX_LINE}
 use Rattle.snap_world.specs.declared.world.World.{World}
 
@@ -25,7 +24,4 @@ abbrev pub CannotHold : List ℕ → ℕ → ScriptEnd → Type 0
 CannotHold part lines (TooLong number) = (MAX_LINE < length part)
     × (number ≡ min (lines + 1) (2 ^ 64 - 1))
 CannotHold part lines NoMemory = Unit {0}
-CannotHold part lines Done = ⊥
-CannotHold part lines (BadLine number fault) = ⊥
-CannotHold part lines (ReadFailed error) = ⊥
-CannotHold part lines (WriteFailed error) = ⊥
+CannotHold part lines end = ⊥

@@ -1,5 +1,6 @@
 -- The lines of a script: the first, and those of events.
 use Rattle.std.specs.Prelude.{◌≡◌, ℕ, ◌≤◌, List, [], ◌∷◌, length, codes, ⊤}
+use Rattle.std.specs.List.{AllZip}
 use Rattle.std.specs.declared.vec.Vec.{Vec}
 use Rattle.std.specs.declared.alloc.Global.{Global}
 use Rattle.snap_disk.specs.declared.fill.Fill.{Fill}
@@ -42,13 +43,6 @@ abbrev pub IsActor : List ℕ → Actor → Type 0
 IsActor word (actor.Writer w) = (digits : List ℕ) × (word ≡ 119 ∷ digits) × IsNumber digits w
 IsActor word (actor.Scanner s) = (digits : List ℕ) × (word ≡ 115 ∷ digits) × IsNumber digits s
 
--- each word is the fill at its place
-abbrev pub AreFills : List (List ℕ) → List Fill → Type 0
-AreFills [] [] = Unit {0}
-AreFills (word ∷ words) (fill ∷ fills) = IsFill word fill × AreFills words fills
-AreFills [] (fill ∷ fills) = ⊥
-AreFills (word ∷ words) [] = ⊥
-
 -- one word, which is the number i
 abbrev pub IsOneNumber : List (List ℕ) → ℕ → Type 0
 IsOneNumber words i = (word : List ℕ) × (words ≡ word ∷ []) × IsNumber word i
@@ -80,9 +74,10 @@ HasForm verb.Pick words e =
     (s mask : List ℕ) × (i : ℕ) × (set : SegmentSet)
     × (e ≡ event.Pick i set) × (words ≡ s ∷ mask ∷ []) × IsNumber s i × IsMask mask set
 HasForm verb.Answer words e = (i : ℕ) × (e ≡ event.Answer i) × IsOneNumber words i
+-- each word is the fill at its place
 HasForm verb.Crash words e =
     (fills : Vec Fill Global) × (e ≡ event.Crash fills)
-    × (1 ≤ length words) × AreFills words fills.items
+    × (1 ≤ length words) × AllZip IsFill words fills.items
 HasForm verb.Restart words e = (e ≡ event.Restart) × (words ≡ [])
 HasForm verb.RestartCall words e = (e ≡ event.RestartCall) × (words ≡ [])
 HasForm verb.RestartFail words e =

@@ -1,7 +1,8 @@
 -- What a script writes, for each way in which it can end.
 use Rattle.std.specs.Prelude.{◌≡◌, ◌≢◌, ◌<◌, ◌≤◌, ◌⊎◌, ℕ, ◌+◌, ◌-◌, ◌^◌, min, List, [], ◌∷◌, ◌++◌}
-use Rattle.std.specs.Prelude.{length, take, All, Option, ⊤}
-use Rattle.std.specs.Io.KnownBytes.{Appends, Consumes, Keeps}
+use Rattle.std.specs.Prelude.{length, take, All, Option}
+use Rattle.std.specs.List.{AllZip}
+use Rattle.std.specs.Io.KnownBytes.{Appends, Consumes}
 use Rattle.snap_stream.specs.Streams.{Had}
 use Rattle.snap_script.specs.Words.{lines_of}
 use Rattle.snap_script.specs.Line.{IsWorldLine, IsEventLine}
@@ -23,13 +24,6 @@ full_lines [] = []
 full_lines ([] ∷ lines) = full_lines lines
 full_lines ((b ∷ line) ∷ lines) = (b ∷ line) ∷ full_lines lines
 
--- each line is the event at its place
-abbrev pub AreEvents : List (List ℕ) → List Event → Type 0
-AreEvents [] [] = ⊤
-AreEvents (line ∷ lines) (e ∷ events) = IsEventLine line e × AreEvents lines events
-AreEvents [] (e ∷ events) = ⊥
-AreEvents (line ∷ lines) [] = ⊥
-
 -- a new world of n segments and s scanners, with these devices
 abbrev pub start_configuration : ℕ → ℕ → List Device → Configuration
 start_configuration n s devices = record {
@@ -47,7 +41,8 @@ pub record Plays (first : List ℕ) (lines : List (List ℕ)) (text : List ℕ) 
   pub devices : List Device
   pub formatted : AreFormatted n devices
   pub events : List Event
-  pub are_events : AreEvents lines events
+  -- each line is the event at its place
+  pub are_events : AllZip IsEventLine lines events
   pub replies : List Reply
   pub run : Run n (start_configuration n s devices) events replies b
   pub printed : text ≡ line_text (world_text n s) ++ replies_text replies
@@ -79,37 +74,46 @@ pub record IsAt (text : List ℕ) (done behind : List (List ℕ)) : Type 0 where
 abbrev pub IsNumberBehind : List (List ℕ) → ℕ → Type 0
 IsNumberBehind done number = number ≡ min (length done + 1) (2 ^ 64 - 1)
 
--- How a script ends of which these bytes were read and the rest wasn't, and what a writer that held
--- the old bytes then holds.
-abbrev pub Ends : (taken rest : List ℕ) (old new : Option (List ℕ)) → ScriptEnd → Type 0
+-- why the line behind those that were done ends the script: it can't be read, though it isn't too
+-- long, or it is too long, or memory ran out in it
+abbrev pub Stops : (done : List (List ℕ)) (line : List ℕ) → ScriptEnd → Type 0
+Stops done line (BadLine number fault) =
+    (line ≢ []) × IsShort line × IsNumberBehind done number
+    × IsUnreadable (full_lines done) line fault
+Stops done line (TooLong number) = (MAX_LINE < length line) × IsNumberBehind done number
+Stops done line NoMemory = line ≢ []
+Stops done line end = ⊥
+
+-- these lines of the text were done, and the next one ends the script
+abbrev pub StopsBehind : (text : List ℕ) (done : List (List ℕ)) → ScriptEnd → Type 0
+StopsBehind text done end =
+    (line : List ℕ) × (behind : List (List ℕ)) × IsAt text done (line ∷ behind) × Stops done line end
+
+-- How a script ends behind these lines that were done, of which these bytes were read and the rest
+-- wasn't.
+abbrev pub EndsBehind : (taken rest : List ℕ) (done : List (List ℕ)) → ScriptEnd → Type 0
 -- every line was done
-Ends taken rest old new Done =
-    (done : List (List ℕ)) × IsAt taken done [] × (rest ≡ []) × Prints old new (full_lines done)
--- this line can't be read, though it isn't too long, and those before it were done
-Ends taken rest old new (BadLine number fault) =
-    (done behind : List (List ℕ)) × (line : List ℕ) × IsAt (taken ++ rest) done (line ∷ behind)
-    × (line ≢ [])
-    × IsShort line × IsNumberBehind done number × IsUnreadable (full_lines done) line fault
-    × Prints old new (full_lines done)
--- this line is too long, and those before it were done
-Ends taken rest old new (TooLong number) =
-    (done behind : List (List ℕ)) × (line : List ℕ) × IsAt (taken ++ rest) done (line ∷ behind)
-    × (MAX_LINE < length line) × IsNumberBehind done number × Prints old new (full_lines done)
--- memory ran out at first, or in some line, and those before it were done
-Ends taken rest old new NoMemory =
-    Keeps old new
-    ⊎ ((done behind : List (List ℕ)) × (line : List ℕ) × IsAt (taken ++ rest) done (line ∷ behind)
-    × (line ≢ [])
-    × Prints old new (full_lines done))
+EndsBehind taken rest done Done = IsAt taken done [] × (rest ≡ [])
+-- memory ran out at first, or in some line
+EndsBehind taken rest done NoMemory = (done ≡ []) ⊎ StopsBehind (taken ++ rest) done NoMemory
 -- the reader failed, and all lines were done but the last one of what was read, which has no end
 -- there
-Ends taken rest old new (ReadFailed error) =
-    (done : List (List ℕ)) × (last : List ℕ) × IsAt taken done (last ∷ [])
-    × Prints old new (full_lines done)
--- the writer failed in the text of some lines
-Ends taken rest old new (WriteFailed error) =
-    (done behind : List (List ℕ)) × IsAt (taken ++ rest) done behind
-    × PrintsPart old new (full_lines done)
+EndsBehind taken rest done (ReadFailed error) = (last : List ℕ) × IsAt taken done (last ∷ [])
+-- the writer failed in the text of these lines
+EndsBehind taken rest done (WriteFailed error) =
+    (behind : List (List ℕ)) × IsAt (taken ++ rest) done behind
+EndsBehind taken rest done end = StopsBehind (taken ++ rest) done end
+
+-- what was written of these lines: their text, or a beginning of it where the writer failed
+abbrev pub EndPrints : (old new : Option (List ℕ)) (lines : List (List ℕ)) → ScriptEnd → Type 0
+EndPrints old new lines (WriteFailed error) = PrintsPart old new lines
+EndPrints old new lines end = Prints old new lines
+
+-- and what a writer that held the old bytes then holds
+abbrev pub Ends : (taken rest : List ℕ) (old new : Option (List ℕ)) → ScriptEnd → Type 0
+Ends taken rest old new end =
+    (done : List (List ℕ)) × EndsBehind taken rest done end
+    × EndPrints old new (full_lines done) end
 
 -- what a script reads and writes, and how it ends
 pub record Runs (read_old read_new written_old written_new : Option (List ℕ))

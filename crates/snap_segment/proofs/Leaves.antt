@@ -1,6 +1,6 @@
 -- What a crash leaves of a run of calls, at any time during it and after it.
 use Rattle.std.proofs.Common.{List, ℕ}
-use Rattle.snap_disk.specs.Device.{MayLeave}
+use Rattle.snap_disk.specs.Device.{Elapses, MayLeave}
 use Rattle.snap_disk.specs.Laws as laws
 use Rattle.snap_disk.specs.declared.disk.Disk as Disk
 use Rattle.snap_segment.specs.Calls.{Leaves}
@@ -13,6 +13,19 @@ module _ {D : Type 0} (disk : Disk.Ghosts D) where
   none old P only here = record {
     any_time = laws.started disk old P (λ b left. here b (only b left));
     now = here;
+  }
+
+  -- of one call
+  pub one : {old new : D} {P : List ℕ → Type 0}
+      → ((b : List ℕ) → disk.might_have_left old (disk.clock old) b → MayLeave (disk.device old) b)
+      → ((b : List ℕ) → MayLeave (disk.device old) b → P b)
+      → Elapses (disk.clock old) (disk.clock new) (disk.might_have_left old)
+      (disk.might_have_left new) (disk.device new)
+      → ((b : List ℕ) → MayLeave (disk.device new) b → P b) → Leaves disk old new P
+  one {old} {new} {P} only before time now = record {
+    any_time = laws.one_call disk old new P (disk.device new) (λ b left. before b (only b left)) time
+        now;
+    now = now;
   }
 
   pub weaker : {old new : D} {P R : List ℕ → Type 0} → Leaves disk old new P

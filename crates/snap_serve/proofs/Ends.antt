@@ -1,5 +1,5 @@
 -- How a server's end follows from its opening.
-use Rattle.std.proofs.Common.{◌≡◌, ℕ, List, map, length, Option, Ok, Err, refl, sym, ◌∙◌}
+use Rattle.std.proofs.Common.{◌≡◌, ℕ, List, map, length, Option, Err, refl, sym, ◌∙◌}
 use Rattle.std.proofs.lemmas.Simd.{map-map}
 use Rattle.snap_disk.specs.declared.disk.Disk as Disk
 use Rattle.snap_history.specs.Pairs.{Pairs}
@@ -7,21 +7,16 @@ use Rattle.snap_writer.specs.Writer.{WriterState}
 use Rattle.snap_restart.specs.Opened.{IsOpened, recovered}
 use Rattle.snap_restart.specs.Crash.{AreOpened}
 use Rattle.snap_restart.specs.declared.report.Report.{Report}
-use Rattle.snap_serve.specs.declared.failure.HostFailure.TheVariants.{Refused, NoMemory, Address}
-use Rattle.snap_serve.specs.declared.failure.HostFailure.TheVariants.{Output, Server}
+use Rattle.snap_serve.specs.declared.failure.HostFailure.TheVariants.{Refused}
 use Rattle.snap_serve.specs.Serve.{End, EndsHost, EndsServing, IsReportOf, Site}
 
 pub ends_opened : {D L : Type 0} (disk : Disk.Ghosts D) (devices : List D) (site : Site L)
     (connections : Option ℕ) (r : Report) (o n : Option (List ℕ)) (end : End)
     → IsReportOf disk devices r → EndsServing site connections r o n end
     → EndsHost disk devices site connections o n end
-ends_opened disk devices site connections r o n (Ok k) is ends = (r, is, ends)
 ends_opened disk devices site connections r o n (Err (Refused segment why len)) is ends =
     absurd ends
-ends_opened disk devices site connections r o n (Err NoMemory) is ends = (r, is, ends)
-ends_opened disk devices site connections r o n (Err (Address error)) is ends = (r, is, ends)
-ends_opened disk devices site connections r o n (Err (Output error)) is ends = (r, is, ends)
-ends_opened disk devices site connections r o n (Err (Server fault)) is ends = (r, is, ends)
+ends_opened disk devices site connections r o n end is ends = (r, is, ends)
 
 pub reported : {D : Type 0} (disk : Disk.Ghosts D) (devices : List D)
     (writers : List (WriterState D)) (r : Report)

@@ -8,7 +8,7 @@ ghost use Rattle.snap_server.specs.Announced.{Announced};
 ghost use Rattle.snap_server.specs.Deals.{GivesSoMany};
 
 use crate::watch::Watch;
-use snap_desk::{Desk, Outcome, StoreThread, Window};
+use snap_desk::{Desk, Outcome, Storer, Window};
 use snap_disk::{Disk, Refusal};
 use snap_memory::Scanner;
 use snap_restart::Store;
@@ -23,10 +23,10 @@ use std::rt::Clock;
 use std::sync::Wait;
 use std::thread::Threads;
 
-/// A segment's store in a thread of the server.
+/// A segment's storer in a thread of the server.
 #[derive(Drop)]
 struct Storing<R: Wait + Copy, M: Memory, D: Disk + Drop, H: Drop> {
-    store: StoreThread<R, M, D>,
+    store: Storer<R, M, D>,
     segment: usize,
     watch: H,
 }
@@ -44,7 +44,7 @@ impl<R: Wait + Copy, M: Memory, D: Disk + Drop, H: Watch + Drop> Background
     }
 }
 
-/// A store for each writer of the memory, and their windows in the same order.
+/// A storer for each writer of the memory, and their windows in the same order.
 fn open_stores<R: Wait + Copy, M: Memory, D: Disk + Drop, H: Watch + Copy + Drop>(
     rt: R,
     alloc: Global,
@@ -64,7 +64,7 @@ fn open_stores<R: Wait + Copy, M: Memory, D: Disk + Drop, H: Watch + Copy + Drop
     Ok((stores, windows))
 }
 
-/// Adds a store for this writer, and its window.
+/// Adds a storer for this writer, and its window.
 fn add_store<R: Wait + Copy, M: Memory, D: Disk + Drop, H: Watch + Copy + Drop>(
     rt: R,
     alloc: Global,
@@ -77,7 +77,7 @@ fn add_store<R: Wait + Copy, M: Memory, D: Disk + Drop, H: Watch + Copy + Drop>(
     ensures windows { OnOk result (length windows.new.items ≡ length windows.old.items + 1) }
 {
     let segment = writer.segment();
-    let (store, window) = StoreThread::new(rt, alloc, writer)?;
+    let (store, window) = Storer::new(rt, alloc, writer)?;
     stores.push(Storing {
         store,
         segment,
@@ -118,7 +118,7 @@ fn open_desk<R: Wait + Copy + Clock, M: Memory, D: Disk + Drop>(
     Ok(Desk::new(rt, alloc, worker, windows.clone()?, scanner))
 }
 
-/// The desks and stores of a server over the memory of these writers and scanners.
+/// The desks and storers of a server over the memory of these writers and scanners.
 fn open_parts<M, X, D, H>(
     rt: X,
     alloc: Global,

@@ -1,10 +1,11 @@
 -- What an update does to its writer, and what a meeting does behind it.
 use Rattle.std.specs.Prelude.{◌≡◌, ℕ, List, Result}
 use Rattle.snap_disk.specs.declared.refusal.Refusal.{Refusal}
-use Rattle.snap_memory.specs.Seat.{Meets}
+use Rattle.snap_memory.specs.Seat.{Known, Meets, own_of}
 use Rattle.snap_writer.specs.Writer.{WriterState, number_of}
 use Rattle.snap_frame.specs.declared.reply.Reply.{Reply}
-use Rattle.snap_service.specs.Settled.{reply_of}
+use Rattle.snap_frame.specs.Messages.{IsInLimits}
+use Rattle.snap_service.specs.Settled.{reply_of, IsTellable, IsSettledAt}
 pub use Rattle.snap_writer.specs.Updated.{IsUpdated}
 use Rattle.snap_disk.specs.declared.disk.Disk as Disk
 
@@ -22,3 +23,15 @@ pub record IsUpdatedAndTold {D : Type 0} (disk : Disk.Ghosts D)
   pub updated : IsUpdated disk old between k v told
   pub met : HasMet between new
   pub said : reply ≡ reply_of (number_of new) told
+
+-- The reply says what the writer told, and then the scanner met the writer. Where that could be told of
+-- an update of the writer's segment, the reply fits what the scanner has seen.
+pub record RepliesTold {D : Type 0} (answer : Result ℕ Refusal) (old new : WriterState D)
+    (before after : Known) (reply : Reply) : Type 0 where
+  pub told : reply ≡ reply_of (number_of new) answer
+  pub number : number_of new ≡ number_of old
+  pub settled : (k : ℕ) (v : List ℕ) → IsTellable old k v answer
+      → IsSettledAt after (own_of old.seat) k v reply
+  pub limits : (k : ℕ) (v : List ℕ) → IsTellable old k v answer → IsInLimits reply
+  pub scanner : Meets before after
+  pub writer : HasMet old new

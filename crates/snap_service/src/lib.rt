@@ -4,13 +4,13 @@
 //! seen before to what it has seen after. The reply to an update is what its writer told
 //! ([`settle`]); a scan is the memory at one moment of what the scanner sees ([`answer_scan`]).
 //!
-//! [`Node`] (node.rt, with shared.rt, held.rt and lock.rt) is a service whose writers stand under locks,
+//! [`Node`] (node.rt, with shared.rt, lock.rt and locked_writer.rt) is a service whose writers stand under locks,
 //! one for each segment: scans lock nothing, and an update locks its own segment alone. It is for a
 //! server within a program, as in tests and benchmarks; `snapd` runs the desks of `snap_desk`.
 #![tactic(auto)]
 
-mod held;
 mod lock;
+mod locked_writer;
 mod memory;
 mod node;
 mod scans;

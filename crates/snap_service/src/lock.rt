@@ -7,7 +7,7 @@ ghost use Rattle.snap_service.specs.Memory.{IsOf};
 ghost use Rattle.snap_service.specs.Answers.{AnswersUpdate};
 ghost use Rattle.snap_service.specs.Counted.{next_count, LooksOnce};
 
-use crate::held::{Held, Pen};
+use crate::locked_writer::{LockedWriter, Pen};
 use crate::memory::{Memory, WriterOf};
 use snap_disk::Disk;
 use snap_frame::{Reply, SegmentStatus};
@@ -15,15 +15,15 @@ use std::sync::{Mutex, Wait};
 
 /// A writer under its lock. Nobody has it but for one update or one status.
 #[derive(Drop)]
-pub(crate) struct Lock<M: Memory, D: Disk + Drop> {
-    held: Mutex<Held<M, D>>,
+pub(crate) struct WriterLock<M: Memory, D: Disk + Drop> {
+    held: Mutex<LockedWriter<M, D>>,
 }
 
-impl<M: Memory, D: Disk + Drop> Lock<M, D> {
+impl<M: Memory, D: Disk + Drop> WriterLock<M, D> {
     /// This writer under a lock.
-    pub(crate) fn of(writer: WriterOf<M, D>) -> Lock<M, D> {
-        Lock {
-            held: Mutex::new(Held::of(writer)),
+    pub(crate) fn of(writer: WriterOf<M, D>) -> WriterLock<M, D> {
+        WriterLock {
+            held: Mutex::new(LockedWriter::of(writer)),
         }
     }
 
@@ -41,7 +41,7 @@ impl<M: Memory, D: Disk + Drop> Lock<M, D> {
         self.held.lock(rt).status()
     }
 
-    /// An update of this segment while the lock is held, as [`Held::update`] does it.
+    /// An update of this segment while the lock is held, as [`LockedWriter::update`] does it.
     pub(crate) fn update<R: Wait>(
         &self,
         rt: &R,

@@ -23,9 +23,9 @@ ghost use Rattle.snap_memory.specs.Seat.{own_of, Meets};
 ghost use Rattle.snap_frame.specs.Messages.{IsInLimits};
 ghost use Rattle.snap_writer.specs.Writer.{number_of};
 ghost use Rattle.snap_service.specs.Memory.{IsOf, AreWriters, no_plan};
-ghost use Rattle.snap_service.specs.Settled.{IsSettledAt, IsTellable, reply_of};
+ghost use Rattle.snap_service.specs.Settled.{IsSettledAt, IsTellable};
 ghost use Rattle.snap_writer.specs.Updated.{IsUpdated};
-ghost use Rattle.snap_service.specs.Updated.{IsUpdatedAndTold, HasMet};
+ghost use Rattle.snap_service.specs.Updated.{IsUpdatedAndTold, RepliesTold};
 
 use crate::settlement::{reply_told, settle, update};
 use snap_disk::{Disk, Refusal};
@@ -152,13 +152,7 @@ impl<M: Memory, D: Disk> WriterOf<M, D> {
     /// The reply that says what the writer told, as [`reply_told`](crate::reply_told) gives it.
     pub fn reply_told(&mut self, told: Result<u64, Refusal>, scanner: &mut Scanner) -> Reply
         requires memory { IsOf M.table M.plan scanner.old }
-        ensures told { result ≡ reply_of (number_of self.new) told }
-        ensures number { number_of self.new ≡ number_of self.old }
-        ensures settled { (k : ℕ) (v : List ℕ) → IsTellable self.old k v told
-            → IsSettledAt scanner.new (own_of self.old.seat) k v result }
-        ensures limits { (k : ℕ) (v : List ℕ) → IsTellable self.old k v told → IsInLimits result }
-        ensures scanner { Meets scanner.old scanner.new }
-        ensures writer { HasMet self.old self.new }
+        ensures { RepliesTold told self.old self.new scanner.old scanner.new result }
     {
         let _ = &self.segment;
         reply_told(told, &mut self.writer, scanner)

@@ -11,7 +11,7 @@ ghost use Rattle.snap_service.specs.Answers.{
   AnswersStatus,
 };
 
-use crate::held::Pen;
+use crate::locked_writer::Pen;
 use crate::memory::Memory;
 use crate::shared::Shared;
 use crate::verdict::refuse_place;

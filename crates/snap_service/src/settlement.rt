@@ -1,13 +1,12 @@
 //! The reply to an update: what its writer told.
-ghost use Rattle.std.specs.Prelude.{◌≡◌, ℕ, List};
+ghost use Rattle.std.specs.Prelude.{◌≡◌};
 ghost use Rattle.snap_history.specs.Limits.{IsShort};
 ghost use Rattle.snap_memory.specs.Seat.{AreTogether, Meets, own_of};
 ghost use Rattle.snap_frame.specs.Messages.{IsInLimits};
-ghost use Rattle.snap_writer.specs.Writer.{number_of};
 ghost use Rattle.snap_writer.specs.Update.{IsSameSeat};
-ghost use Rattle.snap_service.specs.Settled.{IsSettledAt, IsTellable, reply_of};
+ghost use Rattle.snap_service.specs.Settled.{IsSettledAt, IsTellable};
 ghost use Rattle.snap_writer.specs.Updated.{IsUpdated};
-ghost use Rattle.snap_service.specs.Updated.{IsUpdatedAndTold, HasMet};
+ghost use Rattle.snap_service.specs.Updated.{IsUpdatedAndTold, RepliesTold};
 
 use snap_disk::{Disk, Refusal};
 use snap_frame::Reply;
@@ -37,13 +36,7 @@ pub fn reply_told<D: Disk>(
     scanner: &mut Scanner,
 ) -> Reply
     requires together { AreTogether scanner.old writer.old.seat }
-    ensures told { result ≡ reply_of (number_of writer.new) told }
-    ensures number { number_of writer.new ≡ number_of writer.old }
-    ensures settled { (k : ℕ) (v : List ℕ) → IsTellable writer.old k v told
-        → IsSettledAt scanner.new (own_of writer.old.seat) k v result }
-    ensures limits { (k : ℕ) (v : List ℕ) → IsTellable writer.old k v told → IsInLimits result }
-    ensures scanner { Meets scanner.old scanner.new }
-    ensures writer { HasMet writer.old writer.new }
+    ensures { RepliesTold told writer.old writer.new scanner.old scanner.new result }
 {
     // for what they say of the writer before and after (docs/DECISIONS.md, 180)
     let _before = writer.number();

@@ -21,8 +21,8 @@ ghost use Rattle.snap_service.specs.Memory.{IsOf, AreWriters, AreDisplaced};
 ghost use Rattle.snap_service.specs.Answers.{AnswersUpdate};
 ghost use Rattle.snap_service.specs.Counted.{CountsOne};
 
-use crate::held::Pen;
-use crate::lock::Lock;
+use crate::lock::WriterLock;
+use crate::locked_writer::Pen;
 use crate::memory::{Memory, WriterOf};
 use snap_disk::Disk;
 use snap_frame::{Reply, SegmentStatus};
@@ -33,7 +33,7 @@ use std::sync::Wait;
 /// The writers of all segments of the memory `M`, in order, each under a lock of its own.
 #[derive(Drop)]
 pub struct Shared<M: Memory, D: Disk + Drop> {
-    writers: Vec<Lock<M, D>>,
+    writers: Vec<WriterLock<M, D>>,
     ghost all: { length writers.items ≡ segments M.plan },
 }
 
@@ -49,7 +49,7 @@ impl<M: Memory, D: Disk + Drop> Shared<M, D> {
         };
         'writers: for writer in writers {
             let segment = locks.len();
-            match locks.push(Lock::of(WriterOf::new(writer, segment))) {
+            match locks.push(WriterLock::of(WriterOf::new(writer, segment))) {
                 Ok(()) => {}
                 Err(_) => unreachable!(),
             }

@@ -46,149 +46,108 @@ joined_said g h o0 o1 o2 r q tail fs one two same =
     ∙ ap (λ zs. zs ++ (q ++ tail)) one ∙ append_assoc o0 r (q ++ tail)
     ∙ ap (λ zs. o0 ++ zs) (sym (append_assoc r q tail) ∙ ap (λ zs. zs ++ tail) (sym same))
 
-goes_going : {S : Type 0} (between : S → S → Type 0) (joins : Joins between) (gives : S → Request
-    → Reply → S → Type 0) (s t u : S) (t0 t1 t2 : Talk) (a b g h : List ℕ) → t1.over ≡ None
-    → (one : Goes between gives s t t0 a g t1) → (two : Goes between gives t u t1 b h t2)
-    → GoesBy (length one.payloads + length two.payloads) between gives s u t0 (a ++ b) (g ++ h) t2
-goes_going between joins gives s t u t0 t1 t2 a b g h going one two =
-    let before : Phase t0.over None a one.payloads one.replies one.unsaid one.rest
-    (came t1) one.tail =
-    subst (λ (o : Option Failure).
-    Phase t0.over o a one.payloads one.replies one.unsaid one.rest (came t1) one.tail) going
-    one.phase in
-    let was = was_going t0.over a one.payloads one.replies one.unsaid one.rest
-    (came t1) one.tail before in
-    let after : Phase None t2.over b two.payloads two.replies two.unsaid two.rest
-    (came t2) two.tail =
-    subst (λ (o : Option Failure).
-    Phase o t2.over b two.payloads two.replies two.unsaid two.rest (came t2) two.tail) going
-    two.phase in
-    let more = a ++ b in
-    let ps = one.payloads ++ two.payloads in
-    let rs = one.replies ++ two.replies in (
-      record {
-        payloads = ps;
-        replies = rs;
-        unsaid = two.unsaid;
-        rest = two.rest;
-        tail = two.tail;
-        run =
-            subst (λ (zs : List (List ℕ)). Run between gives s ps zs u)
-            (ap (λ (us : List (List ℕ)). (one.replies ++ us) ++ (two.replies ++ two.unsaid)) was.1
-            ∙ ap (λ (zs : List (List ℕ)). zs ++ (two.replies ++ two.unsaid))
-            (append-nil one.replies)
-            ∙ sym (append_assoc one.replies two.replies two.unsaid))
-            (run_on between joins gives s t u one.payloads (one.replies
-            ++ one.unsaid) two.payloads (two.replies ++ two.unsaid) one.run two.run);
-        cut =
-            joined_cut (came t0) a b (came t1) (frames one.payloads) (frames two.payloads) two.rest
-            (frames ps)
-            (one.cut ∙ ap (λ zs. frames one.payloads ++ zs) (sym was.3))
-            two.cut
-            (frames-append one.payloads two.payloads);
-        said =
-            joined_said g h t0.owed t1.owed t2.owed (frames one.replies) (frames two.replies)
-            two.tail
-            (frames rs)
-            (one.said ∙ ap (λ zs. t0.owed ++ (frames one.replies ++ zs)) was.2
-            ∙ ap (λ zs. t0.owed ++ zs) (append-nil (frames one.replies)))
-            two.said
-            (frames-append one.replies two.replies);
-        phase =
-            subst (λ (o : Option Failure).
-            Phase o t2.over more ps rs two.unsaid two.rest (came t2) two.tail) (sym was.0)
-            (phase_any t2.over b more two.payloads ps two.replies rs two.unsaid two.rest
-            (came t2) two.tail after);
-      },
-      omega (arith, length-append one.payloads two.payloads),
-    )
+module _ {S : Type 0} (between : S → S → Type 0) (joins : Joins between)
+    (gives : S → Request → Reply → S → Type 0) (s t u : S) (t0 t1 t2 : Talk)
+    (a b g h : List ℕ) where
+  goes_going : t1.over ≡ None → (one : Goes between gives s t t0 a g t1)
+      → (two : Goes between gives t u t1 b h t2)
+      → GoesBy (length one.payloads + length two.payloads) between gives s u t0 (a ++ b) (g ++ h) t2
+  goes_going going one two =
+      let was = was_going t0.over a one.payloads one.replies one.unsaid one.rest
+      (came t1) one.tail (rw going at one.phase) in
+      let more = a ++ b in
+      let ps = one.payloads ++ two.payloads in
+      let rs = one.replies ++ two.replies in (
+        record {
+          payloads = ps;
+          replies = rs;
+          unsaid = two.unsaid;
+          rest = two.rest;
+          tail = two.tail;
+          run =
+              subst (λ (zs : List (List ℕ)). Run between gives s ps zs u)
+              (ap (λ (us : List (List ℕ)). (one.replies ++ us) ++ (two.replies ++ two.unsaid)) was.1
+              ∙ ap (λ (zs : List (List ℕ)). zs ++ (two.replies ++ two.unsaid))
+              (append-nil one.replies)
+              ∙ sym (append_assoc one.replies two.replies two.unsaid))
+              (run_on between joins gives s t u one.payloads (one.replies
+              ++ one.unsaid) two.payloads (two.replies ++ two.unsaid) one.run two.run);
+          cut =
+              joined_cut (came t0) a b (came t1) (frames one.payloads) (frames two.payloads)
+              two.rest
+              (frames ps)
+              (one.cut ∙ ap (λ zs. frames one.payloads ++ zs) (sym was.3))
+              two.cut
+              (frames-append one.payloads two.payloads);
+          said =
+              joined_said g h t0.owed t1.owed t2.owed (frames one.replies) (frames two.replies)
+              two.tail
+              (frames rs)
+              (one.said ∙ ap (λ zs. t0.owed ++ (frames one.replies ++ zs)) was.2
+              ∙ ap (λ zs. t0.owed ++ zs) (append-nil (frames one.replies)))
+              two.said
+              (frames-append one.replies two.replies);
+          phase =
+              subst (λ (o : Option Failure).
+              Phase o t2.over more ps rs two.unsaid two.rest (came t2) two.tail) (sym was.0)
+              (phase_any t2.over b more two.payloads ps two.replies rs two.unsaid two.rest
+              (came t2) two.tail (rw going at two.phase));
+        },
+        omega (arith, length-append one.payloads two.payloads),
+      )
 
-goes_over : {S : Type 0} (between : S → S → Type 0) (joins : Joins between) (gives : S → Request
-    → Reply → S → Type 0) (s t u : S) (t0 t1 t2 : Talk) (a b g h : List ℕ) (w : Failure)
-    → t1.over ≡ Some w → (one : Goes between gives s t t0 a g t1)
-    → (two : Goes between gives t u t1 b h t2)
-    → GoesBy (length one.payloads + length two.payloads) between gives s u t0 (a ++ b) (g ++ h) t2
-goes_over between joins gives s t u t0 t1 t2 a b g h w over one two =
-    let before : Phase t0.over (Some w) a one.payloads one.replies one.unsaid one.rest
-    (came t1) one.tail =
-    subst (λ (o : Option Failure).
-    Phase t0.over o a one.payloads one.replies one.unsaid one.rest (came t1) one.tail) over
-    one.phase in
-    let after : Phase (Some w) t2.over b two.payloads two.replies two.unsaid two.rest
-    (came t2) two.tail =
-    subst (λ (o : Option Failure).
-    Phase o t2.over b two.payloads two.replies two.unsaid two.rest (came t2) two.tail) over
-    two.phase in
-    let same : a ++ b ≡ a = ap (λ zs. a ++ zs) after.1 ∙ append-nil a in
-    let answers = one.replies ++ one.unsaid in (
-      record {
-        payloads = one.payloads;
-        replies = one.replies;
-        unsaid = one.unsaid;
-        rest = one.rest;
-        tail = one.tail;
-        run =
-            subst (λ (zs : List (List ℕ)). Run between gives s zs answers u)
-            (append-nil one.payloads)
-            (subst (λ (zs : List (List ℕ)). Run between gives s (one.payloads ++ []) zs u)
-            (append-nil answers)
-            (run_on between joins gives s t u one.payloads answers [] [] one.run
-            (subst (λ (zs : List (List ℕ)). Run between gives t zs [] u) after.2
-            (subst (λ (zs : List (List ℕ)). Run between gives t two.payloads zs u)
-            (ap (λ (zs : List (List ℕ)). zs ++ two.unsaid) after.3 ∙ after.4) two.run))));
-        cut = ap (λ zs. came t0 ++ zs) same ∙ one.cut;
-        said =
-            append_assoc g h t2.owed
-            ∙ ap (λ zs. g ++ zs) (two.said
-            ∙ ap (λ (zs : List (List ℕ)). t1.owed ++ (frames zs ++ two.tail)) after.3
-            ∙ ap (λ zs. t1.owed ++ zs) after.5 ∙ append-nil t1.owed)
-            ∙ one.said;
-        phase =
-            subst (λ (zs : List ℕ).
-            Phase t0.over t2.over zs one.payloads one.replies one.unsaid one.rest
-            (came t2) one.tail) (sym same)
-            (subst (λ (o : Option Failure).
-            Phase t0.over o a one.payloads one.replies one.unsaid one.rest (came t2) one.tail)
-            (sym after.0)
-            (phase_over t0.over w a one.payloads one.replies one.unsaid one.rest (came t1)
-            (came t2) one.tail before));
-      },
-      omega arith,
-    )
+  goes_over : (w : Failure) → t1.over ≡ Some w → (one : Goes between gives s t t0 a g t1)
+      → (two : Goes between gives t u t1 b h t2)
+      → GoesBy (length one.payloads + length two.payloads) between gives s u t0 (a ++ b) (g ++ h) t2
+  goes_over w over one two =
+      let after = rw over at two.phase in
+      let same : a ++ b ≡ a = ap (λ zs. a ++ zs) after.1 ∙ append-nil a in
+      let answers = one.replies ++ one.unsaid in (
+        record {
+          payloads = one.payloads;
+          replies = one.replies;
+          unsaid = one.unsaid;
+          rest = one.rest;
+          tail = one.tail;
+          run =
+              subst (λ (zs : List (List ℕ)). Run between gives s zs answers u)
+              (append-nil one.payloads)
+              (subst (λ (zs : List (List ℕ)). Run between gives s (one.payloads ++ []) zs u)
+              (append-nil answers)
+              (run_on between joins gives s t u one.payloads answers [] [] one.run
+              (subst (λ (zs : List (List ℕ)). Run between gives t zs [] u) after.2
+              (subst (λ (zs : List (List ℕ)). Run between gives t two.payloads zs u)
+              (ap (λ (zs : List (List ℕ)). zs ++ two.unsaid) after.3 ∙ after.4) two.run))));
+          cut = ap (λ zs. came t0 ++ zs) same ∙ one.cut;
+          said =
+              append_assoc g h t2.owed
+              ∙ ap (λ zs. g ++ zs) (two.said
+              ∙ ap (λ (zs : List (List ℕ)). t1.owed ++ (frames zs ++ two.tail)) after.3
+              ∙ ap (λ zs. t1.owed ++ zs) after.5 ∙ append-nil t1.owed)
+              ∙ one.said;
+          phase =
+              subst (λ (zs : List ℕ).
+              Phase t0.over t2.over zs one.payloads one.replies one.unsaid one.rest
+              (came t2) one.tail) (sym same)
+              (subst (λ (o : Option Failure).
+              Phase t0.over o a one.payloads one.replies one.unsaid one.rest (came t2) one.tail)
+              (sym after.0)
+              (phase_over t0.over w a one.payloads one.replies one.unsaid one.rest (came t1)
+              (came t2) one.tail (rw over at one.phase)));
+        },
+        omega arith,
+      )
 
-goes_by : {S : Type 0} (between : S → S → Type 0) (joins : Joins between) (gives : S → Request
-    → Reply → S → Type 0) (s t u : S) (t0 t1 t2 : Talk) (a b g h : List ℕ) (o : Option Failure)
-    → t1.over ≡ o → (one : Goes between gives s t t0 a g t1)
-    → (two : Goes between gives t u t1 b h t2)
-    → GoesBy (length one.payloads + length two.payloads) between gives s u t0 (a ++ b) (g ++ h) t2
-goes_by between joins gives s t u t0 t1 t2 a b g h None is one two =
-    goes_going between joins gives s t u t0 t1 t2 a b g h is one two
-goes_by between joins gives s t u t0 t1 t2 a b g h (Some w) is one two =
-    goes_over between joins gives s t u t0 t1 t2 a b g h w is one two
+  goes_by : (o : Option Failure) → t1.over ≡ o → (one : Goes between gives s t t0 a g t1)
+      → (two : Goes between gives t u t1 b h t2)
+      → GoesBy (length one.payloads + length two.payloads) between gives s u t0 (a ++ b) (g ++ h) t2
+  goes_by None is one two = goes_going is one two
+  goes_by (Some w) is one two = goes_over w is one two
 
--- two parts of a talk are one
-pub goes_on : {S : Type 0} (between : S → S → Type 0) (joins : Joins between) (gives : S → Request
-    → Reply → S → Type 0) (s t u : S) (t0 t1 t2 : Talk) (a b g h : List ℕ)
-    → Goes between gives s t t0 a g t1 → Goes between gives t u t1 b h t2
-    → Goes between gives s u t0 (a ++ b) (g ++ h) t2
-goes_on between joins gives s t u t0 t1 t2 a b g h one two =
-    (goes_by between joins gives s t u t0 t1 t2 a b g h t1.over refl one two).0
-
--- with nothing read or written in the second part or the first
-pub goes_silent : {S : Type 0} (gives : S → Request → Reply → S
-    → Type 0) (s t u : S) (t0 t1 t2 : Talk) → Goes Stays gives s t t0 [] [] t1
-    → Goes Stays gives t u t1 [] [] t2 → Goes Stays gives s u t0 [] [] t2
-goes_silent gives s t u t0 t1 t2 one two =
-    goes_on Stays stays_joins gives s t u t0 t1 t2 [] [] [] [] one two
-
--- and the frames that are answered in both
-pub goes_more : {S : Type 0} (gives : S → Request → Reply → S
-    → Type 0) (s t u : S) (t0 t1 t2 : Talk) (m n : ℕ) → GoesBy m Stays gives s t t0 [] [] t1
-    → GoesBy n Stays gives t u t1 [] [] t2 → GoesBy (m + n) Stays gives s u t0 [] [] t2
-goes_more gives s t u t0 t1 t2 m n one two =
-    let both =
-    goes_by Stays stays_joins gives s t u t0 t1 t2 [] [] [] [] t1.over refl one.0 two.0 in
-    (both.0, omega (arith, both.1, one.1, two.1))
+  -- two parts of a talk are one
+  pub goes_on : Goes between gives s t t0 a g t1 → Goes between gives t u t1 b h t2
+      → Goes between gives s u t0 (a ++ b) (g ++ h) t2
+  goes_on one two = (goes_by t1.over refl one two).0
 
 -- the same frames and replies by another run
 pub by_run : {S : Type 0} (before between : S → S → Type 0) (gives : S → Request → Reply → S
@@ -209,10 +168,18 @@ by_run before between gives s t u old taken given new one run =
       phase = one.phase;
     }
 
--- a talk that nobody disturbs is one that others may disturb
-pub loosen : {S : Type 0} (gives : S → Request → Reply → S
-    → Type 0) (s t : S) (old : Talk) (taken given : List ℕ) (new : Talk)
-    → Goes Stays gives s t old taken given new → Goes (Moves gives) gives s t old taken given new
-loosen gives s t old taken given new one =
-    by_run Stays (Moves gives) gives s t t old taken given new one
-    (loosen_run gives s t one.payloads (one.replies ++ one.unsaid) one.run)
+module _ {S : Type 0} (gives : S → Request → Reply → S → Type 0) where
+  -- with nothing read or written, and the frames that are answered in both
+  pub goes_more : (s t u : S) (t0 t1 t2 : Talk) (m n : ℕ) → GoesBy m Stays gives s t t0 [] [] t1
+      → GoesBy n Stays gives t u t1 [] [] t2 → GoesBy (m + n) Stays gives s u t0 [] [] t2
+  goes_more s t u t0 t1 t2 m n one two =
+      let both =
+      goes_by Stays stays_joins gives s t u t0 t1 t2 [] [] [] [] t1.over refl one.0 two.0 in
+      (both.0, omega (arith, both.1, one.1, two.1))
+
+  -- a talk that nobody disturbs is one that others may disturb
+  pub loosen : (s t : S) (old : Talk) (taken given : List ℕ) (new : Talk)
+      → Goes Stays gives s t old taken given new → Goes (Moves gives) gives s t old taken given new
+  loosen s t old taken given new one =
+      by_run Stays (Moves gives) gives s t t old taken given new one
+      (loosen_run gives s t one.payloads (one.replies ++ one.unsaid) one.run)

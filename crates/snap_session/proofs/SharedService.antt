@@ -23,23 +23,21 @@ by_talk before between gives s t u old r0 r1 w0 w1 new one goes =
       goes = goes;
     }
 
-pub turns_loosen : {S : Type 0} (gives : S → Request → Reply → S
-    → Type 0) (s t : S) (old : Talk) (r0 r1 w0 w1 : Option (List ℕ)) (new : Talk)
-    → Turns Stays gives s t old r0 r1 w0 w1 new → Turns (Moves gives) gives s t old r0 r1 w0 w1 new
-turns_loosen gives s t old r0 r1 w0 w1 new one =
-    by_talk Stays (Moves gives) gives s t t old r0 r1 w0 w1 new one
-    (loosen gives s t old one.taken one.given new one.goes)
+module _ {S : Type 0} (gives : S → Request → Reply → S → Type 0) where
+  pub turns_loosen : (s t : S) (old : Talk) (r0 r1 w0 w1 : Option (List ℕ)) (new : Talk)
+      → Turns Stays gives s t old r0 r1 w0 w1 new → Turns (Moves gives) gives s t old r0 r1 w0 w1 new
+  turns_loosen s t old r0 r1 w0 w1 new one =
+      by_talk Stays (Moves gives) gives s t t old r0 r1 w0 w1 new one
+      (loosen gives s t old one.taken one.given new one.goes)
 
--- a session begins on a shared service
-pub shares : {S : Type 0} (gives : S → Request → Reply → S
-    → Type 0) (s : S) (t : Talk) (r w : Option (List ℕ)) → Turns (Moves gives) gives s s t r r w w t
-shares gives s t r w = turns_loosen gives s s t r r w w t (begins gives s t r w)
+  -- a session begins on a shared service
+  pub shares : (s : S) (t : Talk) (r w : Option (List ℕ)) → Turns (Moves gives) gives s s t r r w w t
+  shares s t r w = turns_loosen s s t r r w w t (begins gives s t r w)
 
--- it has a turn
-pub has_turn : {S : Type 0} (gives : S → Request → Reply → S
-    → Type 0) (s t u : S) (t0 t1 t2 : Talk) (r0 r1 r2 w0 w1 w2 : Option (List ℕ))
-    → Turns (Moves gives) gives s t t0 r0 r1 w0 w1 t1 → Turns Stays gives t u t1 r1 r2 w1 w2 t2
-    → Turns (Moves gives) gives s u t0 r0 r2 w0 w2 t2
-has_turn gives s t u t0 t1 t2 r0 r1 r2 w0 w1 w2 one two =
-    turns_on (Moves gives) (moves_joins gives) gives s t u t0 t1 t2 r0 r1 r2 w0 w1 w2 one
-    (turns_loosen gives t u t1 r1 r2 w1 w2 t2 two)
+  -- it has a turn
+  pub has_turn : (s t u : S) (t0 t1 t2 : Talk) (r0 r1 r2 w0 w1 w2 : Option (List ℕ))
+      → Turns (Moves gives) gives s t t0 r0 r1 w0 w1 t1 → Turns Stays gives t u t1 r1 r2 w1 w2 t2
+      → Turns (Moves gives) gives s u t0 r0 r2 w0 w2 t2
+  has_turn s t u t0 t1 t2 r0 r1 r2 w0 w1 w2 one two =
+      turns_on (Moves gives) (moves_joins gives) gives s t u t0 t1 t2 r0 r1 r2 w0 w1 w2 one
+      (turns_loosen t u t1 r1 r2 w1 w2 t2 two)

@@ -42,63 +42,6 @@ phase_same (Some w) rest held same = (refl, refl, refl, refl, refl, refl)
 owed_only : (xs : List ℕ) → xs ≡ xs ++ ([] ++ [])
 owed_only xs = sym (append-nil xs)
 
--- nothing is answered
-unanswered : {S : Type 0} (gives : S → Request → Reply → S
-    → Type 0) (s : S) (old : Talk) (taken given : List ℕ) (new : Talk)
-    → given ++ new.owed ≡ old.owed
-    → Phase old.over new.over taken [] [] [] (came old ++ taken) (came new) []
-    → GoesBy 0 Stays gives s s old taken given new
-unanswered gives s old taken given new said phase = (
-  record {
-    payloads = [];
-    replies = [];
-    unsaid = [];
-    rest = came old ++ taken;
-    tail = [];
-    run = refl;
-    cut = refl;
-    said = said ∙ owed_only old.owed;
-    phase = phase;
-  },
-  omega arith,
-)
-
--- the bytes that came stay as they are, and some that are owed are sent
-pub sends : {S : Type 0} (gives : S → Request → Reply → S
-    → Type 0) (s : S) (old : Talk) (given : List ℕ) (new : Talk) → old.owed ≡ given ++ new.owed
-    → came new ≡ came old → new.over ≡ old.over → GoesBy 0 Stays gives s s old [] given new
-sends gives s old given new owed same over =
-    unanswered gives s old [] given new (sym owed)
-    (subst (λ (o : Option Failure). Phase old.over o [] [] [] [] (came old ++ []) (came new) [])
-    (sym over) (phase_same old.over (came old ++ []) (came new)
-    (same ∙ sym (append-nil (came old)))))
-
--- nothing happens
-pub rests : {S : Type 0} (gives : S → Request → Reply → S → Type 0) (s : S) (t : Talk)
-    → GoesBy 0 Stays gives s s t [] [] t
-rests gives s t = sends gives s t [] t refl refl refl
-
--- memory runs out before anything is answered
-pub gives_up : {S : Type 0} (gives : S → Request → Reply → S
-    → Type 0) (s : S) (old : Talk) (taken : List ℕ) (new : Talk) → old.over ≡ None
-    → new.owed ≡ old.owed → new.over ≡ Some NoMemory → GoesBy 0 Stays gives s s old taken [] new
-gives_up gives s old taken new going owed over =
-    unanswered gives s old taken [] new owed
-    (phase_no_memory old.over new.over taken [] [] [] (came old ++ taken) (came new) going over
-    (omega arith))
-
--- a piece is taken in
-pub takes : {S : Type 0} (gives : S → Request → Reply → S
-    → Type 0) (s : S) (old : Talk) (piece : List ℕ) (new : Talk) → old.over ≡ None
-    → HasTaken old piece new → GoesBy 0 Stays gives s s old piece [] new
-takes gives s old piece new going (inl is) =
-    unanswered gives s old piece [] new (ap owed_of is)
-    (phase_going old.over new.over piece [] [] (came old ++ piece) (came new) going
-    (ap over_of is ∙ going)
-    (ap came is ∙ sym (append_assoc (asked_bytes old.asked) old.held piece)))
-takes gives s old piece new going (inr none) =
-    gives_up gives s old piece new going (ap owed_of none) (ap over_of none)
-
 pub taken_asked : (old : Talk) (piece : List ℕ) (new : Talk) → HasTaken old piece new
     → new.asked ≡ old.asked
 taken_asked old piece new (inl is) = ap asked_of is
@@ -119,85 +62,11 @@ said_one : (owed y : List ℕ) → owed ++ frame y ≡ owed ++ (frames (y ∷ []
 said_one owed y =
     ap (λ zs. owed ++ zs) (sym (append-nil (frame y)) ∙ sym (append-nil (frames (y ∷ []))))
 
--- a frame is answered, and its reply is owed or no memory was left for it
-answered_one : {S : Type 0} (gives : S → Request → Reply → S
-    → Type 0) (s t : S) (old mid new : Talk) (x y : List ℕ) (ys us : List (List ℕ))
-    → ys ++ us ≡ y ∷ [] → came old ≡ frame x ++ came mid → Answer gives s x y t
-    → new.owed ≡ old.owed ++ (frames ys ++ [])
-    → Phase old.over new.over [] (x ∷ []) ys us (came mid) (came new) []
-    → GoesBy 1 Stays gives s t old [] [] new
-answered_one gives s t old mid new x y ys us one found answer said phase = (
-  record {
-    payloads = x ∷ [];
-    replies = ys;
-    unsaid = us;
-    rest = came mid;
-    tail = [];
-    run = subst (λ zs. Run Stays gives s (x ∷ []) zs t) (sym one) (s, t, refl, answer, refl);
-    cut = append-nil (came old) ∙ found
-        ∙ ap (λ zs. zs ++ came mid) (sym (append-nil (frame x)));
-    said = said;
-    phase = phase;
-  },
-  omega arith,
-)
-
--- a frame is answered
-pub answers : {S : Type 0} (gives : S → Request → Reply → S
-    → Type 0) (s t : S) (old mid new : Talk) (x y : List ℕ) (ok : Bool) → old.over ≡ None
-    → came old ≡ frame x ++ came mid → mid.owed ≡ old.owed → mid.over ≡ None → Answer gives s x y t
-    → Owes mid y new ok → GoesBy 1 Stays gives s t old [] [] new
-answers gives s t old mid new x y true going found owed over answer owes =
-    answered_one gives s t old mid new x y (y ∷ []) [] refl found answer
-    (ap owed_of owes ∙ ap (λ zs. zs ++ frame y) owed ∙ said_one old.owed y)
-    (phase_going old.over new.over [] (x ∷ []) (y ∷ []) (came mid) (came new) going
-    (ap over_of owes ∙ over) (ap came owes))
-answers gives s t old mid new x y false going found owed over answer owes =
-    answered_one gives s t old mid new x y [] (y ∷ []) refl found answer
-    (ap owed_of owes ∙ owed ∙ owed_only old.owed)
-    (phase_no_memory old.over new.over [] (x ∷ []) [] (y ∷ []) (came mid) (came new) going
-    (ap over_of owes) (omega arith))
-
--- a length above the limit is refused
-pub refuses : {S : Type 0} (gives : S → Request → Reply → S
-    → Type 0) (s : S) (old mid new : Talk) (ok : Bool) → old.over ≡ None → HasLongLength (came old)
-    → mid ≡ record old { over = Some TooLarge } → Owes mid refused_too_large new ok
-    → GoesBy 0 Stays gives s s old [] [] new
-refuses gives s old mid new true going long is owes = (
-  record {
-    payloads = [];
-    replies = [];
-    unsaid = [];
-    rest = came old;
-    tail = frame refused_too_large;
-    run = refl;
-    cut = append-nil (came old);
-    said = ap owed_of owes ∙ ap (λ zs. zs ++ frame refused_too_large) (ap owed_of is);
-    phase = phase_too_large old.over new.over [] [] [] (came old) (came new) going
-        (ap over_of owes ∙ ap over_of is) long;
-  },
-  omega arith,
-)
-refuses gives s old mid new false going long is owes =
-    gives_up gives s old [] new going (ap owed_of owes ∙ ap owed_of is) (ap over_of owes)
-
 -- the first frame that is held is the first one that came
 pub found_first : (old mid : Talk) (x : List ℕ) → old.asked ≡ None → HasFrame old.held x mid.held
     → mid.asked ≡ old.asked → came old ≡ frame x ++ came mid
 found_first old mid x free found same =
     came_free old free ∙ found.split ∙ ap (λ zs. frame x ++ zs) (sym (came_free mid (same ∙ free)))
-
--- a request is handed over
-pub hands : {S : Type 0} (gives : S → Request → Reply → S
-    → Type 0) (s : S) (old mid new : Talk) (x : List ℕ) (q : Request) → old.over ≡ None
-    → old.asked ≡ None → HasFrame old.held x mid.held → x ≡ payload q → mid.owed ≡ old.owed
-    → mid.over ≡ None → new ≡ record mid { asked = Some q } → GoesBy 0 Stays gives s s old [] [] new
-hands gives s old mid new x q going free found asks owed over is =
-    sends gives s old [] new
-    (sym (ap owed_of is ∙ owed))
-    (ap came is ∙ ap (λ zs. frame zs ++ mid.held) (sym asks) ∙ sym found.split
-    ∙ sym (came_free old free))
-    (ap over_of is ∙ over ∙ sym going)
 
 pub owes_free : (old : Talk) (y : List ℕ) (new : Talk) (ok : Bool) → Owes old y new ok
     → old.asked ≡ None → new.asked ≡ None
@@ -205,7 +74,7 @@ owes_free old y new true owes free = ap asked_of owes ∙ free
 owes_free old y new false owes free = ap asked_of owes ∙ free
 
 -- bytes are owed then, unless it is over
-pub owes_some : (old : Talk) (y : List ℕ) (new : Talk) (ok : Bool) → Owes old y new ok
+owes_some : (old : Talk) (y : List ℕ) (new : Talk) (ok : Bool) → Owes old y new ok
     → new.over ≡ None → new.owed ≡ [] → ⊥
 owes_some old y new true owes going none =
     absurd (omega (
@@ -217,12 +86,10 @@ owes_some old y new true owes going none =
 owes_some old y new false owes going none =
     let wrong : Some NoMemory ≡ None = sym (ap over_of owes) ∙ going in absurd cc
 
--- it stays over
-pub owes_over : (old : Talk) (y : List ℕ) (new : Talk) (ok : Bool) → Owes old y new ok
-    → over_of old ≢ None → over_of new ≢ None
-owes_over old y new true owes over going = over (sym (ap over_of owes) ∙ going)
-owes_over old y new false owes over going =
-    let wrong : Some NoMemory ≡ None = sym (ap over_of owes) ∙ going in absurd cc
+-- so a turn is wanted, with no request handed over
+pub owes_turn : (old : Talk) (y : List ℕ) (new : Talk) (ok : Bool) → Owes old y new ok
+    → old.asked ≡ None → (new.asked ≡ None) × (new.over ≡ None → new.owed ≡ [] → ⊥)
+owes_turn old y new ok owes free = (owes_free old y new ok owes free, owes_some old y new ok owes)
 
 -- what is held stays as it is
 pub owes_held : (old : Talk) (y : List ℕ) (new : Talk) (ok : Bool) → Owes old y new ok
@@ -230,30 +97,152 @@ pub owes_held : (old : Talk) (y : List ℕ) (new : Talk) (ok : Bool) → Owes ol
 owes_held old y new true owes = ap (λ (z : Talk). z.held) owes
 owes_held old y new false owes = ap (λ (z : Talk). z.held) owes
 
--- a request that was handed over is answered
-pub finishes : {S : Type 0} (gives : S → Request → Reply → S
-    → Type 0) (s t : S) (old mid new : Talk) (q : Request) (r : Reply) (ok : Bool) → old.over ≡ None
-    → old.asked ≡ Some q → mid ≡ record old { asked = None } → gives s q r t → IsInLimits r
-    → length (payload q) ≤ max_payload → IsAskable q → Owes mid (says r) new ok
-    → Goes Stays gives s t old [] [] new
-finishes gives s t old mid new q r ok going asked is given limits fits askable owes =
-    (answers gives s t old mid new (payload q) (says r) ok going
-    (came_asked old q asked ∙ ap (λ zs. frame (payload q) ++ zs) (sym (ap came is)))
-    (ap owed_of is)
-    (ap over_of is ∙ going)
-    (fits, inl (q, r, (askable, refl), given, (limits, refl)))
-    owes).0
+module _ {S : Type 0} (gives : S → Request → Reply → S → Type 0) where
+  -- nothing is answered
+  unanswered : (s : S) (old : Talk) (taken given : List ℕ) (new : Talk)
+      → given ++ new.owed ≡ old.owed
+      → Phase old.over new.over taken [] [] [] (came old ++ taken) (came new) []
+      → GoesBy 0 Stays gives s s old taken given new
+  unanswered s old taken given new said phase = (
+    record {
+      payloads = [];
+      replies = [];
+      unsaid = [];
+      rest = came old ++ taken;
+      tail = [];
+      run = refl;
+      cut = refl;
+      said = said ∙ owed_only old.owed;
+      phase = phase;
+    },
+    omega arith,
+  )
 
--- nobody waits for an outcome
-pub nobody : {S : Type 0} (gives : S → Request → Reply → S → Type 0) (s : S) (t : Talk)
-    → t.asked ≡ None → Goes Stays gives s s t [] [] (record t { asked = None })
-nobody gives s t free = (sends gives s t [] (record t {
-  asked =
-      None;
-}) refl (sym (came_free t free)) refl).0
+  -- the bytes that came stay as they are, and some that are owed are sent
+  pub sends : (s : S) (old : Talk) (given : List ℕ) (new : Talk) → old.owed ≡ given ++ new.owed
+      → came new ≡ came old → new.over ≡ old.over → GoesBy 0 Stays gives s s old [] given new
+  sends s old given new owed same over =
+      unanswered s old [] given new (sym owed)
+      (subst (λ (o : Option Failure). Phase old.over o [] [] [] [] (came old ++ []) (came new) [])
+      (sym over) (phase_same old.over (came old ++ []) (came new)
+      (same ∙ sym (append-nil (came old)))))
 
--- fewer are no more
-pub by_more : {S : Type 0} (gives : S → Request → Reply → S
-    → Type 0) (s t : S) (old : Talk) (taken given : List ℕ) (new : Talk) (m n : ℕ) → m ≤ n
-    → GoesBy m Stays gives s t old taken given new → GoesBy n Stays gives s t old taken given new
-by_more gives s t old taken given new m n more goes = (goes.0, omega (arith, more, goes.1))
+  -- nothing happens
+  pub rests : (s : S) (t : Talk)
+      → GoesBy 0 Stays gives s s t [] [] t
+  rests s t = sends s t [] t refl refl refl
+
+  -- memory runs out before anything is answered
+  pub gives_up : (s : S) (old : Talk) (taken : List ℕ) (new : Talk) → old.over ≡ None
+      → new.owed ≡ old.owed → new.over ≡ Some NoMemory → GoesBy 0 Stays gives s s old taken [] new
+  gives_up s old taken new going owed over =
+      unanswered s old taken [] new owed
+      (phase_no_memory old.over new.over taken [] [] [] (came old ++ taken) (came new) going over
+      (omega arith))
+
+  -- a piece is taken in
+  pub takes : (s : S) (old : Talk) (piece : List ℕ) (new : Talk) → old.over ≡ None
+      → HasTaken old piece new → GoesBy 0 Stays gives s s old piece [] new
+  takes s old piece new going (inl is) =
+      unanswered s old piece [] new (ap owed_of is)
+      (phase_going old.over new.over piece [] [] (came old ++ piece) (came new) going
+      (ap over_of is ∙ going)
+      (ap came is ∙ sym (append_assoc (asked_bytes old.asked) old.held piece)))
+  takes s old piece new going (inr none) =
+      gives_up s old piece new going (ap owed_of none) (ap over_of none)
+
+  -- a frame is answered, and its reply is owed or no memory was left for it
+  answered_one : (s t : S) (old mid new : Talk) (x y : List ℕ) (ys us : List (List ℕ))
+      → ys ++ us ≡ y ∷ [] → came old ≡ frame x ++ came mid → Answer gives s x y t
+      → new.owed ≡ old.owed ++ (frames ys ++ [])
+      → Phase old.over new.over [] (x ∷ []) ys us (came mid) (came new) []
+      → GoesBy 1 Stays gives s t old [] [] new
+  answered_one s t old mid new x y ys us one found answer said phase = (
+    record {
+      payloads = x ∷ [];
+      replies = ys;
+      unsaid = us;
+      rest = came mid;
+      tail = [];
+      run = subst (λ zs. Run Stays gives s (x ∷ []) zs t) (sym one) (s, t, refl, answer, refl);
+      cut = append-nil (came old) ∙ found
+          ∙ ap (λ zs. zs ++ came mid) (sym (append-nil (frame x)));
+      said = said;
+      phase = phase;
+    },
+    omega arith,
+  )
+
+  -- a frame is answered
+  pub answers : (s t : S) (old mid new : Talk) (x y : List ℕ) (ok : Bool) → old.over ≡ None
+      → came old ≡ frame x ++ came mid → mid.owed ≡ old.owed → mid.over ≡ None → Answer gives s x y t
+      → Owes mid y new ok → GoesBy 1 Stays gives s t old [] [] new
+  answers s t old mid new x y true going found owed over answer owes =
+      answered_one s t old mid new x y (y ∷ []) [] refl found answer
+      (ap owed_of owes ∙ ap (λ zs. zs ++ frame y) owed ∙ said_one old.owed y)
+      (phase_going old.over new.over [] (x ∷ []) (y ∷ []) (came mid) (came new) going
+      (ap over_of owes ∙ over) (ap came owes))
+  answers s t old mid new x y false going found owed over answer owes =
+      answered_one s t old mid new x y [] (y ∷ []) refl found answer
+      (ap owed_of owes ∙ owed ∙ owed_only old.owed)
+      (phase_no_memory old.over new.over [] (x ∷ []) [] (y ∷ []) (came mid) (came new) going
+      (ap over_of owes) (omega arith))
+
+  -- a length above the limit is refused
+  pub refuses : (s : S) (old mid new : Talk) (ok : Bool) → old.over ≡ None → HasLongLength (came old)
+      → mid ≡ record old { over = Some TooLarge } → Owes mid refused_too_large new ok
+      → GoesBy 0 Stays gives s s old [] [] new
+  refuses s old mid new true going long is owes = (
+    record {
+      payloads = [];
+      replies = [];
+      unsaid = [];
+      rest = came old;
+      tail = frame refused_too_large;
+      run = refl;
+      cut = append-nil (came old);
+      said = ap owed_of owes ∙ ap (λ zs. zs ++ frame refused_too_large) (ap owed_of is);
+      phase = phase_too_large old.over new.over [] [] [] (came old) (came new) going
+          (ap over_of owes ∙ ap over_of is) long;
+    },
+    omega arith,
+  )
+  refuses s old mid new false going long is owes =
+      gives_up s old [] new going (ap owed_of owes ∙ ap owed_of is) (ap over_of owes)
+
+  -- a request is handed over
+  pub hands : (s : S) (old mid new : Talk) (x : List ℕ) (q : Request) → old.over ≡ None
+      → old.asked ≡ None → HasFrame old.held x mid.held → x ≡ payload q → mid.owed ≡ old.owed
+      → mid.over ≡ None → new ≡ record mid { asked = Some q } → GoesBy 0 Stays gives s s old [] [] new
+  hands s old mid new x q going free found asks owed over is =
+      sends s old [] new
+      (sym (ap owed_of is ∙ owed))
+      (ap came is ∙ ap (λ zs. frame zs ++ mid.held) (sym asks) ∙ sym found.split
+      ∙ sym (came_free old free))
+      (ap over_of is ∙ over ∙ sym going)
+
+  -- a request that was handed over is answered
+  pub finishes : (s t : S) (old mid new : Talk) (q : Request) (r : Reply) (ok : Bool) → old.over ≡ None
+      → old.asked ≡ Some q → mid ≡ record old { asked = None } → gives s q r t → IsInLimits r
+      → length (payload q) ≤ max_payload → IsAskable q → Owes mid (says r) new ok
+      → Goes Stays gives s t old [] [] new
+  finishes s t old mid new q r ok going asked is given limits fits askable owes =
+      (answers s t old mid new (payload q) (says r) ok going
+      (came_asked old q asked ∙ ap (λ zs. frame (payload q) ++ zs) (sym (ap came is)))
+      (ap owed_of is)
+      (ap over_of is ∙ going)
+      (fits, inl (q, r, (askable, refl), given, (limits, refl)))
+      owes).0
+
+  -- nobody waits for an outcome
+  pub nobody : (s : S) (t : Talk)
+      → t.asked ≡ None → Goes Stays gives s s t [] [] (record t { asked = None })
+  nobody s t free = (sends s t [] (record t {
+    asked =
+        None;
+  }) refl (sym (came_free t free)) refl).0
+
+  -- fewer are no more
+  pub by_more : (s t : S) (old : Talk) (taken given : List ℕ) (new : Talk) (m n : ℕ) → m ≤ n
+      → GoesBy m Stays gives s t old taken given new → GoesBy n Stays gives s t old taken given new
+  by_more s t old taken given new m n more goes = (goes.0, omega (arith, more, goes.1))

@@ -2,12 +2,12 @@
 use Rattle.std.proofs.Common.{◌≡◌, ℕ, List, [], ◌++◌, Option, None, OnSome, Some, refl, sym, ◌∙◌, ap, subst, append-nil, append_assoc}
 use Rattle.std.proofs.Common.{take, drop, length, length-append, arith, ◌≤◌, ◌∷◌, Bool, true, false, eqb-true}
 use Rattle.std.specs.Bool.{◌==◌}
-use Rattle.std.specs.Io.KnownBytes.{Appends, Consumes, Keeps}
+use Rattle.std.specs.Io.KnownBytes.{Appends, Consumes}
+use Rattle.std.proofs.KnownBytes.{Appends-trans, Consumes-trans}
 use Rattle.snap_frame.specs.declared.request.Request.{Request}
 use Rattle.snap_frame.specs.declared.reply.Reply.{Reply}
 use Rattle.snap_session.specs.declared.turns.End.{End}
 use Rattle.snap_session.specs.declared.turns.Sent.TheVariants.{All, Blocked, Failed}
-use Rattle.snap_session.specs.declared.turns.Turn.TheVariants.{Again, NeedsInput, NeedsRoom, NeedsOutcome, Over}
 use Rattle.std.proofs.lemmas.List.{take-append-drop}
 use Rattle.snap_session.specs.Talk.{Talk, Goes, Stays, HasTaken, came, asked_bytes, start, most_owed, HoldsFrameAnd}
 use Rattle.snap_session.specs.Turns.{Turns, Sends, Serves, EndsAt}
@@ -15,19 +15,7 @@ use Rattle.snap_session.proofs.Runs.{Joins, stays_joins}
 use Rattle.snap_session.proofs.Continuation.{goes_on}
 use Rattle.snap_session.proofs.Steps.{rests, takes, sends}
 use Rattle.snap_session.proofs.Held.{holds_sent}
-use Rattle.snap_session.proofs.Known.{appends_none, appends_more, consumes_none, consumes_more, consumes_kept}
-
-pub begins : {S : Type 0} (gives : S → Request → Reply → S
-    → Type 0) (s : S) (t : Talk) (r w : Option (List ℕ)) → Turns Stays gives s s t r r w w t
-begins gives s t r w =
-    record {
-      taken = [];
-      given = [];
-      read = consumes_none r;
-      writes = appends_none w;
-      goes =
-          (rests gives s t).0;
-    }
+use Rattle.snap_session.proofs.Known.{appends_none, consumes_none, consumes_more}
 
 pub turns_on : {S : Type 0} (between : S → S → Type 0) (joins : Joins between) (gives : S → Request
     → Reply → S → Type 0) (s t u : S) (t0 t1 t2 : Talk) (r0 r1 r2 w0 w1 w2 : Option (List ℕ))
@@ -37,112 +25,16 @@ turns_on between joins gives s t u t0 t1 t2 r0 r1 r2 w0 w1 w2 one two =
     record {
       taken = one.taken ++ two.taken;
       given = one.given ++ two.given;
-      read = consumes_more r0 r1 r2 one.taken two.taken (one.taken
-          ++ two.taken) one.read two.read refl;
-      writes = appends_more w0 w1 w2 one.given two.given (one.given
-          ++ two.given) one.writes two.writes refl;
+      read = Consumes-trans r0 r1 r2 one.taken two.taken one.read two.read;
+      writes = Appends-trans w0 w1 w2 one.given two.given one.writes two.writes;
       goes = goes_on between joins gives s t u t0 t1 t2 one.taken two.taken one.given two.given
           one.goes two.goes;
     }
-
-pub then_turns : {S : Type 0} (gives : S → Request → Reply → S
-    → Type 0) (s t u : S) (t0 t1 t2 : Talk) (r0 r1 r2 w0 w1 w2 : Option (List ℕ))
-    → Turns Stays gives s t t0 r0 r1 w0 w1 t1 → Turns Stays gives t u t1 r1 r2 w1 w2 t2
-    → Turns Stays gives s u t0 r0 r2 w0 w2 t2
-then_turns gives s t u t0 t1 t2 r0 r1 r2 w0 w1 w2 one two =
-    turns_on Stays stays_joins gives s t u t0 t1 t2 r0 r1 r2 w0 w1 w2 one two
 
 same_came : (a b : Talk) → b.asked ≡ a.asked → b.held ≡ a.held → came b ≡ came a
 same_came a b one two =
     ap (λ (q : Option Request). asked_bytes q ++ b.held) one
     ∙ ap (λ zs. asked_bytes a.asked ++ zs) two
-
--- then bytes that are owed are written
-pub then_sends : {S : Type 0} (gives : S → Request → Reply → S
-    → Type 0) (s t : S) (t0 t1 t2 : Talk) (r0 r1 w0 w1 w2 : Option (List ℕ))
-    → Turns Stays gives s t t0 r0 r1 w0 w1 t1 → Sends t1 t2 w1 w2
-    → Turns Stays gives s t t0 r0 r1 w0 w2 t2
-then_sends gives s t t0 t1 t2 r0 r1 w0 w1 w2 one two =
-    then_turns gives s t t t0 t1 t2 r0 r1 r1 w0 w1 w2 one
-    (record {
-      taken = [];
-      given = two.given;
-      read = consumes_none r1;
-      writes = two.writes;
-      goes =
-          (sends gives t t1 two.given t2 two.owed (same_came t1 t2 two.asked two.held) two.over).0;
-    })
-
--- then frames are answered
-pub then_answers : {S : Type 0} (gives : S → Request → Reply → S
-    → Type 0) (s t u : S) (t0 t1 t2 : Talk) (r0 r1 w0 w1 : Option (List ℕ))
-    → Turns Stays gives s t t0 r0 r1 w0 w1 t1 → Goes Stays gives t u t1 [] [] t2
-    → Turns Stays gives s u t0 r0 r1 w0 w1 t2
-then_answers gives s t u t0 t1 t2 r0 r1 w0 w1 one two =
-    then_turns gives s t u t0 t1 t2 r0 r1 r1 w0 w1 w1 one
-    (record {
-      taken = [];
-      given = [];
-      read = consumes_none r1;
-      writes = appends_none w1;
-      goes =
-          two;
-    })
-
--- a round: bytes that are owed are written, and frames are answered
-pub then_round : {S : Type 0} (gives : S → Request → Reply → S
-    → Type 0) (s t u : S) (t0 t1 t2 t3 : Talk) (r0 r1 w0 w1 w2 : Option (List ℕ))
-    → Turns Stays gives s t t0 r0 r1 w0 w1 t1 → Sends t1 t2 w1 w2 → Goes Stays gives t u t2 [] [] t3
-    → Turns Stays gives s u t0 r0 r1 w0 w2 t3
-then_round gives s t u t0 t1 t2 t3 r0 r1 w0 w1 w2 one sent goes =
-    then_answers gives s t u t0 t2 t3 r0 r1 w0 w2
-    (then_sends gives s t t0 t1 t2 r0 r1 w0 w1 w2 one sent) goes
-
--- then a piece is read and taken in
-pub then_takes : {S : Type 0} (gives : S → Request → Reply → S
-    → Type 0) (s t : S) (t0 t1 t2 : Talk) (r0 r1 r2 w0 w1 : Option (List ℕ)) (piece : List ℕ)
-    → Turns Stays gives s t t0 r0 r1 w0 w1 t1 → t1.over ≡ None → Consumes r1 r2 piece
-    → HasTaken t1 piece t2 → Turns Stays gives s t t0 r0 r2 w0 w1 t2
-then_takes gives s t t0 t1 t2 r0 r1 r2 w0 w1 piece one going read taken =
-    then_turns gives s t t t0 t1 t2 r0 r1 r2 w0 w1 w1 one
-    (record {
-      taken = piece;
-      given = [];
-      read = read;
-      writes = appends_none w1;
-      goes =
-          (takes gives t t1 piece t2 going taken).0;
-    })
-
--- then a read gives nothing
-pub then_keeps : {S : Type 0} (gives : S → Request → Reply → S
-    → Type 0) (s t : S) (t0 t1 : Talk) (r0 r1 r2 w0 w1 : Option (List ℕ))
-    → Turns Stays gives s t t0 r0 r1 w0 w1 t1 → Keeps r1 r2
-    → Turns Stays gives s t t0 r0 r2 w0 w1 t1
-then_keeps gives s t t0 t1 r0 r1 r2 w0 w1 one kept =
-    record {
-      taken = one.taken;
-      given = one.given;
-      read =
-          consumes_kept r0 r1 r2 one.taken one.read kept;
-      writes = one.writes;
-      goes = one.goes;
-    }
-
-pub then_ends : {S : Type 0} (gives : S → Request → Reply → S
-    → Type 0) (s t : S) (t0 t1 : Talk) (r0 r1 r2 w0 w1 : Option (List ℕ)) (piece : List ℕ)
-    → Turns Stays gives s t t0 r0 r1 w0 w1 t1 → Consumes r1 r2 piece → piece ≡ []
-    → Turns Stays gives s t t0 r0 r2 w0 w1 t1
-then_ends gives s t t0 t1 r0 r1 r2 w0 w1 piece one read none =
-    record {
-      taken = one.taken;
-      given = one.given;
-      read =
-          consumes_more r0 r1 r2 one.taken piece one.taken one.read read (sym (append-nil one.taken)
-          ∙ ap (λ zs. one.taken ++ zs) (sym none));
-      writes = one.writes;
-      goes = one.goes;
-    }
 
 -- one more write
 pub sends_more : (old mid new : Talk) (w0 w1 w2 : Option (List ℕ)) (n : ℕ) (buf : List ℕ)
@@ -158,25 +50,13 @@ sends_more old mid new w0 w1 w2 n buf one same wrote is =
       asked = ap (λ (z : Talk). z.asked) is ∙ one.asked;
       held = ap (λ (z : Talk). z.held) is ∙ one.held;
       over = ap (λ (z : Talk). z.over) is ∙ one.over;
-      writes = appends_more w0 w1 w2 one.given (take n mid.owed) (one.given
-          ++ take n mid.owed) one.writes (subst (λ zs. Appends w1 w2 (take n zs)) same wrote) refl;
+      writes = Appends-trans w0 w1 w2 one.given (take n mid.owed) one.writes
+          (subst (λ zs. Appends w1 w2 (take n zs)) same wrote);
     }
 
 pub few_left : (old given new : List ℕ) → old ≡ given ++ new → length old ≤ most_owed
     → length new ≤ most_owed
 few_left old given new is few = omega (arith, ap length is, length-append given new)
-
--- a session has come to its end with its last turn
-pub serves : {S : Type 0} (gives : S → Request → Reply → S
-    → Type 0) (s t u : S) (mid last : Talk) (r0 r1 r2 w0 w1 w2 : Option (List ℕ)) (end : End)
-    → Turns Stays gives s t start r0 r1 w0 w1 mid → Turns Stays gives t u mid r1 r2 w1 w2 last
-    → EndsAt end last r2 → Serves gives s u r0 r2 w0 w2 end
-serves gives s t u mid last r0 r1 r2 w0 w1 w2 end one two at =
-    record {
-      last = last;
-      turns = then_turns gives s t u start mid last r0 r1 r2 w0 w1 w2 one two;
-      ends = at;
-    }
 
 -- ---- what is handed over
 
@@ -198,29 +78,6 @@ still_under a b P same on = subst (λ z. OnSome z P) (sym same) on
 
 -- ---- how far a turn has come
 
--- what stands in a turn: its bytes are those of a run, few are owed and held, and what is handed
--- over is handed over under its key
-pub record Stood {S : Type 0} (gives : S → Request → Reply → S → Type 0) (hands_over one : Type 0)
-    (more : ℕ) (s t : S) (old new : Talk) (r0 r1 w0 w1 : Option (List ℕ)) : Type 0 where
-  pub turns : Turns Stays gives s t old r0 r1 w0 w1 new
-  pub bounded : length old.owed ≤ most_owed → length new.owed ≤ most_owed
-  pub free : (hands_over → ⊥) → old.asked ≡ None → new.asked ≡ None
-  pub under : old.asked ≡ None → OnSome new.asked one
-  pub held : HoldsFrameAnd more old → HoldsFrameAnd more new
-
--- it stands when bytes that are owed are written
-pub stood_sent : {S : Type 0} (gives : S → Request → Reply → S → Type 0) (hands_over one : Type 0)
-    (more : ℕ) (s t : S) (old mid new : Talk) (r0 r1 w0 w1 w2 : Option (List ℕ))
-    → Stood gives hands_over one more s t old mid r0 r1 w0 w1 → Sends mid new w1 w2
-    → Stood gives hands_over one more s t old new r0 r1 w0 w2
-stood_sent gives hands_over one more s t old mid new r0 r1 w0 w1 w2 stood sent = record {
-  turns = then_sends gives s t old mid new r0 r1 w0 w1 w2 stood.turns sent;
-  bounded = λ few. few_left _ _ _ sent.owed (stood.bounded few);
-  free = λ no at. sent.asked ∙ stood.free no at;
-  under = λ none. still_under _ _ _ sent.asked (stood.under none);
-  held = λ small. holds_sent more mid new w1 w2 sent (stood.held small);
-}
-
 -- nothing is owed
 pub none_owed : (is_empty : Bool) (seen owed : List ℕ) → is_empty ≡ true
     → is_empty ≡ (length seen == 0) → seen ≡ owed → owed ≡ []
@@ -235,21 +92,127 @@ some_owed is_empty [] owed so by same none = let wrong : true ≡ false = sym by
 some_owed is_empty (x ∷ xs) owed so by same none =
     let wrong : x ∷ xs ≡ [] = same ∙ none in absurd cc
 
--- one ends in one way
-pub again_apart : Again ≡ NeedsOutcome → ⊥
-again_apart wrong = absurd cc
-
-pub input_apart : NeedsInput ≡ NeedsOutcome → ⊥
-input_apart wrong = absurd cc
-
-pub room_apart : NeedsRoom ≡ NeedsOutcome → ⊥
-room_apart wrong = absurd cc
-
-pub over_apart : (end : End) → Over end ≡ NeedsOutcome → ⊥
-over_apart end wrong = absurd cc
-
 pub blocked_apart : Blocked ≡ All → ⊥
 blocked_apart wrong = absurd cc
 
 pub failed_apart : Failed ≡ All → ⊥
 failed_apart wrong = absurd cc
+
+module _ {S : Type 0} (gives : S → Request → Reply → S → Type 0) where
+  pub begins : (s : S) (t : Talk) (r w : Option (List ℕ)) → Turns Stays gives s s t r r w w t
+  begins s t r w =
+      record {
+        taken = [];
+        given = [];
+        read = consumes_none r;
+        writes = appends_none w;
+        goes =
+            (rests gives s t).0;
+      }
+
+  pub then_turns : (s t u : S) (t0 t1 t2 : Talk) (r0 r1 r2 w0 w1 w2 : Option (List ℕ))
+      → Turns Stays gives s t t0 r0 r1 w0 w1 t1 → Turns Stays gives t u t1 r1 r2 w1 w2 t2
+      → Turns Stays gives s u t0 r0 r2 w0 w2 t2
+  then_turns s t u t0 t1 t2 r0 r1 r2 w0 w1 w2 one two =
+      turns_on Stays stays_joins gives s t u t0 t1 t2 r0 r1 r2 w0 w1 w2 one two
+
+  -- then bytes that are owed are written
+  pub then_sends : (s t : S) (t0 t1 t2 : Talk) (r0 r1 w0 w1 w2 : Option (List ℕ))
+      → Turns Stays gives s t t0 r0 r1 w0 w1 t1 → Sends t1 t2 w1 w2
+      → Turns Stays gives s t t0 r0 r1 w0 w2 t2
+  then_sends s t t0 t1 t2 r0 r1 w0 w1 w2 one two =
+      then_turns s t t t0 t1 t2 r0 r1 r1 w0 w1 w2 one
+      (record {
+        taken = [];
+        given = two.given;
+        read = consumes_none r1;
+        writes = two.writes;
+        goes =
+            (sends gives t t1 two.given t2 two.owed (same_came t1 t2 two.asked two.held) two.over).0;
+      })
+
+  -- then frames are answered
+  pub then_answers : (s t u : S) (t0 t1 t2 : Talk) (r0 r1 w0 w1 : Option (List ℕ))
+      → Turns Stays gives s t t0 r0 r1 w0 w1 t1 → Goes Stays gives t u t1 [] [] t2
+      → Turns Stays gives s u t0 r0 r1 w0 w1 t2
+  then_answers s t u t0 t1 t2 r0 r1 w0 w1 one two =
+      then_turns s t u t0 t1 t2 r0 r1 r1 w0 w1 w1 one
+      (record {
+        taken = [];
+        given = [];
+        read = consumes_none r1;
+        writes = appends_none w1;
+        goes =
+            two;
+      })
+
+  -- a round: bytes that are owed are written, and frames are answered
+  pub then_round : (s t u : S) (t0 t1 t2 t3 : Talk) (r0 r1 w0 w1 w2 : Option (List ℕ))
+      → Turns Stays gives s t t0 r0 r1 w0 w1 t1 → Sends t1 t2 w1 w2 → Goes Stays gives t u t2 [] [] t3
+      → Turns Stays gives s u t0 r0 r1 w0 w2 t3
+  then_round s t u t0 t1 t2 t3 r0 r1 w0 w1 w2 one sent goes =
+      then_answers s t u t0 t2 t3 r0 r1 w0 w2
+      (then_sends s t t0 t1 t2 r0 r1 w0 w1 w2 one sent) goes
+
+  -- then a piece is read and taken in
+  pub then_takes : (s t : S) (t0 t1 t2 : Talk) (r0 r1 r2 w0 w1 : Option (List ℕ)) (piece : List ℕ)
+      → Turns Stays gives s t t0 r0 r1 w0 w1 t1 → t1.over ≡ None → Consumes r1 r2 piece
+      → HasTaken t1 piece t2 → Turns Stays gives s t t0 r0 r2 w0 w1 t2
+  then_takes s t t0 t1 t2 r0 r1 r2 w0 w1 piece one going read taken =
+      then_turns s t t t0 t1 t2 r0 r1 r2 w0 w1 w1 one
+      (record {
+        taken = piece;
+        given = [];
+        read = read;
+        writes = appends_none w1;
+        goes =
+            (takes gives t t1 piece t2 going taken).0;
+      })
+
+  -- then a read gives nothing
+  pub then_ends : (s t : S) (t0 t1 : Talk) (r0 r1 r2 w0 w1 : Option (List ℕ))
+      → Turns Stays gives s t t0 r0 r1 w0 w1 t1 → Consumes r1 r2 []
+      → Turns Stays gives s t t0 r0 r2 w0 w1 t1
+  then_ends s t t0 t1 r0 r1 r2 w0 w1 one read =
+      record {
+        taken = one.taken;
+        given = one.given;
+        read = consumes_more r0 r1 r2 one.taken [] one.taken one.read read
+            (sym (append-nil one.taken));
+        writes = one.writes;
+        goes = one.goes;
+      }
+
+  -- a session has come to its end with its last turn
+  pub serves : (s t u : S) (mid last : Talk) (r0 r1 r2 w0 w1 w2 : Option (List ℕ)) (end : End)
+      → Turns Stays gives s t start r0 r1 w0 w1 mid → Turns Stays gives t u mid r1 r2 w1 w2 last
+      → EndsAt end last r2 → Serves gives s u r0 r2 w0 w2 end
+  serves s t u mid last r0 r1 r2 w0 w1 w2 end one two at =
+      record {
+        last = last;
+        turns = then_turns s t u start mid last r0 r1 r2 w0 w1 w2 one two;
+        ends = at;
+      }
+
+  -- what stands in a turn: its bytes are those of a run, few are owed and held, and what is handed
+  -- over is handed over under its key
+  pub record Stood (hands_over one : Type 0)
+      (more : ℕ) (s t : S) (old new : Talk) (r0 r1 w0 w1 : Option (List ℕ)) : Type 0 where
+    pub turns : Turns Stays gives s t old r0 r1 w0 w1 new
+    pub bounded : length old.owed ≤ most_owed → length new.owed ≤ most_owed
+    pub free : (hands_over → ⊥) → old.asked ≡ None → new.asked ≡ None
+    pub under : old.asked ≡ None → OnSome new.asked one
+    pub held : HoldsFrameAnd more old → HoldsFrameAnd more new
+
+  -- it stands when bytes that are owed are written
+  pub stood_sent : (hands_over one : Type 0)
+      (more : ℕ) (s t : S) (old mid new : Talk) (r0 r1 w0 w1 w2 : Option (List ℕ))
+      → Stood hands_over one more s t old mid r0 r1 w0 w1 → Sends mid new w1 w2
+      → Stood hands_over one more s t old new r0 r1 w0 w2
+  stood_sent hands_over one more s t old mid new r0 r1 w0 w1 w2 stood sent = record {
+    turns = then_sends s t old mid new r0 r1 w0 w1 w2 stood.turns sent;
+    bounded = λ few. few_left _ _ _ sent.owed (stood.bounded few);
+    free = λ no at. sent.asked ∙ stood.free no at;
+    under = λ none. still_under _ _ _ sent.asked (stood.under none);
+    held = λ small. holds_sent more mid new w1 w2 sent (stood.held small);
+  }

@@ -152,11 +152,7 @@ module _ (i n : ℕ) where
       ∙ ap (λ (l : List ℕ). (header_front i n ++ (0xA5 ∷ []))
       ++ l) (sym (append-nil (slots_of 0 []))))
       ∙ part-between 4096 24576 (header_front i n
-      ++ (0xA5 ∷ [])) (slots_of 0 []) [] (omega (
-        arith,
-        length-append (header_front i n) (0xA5 ∷ []),
-        length-header_front i n,
-      )) fresh_length
+      ++ (0xA5 ∷ [])) (slots_of 0 []) [] (simp (length-append, length-header_front)) fresh_length
 
   pub length-fresh_file : length (fresh_file i n) ≡ 28672
   unfolding fresh_file

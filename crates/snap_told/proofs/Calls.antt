@@ -1,6 +1,7 @@
 -- A client's calls over an honest connection.
 use Rattle.std.proofs.Common.{◌≡◌, ◌⊎◌, ℕ, ◌≤◌, inl, inr, List, [], ◌∷◌, ◌++◌, length, map, All, Option, Some, None, Ok, refl, ap, sym, subst, ◌∙◌, arith, append_assoc, append-nil, length-append}
 use Rattle.std.proofs.lemmas.List.{append_cancel_right}
+use Rattle.std.proofs.lemmas.Option.{same_Some}
 use Rattle.std.proofs.lemmas.List.Elements.{All-tail}
 use Rattle.std.specs.Int.{w32, to_be_bytes}
 use Rattle.std.specs.Io.KnownBytes.{Appends, Consumes}
@@ -11,7 +12,7 @@ use Rattle.snap_register.specs.Seat.{Known}
 use Rattle.snap_frame.specs.declared.request.Request.{Request}
 use Rattle.snap_frame.specs.declared.request.Request.TheVariants as request
 use Rattle.snap_frame.specs.declared.reply.Reply.{Reply}
-use Rattle.snap_frame.specs.declared.reply.Reply.TheVariants.{Stored, Snapshot, Status, Part, Refused}
+use Rattle.snap_frame.specs.declared.reply.Reply.TheVariants.{Stored, Snapshot, Part, Refused}
 use Rattle.snap_frame.specs.declared.frame_buffer.Failure.{Failure}
 use Rattle.snap_frame.specs.declared.frame_buffer.Failure.TheVariants.{TooLarge, NoMemory}
 use Rattle.snap_frame.specs.Messages.{max_payload, payload, frame, says, Says}
@@ -28,11 +29,12 @@ use Rattle.snap_told.proofs.Payloads.{head_is}
 
 -- ---- what is known of the connection
 
-pub wrote_all : (o n : Option (List ℕ)) (wrote bytes : List ℕ) → o ≡ Some [] → n ≡ Some wrote
-    → Appends o n bytes → wrote ≡ bytes
-wrote_all o n wrote bytes eo en is =
-    subst (λ (z : Option (List ℕ)). Appends (Some []) z bytes) en
-    (subst (λ (z : Option (List ℕ)). Appends z n bytes) eo is)
+pub written : (o n : Option (List ℕ)) (bytes : List ℕ) → o ≡ Some [] → Appends o n bytes
+    → n ≡ Some bytes
+written None n bytes none is = absurd (cc none)
+written (Some xs) None bytes none is = absurd is
+written (Some xs) (Some ys) bytes none is =
+    ap (λ (z : List ℕ). Some z) (is ∙ ap (λ (z : List ℕ). z ++ bytes) (same_Some xs [] none))
 
 pub read_all : (o n : Option (List ℕ)) (read left came : List ℕ) → o ≡ Some (read ++ left)
     → n ≡ Some left → Consumes o n came → read ≡ came
@@ -48,10 +50,7 @@ read_all o n read left came eo en is =
 abbrev pub Spoken : List Request → List Reply → List (List ℕ) → Type 0
 Spoken [] [] [] = Unit {0}
 Spoken (q ∷ qs) (r ∷ rs) (x ∷ xs) = Says x r × Spoken qs rs xs
-Spoken [] (r ∷ rs) xs = ⊥
-Spoken (q ∷ qs) [] xs = ⊥
-Spoken [] [] (x ∷ xs) = ⊥
-Spoken (q ∷ qs) (r ∷ rs) [] = ⊥
+Spoken qs rs xs = ⊥
 
 module _ {R W : Type 0} (remaining : R → Option (List ℕ)) (contents : W → Option (List ℕ)) where
   pub record Spoke (qs : List Request) (rs : List Reply) (old new : ClientState R W)
@@ -98,13 +97,12 @@ module _ {R W : Type 0} (remaining : R → Option (List ℕ)) (contents : W → 
       → old.fault ≡ None → Converses remaining contents qs rs old new → Spoke qs rs old new
   spoke [] [] old new going same =
       subst (λ (z : ClientState R W). Spoke [] [] old z) (sym same) (silent_still old)
-  spoke [] (r ∷ rs) old new going talk = absurd talk
-  spoke (q ∷ qs) [] old new going talk = absurd talk
   spoke (q ∷ qs) (r ∷ rs) old new going talk =
       let mid = talk.0 in
       let call = subst (λ (f : Option ClientFault). CallsAfter f remaining contents q old (Ok r) mid)
       going talk.1 in
       spoke_on q r qs rs old mid new call.0 (spoke qs rs mid new call.1 talk.2)
+  spoke qs rs old new going talk = absurd talk
 
 -- ---- the session's frames
 
@@ -120,11 +118,10 @@ answer_fits a b x y (fits, inr malformed) =
 pub run_fits : (a b : Known) (xs ys : List (List ℕ)) → Run (Moves Answers) Answers a xs ys b
     → AllFit xs × AllFit ys
 run_fits a b [] [] run = (tt, tt)
-run_fits a b [] (y ∷ ys) run = absurd run
-run_fits a b (x ∷ xs) [] run = absurd run
 run_fits a b (x ∷ xs) (y ∷ ys) run =
     let rest = run_fits run.1 b xs ys run.4 in
     ((run.3.0, rest.0), (answer_fits run.0 run.1 x y run.3, rest.1))
+run_fits a b xs ys run = absurd run
 
 -- what is behind all replies
 pub tail_is : (o : Option Failure) (taken : List ℕ) (ps rs us : List (List ℕ))
@@ -154,17 +151,13 @@ first_same x y r s x_fits y_fits e = same_frame (frame x ++ r) x y r s
 -- a refusal tells nothing of the history
 refusal_stands : (n : ℕ) (start : Start) (h : List Update) (q : Request) (r : Reply) (why : Refusal)
     (detail : ℕ) → says r ≡ says (Refused why detail) → Stands n start h q r
-refusal_stands n start h q (Stored m) why detail e = absurd (omega (arith, head_is _ _ _ _ e))
-refusal_stands n start h q (Snapshot values) why detail e = absurd (omega (arith, head_is _ _ _ _ e))
-refusal_stands n start h q (Part values) why detail e = absurd (omega (arith, head_is _ _ _ _ e))
-refusal_stands n start h (request.Update i k v) (Status statuses) why detail e = tt
-refusal_stands n start h request.Scan (Status statuses) why detail e = tt
-refusal_stands n start h request.Status (Status statuses) why detail e = tt
-refusal_stands n start h (request.Part set) (Status statuses) why detail e = tt
-refusal_stands n start h (request.Update i k v) (Refused other more) why detail e = tt
-refusal_stands n start h request.Scan (Refused other more) why detail e = tt
-refusal_stands n start h request.Status (Refused other more) why detail e = tt
-refusal_stands n start h (request.Part set) (Refused other more) why detail e = tt
+refusal_stands n start h (request.Update i k v) (Stored m) why detail e =
+    absurd (omega (arith, head_is _ _ _ _ e))
+refusal_stands n start h request.Scan (Snapshot values) why detail e =
+    absurd (omega (arith, head_is _ _ _ _ e))
+refusal_stands n start h (request.Part set) (Part values) why detail e =
+    absurd (omega (arith, head_is _ _ _ _ e))
+refusal_stands n start h q r why detail e = tt
 
 said_fits : (x : List ℕ) (r : Reply) → Says x r → length x ≤ max_payload
 said_fits x r said = rw (said.1) (says_fits r said.0)
@@ -174,12 +167,9 @@ module _ (n : ℕ) (start : Start) (h : List Update) where
   none_left : (qs : List Request) (rs : List Reply) (xs : List (List ℕ)) (more : List ℕ)
       → Spoken qs rs xs → frames xs ++ more ≡ [] → AllStand n start h qs rs
   none_left [] [] [] more spoken e = tt
-  none_left [] (r ∷ rs) xs more spoken e = absurd spoken
-  none_left (q ∷ qs) [] xs more spoken e = absurd spoken
-  none_left [] [] (x ∷ xs) more spoken e = absurd spoken
-  none_left (q ∷ qs) (r ∷ rs) [] more spoken e = absurd spoken
   none_left (q ∷ qs) (r ∷ rs) (x ∷ xs) more spoken e =
       absurd (some_frame x (frames xs ++ more) (sym (append_assoc (frame x) (frames xs) more) ∙ e))
+  none_left qs rs xs more spoken e = absurd spoken
 
   -- the session replied no more than that a length is above the limit
   refused_then : (q : Request) (r : Reply) (qs : List Request) (rs : List Reply) (x : List ℕ)
@@ -203,14 +193,6 @@ module _ (n : ℕ) (start : Start) (h : List Update) where
       → frames xs ++ more ≡ frames ys ++ tail → (tail ≡ []) ⊎ (tail ≡ frame refused_too_large)
       → AllStand n start h qs rs
   answers_stand [] [] [] ps ys us rest tail more late can spoken few fits told asked heard tails = tt
-  answers_stand [] (r ∷ rs) xs ps ys us rest tail more late can spoken few fits told asked heard
-      tails = absurd spoken
-  answers_stand (q ∷ qs) [] xs ps ys us rest tail more late can spoken few fits told asked heard
-      tails = absurd spoken
-  answers_stand [] [] (x ∷ xs) ps ys us rest tail more late can spoken few fits told asked heard
-      tails = absurd spoken
-  answers_stand (q ∷ qs) (r ∷ rs) [] ps ys us rest tail more late can spoken few fits told asked
-      heard tails = absurd spoken
   answers_stand (q ∷ qs) (r ∷ rs) (x ∷ xs) ps [] us rest tail more late can spoken few fits told
       asked heard tails =
       refused_then q r qs rs x xs more tail spoken.0 spoken.1
@@ -231,3 +213,5 @@ module _ (n : ℕ) (start : Start) (h : List Update) where
         answers_stand qs rs xs ps ys us rest tail more late (All-tail IsSendable q qs can) spoken.1
             few.1 fits.1 told.1 first.1 reply.1 tails,
       )
+  answers_stand qs rs xs ps ys us rest tail more late can spoken few fits told asked heard tails =
+      absurd spoken

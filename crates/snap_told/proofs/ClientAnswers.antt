@@ -1,39 +1,40 @@
 -- What a client answered its caller over an honest connection stands in what the service has seen.
 use Rattle.std.proofs.Common.{◌≡◌, ℕ, List, ◌++◌, map, Option, refl, ap, sym, ◌∙◌, append_assoc}
+use Rattle.std.proofs.lemmas.Option.{same_Some}
 use Rattle.snap_register.specs.History.{starts}
 use Rattle.snap_register.specs.Rule.{segments}
 use Rattle.snap_frame.specs.Messages.{payload}
 use Rattle.snap_session.specs.Talk.{frames}
 use Rattle.snap_client.specs.Calls.{fresh}
 use Rattle.snap_told.specs.Laws.{ClientLaw}
-use Rattle.snap_told.proofs.Runs.{run_told}
-use Rattle.snap_told.proofs.Calls.{wrote_all, read_all, spoke, run_fits, tail_is, answers_stand}
+use Rattle.snap_told.proofs.Runs.{session_told}
+use Rattle.snap_told.proofs.Calls.{written, read_all, spoke, run_fits, tail_is, answers_stand}
 
 pub answered_stands : {R W : Type 0} (remaining : R → Option (List ℕ))
     (contents : W → Option (List ℕ)) → ClientLaw remaining contents
 answered_stands remaining contents b qs rs h was seen =
     let connection = was.connection in
-    let goes = was.turns.goes in
+    let goes = was.served.turns.goes in
     let new = was.now in
     let said = spoke remaining contents qs rs (fresh was.reader was.writer) new refl was.converses in
     let more = connection.given_is.0 in
     let late = connection.taken_is.0 in
-    let wrote = wrote_all _ _ connection.wrote (frames (map payload qs)) connection.silent
-    connection.wrote_is said.sent in
+    let wrote : connection.wrote ≡ frames (map payload qs) = same_Some _ _
+    (sym connection.wrote_is ∙ written _ _ _ connection.silent said.sent) in
     let read : connection.read ≡ frames said.payloads ++ new.held = read_all _ _ connection.read
     connection.left said.came connection.read_is connection.left_is said.heard ∙ said.cut in
-    let owed : was.turns.given ++ was.talk.owed
-    ≡ frames said.payloads ++ (new.held ++ (more ++ was.talk.owed)) =
-    ap (λ (z : List ℕ). z ++ was.talk.owed)
+    let owed : was.served.turns.given ++ was.served.talk.owed
+    ≡ frames said.payloads ++ (new.held ++ (more ++ was.served.talk.owed)) =
+    ap (λ (z : List ℕ). z ++ was.served.talk.owed)
     (connection.given_is.1 ∙ ap (λ (z : List ℕ). z ++ more) read)
-    ∙ append_assoc (frames said.payloads ++ new.held) more was.talk.owed
-    ∙ append_assoc (frames said.payloads) new.held (more ++ was.talk.owed) in
-    let fits = run_fits was.began b goes.payloads (goes.replies ++ goes.unsaid) goes.run in
+    ∙ append_assoc (frames said.payloads ++ new.held) more was.served.talk.owed
+    ∙ append_assoc (frames said.payloads) new.held (more ++ was.served.talk.owed) in
+    let fits = run_fits was.served.began b goes.payloads (goes.replies ++ goes.unsaid) goes.run in
     answers_stand (segments b.plan) (starts b.plan) h qs rs said.payloads goes.payloads goes.replies goes.unsaid goes.rest
-    goes.tail (new.held ++ (more ++ was.talk.owed)) late was.sendable said.said fits.0 fits.1
-    (run_told was.began b h goes.payloads (goes.replies ++ goes.unsaid) goes.run seen)
+    goes.tail (new.held ++ (more ++ was.served.talk.owed)) late was.sendable said.said fits.0 fits.1
+    (session_told b was.served h seen)
     (sym wrote ∙ connection.taken_is.1 ∙ ap (λ (z : List ℕ). z ++ late) goes.cut
     ∙ append_assoc (frames goes.payloads) goes.rest late)
     (sym owed ∙ goes.said)
-    (tail_is was.talk.over was.turns.taken goes.payloads goes.replies goes.unsaid goes.rest _ goes.tail
+    (tail_is was.served.talk.over was.served.turns.taken goes.payloads goes.replies goes.unsaid goes.rest _ goes.tail
     goes.phase)

@@ -9,7 +9,7 @@ use Rattle.snap_frame.specs.segment_value.SegmentValue.{SegmentValue}
 use Rattle.snap_frame.specs.declared.request.Request.{Request}
 use Rattle.snap_frame.specs.declared.request.Request.TheVariants as request
 use Rattle.snap_frame.specs.declared.reply.Reply.{Reply}
-use Rattle.snap_frame.specs.declared.reply.Reply.TheVariants.{Stored, Snapshot, Status, Part, Refused}
+use Rattle.snap_frame.specs.declared.reply.Reply.TheVariants.{Stored, Snapshot, Part}
 use Rattle.snap_frame.specs.Messages.{payload, says, value_bytes, named_bytes, IsAskable, Asks, IsValue, IsNamedValue, IsInLimits}
 use Rattle.snap_frame.specs.Values.{pair_of}
 use Rattle.snap_frame.proofs.BigEndian.{same_number, same_set}
@@ -41,12 +41,11 @@ same_stored m n m_fits n_fits e =
 
 -- ---- an update that is stored
 
-stored_as : (a b : Known) (h : List Update) (i k n : ℕ) (v : List ℕ) (j l m : ℕ) (w : List ℕ)
-    → k < 2 ^ 64 → payload (request.Update i k v) ≡ payload (request.Update j l w)
-    → Answers a (request.Update j l w) (Stored m) b → IsInLimits (Stored n) → IsInLimits (Stored m)
-    → says (Stored n) ≡ says (Stored m) → IsBeginning b.seen h
-    → (i < segments b.plan) × (n ≡ k) × Has (starts b.plan) h i k v
-stored_as a b h i k n v j l m w fits asked is low lower said seen =
+reads_stored : (a b : Known) (h : List Update) (i k n : ℕ) (v : List ℕ) (q : Request) (r : Reply)
+    → k < 2 ^ 64 → payload (request.Update i k v) ≡ payload q → Answers a q r b
+    → IsInLimits (Stored n) → IsInLimits r → says (Stored n) ≡ says r → IsBeginning b.seen h
+    → Stands (segments b.plan) (starts b.plan) h (request.Update i k v) (Stored n)
+reads_stored a b h i k n v (request.Update j l w) (Stored m) fits asked is low lower said seen =
     let told = stored a b j l m w h is seen in
     let number : m ≡ l = told.1 in
     let same = same_update i j k l v w fits (omega (arith, number, lower)) asked in
@@ -56,42 +55,18 @@ stored_as a b h i k n v j l m w fits asked is low lower said seen =
       subst (λ (y : ℕ × ℕ × List ℕ). Has (starts b.plan) h y.0 y.1 y.2)
           (λ t. (sym same.0 t, sym same.1 t, sym same.2 t)) told.2,
     )
-
-by_reply : (a b : Known) (h : List Update) (i k n : ℕ) (v : List ℕ) (j l : ℕ) (w : List ℕ)
-    (r : Reply) → k < 2 ^ 64 → payload (request.Update i k v) ≡ payload (request.Update j l w)
-    → Answers a (request.Update j l w) r b → IsInLimits (Stored n) → IsInLimits r
-    → says (Stored n) ≡ says r → IsBeginning b.seen h → (i < segments b.plan) × (n ≡ k) × Has (starts b.plan) h i k v
-by_reply a b h i k n v j l w (Stored m) fits asked is low lower said seen =
-    stored_as a b h i k n v j l m w fits asked is low lower said seen
-by_reply a b h i k n v j l w (Snapshot values) fits asked is low lower said seen =
+reads_stored a b h i k n v (request.Update j l w) r fits asked is low lower said seen =
     absurd (omega (arith, head_is _ _ _ _ said))
-by_reply a b h i k n v j l w (Status statuses) fits asked is low lower said seen =
-    absurd (omega (arith, head_is _ _ _ _ said))
-by_reply a b h i k n v j l w (Part values) fits asked is low lower said seen =
-    absurd (omega (arith, head_is _ _ _ _ said))
-by_reply a b h i k n v j l w (Refused why detail) fits asked is low lower said seen =
-    absurd (omega (arith, head_is _ _ _ _ said))
-
-by_request : (a b : Known) (h : List Update) (i k n : ℕ) (v : List ℕ) (q : Request) (r : Reply)
-    → k < 2 ^ 64 → payload (request.Update i k v) ≡ payload q → Answers a q r b
-    → IsInLimits (Stored n) → IsInLimits r → says (Stored n) ≡ says r → IsBeginning b.seen h
-    → (i < segments b.plan) × (n ≡ k) × Has (starts b.plan) h i k v
-by_request a b h i k n v (request.Update j l w) r fits asked is low lower said seen =
-    by_reply a b h i k n v j l w r fits asked is low lower said seen
-by_request a b h i k n v request.Scan r fits asked is low lower said seen =
-    absurd (omega (arith, head_is _ _ _ _ asked))
-by_request a b h i k n v request.Status r fits asked is low lower said seen =
-    absurd (omega (arith, head_is _ _ _ _ asked))
-by_request a b h i k n v (request.Part set) r fits asked is low lower said seen =
+reads_stored a b h i k n v q r fits asked is low lower said seen =
     absurd (omega (arith, head_is _ _ _ _ asked))
 
 -- ---- a scan
 
-scanned_as : (a b : Known) (h : List Update) (values others : _) → Answers a request.Scan
-    (Snapshot others) b → IsInLimits (Snapshot values) → IsInLimits (Snapshot others)
-    → says (Snapshot values) ≡ says (Snapshot others) → IsBeginning b.seen h
+reads_scan : (a b : Known) (h : List Update) (values : _) (q : Request) (r : Reply)
+    → payload request.Scan ≡ payload q → Answers a q r b → IsInLimits (Snapshot values)
+    → IsInLimits r → says (Snapshot values) ≡ says r → IsBeginning b.seen h
     → Stands (segments b.plan) (starts b.plan) h request.Scan (Snapshot values)
-scanned_as a b h values others is low lower said seen =
+reads_scan a b h values request.Scan (Snapshot others) asked is low lower said seen =
     let told = replied a b request.Scan (Snapshot others) h is seen in
     let same = same_entries value_bytes IsValue values.items others.items values_apart low.each
     lower.each (second_is _ _ _ _ _ _ said) (ap (drop 2) said) in (
@@ -100,44 +75,19 @@ scanned_as a b h values others is low lower said seen =
       subst (λ (es : List SegmentValue). IsMemoryAfter (segments b.plan) (starts b.plan) told.0 (map pair_of es)) (sym same)
           told.2,
     )
-
-scan_by_reply : (a b : Known) (h : List Update) (values : _) (r : Reply)
-    → Answers a request.Scan r b → IsInLimits (Snapshot values) → IsInLimits r
-    → says (Snapshot values) ≡ says r → IsBeginning b.seen h
-    → Stands (segments b.plan) (starts b.plan) h request.Scan (Snapshot values)
-scan_by_reply a b h values (Snapshot others) is low lower said seen =
-    scanned_as a b h values others is low lower said seen
-scan_by_reply a b h values (Stored n) is low lower said seen =
+reads_scan a b h values request.Scan r asked is low lower said seen =
     absurd (omega (arith, head_is _ _ _ _ said))
-scan_by_reply a b h values (Status statuses) is low lower said seen =
-    absurd (omega (arith, head_is _ _ _ _ said))
-scan_by_reply a b h values (Part others) is low lower said seen =
-    absurd (omega (arith, head_is _ _ _ _ said))
-scan_by_reply a b h values (Refused why detail) is low lower said seen =
-    absurd (omega (arith, head_is _ _ _ _ said))
-
-scan_by_request : (a b : Known) (h : List Update) (values : _) (q : Request) (r : Reply)
-    → payload request.Scan ≡ payload q → Answers a q r b → IsInLimits (Snapshot values)
-    → IsInLimits r → says (Snapshot values) ≡ says r → IsBeginning b.seen h
-    → Stands (segments b.plan) (starts b.plan) h request.Scan (Snapshot values)
-scan_by_request a b h values request.Scan r asked is low lower said seen =
-    scan_by_reply a b h values r is low lower said seen
-scan_by_request a b h values (request.Update j l w) r asked is low lower said seen =
-    absurd (omega (arith, head_is _ _ _ _ asked))
-scan_by_request a b h values request.Status r asked is low lower said seen =
-    absurd (omega (arith, head_is _ _ _ _ asked))
-scan_by_request a b h values (request.Part set) r asked is low lower said seen =
+reads_scan a b h values q r asked is low lower said seen =
     absurd (omega (arith, head_is _ _ _ _ asked))
 
 -- ---- a scan of some segments
 
-part_as : (a b : Known) (h : List Update) (set other values others : _)
-    → IsAskable (request.Part set) → IsAskable (request.Part other)
-    → payload (request.Part set) ≡ payload (request.Part other)
-    → Answers a (request.Part other) (Part others) b → IsInLimits (Part values)
-    → IsInLimits (Part others) → says (Part values) ≡ says (Part others) → IsBeginning b.seen h
+reads_part : (a b : Known) (h : List Update) (set values : _) (q : Request) (r : Reply)
+    → IsAskable (request.Part set) → IsAskable q → payload (request.Part set) ≡ payload q
+    → Answers a q r b → IsInLimits (Part values) → IsInLimits r → says (Part values) ≡ says r
+    → IsBeginning b.seen h
     → Stands (segments b.plan) (starts b.plan) h (request.Part set) (Part values)
-part_as a b h set other values others may can asked is low lower said seen =
+reads_part a b h set values (request.Part other) (Part others) may can asked is low lower said seen =
     let told = replied a b (request.Part other) (Part others) h is seen in
     let sets = same_set set.bits other.bits may.1 can.1 (ap (drop 1) asked) in
     let same = same_entries named_bytes IsNamedValue values.items others.items named_apart
@@ -148,36 +98,9 @@ part_as a b h set other values others may can asked is low lower said seen =
           IsPartAfter (segments b.plan) (starts b.plan) y.0 told.0 y.1)
           (λ t. (sym sets t, sym same t)) told.2,
     )
-
-part_by_reply : (a b : Known) (h : List Update) (set other values : _) (r : Reply)
-    → IsAskable (request.Part set) → IsAskable (request.Part other)
-    → payload (request.Part set) ≡ payload (request.Part other)
-    → Answers a (request.Part other) r b → IsInLimits (Part values) → IsInLimits r
-    → says (Part values) ≡ says r → IsBeginning b.seen h
-    → Stands (segments b.plan) (starts b.plan) h (request.Part set) (Part values)
-part_by_reply a b h set other values (Part others) may can asked is low lower said seen =
-    part_as a b h set other values others may can asked is low lower said seen
-part_by_reply a b h set other values (Stored n) may can asked is low lower said seen =
+reads_part a b h set values (request.Part other) r may can asked is low lower said seen =
     absurd (omega (arith, head_is _ _ _ _ said))
-part_by_reply a b h set other values (Snapshot others) may can asked is low lower said seen =
-    absurd (omega (arith, head_is _ _ _ _ said))
-part_by_reply a b h set other values (Status statuses) may can asked is low lower said seen =
-    absurd (omega (arith, head_is _ _ _ _ said))
-part_by_reply a b h set other values (Refused why detail) may can asked is low lower said seen =
-    absurd (omega (arith, head_is _ _ _ _ said))
-
-part_by_request : (a b : Known) (h : List Update) (set values : _) (q : Request) (r : Reply)
-    → IsAskable (request.Part set) → IsAskable q → payload (request.Part set) ≡ payload q
-    → Answers a q r b → IsInLimits (Part values) → IsInLimits r → says (Part values) ≡ says r
-    → IsBeginning b.seen h
-    → Stands (segments b.plan) (starts b.plan) h (request.Part set) (Part values)
-part_by_request a b h set values (request.Part other) r may can asked is low lower said seen =
-    part_by_reply a b h set other values r may can asked is low lower said seen
-part_by_request a b h set values (request.Update j l w) r may can asked is low lower said seen =
-    absurd (omega (arith, head_is _ _ _ _ asked))
-part_by_request a b h set values request.Scan r may can asked is low lower said seen =
-    absurd (omega (arith, head_is _ _ _ _ asked))
-part_by_request a b h set values request.Status r may can asked is low lower said seen =
+reads_part a b h set values q r may can asked is low lower said seen =
     absurd (omega (arith, head_is _ _ _ _ asked))
 
 -- ---- any answer
@@ -186,33 +109,14 @@ reads : (a b : Known) (h : List Update) (x y : List ℕ) (p : Request) (s : Repl
     → Asks x p → Answers a p s b → IsInLimits s → y ≡ says s → IsBeginning b.seen h
     → IsTold (segments b.plan) (starts b.plan) h x y
 reads a b h x y p s asks is lower told seen (request.Update i k v) (Stored n) fits asked said =
-    by_request a b h i k n v p s fits (sym asked.1 ∙ asks.1) is said.0 lower (sym said.1 ∙ told) seen
-reads a b h x y p s asks is lower told seen (request.Update i k v) (Snapshot values) fits asked said =
-    tt
-reads a b h x y p s asks is lower told seen (request.Update i k v) (Status statuses) fits asked said =
-    tt
-reads a b h x y p s asks is lower told seen (request.Update i k v) (Part values) fits asked said = tt
-reads a b h x y p s asks is lower told seen (request.Update i k v) (Refused why detail) fits asked
-    said = tt
+    reads_stored a b h i k n v p s fits (sym asked.1 ∙ asks.1) is said.0 lower (sym said.1 ∙ told)
+    seen
 reads a b h x y p s asks is lower told seen request.Scan (Snapshot values) fits asked said =
-    scan_by_request a b h values p s (sym asked.1 ∙ asks.1) is said.0 lower (sym said.1 ∙ told) seen
-reads a b h x y p s asks is lower told seen request.Scan (Stored n) fits asked said = tt
-reads a b h x y p s asks is lower told seen request.Scan (Status statuses) fits asked said = tt
-reads a b h x y p s asks is lower told seen request.Scan (Part values) fits asked said = tt
-reads a b h x y p s asks is lower told seen request.Scan (Refused why detail) fits asked said = tt
-reads a b h x y p s asks is lower told seen request.Status (Stored n) fits asked said = tt
-reads a b h x y p s asks is lower told seen request.Status (Snapshot values) fits asked said = tt
-reads a b h x y p s asks is lower told seen request.Status (Status statuses) fits asked said = tt
-reads a b h x y p s asks is lower told seen request.Status (Part values) fits asked said = tt
-reads a b h x y p s asks is lower told seen request.Status (Refused why detail) fits asked said = tt
+    reads_scan a b h values p s (sym asked.1 ∙ asks.1) is said.0 lower (sym said.1 ∙ told) seen
 reads a b h x y p s asks is lower told seen (request.Part set) (Part values) fits asked said =
-    part_by_request a b h set values p s asked.0 asks.0 (sym asked.1 ∙ asks.1) is said.0 lower
+    reads_part a b h set values p s asked.0 asks.0 (sym asked.1 ∙ asks.1) is said.0 lower
     (sym said.1 ∙ told) seen
-reads a b h x y p s asks is lower told seen (request.Part set) (Stored n) fits asked said = tt
-reads a b h x y p s asks is lower told seen (request.Part set) (Snapshot others) fits asked said = tt
-reads a b h x y p s asks is lower told seen (request.Part set) (Status statuses) fits asked said = tt
-reads a b h x y p s asks is lower told seen (request.Part set) (Refused why detail) fits asked said =
-    tt
+reads a b h x y p s asks is lower told seen q r fits asked said = tt
 
 pub told : (a b : Known) (h : List Update) (x y : List ℕ) → Answer Answers a x y b
     → IsBeginning b.seen h → IsTold (segments b.plan) (starts b.plan) h x y

@@ -1,5 +1,6 @@
 -- What a service replies, and what it has seen then.
 use Rattle.std.proofs.Common.{◌≡◌, ⊎_elim, ℕ, ◌^◌, ◌<◌, List, map, refl, sym, subst, ◌∙◌}
+use Rattle.snap_disk.specs.declared.refusal.Refusal.{Refusal}
 use Rattle.snap_history.specs.History.{Update, IsBeginning}
 use Rattle.snap_history.proofs.Beginnings.{beginning-self, beginning-trans}
 use Rattle.snap_register.specs.declared.plan.Plan.{Plan}
@@ -7,7 +8,8 @@ use Rattle.snap_register.specs.History.{starts}
 use Rattle.snap_register.specs.Rule.{segments}
 use Rattle.snap_register.specs.Seat.{Known, Grows, IsMemory}
 use Rattle.snap_scan.proofs.Sets.{at_below}
-use Rattle.snap_memory.specs.Scans.{BeginsFresh}
+use Rattle.snap_memory.specs.Scans.{BeginsFresh, MayRefuse}
+use Rattle.snap_memory.specs.Sets.{size}
 use Rattle.snap_memory.specs.Values.{pair_of}
 use Rattle.snap_frame.specs.declared.request.Request.{Request}
 use Rattle.snap_frame.specs.declared.request.Request.TheVariants as request
@@ -41,37 +43,29 @@ updated a b i k v r (Long inside long is same) = sees_same a b same
 updated a b i k v r (Unseen inside short none is same) = sees_same a b same
 updated a b i k v r (Settled inside short is grows) = sees_grown a b grows
 
-scanned : (a b : Known) (r : Reply) → AnswersScan a r b → Sees a b
-scanned a b (Snapshot values) is = sees_grown a b is.1.0
-scanned a b (Refused why detail) is =
-    ⊎_elim
+scan_refused : (k : ℕ) (a b : Known) (why : Refusal) → MayRefuse k a why b → Sees a b
+scan_refused k a b why is = ⊎_elim
     (λ m. ⊎_elim (λ same. sees_same a b same) (λ more. sees_grown a b more.0) m.1)
     (λ worn. sees_same a b worn.2)
-    is.1
-scanned a b (Stored number) is = absurd is
-scanned a b (Status statuses) is = absurd is
-scanned a b (Part values) is = absurd is
+    is
+
+scanned : (a b : Known) (r : Reply) → AnswersScan a r b → Sees a b
+scanned a b (Snapshot values) is = sees_grown a b is.1.0
+scanned a b (Refused why detail) is = scan_refused (segments a.plan) a b why is.1
+scanned a b r is = absurd is
 
 scanned_part : (a b : Known) (set : ℕ) (r : Reply) → AnswersPart a set r b → Sees a b
 scanned_part a b set (Part values) is = sees_grown a b is.seen
-scanned_part a b set (Refused why detail) is =
-    ⊎_elim
+scanned_part a b set (Refused why detail) is = ⊎_elim
     (λ far. sees_same a b far.3)
-    (λ may. ⊎_elim
-    (λ m. ⊎_elim (λ same. sees_same a b same) (λ more. sees_grown a b more.0) m.1)
-    (λ worn. sees_same a b worn.2)
-    may.2)
+    (λ may. scan_refused (size set) a b why may.2)
     is
-scanned_part a b set (Stored number) is = absurd is
-scanned_part a b set (Snapshot values) is = absurd is
-scanned_part a b set (Status statuses) is = absurd is
+scanned_part a b set r is = absurd is
 
 stated : (a b : Known) (r : Reply) → AnswersStatus a r b → Sees a b
 stated a b (Status statuses) is = sees_same a b is.1
 stated a b (Refused why detail) is = sees_same a b is.2
-stated a b (Stored number) is = absurd is
-stated a b (Snapshot values) is = absurd is
-stated a b (Part values) is = absurd is
+stated a b r is = absurd is
 
 pub answered : (a b : Known) (q : Request) (r : Reply) → Answers a q r b → Sees a b
 answered a b (request.Update i k v) r is = updated a b i k v r is
@@ -121,26 +115,10 @@ snapshot_part a b set values h is seen =
 pub replied : (a b : Known) (q : Request) (r : Reply) (h : List Update) → Answers a q r b
     → IsBeginning b.seen h → Stands (segments b.plan) (starts b.plan) h q r
 replied a b (request.Update i k v) (Stored n) h is seen = stored a b i k n v h is seen
-replied a b (request.Update i k v) (Snapshot values) h is seen = tt
-replied a b (request.Update i k v) (Status statuses) h is seen = tt
-replied a b (request.Update i k v) (Part values) h is seen = tt
-replied a b (request.Update i k v) (Refused why detail) h is seen = tt
 replied a b request.Scan (Snapshot values) h is seen =
     let s = snapshot a b values h is seen in
     (s.0, s.3, record { size = s.4.size; each = s.4.each })
-replied a b request.Scan (Stored n) h is seen = tt
-replied a b request.Scan (Status statuses) h is seen = tt
-replied a b request.Scan (Part values) h is seen = tt
-replied a b request.Scan (Refused why detail) h is seen = tt
-replied a b request.Status (Stored n) h is seen = tt
-replied a b request.Status (Snapshot values) h is seen = tt
-replied a b request.Status (Status statuses) h is seen = tt
-replied a b request.Status (Part values) h is seen = tt
-replied a b request.Status (Refused why detail) h is seen = tt
 replied a b (request.Part set) (Part values) h is seen =
     let s = snapshot_part a b set.bits values h is seen in
     (s.0, s.3, s.4)
-replied a b (request.Part set) (Stored n) h is seen = tt
-replied a b (request.Part set) (Snapshot others) h is seen = tt
-replied a b (request.Part set) (Status statuses) h is seen = tt
-replied a b (request.Part set) (Refused why detail) h is seen = tt
+replied a b q r h is seen = tt

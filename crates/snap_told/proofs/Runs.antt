@@ -1,5 +1,5 @@
 -- Runs of a service: what was replied on the way stands in what it has seen at the end.
-use Rattle.std.proofs.Common.{ℕ, inl, inr, List, [], ◌∷◌, sym, subst}
+use Rattle.std.proofs.Common.{ℕ, inl, inr, List, [], ◌∷◌, ◌++◌, sym, subst}
 use Rattle.snap_history.specs.History.{Update, IsBeginning}
 use Rattle.snap_history.proofs.Beginnings.{beginning-trans}
 use Rattle.snap_register.specs.declared.plan.Plan.{Plan}
@@ -9,6 +9,7 @@ use Rattle.snap_register.specs.Seat.{Known}
 use Rattle.snap_session.specs.Talk.{Answer, Run, Stays, Moves}
 use Rattle.snap_service.specs.Answers.{Answers}
 use Rattle.snap_told.specs.Told.{IsTold, AreTold}
+use Rattle.snap_told.specs.Laws.{SessionLaw}
 use Rattle.snap_told.proofs.Replies.{Sees, sees_same, sees_then, answered}
 use Rattle.snap_told.proofs.Payloads.{told}
 
@@ -19,22 +20,19 @@ answer_sees a b x y (fits, inr malformed) = sees_same a b malformed.1
 run_sees : (between : Known → Known → Type 0) → ((a b : Known) → between a b → Sees a b)
     → (a b : Known) (xs ys : List (List ℕ)) → Run between Answers a xs ys b → Sees a b
 run_sees between sees a b [] [] run = sees a b run
-run_sees between sees a b [] (y ∷ ys) run = absurd run
-run_sees between sees a b (x ∷ xs) [] run = absurd run
 run_sees between sees a b (x ∷ xs) (y ∷ ys) run =
     sees_then a run.0 b (sees a run.0 run.2)
     (sees_then run.0 run.1 b (answer_sees run.0 run.1 x y run.3)
     (run_sees between sees run.1 b xs ys run.4))
+run_sees between sees a b xs ys run = absurd run
 
 moves_sees : (a b : Known) → Moves Answers a b → Sees a b
 moves_sees a b moves = run_sees Stays sees_same a b moves.0 moves.1 moves.2
 
-pub run_told : (a b : Known) (h : List Update) (xs ys : List (List ℕ))
+run_told : (a b : Known) (h : List Update) (xs ys : List (List ℕ))
     → Run (Moves Answers) Answers a xs ys b → IsBeginning b.seen h
     → AreTold (segments b.plan) (starts b.plan) h xs ys
 run_told a b h [] [] run seen = tt
-run_told a b h [] (y ∷ ys) run seen = absurd run
-run_told a b h (x ∷ xs) [] run seen = absurd run
 run_told a b h (x ∷ xs) (y ∷ ys) run seen =
     let later = run_sees (Moves Answers) moves_sees run.1 b xs ys run.4 in (
       subst (λ (p : Plan). IsTold (segments p) (starts p) h x y) (sym later.0)
@@ -42,3 +40,8 @@ run_told a b h (x ∷ xs) (y ∷ ys) run seen =
           (beginning-trans run.1.seen b.seen h later.1 seen)),
       run_told run.1 b h xs ys run.4 seen,
     )
+run_told a b h xs ys run seen = absurd run
+
+pub session_told : SessionLaw
+session_told b s h seen = run_told s.began b h s.turns.goes.payloads
+    (s.turns.goes.replies ++ s.turns.goes.unsaid) s.turns.goes.run seen

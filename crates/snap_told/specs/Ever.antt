@@ -7,31 +7,20 @@ use Rattle.snap_register.specs.Seat.{Known}
 use Rattle.snap_frame.specs.declared.request.Request.{Request}
 use Rattle.snap_frame.specs.declared.reply.Reply.{Reply}
 use Rattle.snap_frame.specs.Messages.{Asks, Says}
-use Rattle.snap_session.specs.Talk.{Talk, Moves}
-use Rattle.snap_session.specs.Talk as session
-use Rattle.snap_session.specs.Turns.{Turns}
-use Rattle.snap_service.specs.Answers.{Answers}
 use Rattle.snap_restart.specs.Restarts.{Restarts, First, Crashed, Interrupted, Last}
 use Rattle.snap_told.specs.Told.{Stands, HasNumber}
-use Rattle.snap_told.specs.Laws.{WasAnswered, WasSeenIn}
+use Rattle.snap_told.specs.Laws.{SessionUpTo, WasAnswered, WasSeenIn}
 use Rattle.snap_disk.specs.declared.disk.Disk as Disk
 
 -- Some session, of a service that has come to the state b since, gave out, or owed, bytes that say
 -- this reply to this request.
 pub record WasReplied (b : Known) (q : Request) (r : Reply) : Type 0 where
-  pub began : Known
-  pub talk : Talk
-  pub read_old : Option (List ℕ)
-  pub read_new : Option (List ℕ)
-  pub written_old : Option (List ℕ)
-  pub written_new : Option (List ℕ)
-  pub turns : Turns (Moves Answers) Answers began b session.start read_old read_new written_old
-      written_new talk
+  pub served : SessionUpTo b
   pub place : ℕ
   pub payload : List ℕ
-  pub payload_is : slice_get turns.goes.payloads place ≡ Some payload
+  pub payload_is : slice_get served.turns.goes.payloads place ≡ Some payload
   pub reply : List ℕ
-  pub reply_is : slice_get (turns.goes.replies ++ turns.goes.unsaid) place ≡ Some reply
+  pub reply_is : slice_get (served.turns.goes.replies ++ served.turns.goes.unsaid) place ≡ Some reply
   pub number : HasNumber q
   pub asks : Asks payload q
   pub says : Says reply r

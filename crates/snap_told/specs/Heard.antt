@@ -9,15 +9,12 @@ use Rattle.snap_frame.specs.declared.request.Request.TheVariants as request
 use Rattle.snap_frame.specs.declared.reply.Reply.{Reply}
 use Rattle.snap_frame.specs.declared.reply.Reply.TheVariants.{Stored}
 use Rattle.snap_frame.specs.Messages.{payload, frame, IsInLimits}
-use Rattle.snap_session.specs.Talk.{Talk, Moves}
-use Rattle.snap_session.specs.Talk as session
-use Rattle.snap_session.specs.Turns.{Turns}
 use Rattle.snap_service.specs.Answers.{Answers}
 use Rattle.snap_register.specs.Registers.{no_registers}
 use Rattle.snap_client.specs.Calls as calls
 use Rattle.snap_cut.specs.Crash.{Has}
 use Rattle.snap_told.specs.Told.{IsSendable}
-use Rattle.snap_told.specs.Laws.{WasAnswered}
+use Rattle.snap_told.specs.Laws.{SessionUpTo, WasAnswered}
 
 -- a reader that has these bytes left, or a writer that has got them
 abbrev pub bytes_of : List ℕ → Option (List ℕ)
@@ -33,11 +30,8 @@ HeardLaw = (a b : Known) (q : Request) (r : Reply) → IsSendable q → IsInLimi
 -- the reader has what the session gave out, then the client was answered so over an honest connection.
 abbrev pub HearsFrom : {R W : Type 0} → (R → Option (List ℕ)) → (W → Option (List ℕ)) → R
     → Request → Reply → Type 0
-HearsFrom remaining contents reader q r = (began b : Known) (talk : Talk)
-    (read_old read_new written_old written_new : Option (List ℕ))
-    → (t : Turns (Moves Answers) Answers began b session.start read_old read_new written_old
-    written_new talk)
-    → t.taken ≡ frame (payload q) → remaining reader ≡ Some t.given
+HearsFrom remaining contents reader q r = (b : Known) (s : SessionUpTo b)
+    → s.turns.taken ≡ frame (payload q) → remaining reader ≡ Some s.turns.given
     → WasAnswered remaining contents b (q ∷ []) (r ∷ [])
 
 -- the registers of one file with number 0 and no bytes

@@ -23,7 +23,7 @@ use Rattle.snap_client.specs.Calls.{ClientState, Calls, fresh}
 use Rattle.snap_cut.specs.Crash.{Has, Begun, IsRecovered}
 use Rattle.snap_cut.specs.Laws.{IsSeatOf, IsSeenIn}
 use Rattle.snap_restart.specs.Crash.{IsLifeFrom, AreOpened, GoesOn}
-use Rattle.snap_told.specs.Told.{IsPartAfter, Stands, IsSendable, AreTold}
+use Rattle.snap_told.specs.Told.{IsPartAfter, Stands, IsSendable, SideBySide, AreTold}
 use Rattle.snap_disk.specs.declared.disk.Disk as Disk
 
 -- ---- a reply
@@ -57,14 +57,27 @@ RepliedLaw = (a b : Known) (q : Request) (r : Reply) (h : List Update) → Answe
 
 -- ---- a session
 
+-- some session, of a service that has come to the state b since
+pub record SessionUpTo (b : Known) : Type 0 where
+  pub began : Known
+  pub talk : Talk
+  pub read_old : Option (List ℕ)
+  pub read_new : Option (List ℕ)
+  pub written_old : Option (List ℕ)
+  pub written_new : Option (List ℕ)
+  pub turns : Turns (Moves Answers) Answers began b session.start read_old read_new written_old
+      written_new talk
+
+-- what it was asked and what it replied, owed until now
+abbrev pub SessionTold : {b : Known} → SessionUpTo b → ℕ → Start → List Update → Type 0
+SessionTold s n start h =
+    AreTold n start h s.turns.goes.payloads (s.turns.goes.replies ++ s.turns.goes.unsaid)
+
 -- Of a session that shares its service with others, all replies that were owed until now: whoever
 -- reads them was told what stands in each history that begins with what the service has seen now.
 abbrev pub SessionLaw : Type 0
-SessionLaw = (a b : Known) (talk : Talk) (read_old read_new written_old written_new : Option (List ℕ))
-    (h : List Update)
-    → (t : Turns (Moves Answers) Answers a b session.start read_old read_new written_old written_new talk)
-    → IsBeginning b.seen h
-    → AreTold (segments b.plan) (starts b.plan) h t.goes.payloads (t.goes.replies ++ t.goes.unsaid)
+SessionLaw = (b : Known) (s : SessionUpTo b) (h : List Update) → IsBeginning b.seen h
+    → SessionTold s (segments b.plan) (starts b.plan) h
 
 -- ---- a client
 
@@ -93,15 +106,11 @@ abbrev pub Converses : {R W : Type 0} → (R → Option (List ℕ)) → (W → O
 Converses remaining contents [] [] old new = new ≡ old
 Converses {R} {W} remaining contents (q ∷ qs) (r ∷ rs) old new = (mid : ClientState R W)
     × Calls remaining contents q old (Ok r) mid × Converses remaining contents qs rs mid new
-Converses remaining contents [] (r ∷ rs) old new = ⊥
-Converses remaining contents (q ∷ qs) [] old new = ⊥
+Converses remaining contents qs rs old new = ⊥
 
 -- what each reply tells stands there
 abbrev pub AllStand : ℕ → Start → List Update → List Request → List Reply → Type 0
-AllStand n start h [] [] = Unit {0}
-AllStand n start h (q ∷ qs) (r ∷ rs) = Stands n start h q r × AllStand n start h qs rs
-AllStand n start h [] (r ∷ rs) = ⊥
-AllStand n start h (q ∷ qs) [] = ⊥
+AllStand n start h qs rs = SideBySide (λ q r. Stands n start h q r) qs rs
 
 -- What some client asked and was answered, call by call, over an honest connection. The session at its
 -- other end is of a service that has come to the state b since.
@@ -113,16 +122,9 @@ pub record WasAnswered {R W : Type 0} (remaining : R → Option (List ℕ))
   pub now : ClientState R W
   pub sendable : All IsSendable qs
   pub converses : Converses remaining contents qs rs (fresh reader writer) now
-  pub began : Known
-  pub talk : Talk
-  pub read_old : Option (List ℕ)
-  pub read_new : Option (List ℕ)
-  pub written_old : Option (List ℕ)
-  pub written_new : Option (List ℕ)
-  pub turns : Turns (Moves Answers) Answers began b session.start read_old read_new written_old
-      written_new talk
-  pub connection : IsHonestConnection remaining contents (fresh reader writer) now turns.taken
-      turns.given
+  pub served : SessionUpTo b
+  pub connection : IsHonestConnection remaining contents (fresh reader writer) now
+      served.turns.taken served.turns.given
 
 -- what the client of such a connection answered its caller, call by call, stands there
 abbrev pub ClientLaw : {R W : Type 0} → (R → Option (List ℕ)) → (W → Option (List ℕ)) → Type 0
@@ -154,10 +156,8 @@ module _ {D R W : Type 0} (disk : Disk.Ghosts D) (remaining : R → Option (List
       → Pairs (λ _. CrashLeaves disk) crashed files
       → let whole = (before ++ on.more) ++ updates kept.history in
       IsRecovered (length writers) start whole (Begun crashed) files
-      × ((a b : Known) (talk : Talk) (read_old read_new written_old written_new : Option (List ℕ))
-      → (t : Turns (Moves Answers) Answers a b session.start read_old read_new written_old written_new talk)
-      → b.plan ≡ opened.plan → WasSeenIn s.views b.seen
-      → AreTold (length writers) start whole t.goes.payloads (t.goes.replies ++ t.goes.unsaid))
+      × ((b : Known) (t : SessionUpTo b) → b.plan ≡ opened.plan → WasSeenIn s.views b.seen
+      → SessionTold t (length writers) start whole)
       × ((b : Known) (qs : List Request) (rs : List Reply) → WasAnswered remaining contents b qs rs
       → b.plan ≡ opened.plan → WasSeenIn s.views b.seen
       → AllStand (length writers) start whole qs rs)

@@ -53,9 +53,12 @@ abbrev pub IsTold : ℕ → Start → List Update → List ℕ → List ℕ → 
 IsTold n start h x y = (q : Request) (r : Reply) → HasNumber q → Asks x q → Says y r
     → Stands n start h q r
 
+-- there are as many of both, and this holds of each and of the one beside it
+abbrev pub SideBySide : {A B : Type 0} → (A → B → Type 0) → List A → List B → Type 0
+SideBySide R [] [] = Unit {0}
+SideBySide R (x ∷ xs) (y ∷ ys) = R x y × SideBySide R xs ys
+SideBySide R xs ys = ⊥
+
 -- so it is with each of these payloads and its reply, in order
 abbrev pub AreTold : ℕ → Start → List Update → List (List ℕ) → List (List ℕ) → Type 0
-AreTold n start h [] [] = Unit {0}
-AreTold n start h (x ∷ xs) (y ∷ ys) = IsTold n start h x y × AreTold n start h xs ys
-AreTold n start h [] (y ∷ ys) = ⊥
-AreTold n start h (x ∷ xs) [] = ⊥
+AreTold n start h xs ys = SideBySide (λ x y. IsTold n start h x y) xs ys

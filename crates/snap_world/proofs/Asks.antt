@@ -34,6 +34,11 @@ some_named n set most pos among =
     let most_sets : 2 ^ n ≤ 2 ^ 16 = pow-le-pow_right (omega arith) most in
     some set (omega arith) pos
 
+-- the answer of a scan in other words
+IsAnswer-as : {set : ℕ} {h : List Update} {s : ScanState} {Is : ℕ → Type 0}
+    (a : IsAnswer set h s Is) (As : ℕ → Type 0) → As a.p → IsAnswer set h s As
+IsAnswer-as a As is = record { p = a.p; moment = a.moment; is_moment = a.is_moment; is = is }
+
 module _ (n : ℕ) (x : State) (i : ℕ) where
   pub asked_step : (asked : Asked) (y : State) → slice_get x.scanners i ≡ Some Closed
       → y ≡ with_scanner x i (Opened asked (scan_from (length x.history)))
@@ -81,25 +86,15 @@ module _ (n : ℕ) (x : State) (i : ℕ) where
   answer_step All scan memory (Memory m) y most long there a is e = (
     scan,
     there,
-    record {
-      p = a.p;
-      moment = a.moment;
-      is_moment = a.is_moment;
-      is = subst (IsMemory n from_nothing (take a.p x.history)) (sym is)
-          (whole n x.history memory a.p most long a.is);
-    },
+    IsAnswer-as a _ (subst (IsMemory n from_nothing (take a.p x.history)) (sym is)
+        (whole n x.history memory a.p most long a.is)),
     e,
   )
   answer_step (Only set) scan memory (Part m) y most long there a is e = (
     set,
     scan,
     there,
-    record {
-      p = a.p;
-      moment = a.moment;
-      is_moment = a.is_moment;
-      is = is ∙ entries set.bits memory a.p a.is;
-    },
+    IsAnswer-as a _ (is ∙ entries set.bits memory a.p a.is),
     e,
   )
   answer_step All scan memory reply y most long there a is e = absurd is

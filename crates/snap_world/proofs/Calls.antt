@@ -14,7 +14,7 @@ use Rattle.snap_persist.specs.declared.persist.NextCall.TheVariants as next
 use Rattle.snap_persist.specs.declared.persist.Stage.{Stage}
 use Rattle.snap_persist.specs.declared.persist.Stage.TheVariants as stage
 use Rattle.snap_persist.proofs.Stages.{stage_leaves, write_leaves, write_goes, sync_goes, sync_leaves}
-use Rattle.snap_world.specs.Devices.{IsMade, IsMissed, IsWriteFailed, IsRefilled}
+use Rattle.snap_world.specs.Devices.{IsMade, IsMissed}
 use Rattle.snap_world.specs.inside.Drives.{IsReady, IsStoreUnderWay}
 
 -- the calls that are left, of which this one is the first
@@ -24,21 +24,12 @@ left_from [] call e ne = absurd (ne (sym e))
 left_from (c ∷ rest) call e ne = (rest, ap (λ z. z ∷ rest) e)
 
 -- which call failed
-pub write_missed : (at : Stage) (w : Write) (slot : ℕ) (fill : Fill) (d e : Device)
-    → first_call (calls_left at) ≡ next.Write w
-    → IsWriteFailed (write_at slot w) (write_len w) fill d e
+pub call_missed : (at : Stage) (call : NextCall) (slot : ℕ) (fill : Fill) (d e : Device)
+    → first_call (calls_left at) ≡ call → (call ≡ next.Done → ⊥) → IsMissed slot fill call d e
     → (call : NextCall) × (rest : List NextCall) × (calls_left at ≡ call ∷ rest)
     × IsMissed slot fill call d e
-write_missed at w slot fill d e asked failed = let left =
-    left_from (calls_left at) (next.Write w) asked (λ f. cc) in
-    (next.Write w, left.0, left.1, failed)
-
-pub sync_missed : (at : Stage) (slot : ℕ) (fill : Fill) (d e : Device)
-    → first_call (calls_left at) ≡ next.Sync → IsRefilled fill d e
-    → (call : NextCall) × (rest : List NextCall) × (calls_left at ≡ call ∷ rest)
-    × IsMissed slot fill call d e
-sync_missed at slot fill d e asked failed = let left =
-    left_from (calls_left at) next.Sync asked (λ f. cc) in (next.Sync, left.0, left.1, failed)
+call_missed at call slot fill d e asked some missed =
+    let left = left_from (calls_left at) call asked some in (call, left.0, left.1, missed)
 
 -- the device of a store has the length of a file
 pub stage_size : (i n k : ℕ) (u v : List ℕ) (at : Stage) (d : Device) → k + 1 < 2 ^ 63

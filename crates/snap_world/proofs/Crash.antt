@@ -1,5 +1,5 @@
 -- A crash.
-use Rattle.std.proofs.Common.{◌≡◌, ℕ, ◌+◌, ◌<◌, ◌≤◌, inl, inr, ⊎_elim, List, length, map, replicate, Some, slice_get, ap, sym, ◌∙◌}
+use Rattle.std.proofs.Common.{◌≡◌, ℕ, ◌+◌, ◌<◌, ◌≤◌, inl, inr, ⊎_elim, List, length, map, Some, slice_get, ap, sym, ◌∙◌}
 use Rattle.std.proofs.Common.{subst, arith}
 use Rattle.std.proofs.Math.Logic.{∥∥₁_elim}
 use Rattle.std.proofs.Props.{props}
@@ -23,7 +23,6 @@ use Rattle.snap_world.specs.Machine.{State, WriterState, ScannerState, Pending, 
 use Rattle.snap_world.specs.NodePhases.{all_idle}
 use Rattle.snap_world.specs.inside.NodeStands.{NodeStand, ActorsRest, WriterRests, ScannerRests, IsUp, IsDown, IsNodeAt}
 use Rattle.snap_world.specs.inside.NodeSteps.{store_left}
-use Rattle.snap_world.specs.Phases.{Phases}
 use Rattle.snap_world.specs.inside.Stands.{ActorsStand, WriterStands, ScannerStands, IsAtPhase}
 use Rattle.snap_world.specs.inside.Steps.{phases_of_actors}
 use Rattle.snap_world.specs.declared.drive.Drive.{Drive}
@@ -37,10 +36,8 @@ use Rattle.snap_world.specs.declared.writer.Writer.{Writer}
 use Rattle.snap_world.specs.declared.writer.WriterPhase.{WriterPhase}
 use Rattle.snap_world.specs.declared.writer.WriterPhase.TheVariants as writer
 use Rattle.snap_world.specs.declared.scanner.Scanner.{Scanner}
-use Rattle.snap_world.specs.declared.scanner.ScannerPhase.{ScannerPhase}
-use Rattle.snap_world.specs.declared.scanner.ScannerPhase.TheVariants as scanner
-use Rattle.snap_world.proofs.NewWorld.{all_same}
-use Rattle.snap_world.proofs.Sweep.{map_element, map_same}
+use Rattle.snap_world.proofs.Elements.{map_element, map_same, origin}
+use Rattle.snap_world.proofs.NewWorld.{phases_idle}
 
 -- what a crash leaves of a segment, by the phase of its writer
 module _ (n : ℕ) (h : List Update) (g i : ℕ) (a : Writer) (s : WriterState) (d : Device)
@@ -197,22 +194,6 @@ module _ (w new : Actors) (segments : new.segments ≡ w.segments) (registers : 
     ≡ w.registers)
     (writers : Pairs (λ i. IsHalted) w.writers.items new.writers.items)
     (scanners : Pairs (λ i. IsScannerHalted) w.scanners.items new.scanners.items) where
-  was_writer : (i : ℕ) (b : Writer) → slice_get new.writers.items i ≡ Some b → (a : Writer)
-      × (slice_get w.writers.items i ≡ Some a) × IsHalted a b
-  was_writer i b e =
-      let low : i < length new.writers.items = slice_get_within new.writers.items i b e in
-      let size : length new.writers.items ≡ length w.writers.items = sym writers.size in
-      let a = element w.writers.items i (omega arith) in
-      (a.0, a.1, writers.each i a.0 b a.1 e)
-
-  was_scanner : (i : ℕ) (b : Scanner) → slice_get new.scanners.items i ≡ Some b → (a : Scanner)
-      × (slice_get w.scanners.items i ≡ Some a) × IsScannerHalted a b
-  was_scanner i b e =
-      let low : i < length new.scanners.items = slice_get_within new.scanners.items i b e in
-      let size : length new.scanners.items ≡ length w.scanners.items = sym scanners.size in
-      let a = element w.scanners.items i (omega arith) in
-      (a.0, a.1, scanners.each i a.0 b a.1 e)
-
   rests : (x : State) → IsSized w x → ActorsRest new (crashed x)
   rests x is = record {
     least = subst (λ n. 0 < n) (sym segments) is.least;
@@ -223,7 +204,7 @@ module _ (w new : Actors) (segments : new.segments ≡ w.segments) (registers : 
     writers_n = sym writers.size ∙ is.writers_n ∙ sym segments;
     writers = record {
       size = sym writers.size ∙ is.writers ∙ sym (length-map x.writers crashed_writer);
-      each = λ i b s eb es. (let a = was_writer i b eb in record {
+      each = λ i b s eb es. (let a = origin i b writers eb in record {
         size = ap (λ c. length c.memory.items) a.2.collector ∙ is.writers_memory i a.0 a.1
             ∙ sym segments;
         idle = a.2.idle;
@@ -231,7 +212,7 @@ module _ (w new : Actors) (segments : new.segments ≡ w.segments) (registers : 
     };
     scanners = record {
       size = sym scanners.size ∙ is.scanners ∙ sym (length-map x.scanners (λ s. Closed));
-      each = λ i b s eb es. (let a = was_scanner i b eb in record {
+      each = λ i b s eb es. (let a = origin i b scanners eb in record {
         size = ap (λ c. length c.memory.items) a.2.collector ∙ is.scanners_memory i a.0 a.1
             ∙ sym segments;
         idle = a.2.idle;
@@ -241,23 +222,11 @@ module _ (w new : Actors) (segments : new.segments ≡ w.segments) (registers : 
   }
 
   pub halted_phases : phases_of_actors new ≡ all_idle (phases_of_actors w)
-  halted_phases =
-      let phase : Writer → WriterPhase = λ v. v.phase in
-      let scanner_phase : Scanner → ScannerPhase = λ v. v.phase in
-      let a : map phase new.writers.items
-      ≡ replicate (length (map phase w.writers.items)) writer.Idle =
-      all_same phase writer.Idle new.writers.items (λ i b e. (was_writer i b e).2.idle)
-      ∙ ap (λ n. replicate n writer.Idle) (sym writers.size
-      ∙ sym (length-map w.writers.items phase)) in
-      let b : map scanner_phase new.scanners.items
-      ≡ replicate (length (map scanner_phase w.scanners.items)) scanner.Idle =
-      all_same scanner_phase scanner.Idle new.scanners.items (λ i b e. (was_scanner i b e).2.idle)
-      ∙ ap (λ n. replicate n scanner.Idle) (sym scanners.size
-      ∙ sym (length-map w.scanners.items scanner_phase)) in
-      let Made : List WriterPhase → List ScannerPhase → Phases =
-      λ p q. record { writers = p; scanners = q } in
-      ap (λ p. Made p (map scanner_phase new.scanners.items)) a
-      ∙ ap (λ q. Made (replicate (length (map phase w.writers.items)) writer.Idle) q) b
+  halted_phases = phases_idle new (length (phases_of_actors w).writers)
+      (length (phases_of_actors w).scanners)
+      (sym writers.size ∙ sym (length-map w.writers.items (λ v. v.phase)))
+      (sym scanners.size ∙ sym (length-map w.scanners.items (λ v. v.phase)))
+      (λ i b e. (origin i b writers e).2.idle) (λ i b e. (origin i b scanners e).2.idle)
 
   pub goes_down : (ds es : List Drive) (fills : List Fill) (x : State) (phase : NodePhase)
       → length fills ≡ length ds → IsNodeAt w ds x phase → AreCrashed fills ds es

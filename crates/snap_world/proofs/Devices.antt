@@ -1,7 +1,8 @@
 -- The devices while writers and scanners act.
-use Rattle.std.proofs.Common.{ap, ⊎_elim, ◌≡◌, ◌≢◌, ◌⊎◌, ℕ, zero, suc, ◌+◌, inl, inr, Bool, false, true, List, [], ◌∷◌, ◌++◌, length}
+use Rattle.std.proofs.Common.{map, ap, ⊎_elim, ◌≡◌, ◌≢◌, ◌⊎◌, ℕ, ◌+◌, inl, inr, Bool, false, true, List, [], ◌∷◌, ◌++◌, length}
 use Rattle.std.proofs.Common.{Some, slice_get, slice_set, refl, sym, ◌∙◌, subst}
 use Rattle.std.proofs.lemmas.Bool.{cases_eq}
+use Rattle.std.proofs.lemmas.List.{map-set}
 use Rattle.snap_disk.specs.Device.{Device}
 use Rattle.snap_persist.specs.Device.{IsAtStage}
 use Rattle.snap_persist.specs.Stage.{PersistState, calls_left, first_stage}
@@ -11,6 +12,7 @@ use Rattle.snap_history.specs.History.{Update, from_nothing, number_after, value
 use Rattle.snap_history.proofs.Lists.{get-set_other}
 use Rattle.snap_history.proofs.Moments.{number-push, number-push_other, value-push, value-push_other}
 use Rattle.snap_world.specs.Answers.{scan_from}
+use Rattle.snap_world.specs.Devices.{Changes}
 use Rattle.snap_world.specs.inside.Drives.{IsReady, IsStoreUnderWay, IsDriveAt, DriveStands, DrivesStand, device_of}
 use Rattle.snap_world.specs.Machine.{State, WriterState, Free, Begun, Shown, Step}
 use Rattle.snap_world.specs.NodePhases.{WorldPhases, TellsWhether, PhasesMove, LooksOn, up}
@@ -23,21 +25,29 @@ use Rattle.snap_world.specs.declared.event.Reply.TheVariants.{Memory, Part, NotN
 use Rattle.snap_world.specs.declared.writer.WriterPhase.{WriterPhase}
 use Rattle.snap_world.specs.declared.writer.WriterPhase.TheVariants as writer
 use Rattle.snap_world.specs.declared.scanner.ScannerPhase.TheVariants as scanner
+use Rattle.snap_world.proofs.Elements.{set_is, map_at}
 use Rattle.snap_world.proofs.Acts.{Act, Begins, Looks, Shows, Acknowledges, Scans, Picks, Answers, event_of}
 
--- an element that was written
-pub set_is : {A : Type 0} (xs : List A) (i : ℕ) (x y : A) → slice_get (slice_set xs i x) i ≡ Some y
-    → x ≡ y
-set_is [] i x y e = cc
-set_is (z ∷ xs) zero x y e = cc
-set_is (z ∷ xs) (suc i) x y e = set_is xs i x y e
+-- device i changes
+pub device_changes : (ds : List Drive) (i : ℕ) (d e : Drive) → slice_get ds i ≡ Some d
+    → (R : Device → Device → Type 0) → R (device_of d) (device_of e)
+    → Changes i R (map device_of ds) (map device_of (slice_set ds i e))
+device_changes ds i d e there R change = record {
+  before = device_of d;
+  after = device_of e;
+  there = map_at device_of ds i d there;
+  change = change;
+  others = map-set device_of ds i e;
+}
+
+-- the two lists have the same at each place but i
+abbrev pub SameBut : {A : Type 0} → ℕ → List A → List A → Type 0
+SameBut i xs ys = (j : ℕ) → j ≢ i → slice_get ys j ≡ slice_get xs j
 
 -- one segment's part changes, and the number and value of no other one
 pub drives_change : (n : ℕ) (h g : List Update) (ss ts : List WriterState)
     (ps qs : List WriterPhase) (ds es : List Drive) (i : ℕ)
-    → ((j : ℕ) → j ≢ i → slice_get ts j ≡ slice_get ss j)
-    → ((j : ℕ) → j ≢ i → slice_get qs j ≡ slice_get ps j)
-    → ((j : ℕ) → j ≢ i → slice_get es j ≡ slice_get ds j)
+    → SameBut i ss ts → SameBut i ps qs → SameBut i ds es
     → ((j : ℕ) → j ≢ i → (number_after from_nothing h j ≡ number_after from_nothing g j)
     × (value_after from_nothing h j ≡ value_after from_nothing g j))
     → ((d : Drive) (s : WriterState) (phase : WriterPhase) → slice_get es i ≡ Some d
@@ -83,41 +93,48 @@ store_begins i n k u v d persist is = record {
 -- the phase and the update of one writer change
 module _ (n : ℕ) (h : List Update) (ss : List WriterState) (ps : List WriterPhase) (ds : List Drive)
     (stand : DrivesStand n h ss ps ds) where
-  pub writer_changes : (w : ℕ) (s : WriterState) (phase : WriterPhase)
+  part_changes : (g : List Update) (w : ℕ) (t : WriterState) (qs : List WriterPhase)
+      → SameBut w ps qs
+      → ((j : ℕ) → j ≢ w → (number_after from_nothing h j ≡ number_after from_nothing g j)
+      × (value_after from_nothing h j ≡ value_after from_nothing g j))
+      → ((d : Drive) (phase : WriterPhase) → slice_get ds w ≡ Some d → slice_get qs w ≡ Some phase
+      → DriveStands n g w phase t.pending d)
+      → DrivesStand n g (slice_set ss w t) qs ds
+  part_changes g w t qs phases grows here =
+      drives_change n h g ss (slice_set ss w t) ps qs ds ds w (λ j ne. get-set_other ss w j t ne)
+      phases (λ j ne. refl) grows
+      (λ d r ph ed er ep. subst (λ (z : WriterState). DriveStands n g w ph z.pending d)
+      (set_is ss w t r er) (here d ph ed ep)) stand
+
+  writer_changes : (w : ℕ) (s : WriterState) (phase : WriterPhase)
       → ((d : Drive) → slice_get ds w ≡ Some d → DriveStands n h w phase s.pending d)
       → DrivesStand n h (slice_set ss w s) (slice_set ps w phase) ds
   writer_changes w s phase here =
-      drives_change n h h ss (slice_set ss w s) ps (slice_set ps w phase) ds ds w
-      (λ j ne. get-set_other ss w j s ne) (λ j ne. get-set_other ps w j phase ne) (λ j ne.
-      refl) (nothing_grows h w)
-      (λ d t ph ed et ep. subst (λ z. DriveStands n h w z t.pending d) (set_is ps w phase ph ep)
-      (subst (λ (z : WriterState). DriveStands n h w phase z.pending d) (set_is ss w s t et)
-      (here d ed))) stand
+      part_changes h w s (slice_set ps w phase) (λ j ne. get-set_other ps w j phase ne)
+      (nothing_grows h w)
+      (λ d ph ed ep. subst (λ z. DriveStands n h w z s.pending d) (set_is ps w phase ph ep)
+      (here d ed))
 
   -- a writer's embedded scan was told a number more
-  pub writer_told : (w : ℕ) (s t : WriterState) → slice_get ss w ≡ Some s → s.pending ≡ t.pending
+  writer_told : (w : ℕ) (s t : WriterState) → slice_get ss w ≡ Some s → s.pending ≡ t.pending
       → DrivesStand n h (slice_set ss w t) ps ds
-  writer_told w s t es same = drives_change n h h ss (slice_set ss w t) ps ps ds ds w
-      (λ j ne. get-set_other ss w j t ne) (λ j ne. refl) (λ j ne. refl) (nothing_grows h w)
-      (λ d r ph ed er ep. subst (λ (z : WriterState). DriveStands n h w ph z.pending d)
-      (set_is ss w t r er)
-      (subst (λ z. DriveStands n h w ph z d) same (stand w d s ph ed es ep))) stand
+  writer_told w s t es same = part_changes h w t ps (λ j ne. refl) (nothing_grows h w)
+      (λ d ph ed ep. subst (λ z. DriveStands n h w ph z d) same (stand w d s ph ed es ep))
 
   -- a writer shows its update
-  pub writer_shows : (w : ℕ) (s t : WriterState) (v : List ℕ) → slice_get ss w ≡ Some s
+  writer_shows : (w : ℕ) (s t : WriterState) (v : List ℕ) → slice_get ss w ≡ Some s
       → s.pending ≡ Begun v → slice_get ps w ≡ Some writer.Stored
       → DrivesStand n (h ++ record { segment = w; value = v } ∷ []) (slice_set ss w t)
       (slice_set ps w writer.Shown) ds
   writer_shows w s t v es begun ep =
       let u : Update = record { segment = w; value = v } in
-      drives_change n h (h ++ u ∷ []) ss (slice_set ss w t) ps (slice_set ps w writer.Shown) ds ds w
-      (λ j ne. get-set_other ss w j t ne) (λ j ne. get-set_other ps w j writer.Shown ne) (λ j ne.
-      refl)
+      part_changes (h ++ u ∷ []) w t (slice_set ps w writer.Shown)
+      (λ j ne. get-set_other ps w j writer.Shown ne)
       (λ j ne. (
         sym (number-push_other from_nothing h u j (λ e. ne (sym e))),
         sym (value-push_other from_nothing h u j (λ e. ne (sym e))),
       ))
-      (λ d r ph ed er eq. (
+      (λ d ph ed eq. (
       let was : IsReady w n (number_after from_nothing h w + 1) v (device_of d) d.persist =
       stand w d s writer.Stored ed es ep v begun in
       let At : ℕ → List ℕ → Type 0 = λ k z. IsReady w n k z (device_of d) d.persist in
@@ -125,8 +142,8 @@ module _ (n : ℕ) (h : List Update) (ss : List WriterState) (ps : List WriterPh
       ++ u ∷ []) w) (device_of d) d.persist =
       subst (At (number_after from_nothing (h ++ u ∷ []) w)) (sym (value-push from_nothing h u))
       (subst (λ k. At k v) (sym (number-push from_nothing h u)) was) in
-      subst (λ z. DriveStands n (h ++ u ∷ []) w z r.pending d)
-      (set_is ps w writer.Shown ph eq) now)) stand
+      subst (λ z. DriveStands n (h ++ u ∷ []) w z t.pending d)
+      (set_is ps w writer.Shown ph eq) now))
 
 -- after a look the phases are as they were, or those of the store that begins
 look_follows : (n : ℕ) (h : List Update) (ss : List WriterState) (p q : Phases) (ds : List Drive)

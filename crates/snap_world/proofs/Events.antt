@@ -1,5 +1,5 @@
 -- An event of a writer or a scanner, as a step of the node.
-use Rattle.std.proofs.Common.{◌≡◌, inl, inr, ⊎_elim, ℕ, List, length, refl, ap, sym, ◌∙◌, subst, Result, Ok, Err, IfOk}
+use Rattle.std.proofs.Common.{◌≡◌, inl, inr, ⊎_elim, ℕ, List, [], length, map, refl, ap, sym, ◌∙◌, subst, Result, Ok, Err, IfOk}
 use Rattle.std.proofs.Math.Logic.{∥∥₁_map}
 use Rattle.std.specs.declared.alloc.AllocError.{AllocError}
 use Rattle.snap_disk.specs.Device.{Device}
@@ -8,7 +8,7 @@ use Rattle.snap_world.specs.inside.Drives.{DrivesStand}
 use Rattle.snap_world.specs.Machine.{State}
 use Rattle.snap_world.specs.NodePhases.{WorldPhases, MayCome, PhasesMove, LooksOn, up, actors_to}
 use Rattle.snap_world.specs.inside.NodeStands.{NodeStands, NodeStand, IsUp, IsNodeAt}
-use Rattle.snap_world.specs.inside.NodeSteps.{IsNodeStep, phases_of_node, devices_of_node}
+use Rattle.snap_world.specs.inside.NodeSteps.{IsNodeStep, phases_of_node, devices_of_node, store_left}
 use Rattle.snap_world.specs.Phases.{Phases}
 use Rattle.snap_world.specs.inside.Stands.{Stand}
 use Rattle.snap_world.specs.inside.Steps.{IsActorsStep, phases_of_actors}
@@ -25,27 +25,18 @@ use Rattle.snap_world.specs.declared.actors.Actors.{Actors}
 use Rattle.snap_world.proofs.Acts.{Act, Begins, Looks, Shows, Acknowledges, Scans, Picks, Answers, event_of}
 use Rattle.snap_world.proofs.Devices.{drives_follow}
 
-may_act : (x : State) (p : WorldPhases) (a : Act) → p.node ≡ Up
-    → MayCome x (up p.actors) (event_of a) → MayCome x p (event_of a)
-may_act x p (Begins w v) is m = (is, m.1, m.2, m.3)
-may_act x p (Looks (actor.Writer w)) is m = (is, m.1)
-may_act x p (Looks (actor.Scanner i)) is m = (is, m.1)
-may_act x p (Shows w) is m = (is, m.1)
-may_act x p (Acknowledges w) is m = (is, m.1)
-may_act x p (Scans i) is m = (is, m.1)
-may_act x p (Picks i set) is m = (is, m.1, m.2)
-may_act x p (Answers i) is m = (is, m.1)
-
-may_from : (x : State) (p : WorldPhases) (a : Act) → MayCome x p (event_of a)
-    → MayCome x (up p.actors) (event_of a)
-may_from x p (Begins w v) m = (refl, m.1, m.2, m.3)
-may_from x p (Looks (actor.Writer w)) m = (refl, m.1)
-may_from x p (Looks (actor.Scanner i)) m = (refl, m.1)
-may_from x p (Shows w) m = (refl, m.1)
-may_from x p (Acknowledges w) m = (refl, m.1)
-may_from x p (Scans i) m = (refl, m.1)
-may_from x p (Picks i set) m = (refl, m.1, m.2)
-may_from x p (Answers i) m = (refl, m.1)
+-- whether an act may come depends on the actors alone, while the node is up
+may_as : (x : State) (p : WorldPhases) (node : NodePhase) (calls : List (List NextCall)) (a : Act)
+    → node ≡ Up → MayCome x p (event_of a)
+    → MayCome x (record p { node = node; calls = calls }) (event_of a)
+may_as x p node calls (Begins w v) is m = (is, m.1, m.2, m.3)
+may_as x p node calls (Looks (actor.Writer w)) is m = (is, m.1)
+may_as x p node calls (Looks (actor.Scanner i)) is m = (is, m.1)
+may_as x p node calls (Shows w) is m = (is, m.1)
+may_as x p node calls (Acknowledges w) is m = (is, m.1)
+may_as x p node calls (Scans i) is m = (is, m.1)
+may_as x p node calls (Picks i set) is m = (is, m.1, m.2)
+may_as x p node calls (Answers i) is m = (is, m.1)
 
 devices_stay : (n : ℕ) (x : State) (p : WorldPhases) (ds : List Device) (a : Act) (reply : Reply)
     (y : State) → DevicesMove n x p ds (event_of a) reply y ds
@@ -113,11 +104,11 @@ actors_of w up t = ∥∥₁_map t (λ q. (q.0, (is_up w q.0 up q.1).actors_stan
 pub acts : (w : Node) (actors : Actors) (event : Event) (reply : Reply) (a : Act)
     → event ≡ event_of a → w.phase ≡ Up → IsActorsStep w.actors (event_of a) reply actors
     → IsNodeStep w event reply (with_actors w actors)
-acts w actors event reply a is up s =
+acts w actors event reply a is running s =
     subst (λ e. IsNodeStep w e reply (with_actors w actors)) (sym is) (record {
       segments = s.segments;
       step = λ x stands. (
-          let was = is_up w x up stands in
+          let was = is_up w x running stands in
           let f = s.step x was.actors_stand in
           let p = phases_of_actors w.actors in
           let q = phases_of_actors actors in
@@ -135,18 +126,19 @@ acts w actors event reply a is up s =
             record {
               drives_n = stands.drives_n ∙ sym s.segments;
               at =
-                  subst (IsNodeAt actors w.drives.items f.0) (sym up) now;
+                  subst (IsNodeAt actors w.drives.items f.0) (sym running) now;
             },
           ));
       comes = λ x stands. (
-          let t = s.comes x (is_up w x up stands).actors_stand in
+          let t = s.comes x (is_up w x running stands).actors_stand in
           record {
-            refused = λ e m. t.refused e (may_from x (phases_of_node w) a m);
-            came = λ ne. may_act x (phases_of_node w) a up (t.came ne);
+            refused = λ e m. t.refused e (may_as x (phases_of_node w) Up [] a refl m);
+            came = λ ne. may_as x (up (phases_of_actors w.actors)) w.phase
+                (map store_left w.drives.items) a running (t.came ne);
           });
       phases = λ x stands. phases_lift w.actors.segments x (phases_of_node w)
           (phases_of_node (with_actors w actors)) refl refl a reply
-          (s.phases x (is_up w x up stands).actors_stand);
+          (s.phases x (is_up w x running stands).actors_stand);
       gates = λ x stands. gates_stay a reply (phases_of_node (with_actors w actors))
           (devices_of_node w);
       unchanged = λ e. ap (with_actors w) (s.unchanged e);

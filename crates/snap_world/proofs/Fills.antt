@@ -1,10 +1,10 @@
 -- A fill for each device, whatever a crash left of them.
-use Rattle.std.proofs.Common.{◌≡◌, ℕ, zero, suc, ◌^◌, ◌<◌, inl, inr, List, [], ◌∷◌, length, map, Some, slice_get, slice_set, refl, sym}
+use Rattle.std.proofs.Common.{◌≡◌, ℕ, zero, suc, ◌^◌, ◌<◌, List, [], ◌∷◌, length, map, Some, slice_get, slice_set, refl, sym}
 use Rattle.std.proofs.Common.{◌∙◌, ap, subst, arith}
 use Rattle.std.specs.Prelude.{◌||◌, false}
 use Rattle.std.specs.Global.{Vec}
 use Rattle.std.proofs.lemmas.List.{length-set, length-map}
-use Rattle.std.proofs.lemmas.Bool.{or_parts, cases_eq}
+use Rattle.std.proofs.lemmas.Bool.{or_parts}
 use Rattle.std.proofs.lemmas.Option.{slice_get_within, same_Some}
 use Rattle.snap_disk.specs.Device.{Device, in_range, opened, IsTouched, IsUnsynced}
 use Rattle.snap_disk.specs.Fills.{SomeFill}
@@ -18,7 +18,7 @@ use Rattle.snap_world.specs.inside.Drives.{device_of}
 use Rattle.snap_world.specs.Surface.{devices_of}
 use Rattle.snap_world.specs.declared.drive.Drive.{Drive}
 use Rattle.snap_world.specs.declared.world.World.{World}
-use Rattle.snap_world.proofs.Sweep.{map_element}
+use Rattle.snap_world.proofs.Elements.{map_element, each-set}
 
 -- each of them is short enough for an index
 abbrev pub AllSmall : List Device → Type 0
@@ -87,8 +87,8 @@ inside at n old new left touched is = record {
   places = λ p. is.places p ∙ sym (touched.opened p);
 }
 
-module _ (devices : List Device) (w at n : ℕ) (device : Device) (there : slice_get devices w
-    ≡ Some device) where
+module _ (devices : List Device) (w at n : ℕ) (device : Device)
+    (there : slice_get devices w ≡ Some device) where
   -- one device is written
   after_write : (new : Device) (left : List Device) → IsTouched at n device new
       → CrashMayLeave (slice_set devices w (opened at n device)) left
@@ -98,35 +98,21 @@ module _ (devices : List Device) (w at n : ℕ) (device : Device) (there : slice
       record {
         size = length-set devices w new ∙ sym (length-set devices w (opened at n device))
             ∙ may.size;
-        each = λ i a b ea eb. elim (cases_eq i w) [
-          | inl e ↦ (
-              let ea2 : slice_get (slice_set devices w new) w ≡ Some a =
-              subst (λ k. slice_get (slice_set devices w new) k ≡ Some a) e ea in
-              let eb2 : slice_get left w ≡ Some b = subst (λ k. slice_get left k ≡ Some b) e eb in
-              let same : new ≡ a = same_Some _ _ (sym (get-set_same devices w new within) ∙ ea2) in
-              let is : IsUnsynced (opened at n device) b =
-              may.each w (opened at n device) b
-              (get-set_same devices w (opened at n device) within) eb2 in
-              subst (λ x. IsUnsynced x b) same (inside at n device new b touched is))
-          | inr ne ↦ may.each i a b (get-set_other devices w i (opened at n device) ne
-              ∙ sym (get-set_other devices w i new ne) ∙ ea) eb
-        ];
+        each = λ i a b ea eb. each-set (λ j c. (d : Device) → slice_get left j ≡ Some d
+            → IsUnsynced c d) devices w new
+            (λ d ed. inside at n device new d touched (may.each w (opened at n device) d
+            (get-set_same devices w (opened at n device) within) ed))
+            (λ j c ne ec d ed. may.each j c d (get-set_other devices w j (opened at n device) ne ∙ ec)
+            ed) i a ea b eb;
       }
 
   small_after : (new : Device) → IsTouched at n device new → AllSmall devices
       → AllSmall (slice_set devices w new)
-  small_after new touched small i a ea =
-      let within : w < length devices = slice_get_within devices w device there in
-      elim (cases_eq i w) [
-        | inl e ↦ (
-            let ea2 : slice_get (slice_set devices w new) w ≡ Some a =
-            subst (λ k. slice_get (slice_set devices w new) k ≡ Some a) e ea in
-            let same : new ≡ a = same_Some _ _ (sym (get-set_same devices w new within) ∙ ea2) in
-            let size : length new.bytes ≡ length device.bytes = touched.bytes_elsewhere.size in
-            let here : length device.bytes < 2 ^ 63 = small w device there in
-            subst (λ x. length x.bytes < 2 ^ 63) same (omega (arith, size, here)))
-        | inr ne ↦ small i a (sym (get-set_other devices w i new ne) ∙ ea)
-      ]
+  small_after new touched small =
+      let size : length new.bytes ≡ length device.bytes = touched.bytes_elsewhere.size in
+      let here : length device.bytes < 2 ^ 63 = small w device there in
+      each-set (λ j d. length d.bytes < 2 ^ 63) devices w new (omega (arith, size, here))
+      (λ j d ne e. small j d e)
 
 crash_inside_of : (devices : List Device) → length devices < 2 ^ 63 → AllSmall devices
     → (w at n : ℕ) (device : Device) (after left : List Device) → slice_get devices w ≡ Some device

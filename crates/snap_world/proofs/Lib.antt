@@ -1,3 +1,4 @@
+pub mod Elements
 pub mod Looks
 pub mod Moves
 pub mod Runs

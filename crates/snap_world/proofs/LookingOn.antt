@@ -1,328 +1,257 @@
 -- One look of a writer's embedded scan, or of a scanner, as a step of the actors.
-use Rattle.std.proofs.Common.{⊎_elim, ◌≡◌, ℕ, ◌<◌, ◌≤◌, inl, inr, List, [], ◌∷◌, ◌++◌, length, get_or, Some, slice_get, refl, ap, sym}
-use Rattle.std.proofs.Common.{◌∙◌, subst}
-use Rattle.std.specs.Vec.{with_item}
+use Rattle.std.proofs.Common.{◌≡◌, ◌⊎◌, ℕ, ◌≤◌, inl, inr, List, [], ◌∷◌, ◌++◌, get_or, Some, refl, ap, sym, ◌∙◌, subst}
+use Rattle.std.proofs.Math.Logic.{∥∥₁_map}
 use Rattle.std.proofs.lemmas.Option.{same_Some}
 use Rattle.snap_scan.specs.Looks.{IsDecided}
 use Rattle.snap_scan.specs.Sets.{size}
 use Rattle.snap_world.specs.Answers.{ScanState, number_at, all_of, set_of}
-use Rattle.snap_world.specs.declared.scanner.Asked.{Asked}
-use Rattle.snap_world.specs.inside.Gathers.{Gathers, IsLookOf, IsUnderWay, RegistersStand}
-use Rattle.snap_world.specs.Machine.{State, WriterState, ScannerState, Begun, Opened, Step, IsLook, with_writer, with_scanner}
-use Rattle.snap_world.specs.NodePhases.{LooksOn, up, actors_to}
-use Rattle.snap_world.specs.Phases.{Phases, writer_to, scanner_to}
-use Rattle.snap_world.specs.inside.Stands.{ActorsStand, WriterStands, ScannerStands, HasBegun, IsAtPhase, IsScannerAt, is_fenced}
-use Rattle.snap_world.specs.inside.Steps.{phases_of_actors}
+use Rattle.snap_world.specs.inside.Gathers.{Gathers, IsLookOf, IsUnderWay, MayLook, RegistersStand}
+use Rattle.snap_world.specs.Machine.{State, WriterState, ScannerState, Closed, Opened, IsLook, with_writer, with_scanner}
+use Rattle.snap_world.specs.NodePhases.{WorldPhases, LooksOn, up}
+use Rattle.snap_world.specs.Phases.{WriterIs, ScannerIs, writer_to, scanner_to}
+use Rattle.snap_world.specs.inside.Stands.{ActorsStand, Stand, WriterStands, ScannerStands, HasBegun, IsAtPhase, IsScannerAt, is_fenced}
+use Rattle.snap_world.specs.inside.Steps.{IsActorsStep, phases_of_actors}
 use Rattle.snap_world.specs.declared.event.Actor.TheVariants as actor
 use Rattle.snap_world.specs.declared.event.Event.TheVariants.{Look}
 use Rattle.snap_world.specs.declared.event.Reply.TheVariants.{Number}
 use Rattle.snap_world.specs.declared.collector.Collector.{Collector}
 use Rattle.snap_world.specs.declared.actors.Actors.{Actors}
+use Rattle.snap_world.specs.declared.register.Register.{Register}
 use Rattle.snap_world.specs.declared.writer.Writer.{Writer}
 use Rattle.snap_world.specs.declared.writer.WriterPhase.{WriterPhase}
 use Rattle.snap_world.specs.declared.writer.WriterPhase.TheVariants as writer
 use Rattle.snap_world.specs.declared.scanner.Scanner.{Scanner}
 use Rattle.snap_world.specs.declared.scanner.ScannerPhase.{ScannerPhase}
 use Rattle.snap_world.specs.declared.scanner.ScannerPhase.TheVariants as scanner
-use Rattle.snap_world.proofs.ScanEnds.{undecided}
-use Rattle.snap_world.proofs.Moves.{the_writer, the_scanner, writer_moves, scanner_moves, has_answer}
-use Rattle.snap_world.proofs.PhaseMoves.{writer_moved, writer_kept, scanner_moved, scanner_kept}
+use Rattle.snap_world.proofs.ScanEnds.{undecided, look_from}
+use Rattle.snap_world.proofs.Moves.{WriterFound, ScannerFound, the_writer, the_scanner, within, writer_moves, scanner_moves, has_answer}
+use Rattle.snap_world.proofs.PhaseMoves.{writer_read, scanner_read, scanner_there, with_actors_writer, with_actors_scanner}
+use Rattle.snap_world.proofs.PhaseMoves.{writer_moved, writer_kept, scanner_moved, scanner_kept, came}
 
--- the actors with one writer, or one scanner, changed
-abbrev pub with_actors_writer : Actors → ℕ → Writer → Actors
-with_actors_writer w i a = record {
-  segments = w.segments;
-  registers = w.registers;
-  writers =
-      with_item w.writers i a;
-  scanners = w.scanners;
-}
+-- the registers and the collector stand for a state and a scan, which has a look to make
+abbrev LooksNext : List Register → Collector → Type 0
+LooksNext rs c = (n set : ℕ) × (x : State) × (g : ℕ) × (s : ScanState) × (g ≤ s.start)
+    × RegistersStand n x g rs × Gathers n set x.history s c × IsUnderWay c
 
-abbrev pub with_actors_scanner : Actors → ℕ → Scanner → Actors
-with_actors_scanner w i a = record {
-  segments = w.segments;
-  registers = w.registers;
-  writers =
-      w.writers;
-  scanners = with_item w.scanners i a;
-}
+can_look : (rs : List Register) (c : Collector) → ∥ LooksNext rs c ∥₁ → IsUnderWay c × MayLook rs c
+can_look rs c is = (
+  look_from c.scan.next (∥∥₁_map is (λ q. q.8)),
+  ∥∥₁_map is (λ q. (q.0, q.1, q.2, q.3, q.4, q.5, q.6, q.7)),
+)
 
--- a writer, or a scanner, behind a look
-abbrev pub looked_writer : Writer → WriterPhase → Collector → Writer
-looked_writer a phase col = record { phase = phase; value = a.value; collector = col }
+-- behind a look the scan has a further one to make, and its owner stays in phase p, or it has its
+-- answer, and the owner is in phase r
+abbrev pub Ends : {P : Type 0} → Collector → P → P → P → Type 0
+Ends c p r q = (IsUnderWay c × (q ≡ p))
+    ⊎ ((IsUnderWay c → ⊥) × IsDecided (size c.scan.set) c.scan.told × (q ≡ r))
 
-abbrev pub looked_scanner : Scanner → ScannerPhase → Collector → Scanner
-looked_scanner a phase col = record { phase = phase; asked = a.asked; collector = col }
+module _ {n set k : ℕ} {x : State} {s t : ScanState} {c : Collector} (look : IsLook set x s k t)
+    (gathers : Gathers n set x.history t c) where
+  start_is : t.start ≡ s.start
+  start_is = ap (λ (z : ScanState). z.start) look.after
 
--- the phases behind a look that decides an answer, and behind one that doesn't
-looks_end : {P : Type 0} {set : ℕ} {told : List ℕ} {p r q : P} → IsDecided (size set) told → q ≡ r
-    → LooksOn set told p r q
-looks_end has e =
-    record { ends = λ _. e; goes_on = λ none. absurd (none has); either = inl e }
+  decided : IsDecided (size c.scan.set) c.scan.told → IsDecided (size set) t.told
+  decided tells = subst (IsDecided (size set)) gathers.told
+      (subst (λ m. IsDecided (size m) c.scan.told) gathers.set_is tells)
 
-looks_go_on : {P : Type 0} {set : ℕ} {told : List ℕ} {p r q : P}
-    → (IsDecided (size set) told → ⊥) → q ≡ p → LooksOn set told p r q
-looks_go_on none e =
-    record { ends = λ has. absurd (none has); goes_on = λ _. e; either = inr e }
+  -- the phases that the actors then have
+  looks_on : {P Q : Type 0} (phases : P → Q) (p r q : P) (now next : Q) → phases p ≡ now
+      → phases r ≡ next → Ends c p r q → LooksOn set (s.told ++ k ∷ []) now next (phases q)
+  looks_on phases p r q now next kept moved ends =
+      let told : t.told ≡ s.told ++ k ∷ [] = ap (λ (z : ScanState). z.told) look.after in
+      elim ends [
+        | inl goes ↦ (
+            let open_still : IsDecided (size set) (s.told ++ k ∷ []) → ⊥ =
+            subst (λ L. IsDecided (size set) L → ⊥) told
+            (undecided set t.told c.scan.next goes.0.0 gathers.next goes.0.1) in
+            let same : phases q ≡ now = ap phases goes.1 ∙ kept in
+            record { ends = λ has. absurd (open_still has); goes_on = λ _. same; either = inr same })
+        | inr done ↦ (
+            let has : IsDecided (size set) (s.told ++ k ∷ []) =
+            subst (IsDecided (size set)) told (decided done.1) in
+            let same : phases q ≡ next = ap phases done.2 ∙ moved in
+            record { ends = λ _. same; goes_on = λ none. absurd (none has); either = inl same })
+      ]
 
--- what a collector says of the numbers told once a look was made
-module _ (n set : ℕ) (x : State) where
-  told_is : (s : ScanState) (k : ℕ) (t : ScanState) → IsLook set x s k t → t.told ≡ s.told ++ k ∷ []
-  told_is s k t look = ap (λ (z : ScanState). z.told) look.after
+module _ (w : Actors) (i : ℕ) (is : WriterIs (phases_of_actors w) i writer.Scanning) (old : Writer)
+    (read : old ≡ get_or w.writers.items i old) where
+  module _ (x : State) (stands : ActorsStand w x) where
+    -- what the embedded scan looks at, and the writer's part
+    abbrev all : ℕ
+    all = all_of w.segments
 
-  start_is : (s : ScanState) (k : ℕ) (t : ScanState) → IsLook set x s k t → t.start ≡ s.start
-  start_is s k t look = ap (λ (z : ScanState). z.start) look.after
+    at : WriterFound w.segments x.history stands.since i x.writers old writer.Scanning
+    at = the_writer w x stands i is old read
 
-  open_still : (t : ScanState) (c : Collector) → Gathers n set x.history t c → IsUnderWay c
-      → IsDecided (size set) t.told → ⊥
-  open_still t c g under_way = undecided set t.told c.scan.next under_way.0 g.next under_way.1
+  pub writer_can_look : Stand w → IsUnderWay old.collector × MayLook w.registers.items old.collector
+  writer_can_look stand = can_look w.registers.items old.collector (∥∥₁_map stand (λ q. (
+      let a = at q.0 q.1 in (
+        w.segments,
+        all_of w.segments,
+        q.0,
+        q.1.since,
+        a.state.scan,
+        a.phase.0.born,
+        q.1.registers,
+        a.phase.0.gathers,
+        a.phase.1,
+      ))))
 
--- the collector says that the scan has its answer
-abbrev pub Tells : Collector → Type 0
-Tells c = IsDecided (size c.scan.set) c.scan.told
+  module _ (k : ℕ) (c : Collector) (look : IsLookOf w.registers.items old.collector k c)
+      (q : WriterPhase) (ends : Ends c writer.Scanning writer.Storing q) where
+    -- the writer in its phase behind the look
+    abbrev writer_in : WriterPhase → Writer
+    writer_in p = record old { phase = p; collector = c }
 
-over : (n set : ℕ) (x : State) (t : ScanState) (c : Collector) → Gathers n set x.history t c
-    → Tells c → IsDecided (size set) t.told
-over n set x t c g tells = subst (IsDecided (size set)) g.told
-    (subst (λ m. IsDecided (size m) c.scan.told) g.set_is tells)
+    module _ (x : State) (stands : ActorsStand w x) where
+      told : (t : ScanState) × IsLook (all_of w.segments) x (at x stands).state.scan k t
+          × Gathers w.segments (all_of w.segments) x.history t c
+      told =
+          let a = at x stands in
+          look w.segments (all_of w.segments) x stands.since a.state.scan a.phase.0.born
+          stands.registers a.phase.0.gathers
 
--- as phases of a node that is up
-pub looks_up : {set : ℕ} {told : List ℕ} {p r q : Phases} → LooksOn set told p r q
-    → LooksOn set told (up p) (actors_to (up p) r) (up q)
-looks_up looks = record {
-  ends = λ has. ap up (looks.ends has);
-  goes_on = λ none. ap up (looks.goes_on none);
-  either = ⊎_elim (λ e. inl (ap up e)) (λ e. inr (ap up e)) looks.either;
-}
+      abbrev next : WriterState
+      next = record (at x stands).state { scan = told.0 }
 
-module _ (w : Actors) (x : State) (stands : ActorsStand w x) (i : ℕ) (l : i < w.segments)
-    (old : Writer) (read : old ≡ get_or w.writers.items i old) (scanning : old.phase
-    ≡ writer.Scanning) where
-  -- what the embedded scan looks at
-  abbrev all : ℕ
-  all = all_of w.segments
+      begun : HasBegun w.segments x.history stands.since i (writer_in q) next
+      begun =
+          let before = (at x stands).phase.0 in
+          let start = start_is told.1 told.2 in
+          record {
+            born = subst (λ b. stands.since ≤ b) (sym start) before.born;
+            pending = before.pending;
+            fits = before.fits;
+            room = before.room;
+            own = ap (λ b. number_at x.history b i) start ∙ before.own;
+            gathers = told.2;
+          }
 
-  state : (s : WriterState) × (slice_get x.writers i ≡ Some s)
-      × WriterStands w.segments x.history stands.since i old s
-  state = the_writer w x stands i old l read
+      stands_on : WriterStands w.segments x.history stands.since i (writer_in q) next
+      stands_on =
+          let At : WriterPhase → Type 0 =
+          IsAtPhase w.segments x.history stands.since i (writer_in q) next in
+          elim ends [
+            | inl goes ↦ record {
+              size = told.2.size;
+              fenced = (at x stands).fenced ∙ ap is_fenced (sym goes.1);
+              phase = subst At (sym goes.1) (begun, goes.0);
+            }
+            | inr done ↦ record {
+              size = told.2.size;
+              fenced = (at x stands).fenced ∙ ap is_fenced (sym done.2);
+              phase = subst At (sym done.2) (
+                begun,
+                has_answer w.segments (all_of w.segments) x.history told.0 c told.2
+                    (decided told.1 told.2 done.1) done.0,
+              );
+            }
+          ]
 
-  at : HasBegun w.segments x.history stands.since i old state.0 × IsUnderWay old.collector
-  at = subst (IsAtPhase w.segments x.history stands.since i old state.0) scanning state.2.phase
+    pub writer_looks : IsActorsStep w (Look (actor.Writer i)) (Number k)
+        (with_actors_writer w i (record old { phase = q; collector = c }))
+    writer_looks =
+        let p = phases_of_actors w in
+        let after : WriterPhase → WorldPhases =
+        λ z. up (phases_of_actors (with_actors_writer w i (writer_in z))) in
+        came w _ _ _ (λ e. cc) refl
+        (λ x stands. (
+        let a = at x stands in
+        let t = told x stands in (
+          with_writer x i (next x stands),
+          (a.state, a.there, t.0, t.1, refl),
+          writer_moves w x stands i (writer_in q) a.state (next x stands)
+              (within w x stands i is) a.there refl (stands_on x stands),
+        )))
+        (λ x stands. (refl, is))
+        (λ x stands s e. (
+        let a = at x stands in
+        let t = told x stands in
+        subst (λ (z : WriterState). LooksOn (all_of w.segments) (z.scan.told ++ k ∷ []) (up p)
+        (up (writer_to p i writer.Storing)) (after q)) (same_Some a.state s (sym a.there ∙ e))
+        (looks_on t.1 t.2 after writer.Scanning writer.Storing q (up p)
+        (up (writer_to p i writer.Storing))
+        (ap up (writer_kept w i (writer_in writer.Scanning) old read (sym (writer_read w i is old read).1)))
+        (ap up (writer_moved w i (writer_in writer.Storing))) ends)))
 
-  pub writer_under_way : IsUnderWay old.collector
-  writer_under_way = at.1
+-- a fact of the set and of the numbers told of a scanner's scan, if it has one
+abbrev OfScan : ℕ → (ℕ → List ℕ → Type 0) → ScannerState → Type 0
+OfScan n P Closed = Unit {0}
+OfScan n P (Opened asked s) = P (set_of n asked) s.told
 
-  pub writer_may_look : (n set : ℕ) × (y : State) × (g : ℕ) × (s : ScanState) × (g ≤ s.start)
-      × RegistersStand n y g w.registers.items × Gathers n set y.history s old.collector
-  writer_may_look = (
-    w.segments,
-    all,
-    x,
-    stands.since,
-    state.0.scan,
-    at.0.born,
-    stands.registers,
-    at.0.gathers,
-  )
-
-  module _ (k : ℕ) (col : Collector) (look : IsLookOf w.registers.items old.collector k col) where
-    result : (t : ScanState) × IsLook all x state.0.scan k t
-        × Gathers w.segments all x.history t col
-    result = look w.segments all x stands.since state.0.scan at.0.born stands.registers at.0.gathers
-
-    next : WriterState
-    next = record state.0 { scan = result.0 }
-
-    begun : (a : Writer) → a.value ≡ old.value → a.collector ≡ col
-        → HasBegun w.segments x.history stands.since i a (record state.0 { scan = result.0 })
-    begun a value collector =
-        let start : result.0.start ≡ state.0.scan.start =
-        start_is w.segments all x state.0.scan k result.0 result.1 in
-        record {
-          born = subst (λ b. stands.since ≤ b) (sym start) at.0.born;
-          pending = at.0.pending ∙ ap Begun (sym value);
-          fits = subst (λ (v : List ℕ). length v ≤ 4080) (sym value) at.0.fits;
-          room = at.0.room;
-          own = ap (λ b. number_at x.history b i) start ∙ at.0.own;
-          gathers = subst (Gathers w.segments all x.history result.0) (sym collector)
-              result.2;
-        }
-
-    same_told : (s : WriterState) → slice_get x.writers i ≡ Some s
-        → result.0.told ≡ s.scan.told ++ k ∷ []
-    same_told s e = told_is w.segments all x state.0.scan k result.0 result.1
-        ∙ ap (λ (z : WriterState). z.scan.told ++ k ∷ []) (same_Some state.0 s (sym state.1 ∙ e))
-
-    -- the scan has a further look to make
-    pub writer_looks : IsUnderWay col → (y : State)
-        × Step w.segments x (Look (actor.Writer i)) (Number k) y
-        × ActorsStand (with_actors_writer w i (looked_writer old old.phase col)) y
-    unfolding next
-    writer_looks under_way = (
-      with_writer x i next,
-      (state.0, state.1, result.0, result.1, refl),
-      writer_moves w x stands i _ state.0 next l state.1 refl (record {
-        size = result.2.size;
-        fenced = state.2.fenced;
-        phase = subst (IsAtPhase w.segments x.history stands.since i (looked_writer old old.phase col) (record state.0 { scan = result.0 }))
-            (sym scanning) (
-              begun (looked_writer old old.phase col) refl refl,
-              under_way,
-            );
-      }),
-    )
-
-    pub writer_stays : IsUnderWay col → (s : WriterState) → slice_get x.writers i ≡ Some s
-        → LooksOn all (s.scan.told
-        ++ k ∷ []) (phases_of_actors w) (writer_to (phases_of_actors w) i writer.Storing)
-        (phases_of_actors (with_actors_writer w i (looked_writer old old.phase col)))
-    writer_stays under_way s e =
-        looks_go_on (λ has. open_still w.segments all x result.0 col result.2 under_way
-        (subst (IsDecided (size all)) (sym (same_told s e)) has))
-        (writer_kept w i (looked_writer old old.phase col) old read refl)
-
-    -- the scan has its answer
-    pub writer_ends : (IsUnderWay col → ⊥) → Tells col → (y : State)
-        × Step w.segments x (Look (actor.Writer i)) (Number k) y
-        × ActorsStand (with_actors_writer w i (looked_writer old writer.Storing col)) y
-    unfolding next
-    writer_ends done tells = (
-      with_writer x i next,
-      (state.0, state.1, result.0, result.1, refl),
-      writer_moves w x stands i _ state.0 next l state.1 refl (record {
-        size = result.2.size;
-        fenced = state.2.fenced ∙ ap is_fenced scanning;
-        phase = (
-          begun (looked_writer old writer.Storing col) refl refl,
-          has_answer w.segments all x.history result.0 col result.2
-              (over w.segments all x result.0 col result.2 tells) done,
-        );
-      }),
-    )
-
-    pub writer_goes : Tells col → (s : WriterState) → slice_get x.writers i ≡ Some s
-        → LooksOn all (s.scan.told
-        ++ k ∷ []) (phases_of_actors w) (writer_to (phases_of_actors w) i writer.Storing)
-        (phases_of_actors (with_actors_writer w i (looked_writer old writer.Storing col)))
-    writer_goes tells s e =
-        looks_end (subst (IsDecided (size all)) (same_told s e)
-        (over w.segments all x result.0 col result.2 tells))
-        (writer_moved w i (looked_writer old writer.Storing col))
-
-module _ (w : Actors) (x : State) (stands : ActorsStand w x) (i : ℕ)
-    (l : i < length w.scanners.items) (old : Scanner) (read : old ≡ get_or w.scanners.items i old)
-    (scanning : old.phase ≡ scanner.Scanning) where
-  scanner_state : (s : ScannerState) × (slice_get x.scanners i ≡ Some s)
-      × ScannerStands w.segments x.history stands.since i old s
-  scanner_state = the_scanner w x stands i old l read
-
+module _ (w : Actors) (i : ℕ) (is : ScannerIs (phases_of_actors w) i scanner.Scanning)
+    (old : Scanner) (read : old ≡ get_or w.scanners.items i old) where
   -- what the scan looks at
   abbrev set : ℕ
   set = set_of w.segments old.asked
 
-  opened : (scan : ScanState) × (scanner_state.0 ≡ Opened old.asked scan)
-      × (stands.since ≤ scan.start)
-      × Gathers w.segments set x.history scan old.collector × IsUnderWay old.collector
-  opened = subst (IsScannerAt w.segments x.history stands.since old scanner_state.0) scanning
-      scanner_state.2.phase
+  scanner_at : (x : State) (stands : ActorsStand w x)
+      → ScannerFound w.segments x.history stands.since i x.scanners old scanner.Scanning
+  scanner_at x stands = the_scanner w x stands i is old read
 
-  pub scanner_under_way : IsUnderWay old.collector
-  scanner_under_way = opened.4
+  pub scanner_can_look : Stand w → IsUnderWay old.collector × MayLook w.registers.items old.collector
+  scanner_can_look stand = can_look w.registers.items old.collector (∥∥₁_map stand (λ q. (
+      let a = (scanner_at q.0 q.1).phase in
+      (w.segments, set, q.0, q.1.since, a.0, a.2, q.1.registers, a.3, a.4))))
 
-  pub scanner_may_look : (n m : ℕ) × (y : State) × (g : ℕ) × (s : ScanState) × (g ≤ s.start)
-      × RegistersStand n y g w.registers.items × Gathers n m y.history s old.collector
-  scanner_may_look =
-      (w.segments, set, x, stands.since, opened.0, opened.2, stands.registers, opened.3)
+  module _ (k : ℕ) (c : Collector) (look : IsLookOf w.registers.items old.collector k c)
+      (q : ScannerPhase) (ends : Ends c scanner.Scanning scanner.Ready q) where
+    -- the scanner in its phase behind the look
+    abbrev scanner_in : ScannerPhase → Scanner
+    scanner_in p = record old { phase = p; collector = c }
 
-  module _ (k : ℕ) (col : Collector) (look : IsLookOf w.registers.items old.collector k col) where
-    scanner_result : (t : ScanState) × IsLook set x opened.0 k t
-        × Gathers w.segments set x.history t col
-    scanner_result = look w.segments set x stands.since opened.0 opened.2 stands.registers opened.3
+    module _ (x : State) (stands : ActorsStand w x) where
+      scanner_told : (t : ScanState) × IsLook set x (scanner_at x stands).phase.0 k t
+          × Gathers w.segments set x.history t c
+      scanner_told =
+          let a = (scanner_at x stands).phase in
+          look w.segments set x stands.since a.0 a.2 stands.registers a.3
 
-    same_opened : (asked : Asked) (s : ScanState) → slice_get x.scanners i ≡ Some (Opened asked s)
-        → Opened old.asked opened.0 ≡ Opened asked s
-    same_opened asked s f =
-        sym opened.1 ∙ same_Some scanner_state.0 (Opened asked s) (sym scanner_state.1 ∙ f)
+      scanner_stands_on : ScannerStands w.segments x.history stands.since i (scanner_in q)
+          (Opened old.asked scanner_told.0)
+      scanner_stands_on =
+          let t = scanner_told in
+          let At : ScannerPhase → Type 0 = IsScannerAt w.segments x.history stands.since
+          (scanner_in q) (Opened old.asked t.0) in
+          let born : stands.since ≤ t.0.start = subst (λ b. stands.since ≤ b)
+          (sym (start_is t.1 t.2)) (scanner_at x stands).phase.2 in
+          record {
+            size = t.2.size;
+            phase = elim ends [
+              | inl goes ↦ subst At (sym goes.1) (t.0, refl, born, t.2, goes.0)
+              | inr done ↦ subst At (sym done.2) (
+                t.0,
+                refl,
+                t.2.end,
+                has_answer w.segments set x.history t.0 c t.2 (decided t.1 t.2 done.1) done.0,
+              )
+            ];
+          }
 
-    -- what is known of the scan is known of any that the state has there
-    scanner_as : (P : ℕ → List ℕ → Type 0) (asked : Asked) (s : ScanState)
-        → slice_get x.scanners i ≡ Some (Opened asked s) → P set scanner_result.0.told
-        → P (set_of w.segments asked) (s.told ++ k ∷ [])
-    scanner_as P asked s f known =
-        let same : Opened old.asked opened.0 ≡ Opened asked s = same_opened asked s f in
-        let same_asked : old.asked ≡ asked = cc in
-        let one : opened.0 ≡ s = cc in
-        subst (λ (z : Asked). P (set_of w.segments z) (s.told ++ k ∷ [])) same_asked
-        (subst (λ (z : ScanState). P set (z.told ++ k ∷ [])) one
-        (subst (P set) (told_is w.segments set x opened.0 k scanner_result.0 scanner_result.1)
-        known))
-
-    scanner_born : stands.since ≤ scanner_result.0.start
-    scanner_born = subst (λ b. stands.since ≤ b)
-        (sym (start_is w.segments set x opened.0 k scanner_result.0 scanner_result.1)) opened.2
-
-    pub scanner_looks : IsUnderWay col → (y : State)
-        × Step w.segments x (Look (actor.Scanner i)) (Number k) y
-        × ActorsStand (with_actors_scanner w i (looked_scanner old old.phase col)) y
-    scanner_looks under_way = (
-      with_scanner x i (Opened old.asked scanner_result.0),
-      (
-        old.asked,
-        opened.0,
-        scanner_state.1 ∙ ap (λ z. Some z) opened.1,
-        scanner_result.0,
-        scanner_result.1,
-        refl,
-      ),
-      scanner_moves w x stands i _ _ l (record {
-        size = scanner_result.2.size;
-        phase = subst (IsScannerAt w.segments x.history stands.since (looked_scanner old old.phase col) (Opened old.asked scanner_result.0)) (sym scanning)
-            (scanner_result.0, refl, scanner_born, scanner_result.2, under_way);
-      }),
-    )
-
-    pub scanner_stays : IsUnderWay col → (asked : Asked) (s : ScanState)
-        → slice_get x.scanners i ≡ Some (Opened asked s)
-        → LooksOn (set_of w.segments asked) (s.told
-        ++ k ∷ []) (phases_of_actors w) (scanner_to (phases_of_actors w) i scanner.Ready)
-        (phases_of_actors (with_actors_scanner w i (looked_scanner old old.phase col)))
-    scanner_stays under_way asked s f =
-        looks_go_on (scanner_as (λ m L. IsDecided (size m) L → ⊥) asked s f
-        (open_still w.segments set x scanner_result.0 col scanner_result.2 under_way))
-        (scanner_kept w i (looked_scanner old old.phase col) old read refl)
-
-    pub scanner_ends : (IsUnderWay col → ⊥) → Tells col → (y : State)
-        × Step w.segments x (Look (actor.Scanner i)) (Number k) y
-        × ActorsStand
-        (with_actors_scanner w i (looked_scanner old scanner.Ready col)) y
-    scanner_ends done tells = (
-      with_scanner x i (Opened old.asked scanner_result.0),
-      (
-        old.asked,
-        opened.0,
-        scanner_state.1 ∙ ap (λ z. Some z) opened.1,
-        scanner_result.0,
-        scanner_result.1,
-        refl,
-      ),
-      scanner_moves w x stands i _ _ l (record {
-        size = scanner_result.2.size;
-        phase = (
-          scanner_result.0,
-          refl,
-          scanner_result.2.end,
-          has_answer w.segments set x.history scanner_result.0 col scanner_result.2
-              (over w.segments set x scanner_result.0 col scanner_result.2 tells) done,
-        );
-      }),
-    )
-
-    pub scanner_goes : Tells col → (asked : Asked) (s : ScanState)
-        → slice_get x.scanners i ≡ Some (Opened asked s)
-        → LooksOn (set_of w.segments asked) (s.told
-        ++ k ∷ []) (phases_of_actors w) (scanner_to (phases_of_actors w) i scanner.Ready)
-        (phases_of_actors (with_actors_scanner w i (looked_scanner old scanner.Ready col)))
-    scanner_goes tells asked s f =
-        looks_end (scanner_as (λ m L. IsDecided (size m) L) asked s f
-        (over w.segments set x scanner_result.0 col scanner_result.2 tells))
-        (scanner_moved w i (looked_scanner old scanner.Ready col))
+    pub scanner_looks : IsActorsStep w (Look (actor.Scanner i)) (Number k)
+        (with_actors_scanner w i (record old { phase = q; collector = c }))
+    scanner_looks =
+        let p = phases_of_actors w in
+        let after : ScannerPhase → WorldPhases =
+        λ z. up (phases_of_actors (with_actors_scanner w i (scanner_in z))) in
+        came w _ _ _ (λ e. cc) refl
+        (λ x stands. (
+        let a = scanner_at x stands in
+        let t = scanner_told x stands in (
+          with_scanner x i (Opened old.asked t.0),
+          (old.asked, a.phase.0, a.there ∙ ap (λ z. Some z) a.phase.1, t.0, t.1, refl),
+          scanner_moves w x stands i (scanner_in q) (Opened old.asked t.0) (scanner_there w i is)
+              (scanner_stands_on x stands),
+        )))
+        (λ x stands. (refl, is))
+        (λ x stands asked s e. (
+        let a = scanner_at x stands in
+        let t = scanner_told x stands in
+        subst (OfScan w.segments (λ m told. LooksOn m (told ++ k ∷ []) (up p)
+        (up (scanner_to p i scanner.Ready)) (after q)))
+        (sym a.phase.1 ∙ same_Some a.state (Opened asked s) (sym a.there ∙ e))
+        (looks_on t.1 t.2 after scanner.Scanning scanner.Ready q (up p)
+        (up (scanner_to p i scanner.Ready))
+        (ap up (scanner_kept w i (scanner_in scanner.Scanning) old read
+        (sym (scanner_read w i is old read).1)))
+        (ap up (scanner_moved w i (scanner_in scanner.Ready))) ends)))

@@ -1,6 +1,8 @@
 -- One look of a collector is a look of the abstract machine.
 use Rattle.std.proofs.Common.{◌≡◌, ℕ, ◌+◌, ◌<◌, ◌≤◌, inl, inr, List, [], ◌∷◌, ◌++◌, length, take, get_or, Option, Some, None, slice_get}
 use Rattle.std.proofs.Common.{slice_set, slice_index, refl, ap, sym, ◌∙◌, subst, arith}
+use Rattle.std.proofs.Math.Logic.{∥∥₁_elim}
+use Rattle.std.proofs.Props.{props}
 use Rattle.std.proofs.lemmas.Option.{slice_get_read, slice_get-get_or, same_Some}
 use Rattle.std.proofs.lemmas.List.{length-set}
 use Rattle.snap_history.specs.History.{Update, from_nothing, number_after, value_after, IsMemory}
@@ -15,7 +17,7 @@ use Rattle.snap_scan.specs.declared.next.Next.TheVariants.{Look, Clean, Borrow}
 use Rattle.snap_scan.specs.Collects.{IsRising, IsKept, Collects}
 use Rattle.snap_scan.proofs.Collects.{same_turn, Collects-push, no_fall, rose, borrow_moment, clean_moment}
 use Rattle.snap_world.specs.Answers.{ScanState, number_at, value_at, numbers_of, values_of}
-use Rattle.snap_world.specs.inside.Gathers.{Gathers, Gathered, RegisterStands, ViewStands, RegistersStand, picked}
+use Rattle.snap_world.specs.inside.Gathers.{MayLook, Gathers, Gathered, RegisterStands, ViewStands, RegistersStand, picked}
 use Rattle.snap_world.specs.Machine.{State, WriterState, ShownWith, Decides, looked, IsLook}
 use Rattle.snap_world.specs.declared.register.Register.{Register}
 use Rattle.snap_world.specs.declared.collector.Collector.{Collector}
@@ -35,7 +37,7 @@ rising set h i s t l = number-le from_nothing h (slice_index (named set) i) s t 
 kept : (set : ℕ) (h : List Update) → IsKept (List ℕ) (numbers_of set h) (values_of set h)
 kept set h i s t l e = value_same from_nothing h (slice_index (named set) i) s t l e
 
-pub register_at : (n : ℕ) (x : State) (g : ℕ) (rs : List Register) (j : ℕ) (r : Register)
+register_at : (n : ℕ) (x : State) (g : ℕ) (rs : List Register) (j : ℕ) (r : Register)
     → RegistersStand n x g rs → j < n → r ≡ get_or rs j r → RegisterStands n x.history j r
 register_at n x g rs j r stand l e = stand.each j r (slice_get_read rs n j r (sym stand.size) l e)
 
@@ -64,23 +66,25 @@ module _ (n set : ℕ) (x : State) (g : ℕ) (s : ScanState) (col : Collector)
   segment_is : slice_index (named set) place ≡ j
   segment_is = at_is set place j at
 
-  pub turn_within : j < n
+  turn_within : j < n
   turn_within = at_below set n place j gat.among at
 
-  collects : Collects (List ℕ) (size set) (numbers_of set h) (values_of set h) s.start s.last s.told
-      (picked set col.memory.items)
+  -- the scan, which looked last at this moment, was told these numbers and saw this memory
+  abbrev Collected : ℕ → List ℕ → List (List ℕ) → Type 0
+  Collected last told memory = Collects (List ℕ) (size set) (numbers_of set h) (values_of set h)
+      s.start last told (picked set memory)
+
+  collects : Collected s.last s.told col.memory.items
   collects = (subst (Gathered set h s col.memory.items) turn gat.gathered).0
 
   end2 : s.start ≤ now
   end2 = let a : s.start ≤ s.last = gat.start in let b : s.last ≤ now = gat.end in omega arith
 
-  pub told_fits : (number : ℕ) → number ≡ number_after from_nothing h j → (p : ℕ)
+  told_fits : (number : ℕ) → number ≡ number_after from_nothing h j → (p : ℕ)
       → IsAt col.scan.set p j → IsNoFall (size col.scan.set) col.scan.told p number
   told_fits number e =
       let fits : IsNoFall (size set) s.told place k =
-      no_fall (List ℕ) (size set) (numbers_of set h) (values_of set h) s.start s.last s.told
-      (picked set col.memory.items) collects (rising set h) now place gat.end
-      (at_within set place j at) in
+      no_fall _ _ _ _ _ _ _ _ collects (rising set h) now place gat.end (at_within set place j at) in
       let number_is : k ≡ number = ap (number_at h now) segment_is ∙ number_now h j ∙ sym e in
       subst (λ z. (p : ℕ) → IsAt z p j → IsNoFall (size z) col.scan.told p number)
       (sym gat.set_is) (λ p at_p.
@@ -95,9 +99,7 @@ module _ (n set : ℕ) (x : State) (g : ℕ) (s : ScanState) (col : Collector)
 
   goes_other : (v : Next) (memory : List (List ℕ)) → length memory ≡ n
       → IsNext set (s.told ++ k ∷ []) v → ((i : ℕ) → v ≡ Borrow i → ⊥)
-      → Collects (List ℕ) (size set) (numbers_of set h) (values_of set h) s.start now
-      (s.told ++ k ∷ []) (picked set memory)
-      → Goes memory v
+      → Collected now (s.told ++ k ∷ []) memory → Goes memory v
   goes_other (Look i) memory long is none c =
       (None, undecided set (s.told ++ k ∷ []) (Look i) i is refl, (c, refl))
   goes_other (Borrow i) memory long is none c = absurd (none i refl)
@@ -108,8 +110,7 @@ module _ (n set : ℕ) (x : State) (g : ℕ) (s : ScanState) (col : Collector)
       let clean : IsClean (size set) (s.told ++ k ∷ []) = is.clean.0 refl in
       let pos : 0 < size set =
       (let w : place < size set = at_within set place j at in omega arith) in
-      let q = clean_moment (List ℕ) (size set) (numbers_of set h) (values_of set h) s.start now
-      (s.told ++ k ∷ []) (picked set memory) c (rising set h) (kept set h) pos clean no_borrow in (
+      let q = clean_moment _ _ _ _ _ _ _ _ c (rising set h) (kept set h) pos clean no_borrow in (
         Some q.0,
         (inl clean, q.1, λ i br. absurd (no_borrow br.0 br.2)),
         record {
@@ -135,8 +136,7 @@ module _ (n set : ℕ) (x : State) (g : ℕ) (s : ScanState) (col : Collector)
       (same_turn (size set) s.told k borrows.0 place here borrows.2) borrows.2 in
       let not_clean : IsClean (size set) (s.told ++ k ∷ []) → ⊥ =
       λ cl. (let e : Borrow i ≡ Clean = is.clean.1 cl in cc) in
-      let m = borrow_moment (List ℕ) (size set) (numbers_of set h) (values_of set h) s.start s.last
-      s.told (picked set col.memory.items) collects (rising set h) now place gat.end here br p pl
+      let m = borrow_moment _ _ _ _ _ _ _ _ collects (rising set h) now place gat.end here br p pl
       before not_clean in (
         Some p,
         (
@@ -213,13 +213,10 @@ module _ (n set : ℕ) (x : State) (g : ℕ) (s : ScanState) (col : Collector)
         let old : length col.memory.items ≡ n = gat.size in
         let long : length memory ≡ n = length-set col.memory.items j value ∙ old in
         let within : j < n = turn_within in
-        let c : Collects (List ℕ) (size set) (numbers_of set h) (values_of set h) s.start now
-        (s.told ++ k ∷ []) (picked set memory) =
-        subst (Collects (List ℕ) (size set) (numbers_of set h) (values_of set h) s.start now
+        let c : Collected now (s.told ++ k ∷ []) memory = subst (Collects (List ℕ) (size set) (numbers_of set h) (values_of set h) s.start now
         (s.told ++ k ∷ []))
         (sym (picked-set set col.memory.items place j value at (omega arith)))
-        (Collects-push (List ℕ) (size set) (numbers_of set h) (values_of set h) s.start s.last
-        s.told (picked set col.memory.items) collects now place gat.end here end2
+        (Collects-push _ _ _ _ _ _ _ _ collects now place gat.end here end2
         (picked_size set col.memory.items)) in
         goes col2 scan-is (ap length is_memory
         ∙ long) (subst (λ z. Goes z v) (sym is_memory)
@@ -239,8 +236,7 @@ module _ (n set : ℕ) (x : State) (g : ℕ) (s : ScanState) (col : Collector)
         subst (IsBorrow (size set) (s.told ++ k ∷ []))
         (same_turn (size set) s.told k borrows.0 place here borrows.2) borrows.2 in
         let high : numbers_of set h s.start place + 2 ≤ k =
-        rose (List ℕ) (size set) (numbers_of set h) (values_of set h) s.start s.last s.told
-        (picked set col.memory.items) collects (rising set h) now place gat.end here br in
+        rose _ _ _ _ _ _ _ _ collects (rising set h) now place gat.end here br in
         let base : number_at h g j ≤ number_at h s.start j =
         number-le from_nothing h j g s.start born in
         let start_is : numbers_of set h s.start place ≡ number_at h s.start j =
@@ -256,3 +252,31 @@ module _ (n set : ℕ) (x : State) (g : ℕ) (s : ScanState) (col : Collector)
           own.1,
           p.1,
         ) (subst (IsMemory n from_nothing (take p.0 h)) (sym memory-is) view.is_memory)))
+
+-- what the code may rely on, where the registers and the collector stand for some state
+module _ (rs : List Register) (col : Collector) (may : MayLook rs col) (j : ℕ)
+    (turn : col.scan.next ≡ Look j) where
+  pub place_there : j < length col.memory.items
+  place_there = ∥∥₁_elim may (hlevel props) (λ q. (
+      let low : j < q.0 = turn_within q.0 q.1 q.2 q.3 q.4 col q.7 j turn in
+      let size : length col.memory.items ≡ q.0 = q.7.size in
+      omega arith))
+
+  pub register_there : j < length rs
+  register_there = ∥∥₁_elim may (hlevel props) (λ q. (
+      let low : j < q.0 = turn_within q.0 q.1 q.2 q.3 q.4 col q.7 j turn in
+      let size : length rs ≡ q.0 = q.6.size in
+      omega arith))
+
+  module _ (r : Register) (read : r ≡ get_or rs j r) where
+    pub view_fits : length col.memory.items ≡ length r.view.items
+    view_fits = ∥∥₁_elim may (hlevel props) (λ q. (
+        let within = turn_within q.0 q.1 q.2 q.3 q.4 col q.7 j turn in
+        q.7.size ∙ sym (register_at q.0 q.2 q.3 rs j r q.6 within read).size))
+
+    pub number_fits : (p : ℕ) → IsAt col.scan.set p j
+        → IsNoFall (size col.scan.set) col.scan.told p r.number
+    number_fits = ∥∥₁_elim may (hlevel props) (λ q. (
+        let within = turn_within q.0 q.1 q.2 q.3 q.4 col q.7 j turn in
+        told_fits q.0 q.1 q.2 q.3 q.4 col q.7 j turn r.number
+        (register_at q.0 q.2 q.3 rs j r q.6 within read).number))

@@ -1,5 +1,5 @@
 -- A new world stands for the start.
-use Rattle.std.proofs.Common.{◌≡◌, ℕ, suc, ◌<◌, ◌≤◌, List, [], ◌∷◌, length, map, replicate, Some, slice_get, refl, ap, sym, ◌∙◌, subst}
+use Rattle.std.proofs.Common.{◌≡◌, ℕ, ◌<◌, ◌≤◌, [], length, map, replicate, ap, sym, ◌∙◌, subst}
 use Rattle.std.proofs.Common.{arith}
 use Rattle.std.proofs.lemmas.List.{length-replicate}
 use Rattle.snap_world.specs.Machine.{WriterState, ScannerState, Closed, resting}
@@ -13,6 +13,7 @@ use Rattle.snap_world.specs.declared.scanner.Scanner.{Scanner}
 use Rattle.snap_world.specs.declared.writer.WriterPhase.TheVariants as writer
 use Rattle.snap_world.specs.declared.scanner.ScannerPhase.TheVariants as scanner
 use Rattle.snap_history.proofs.Lists.{get-replicate}
+use Rattle.snap_world.proofs.Elements.{all_same}
 
 fresh_writer : (n i : ℕ) (a : Writer) (s : WriterState) → IsFreshWriter n a → resting ≡ s
     → WriterStands n [] 0 i a s
@@ -71,23 +72,14 @@ starts w count least most nr nw ns regs writers scanners = record {
   };
 }
 
-pub all_same : {A B : Type 0} (f : A → B) (v : B) (xs : List A)
-    → ((i : ℕ) (x : A) → slice_get xs i ≡ Some x → f x ≡ v) → map f xs ≡ replicate (length xs) v
-all_same f v [] each = refl
-all_same f v (x ∷ xs) each =
-    (let head : f x ≡ v = each 0 x refl in let rest : map f xs ≡ replicate (length xs) v =
-    all_same f v xs (λ i y e. each (suc i) y e) in cc)
-
-pub starts_idle : (w : Actors) (count : ℕ) → length w.writers.items ≡ w.segments
-    → length w.scanners.items ≡ count
-    → Each (IsFreshWriter w.segments) w.writers.items
-    → Each (IsFreshScanner w.segments) w.scanners.items
-    → phases_of_actors w ≡ start_phases w.segments count
-starts_idle w count nw ns fresh_writers fresh_scanners =
-    let a : map (λ v. v.phase) w.writers.items ≡ replicate w.segments writer.Idle =
-    all_same (λ v. v.phase) writer.Idle w.writers.items (λ i x e. (fresh_writers i x e).phase)
-    ∙ ap (λ n. replicate n writer.Idle) nw in
+-- where nobody is at work
+pub phases_idle : (w : Actors) (segments count : ℕ) → length w.writers.items ≡ segments
+    → length w.scanners.items ≡ count → Each (λ (a : Writer). a.phase ≡ writer.Idle) w.writers.items
+    → Each (λ (c : Scanner). c.phase ≡ scanner.Idle) w.scanners.items
+    → phases_of_actors w ≡ start_phases segments count
+phases_idle w segments count nw ns writers scanners =
+    let a : map (λ v. v.phase) w.writers.items ≡ replicate segments writer.Idle =
+    all_same (λ v. v.phase) writer.Idle w.writers.items segments nw writers in
     let b : map (λ v. v.phase) w.scanners.items ≡ replicate count scanner.Idle =
-    all_same (λ v. v.phase) scanner.Idle w.scanners.items (λ i x e.
-    (fresh_scanners i x e).phase) ∙ ap (λ n. replicate n scanner.Idle) ns in
+    all_same (λ v. v.phase) scanner.Idle w.scanners.items count ns scanners in
     cc

@@ -55,13 +55,6 @@ Run-append n a (event ∷ events) (reply ∷ replies) b more others c f g =
 Run-append n a [] (reply ∷ replies) b more others c f g = absurd f
 Run-append n a (event ∷ events) [] b more others c f g = absurd f
 
-pub IsRun-none : (w : World) → IsRun w [] [] w
-IsRun-none w = record {
-  segments = refl;
-  run =
-      λ x stands. (x, refl, stands, beginning-self x.history);
-}
-
 pub IsRun-append : (old mid new : World) (events : List Event) (replies : List Reply)
     (more : List Event) (others : List Reply) → IsRun old events replies mid
     → IsRun mid more others new

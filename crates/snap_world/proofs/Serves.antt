@@ -1,7 +1,8 @@
 -- The end of a restart, as a step of the node.
-use Rattle.std.proofs.Common.{◌≡◌, ℕ, ◌+◌, ◌%◌, ◌<◌, ◌≤◌, ◌⊎◌, inl, inr, Bool, List, length, map, replicate, Some, None, slice_get}
+use Rattle.std.proofs.Common.{◌≡◌, ℕ, ◌+◌, ◌%◌, ◌<◌, ◌≤◌, ◌⊎◌, inl, inr, Bool, List, length, map, Option, Some, None, slice_get}
 use Rattle.std.proofs.Common.{refl, ap, sym, ◌∙◌, subst, arith}
-use Rattle.std.specs.Prelude.{option_map}
+use Rattle.std.specs.Prelude.{option_map, unwrap_or}
+use Rattle.std.specs.Global.{Vec}
 use Rattle.std.proofs.lemmas.List.{length-map}
 use Rattle.std.proofs.lemmas.Option.{slice_get-map, slice_get_within, same_Some}
 use Rattle.snap_disk.specs.Device.{Device, IsSettled}
@@ -23,7 +24,6 @@ use Rattle.snap_world.specs.Machine.{State, WriterState, ScannerState, Begun, Cl
 use Rattle.snap_world.specs.NodePhases.{all_idle}
 use Rattle.snap_world.specs.inside.NodeStands.{NodeStands, WriterRests, ScannerRests, IsRecovering, IsNodeAt}
 use Rattle.snap_world.specs.inside.NodeSteps.{store_left}
-use Rattle.snap_world.specs.Phases.{Phases}
 use Rattle.snap_world.specs.inside.Recovery.{found_value, IsReadable, IsResumed, IsRecovered, AreRecovered}
 use Rattle.snap_world.specs.inside.Stands.{ActorsStand, WriterStands, ScannerStands, IsAtPhase, IsScannerAt, is_fenced}
 use Rattle.snap_world.specs.inside.Steps.{phases_of_actors}
@@ -34,15 +34,11 @@ use Rattle.snap_world.specs.declared.node.NodePhase.TheVariants.{Ready}
 use Rattle.snap_world.specs.declared.actors.Actors.{Actors}
 use Rattle.snap_world.specs.declared.register.Register.{Register}
 use Rattle.snap_world.specs.declared.writer.Writer.{Writer}
-use Rattle.snap_world.specs.declared.writer.WriterPhase.{WriterPhase}
-use Rattle.snap_world.specs.declared.writer.WriterPhase.TheVariants as writer
 use Rattle.snap_world.specs.declared.scanner.Scanner.{Scanner}
-use Rattle.snap_world.specs.declared.scanner.ScannerPhase.{ScannerPhase}
-use Rattle.snap_world.specs.declared.scanner.ScannerPhase.TheVariants as scanner
 use Rattle.snap_world.proofs.Looks.{number_now}
-use Rattle.snap_world.proofs.Served.{Given, marks-exist, served-none, served-some}
-use Rattle.snap_world.proofs.NewWorld.{all_same}
-use Rattle.snap_world.proofs.Sweep.{map_element, map_same}
+use Rattle.snap_world.proofs.Served.{Given, marks-exist, served-is, times, taken}
+use Rattle.snap_world.proofs.Elements.{map_element, map_same, origin}
+use Rattle.snap_world.proofs.NewWorld.{phases_idle}
 
 module _ (w : Node) (x : State) (stands : NodeStands w x) (is_ready : w.phase ≡ Ready) where
   abbrev pub n : ℕ
@@ -58,22 +54,21 @@ module _ (w : Node) (x : State) (stands : NodeStands w x) (is_ready : w.phase �
   size = stands.drives_n
 
   module _ (i : ℕ) (d : Drive) (there : slice_get ds i ≡ Some d) where
-    low : i < length ds
-    low = slice_get_within ds i d there
-
-    pub low_n : i < n
-    low_n = let l : i < length ds = low in let s : length ds ≡ n = size in omega arith
+    low : i < n
+    low =
+        let inside : i < length ds = slice_get_within ds i d there in
+        let s : length ds ≡ n = size in
+        omega arith
 
     pub settled : IsSettled (device_of d)
-    settled = let l : i < length ds = low in at.settled i d there low_n
+    settled = at.settled i d there low
 
     pub found : IsFound i n (device_of d).bytes d.found
-    found = let l : i < length ds = low in at.found i d there low_n
+    found = at.found i d there low
 
     pub state : (s : WriterState) × (slice_get x.writers i ≡ Some s)
     state =
-        let l : i < length ds = low in
-        let s : length ds ≡ n = size in
+        let l : i < n = low in
         let a : length w.actors.writers.items ≡ length x.writers =
         at.down.actors_rest.writers.size in
         let b : length w.actors.writers.items ≡ n = at.down.actors_rest.writers_n in
@@ -110,6 +105,15 @@ module _ (w : Node) (x : State) (stands : NodeStands w x) (is_ready : w.phase �
   Taken i v = (d : Drive) → slice_get ds i ≡ Some d
       → (d.found.number ≡ number_after from_nothing x.history i + 1) × (found_value d ≡ v)
 
+  -- what was found on a device is what it holds
+  found_as : (i k : ℕ) (v : List ℕ) (d : Drive) → slice_get ds i ≡ Some d
+      → Holds (device_of d).bytes k v → (e : Drive) → slice_get ds i ≡ Some e
+      → (e.found.number ≡ k) × (found_value e ≡ v)
+  found_as i k v d there holds e also =
+      subst (λ (z : Drive). (z.found.number ≡ k) × (found_value z ≡ v))
+      (same_Some d e (sym there ∙ also))
+      (found_is i n k v (device_of d).bytes d.found (found i d there) holds)
+
   given : (i : ℕ) (s : WriterState) → slice_get x.writers i ≡ Some s → Kept i
       ⊎ ((v : List ℕ) × (s.pending ≡ Begun v) × Taken i v)
   given i s es =
@@ -118,24 +122,11 @@ module _ (w : Node) (x : State) (stands : NodeStands w x) (is_ready : w.phase �
       let b : length w.actors.writers.items ≡ n = at.down.actors_rest.writers_n in
       let c : length ds ≡ n = size in
       let d = element ds i (omega arith) in
+      let k = number_after from_nothing x.history i in
       elim (either i d.0 d.1 s es) [
-        | inl file ↦ inl (λ e there. (
-            let same : d.0 ≡ e = same_Some _ _ (sym d.1 ∙ there) in
-            subst (λ (z : Drive). (z.found.number ≡ number_after from_nothing x.history i)
-            × (found_value z ≡ value_after from_nothing x.history i)) same
-            (found_is i n (number_after from_nothing x.history i)
-            (value_after from_nothing x.history i) (device_of d.0).bytes d.0.found
-            (found i d.0 d.1) file.holds)))
-        | inr new ↦ inr (
-          new.0,
-          new.1,
-          λ e there. (
-              let same : d.0 ≡ e = same_Some _ _ (sym d.1 ∙ there) in
-              subst (λ (z : Drive). (z.found.number ≡ number_after from_nothing x.history i + 1)
-              × (found_value z ≡ new.0)) same
-              (found_is i n (number_after from_nothing x.history i + 1) new.0
-              (device_of d.0).bytes d.0.found (found i d.0 d.1) new.2.holds)),
-        )
+        | inl file ↦ inl
+            (found_as i k (value_after from_nothing x.history i) d.0 d.1 file.holds)
+        | inr new ↦ inr (new.0, new.1, found_as i (k + 1) new.0 d.0 d.1 new.2.holds)
       ]
 
   chose : (marks : List Bool) × ((i : ℕ) (s : WriterState) → slice_get x.writers i ≡ Some s
@@ -155,15 +146,22 @@ module _ (w : Node) (x : State) (stands : NodeStands w x) (is_ready : w.phase �
   unfolding marks
   is_after i d there =
       let s = state i d there in
+      let served = served-is from_nothing x.history x.writers marks i in
+      let number : number_after from_nothing h i
+      ≡ number_after from_nothing x.history i + times (taken x.writers marks i) = served.0 in
+      let Value : Option (List ℕ) → List ℕ =
+      λ t. unwrap_or t (value_after from_nothing x.history i) in
       elim (chose.1 i s.0 s.1) [
         | inl kept ↦ (
-            let same = served-none from_nothing x.history x.writers marks i kept.0 in
-            let was = kept.1 d there in
-            (was.0 ∙ sym same.0, was.1 ∙ sym same.1))
+            let none : times (taken x.writers marks i) ≡ 0 = ap times kept.0 in
+            let was : d.found.number ≡ number_after from_nothing x.history i =
+            (kept.1 d there).0 in
+            (omega arith, (kept.1 d there).1 ∙ sym (served.1 ∙ ap Value kept.0)))
         | inr new ↦ (
-            let same = served-some from_nothing x.history x.writers marks i new.0 new.1 in
-            let is = new.2 d there in
-            (is.0 ∙ sym same.0, is.1 ∙ sym same.1))
+            let one : times (taken x.writers marks i) ≡ 1 = ap times new.1 in
+            let is : d.found.number ≡ number_after from_nothing x.history i + 1 =
+            (new.2 d there).0 in
+            (omega arith, (new.2 d there).1 ∙ sym (served.1 ∙ ap Value new.1)))
       ]
 
   pub memory : IsMemory n from_nothing h (map found_value ds)
@@ -176,33 +174,26 @@ module _ (w : Node) (x : State) (stands : NodeStands w x) (is_ready : w.phase �
         ∙ ap (λ v. Some v) (is_after i d.0 d.1).1);
   }
 
-  module _ (actors : Actors) (es : List Drive) (segments : actors.segments ≡ w.actors.segments)
-      (writers : actors.writers ≡ w.actors.writers) (scanners : actors.scanners ≡ w.actors.scanners)
-      (recovered : AreRecovered ds w.actors.registers.items actors.registers.items)
+  module _ (registers : Vec Register) (es : List Drive)
+      (recovered : AreRecovered ds w.actors.registers.items registers.items)
       (resumed : Pairs (λ i. IsResumed) ds es) where
+    -- the actors with what was found
+    abbrev pub actors : Actors
+    actors = record (w.actors) { registers = registers }
+
     abbrev pub y : State
     y = served x marks
 
-    was : (i : ℕ) (e : Drive) → slice_get es i ≡ Some e → (d : Drive) × (slice_get ds i ≡ Some d)
-        × IsResumed d e
-    was i e ee =
-        let l : i < length es = slice_get_within es i e ee in
-        let s : length es ≡ length ds = sym resumed.size in
-        let d = element ds i (omega arith) in
-        (d.0, d.1, resumed.each i d.0 e d.1 ee)
-
-    register_stands : (i : ℕ) (r : Register) → slice_get actors.registers.items i ≡ Some r
+    register_stands : (i : ℕ) (r : Register) → slice_get registers.items i ≡ Some r
         → RegisterStands n h i r
     register_stands i r er =
-        let l : i < length actors.registers.items =
-        slice_get_within actors.registers.items i r er in
-        let s : length actors.registers.items ≡ length w.actors.registers.items =
-        sym recovered.size in
+        let o = origin i r recovered er in
+        let l : i < length w.actors.registers.items =
+        slice_get_within w.actors.registers.items i o.0 o.1 in
         let t : length w.actors.registers.items ≡ n = at.down.actors_rest.registers_n in
         let c : length ds ≡ n = size in
         let d = element ds i (omega arith) in
-        let o = element w.actors.registers.items i (omega arith) in
-        let is : IsRecovered d.0 o.0 r = recovered.each i o.0 r o.1 er d.0 d.1 in
+        let is : IsRecovered d.0 o.0 r = o.2 d.0 d.1 in
         let after = is_after i d.0 d.1 in
         record {
           number = is.number ∙ after.0;
@@ -215,7 +206,7 @@ module _ (w : Node) (x : State) (stands : NodeStands w x) (is_ready : w.phase �
 
     -- nothing was shown yet since the restart
     view_stands : (i : ℕ) (r : Register) (s : WriterState)
-        → slice_get actors.registers.items i ≡ Some r
+        → slice_get registers.items i ≡ Some r
         → slice_get (map (λ (z : WriterState). free) x.writers) i ≡ Some s
         → ViewStands n h (length h) i r s.view
     view_stands i r s er es =
@@ -226,14 +217,12 @@ module _ (w : Node) (x : State) (stands : NodeStands w x) (is_ready : w.phase �
         record { kept = λ above. absurd (omega arith); is_view = λ p e. cc }
 
     writer_stands : (i : ℕ) (a : Writer) (s : WriterState)
-        → slice_get actors.writers.items i ≡ Some a
+        → slice_get w.actors.writers.items i ≡ Some a
         → slice_get (map (λ (z : WriterState). free) x.writers) i ≡ Some s
         → WriterStands n h (length h) i a s
     writer_stands i a s ea es =
         let old = map_element (λ (z : WriterState). free) x.writers i s es in
-        let rest : WriterRests n a old.0 =
-        at.down.actors_rest.writers.each i a old.0 (ap (λ v. slice_get v.items i) (sym writers)
-        ∙ ea) old.1 in
+        let rest : WriterRests n a old.0 = at.down.actors_rest.writers.each i a old.0 ea old.1 in
         record {
           size = rest.size;
           fenced = ap (λ (z : WriterState). z.fenced) (sym old.2) ∙ ap is_fenced (sym rest.idle);
@@ -242,14 +231,12 @@ module _ (w : Node) (x : State) (stands : NodeStands w x) (is_ready : w.phase �
         }
 
     scanner_stands : (i : ℕ) (a : Scanner) (s : ScannerState)
-        → slice_get actors.scanners.items i ≡ Some a
+        → slice_get w.actors.scanners.items i ≡ Some a
         → slice_get (map (λ (z : ScannerState). Closed) x.scanners) i ≡ Some s
         → ScannerStands n h (length h) i a s
     scanner_stands i a s ea es =
         let old = map_element (λ (z : ScannerState). Closed) x.scanners i s es in
-        let rest : ScannerRests n a old.0 =
-        at.down.actors_rest.scanners.each i a old.0 (ap (λ v. slice_get v.items i) (sym scanners)
-        ∙ ea) old.1 in
+        let rest : ScannerRests n a old.0 = at.down.actors_rest.scanners.each i a old.0 ea old.1 in
         record {
           size = rest.size;
           phase = subst (IsScannerAt n h (length h) a s) (sym rest.idle) (sym old.2);
@@ -257,41 +244,30 @@ module _ (w : Node) (x : State) (stands : NodeStands w x) (is_ready : w.phase �
 
     pub actors_stand : ActorsStand actors y
     actors_stand = record {
-      least = subst (λ m. 0 < m) (sym segments) at.down.actors_rest.least;
-      most = subst (λ m. m ≤ 16) (sym segments) at.down.actors_rest.most;
+      least = at.down.actors_rest.least;
+      most = at.down.actors_rest.most;
       since = length h;
       within = omega arith;
       registers = record {
-        size = sym recovered.size ∙ at.down.actors_rest.registers_n ∙ sym segments;
-        each = λ i r er. subst (λ m. RegisterStands m h i r) (sym segments)
-            (register_stands i r er);
+        size = sym recovered.size ∙ at.down.actors_rest.registers_n;
+        each = register_stands;
         views = record {
-          size = (
-              let a : length w.actors.registers.items ≡ n = at.down.actors_rest.registers_n in
-              let b : length w.actors.writers.items ≡ n = at.down.actors_rest.writers_n in
-              let c : length w.actors.writers.items ≡ length x.writers =
-              at.down.actors_rest.writers.size in
-              let d : length w.actors.registers.items ≡ length actors.registers.items =
-              recovered.size in
-              let e : length (map (λ (z : WriterState). free) x.writers) ≡ length x.writers =
-              length-map x.writers (λ (z : WriterState). free) in
-              omega arith);
-          each = λ i r s er es. subst (λ m. ViewStands m h (length h) i r s.view) (sym segments)
-              (view_stands i r s er es);
+          size = sym recovered.size ∙ at.down.actors_rest.registers_n
+              ∙ sym at.down.actors_rest.writers_n ∙ at.down.actors_rest.writers.size
+              ∙ sym (length-map x.writers (λ (z : WriterState). free));
+          each = view_stands;
         };
       };
-      writers_n = ap (λ v. length v.items) writers ∙ at.down.actors_rest.writers_n ∙ sym segments;
+      writers_n = at.down.actors_rest.writers_n;
       writers = record {
-        size = ap (λ v. length v.items) writers ∙ at.down.actors_rest.writers.size
+        size = at.down.actors_rest.writers.size
             ∙ sym (length-map x.writers (λ (z : WriterState). free));
-        each = λ i a s ea es. subst (λ m. WriterStands m h (length h) i a s) (sym segments)
-            (writer_stands i a s ea es);
+        each = writer_stands;
       };
       scanners = record {
-        size = ap (λ v. length v.items) scanners ∙ at.down.actors_rest.scanners.size
+        size = at.down.actors_rest.scanners.size
             ∙ sym (length-map x.scanners (λ (z : ScannerState). Closed));
-        each = λ i a s ea es. subst (λ m. ScannerStands m h (length h) i a s) (sym segments)
-            (scanner_stands i a s ea es);
+        each = scanner_stands;
       };
     }
 
@@ -299,7 +275,7 @@ module _ (w : Node) (x : State) (stands : NodeStands w x) (is_ready : w.phase �
         → IsReady i n (number_after from_nothing h i) (value_after from_nothing h i)
         (device_of e) e.persist
     ready i e ee =
-        let d = was i e ee in
+        let d = origin i e resumed ee in
         let after = is_after i d.0 d.1 in
         let rest : IsAtRest i n d.0.found.number (found_value d.0) d.0.found.spare_open
         (device_of d.0) =
@@ -319,13 +295,11 @@ module _ (w : Node) (x : State) (stands : NodeStands w x) (is_ready : w.phase �
     pub drives_stand : DrivesStand actors.segments y.history y.writers
         (phases_of_actors actors).writers es
     drives_stand i e s phase ee es_ ep =
-        let a = map_element (λ (z : Writer). z.phase) actors.writers.items i phase ep in
+        let a = map_element (λ (z : Writer). z.phase) w.actors.writers.items i phase ep in
         let old = map_element (λ (z : WriterState). free) x.writers i s es_ in
         let rest : WriterRests n a.0 old.0 =
-        at.down.actors_rest.writers.each i a.0 old.0 (ap (λ v. slice_get v.items i) (sym writers)
-        ∙ a.1) old.1 in
-        subst (λ m. DriveStands m h i phase s.pending e) (sym segments)
-        (subst (λ z. DriveStands n h i z s.pending e) (sym rest.idle ∙ a.2) (ready i e ee))
+        at.down.actors_rest.writers.each i a.0 old.0 a.1 old.1 in
+        subst (λ z. DriveStands n h i z s.pending e) (sym rest.idle ∙ a.2) (ready i e ee)
 
     pub same_devices : map device_of es ≡ map device_of ds
     same_devices = map_same device_of es ds (sym resumed.size) (λ i e d ee ed.
@@ -334,7 +308,7 @@ module _ (w : Node) (x : State) (stands : NodeStands w x) (is_ready : w.phase �
     pub device_served : AreServed n y (map device_of es)
     device_served i device there =
         let e = map_element device_of es i device there in
-        let d = was i e.0 e.1 in
+        let d = origin i e.0 resumed e.1 in
         let after = is_after i d.0 d.1 in
         let same : device_of d.0 ≡ device = ap image_device (sym d.2.image) ∙ e.2 in
         let holds : Holds (device_of d.0).bytes d.0.found.number (found_value d.0) =
@@ -354,7 +328,7 @@ module _ (w : Node) (x : State) (stands : NodeStands w x) (is_ready : w.phase �
     gates i device calls there called =
         let e = map_element device_of es i device there in
         let f = map_element store_left es i calls called in
-        let d = was i e.0 e.1 in
+        let d = origin i e.0 resumed e.1 in
         let same : device_of d.0 ≡ device = ap image_device (sym d.2.image) ∙ e.2 in
         let one : f.0 ≡ e.0 = same_Some _ _ (sym f.1 ∙ e.1) in
         let is = found i d.0 d.1 in
@@ -367,25 +341,11 @@ module _ (w : Node) (x : State) (stands : NodeStands w x) (is_ready : w.phase �
         (d.0.found.spare_open, sym f.2 ∙ ap store_left one ∙ d.2.calls, subst Spare same spare)
 
     pub idle_phases : phases_of_actors actors ≡ all_idle (phases_of_actors w.actors)
-    idle_phases =
-        let phase : Writer → WriterPhase = λ v. v.phase in
-        let scanner_phase : Scanner → ScannerPhase = λ v. v.phase in
-        let a : map phase actors.writers.items
-        ≡ replicate (length (map phase w.actors.writers.items)) writer.Idle =
-        ap (λ v. map phase v.items) writers
-        ∙ all_same phase writer.Idle w.actors.writers.items (λ i z e.
-        (partner (λ j. WriterRests n) w.actors.writers.items x.writers i z
+    idle_phases = phases_idle actors (length (phases_of_actors w.actors).writers)
+        (length (phases_of_actors w.actors).scanners)
+        (sym (length-map w.actors.writers.items (λ v. v.phase)))
+        (sym (length-map w.actors.scanners.items (λ v. v.phase)))
+        (λ i z e. (partner (λ j. WriterRests n) w.actors.writers.items x.writers i z
         at.down.actors_rest.writers e).2.idle)
-        ∙ ap (λ m. replicate m writer.Idle) (sym (length-map w.actors.writers.items phase)) in
-        let b : map scanner_phase actors.scanners.items
-        ≡ replicate (length (map scanner_phase w.actors.scanners.items)) scanner.Idle =
-        ap (λ v. map scanner_phase v.items) scanners
-        ∙ all_same scanner_phase scanner.Idle w.actors.scanners.items (λ i z e.
-        (partner (λ j. ScannerRests n) w.actors.scanners.items x.scanners i z
+        (λ i z e. (partner (λ j. ScannerRests n) w.actors.scanners.items x.scanners i z
         at.down.actors_rest.scanners e).2.idle)
-        ∙ ap (λ m. replicate m scanner.Idle)
-        (sym (length-map w.actors.scanners.items scanner_phase)) in
-        let Made : List WriterPhase → List ScannerPhase → Phases =
-        λ p q. record { writers = p; scanners = q } in
-        ap (λ p. Made p (map scanner_phase actors.scanners.items)) a
-        ∙ ap (λ q. Made (replicate (length (map phase w.actors.writers.items)) writer.Idle) q) b

@@ -51,25 +51,16 @@ pub record State : Type 0 where
 
 -- the state with one writer's, or one scanner's, part changed
 abbrev pub with_writer : State → ℕ → WriterState → State
-with_writer x w s = record {
-  history = x.history;
-  writers = slice_set x.writers w s;
-  scanners = x.scanners;
-}
+with_writer x w s = record x { writers = slice_set x.writers w s }
 
 abbrev pub with_scanner : State → ℕ → ScannerState → State
-with_scanner x i s = record {
-  history = x.history;
-  writers = x.writers;
-  scanners = slice_set x.scanners i s;
-}
+with_scanner x i s = record x { scanners = slice_set x.scanners i s }
 
 -- the state with one update more, of a writer whose part changes with it
 abbrev pub with_update : State → ℕ → List ℕ → WriterState → State
-with_update x w v s = record {
+with_update x w v s = record x {
   history = x.history ++ record { segment = w; value = v } ∷ [];
   writers = slice_set x.writers w s;
-  scanners = x.scanners;
 }
 
 -- the last update of segment j was shown with moment p
@@ -88,12 +79,8 @@ Decides set x s (Some p) =
 
 -- scan s after a look in state x that told the number k
 abbrev pub looked : State → ScanState → ℕ → Option ℕ → ScanState
-looked x s k moment = record {
-  start = s.start;
-  last = length x.history;
-  told = s.told ++ k ∷ [];
-  moment = moment;
-}
+looked x s k moment =
+    record s { last = length x.history; told = s.told ++ k ∷ []; moment = moment }
 
 -- in state x scan s of this set is told the number k of the segment whose turn it is, and is scan t
 -- then
@@ -111,19 +98,12 @@ crashed_pending (Begun v) = Begun v
 crashed_pending (Shown v) = Free
 
 abbrev pub crashed_writer : WriterState → WriterState
-crashed_writer s = record {
-  pending = crashed_pending s.pending;
-  fenced = s.fenced;
-  scan = scan_from 0;
-  view = None;
-}
+crashed_writer s =
+    record s { pending = crashed_pending s.pending; scan = scan_from 0; view = None }
 
 abbrev pub crashed : State → State
-crashed x = record {
-  history = x.history;
-  writers = map crashed_writer x.writers;
-  scanners = map (λ s. Closed) x.scanners;
-}
+crashed x =
+    record x { writers = map crashed_writer x.writers; scanners = map (λ s. Closed) x.scanners }
 
 -- the begun update of segment i, if there is one
 abbrev pub begun_update : ℕ → Pending → List Update
@@ -156,11 +136,8 @@ abbrev pub Step : ℕ → State → Event → Reply → State → Type 0
 Step n x event NotNow y = y ≡ x
 Step n x (Begin w v) Begun_reply y =
     (s : WriterState) × (slice_get x.writers w ≡ Some s) × (s.pending ≡ Free) × (s.fenced ≡ false)
-    × (y ≡ with_writer x w (record s {
-      pending = Begun v.items;
-      scan =
-          scan_from (length x.history);
-    }))
+    × (y ≡ with_writer x w
+    (record s { pending = Begun v.items; scan = scan_from (length x.history) }))
 -- a look tells the number of the segment whose turn it is; the scan that is embedded in an update is
 -- of all segments
 Step n x (Look (Writer w)) (Number k) y =

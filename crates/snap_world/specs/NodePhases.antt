@@ -78,10 +78,10 @@ pub record TellsWhether (x : State) (p : WorldPhases) (event : Event) (reply : R
 
 -- the same phases but for those of writers and scanners, or for the node's
 abbrev pub actors_to : WorldPhases → Phases → WorldPhases
-actors_to p actors = record { node = p.node; actors = actors; calls = p.calls }
+actors_to p actors = record p { actors = actors }
 
 abbrev pub node_to : WorldPhases → NodePhase → WorldPhases
-node_to p node = record { node = node; actors = p.actors; calls = p.calls }
+node_to p node = record p { node = node }
 
 -- after a look of a scan of this set the phases go on to r where the numbers told decide an answer,
 -- and stay otherwise
@@ -93,16 +93,11 @@ pub record LooksOn {P : Type 0} (set : ℕ) (told : List ℕ) (p r q : P) : Type
 -- after a call with these ones left; once none is left the update is stored, and the next store
 -- finds its spare gate open
 abbrev pub AfterCall : WorldPhases → ℕ → List NextCall → WorldPhases → Type 0
-AfterCall p w [] q = q ≡ record {
-  node = p.node;
+AfterCall p w [] q = q ≡ record p {
   actors = writer_to p.actors w writer.Stored;
   calls = slice_set p.calls w (store_calls true);
 }
-AfterCall p w (call ∷ calls) q = q ≡ record {
-  node = p.node;
-  actors = p.actors;
-  calls = slice_set p.calls w (call ∷ calls);
-}
+AfterCall p w (call ∷ calls) q = q ≡ record p { calls = slice_set p.calls w (call ∷ calls) }
 
 -- nobody is at work
 abbrev pub all_idle : Phases → Phases
@@ -132,8 +127,7 @@ PhasesMove n x p (Look (actor.Scanner i)) (Number k) q =
 PhasesMove n x p (Call w) (Called kind) q =
     (rest : List NextCall) × (slice_get p.calls w ≡ Some (store_call kind ∷ rest))
     × AfterCall p w rest q
-PhasesMove n x p (Fail w fill) DeviceFailed q = q ≡ record {
-  node = p.node;
+PhasesMove n x p (Fail w fill) DeviceFailed q = q ≡ record p {
   actors = writer_to p.actors w writer.Fenced;
   calls = slice_set p.calls w [];
 }
@@ -143,11 +137,7 @@ PhasesMove n x p (Scan i) ScanBegun q = q ≡ actors_to p (scanner_to p.actors i
 PhasesMove n x p (Pick i set) ScanBegun q = q ≡ actors_to p (scanner_to p.actors i scanner.Scanning)
 PhasesMove n x p (Answer i) (Memory m) q = q ≡ actors_to p (scanner_to p.actors i scanner.Idle)
 PhasesMove n x p (Answer i) (Part m) q = q ≡ actors_to p (scanner_to p.actors i scanner.Idle)
-PhasesMove n x p (Crash fills) Crashed q = q ≡ record {
-  node = Down;
-  actors = all_idle p.actors;
-  calls = p.calls;
-}
+PhasesMove n x p (Crash fills) Crashed q = q ≡ record p { node = Down; actors = all_idle p.actors }
 PhasesMove n x p Restart Restarting_reply q = q ≡ node_to p (Restarting 0 opening.Sync)
 PhasesMove n x p RestartCall (Called kind) q =
     (i : ℕ) × (call : OpeningCall) × (p.node ≡ Restarting i call) × (kind ≡ opening_kind call)

@@ -17,7 +17,7 @@ ScannerIs p i phase = slice_get p.scanners i ≡ Some phase
 
 -- these phases with that of one writer, or of one scanner, changed
 abbrev pub writer_to : Phases → ℕ → WriterPhase → Phases
-writer_to p w phase = record { writers = slice_set p.writers w phase; scanners = p.scanners }
+writer_to p w phase = record p { writers = slice_set p.writers w phase }
 
 abbrev pub scanner_to : Phases → ℕ → ScannerPhase → Phases
-scanner_to p i phase = record { writers = p.writers; scanners = slice_set p.scanners i phase }
+scanner_to p i phase = record p { scanners = slice_set p.scanners i phase }

@@ -1,6 +1,7 @@
 //! Writers and scanners, and the registers between them: what a node has in memory.
-ghost use Rattle.std.specs.Prelude.{◌≡◌, ◌<◌, ◌≤◌, IfOk};
+ghost use Rattle.std.specs.Prelude.{◌≡◌, ◌↔◌, ◌<◌, ◌≤◌, IfOk, IsTrue};
 ghost use Rattle.snap_history.specs.declared.limits.TheConstants.{MAX_COUNT};
+ghost use Rattle.snap_world.specs.Phases.{WriterIs, ScannerIs};
 ghost use Rattle.snap_world.specs.Start.{start_state, start_phases};
 ghost use Rattle.snap_world.specs.inside.Stands.{ActorsStand, Stand};
 ghost use Rattle.snap_world.specs.inside.Halt.{IsHalted, IsScannerHalted};
@@ -45,6 +46,26 @@ impl Actors {
             writers,
             scanners,
         })
+    }
+
+    /// Whether there is this writer, and it is in this phase.
+    pub fn writer_is(&self, segment: usize, phase: WriterPhase) -> bool
+        ensures { IsTrue result ↔ WriterIs (phases_of_actors self.now) segment phase }
+    {
+        if segment >= self.writers.len() {
+            return false;
+        }
+        self.writers[segment].phase == phase
+    }
+
+    /// Whether there is this scanner, and it is in this phase.
+    pub fn scanner_is(&self, scanner: usize, phase: ScannerPhase) -> bool
+        ensures { IsTrue result ↔ ScannerIs (phases_of_actors self.now) scanner phase }
+    {
+        if scanner >= self.scanners.len() {
+            return false;
+        }
+        self.scanners[scanner].phase == phase
     }
 
     /// One look.

@@ -1,6 +1,6 @@
 pub mod Shown
 pub mod Paired
-pub mod Rest
+pub mod Crashes
 pub mod Untouched
 pub mod Judgements
 pub mod Lives

@@ -1,5 +1,5 @@
 -- What an update and a meeting are of a writer's life.
-use Rattle.std.proofs.Common.{◌≡◌, ⊎_elim, ℕ, ◌+◌, inl, inr, List, [], ◌∷◌, None, Result, Ok, Err, refl, ap, sym, subst, ◌∙◌}
+use Rattle.std.proofs.Common.{◌≡◌, ◌⊎◌, ⊎_elim, ℕ, ◌+◌, inl, inr, List, [], ◌∷◌, Some, None, true, Result, Ok, Err, refl, ap, sym, subst}
 use Rattle.std.specs.Prelude.{OnOk, OnErr}
 use Rattle.snap_disk.specs.Device.{MayLeave, IsSettled}
 use Rattle.snap_disk.specs.Time.{LeavesOnly}
@@ -10,122 +10,89 @@ use Rattle.snap_segment.specs.Segment.{SegmentState}
 use Rattle.snap_register.specs.Seat.{Meets}
 use Rattle.snap_writer.specs.Writer.{WriterState, number_of, value_of}
 use Rattle.snap_writer.specs.Update.{IsSameSeat, EndsWith, Advances, Fails}
-use Rattle.snap_writer.specs.Life.{IsShown, Sees, Stores, Shows, HasLived, StoresFirst}
+use Rattle.snap_writer.specs.Life.{IsShown, IsAhead, HoldsOf, Rests, Stores, HasLived, StoresFirst}
 use Rattle.snap_disk.specs.declared.disk.Disk as Disk
 
 module _ {D : Type 0} (disk : Disk.Ghosts D) where
-  abbrev Past : WriterState D → WriterState D → Type 0
-  Past a z = HasLived disk a z
+  -- an update that goes on, whatever its store answers
+  module _ (a z : WriterState D) (v : List ℕ) (shown : IsShown a)
+      (unfenced : a.segment.begun ≡ None)
+      (honest_then : disk.is_honest z.segment.device → disk.is_honest a.segment.device)
+      (any_time : disk.is_honest z.segment.device
+      → LeavesOnly disk a.segment.device z.segment.device
+      (IsEither a.segment.index a.segment.count (number_of a) (value_of a) v)) where
+    -- what is said of the number and the value that were shown is said of those that are stored
+    of_stored : (P : ℕ → List ℕ → Type 0) → P (number_of a) (value_of a)
+        → P a.segment.number a.segment.value
+    of_stored P is =
+        subst (λ (y : ℕ × List ℕ). P y.0 y.1) (λ t. (sym shown.0 t, sym shown.1 t)) is
 
-  abbrev First : List ℕ → WriterState D → WriterState D → Type 0
-  First v a z = StoresFirst disk v a z
+    -- the segment behind a store that went well, and behind one that failed
+    abbrev done : SegmentState D
+    done = record a.segment {
+      device = z.segment.device;
+      number = a.segment.number + 1;
+      value = v;
+      spare_open = true;
+    }
 
-  -- ---- an update
+    abbrev fenced : SegmentState D
+    fenced = record a.segment { device = z.segment.device; begun = Some v }
 
-  module _ (a z : WriterState D) (v : List ℕ) where
-    -- a crash during a store, told by what was shown and told by what is stored
-    told_stored : IsShown a → (x : List ℕ)
-        → IsEither a.segment.index a.segment.count (number_of a) (value_of a) v x
-        → IsEither a.segment.index a.segment.count a.segment.number a.segment.value v x
-    told_stored shown x is = subst (λ (y : ℕ × List ℕ). IsEither a.segment.index a.segment.count
-        y.0 y.1 v x) (λ t. (sym shown.0 t, sym shown.1 t)) is
-
-    abbrev AnyTime : Type 0
-    AnyTime = disk.is_honest z.segment.device
-        → LeavesOnly disk a.segment.device z.segment.device
-        (IsEither a.segment.index a.segment.count (number_of a) (value_of a) v)
-
-    any_time_stored : IsShown a → AnyTime → disk.is_honest z.segment.device
-        → LeavesOnly disk a.segment.device z.segment.device
-        (IsEither a.segment.index a.segment.count a.segment.number a.segment.value v)
-    any_time_stored shown any hon =
-        let l = any hon in
-        record {
-          later = l.later;
-          each = λ x left. told_stored shown x (l.each x left);
-          before = λ t x le left. ⊎_elim (λ was. inl was) (λ is. inr (told_stored shown x is))
-              (l.before t x le left);
-        }
-
-    between : WriterState D
+    abbrev between : WriterState D
     between = record { segment = z.segment; seat = a.seat }
 
-    pub advanced : IsShown a → a.segment.begun ≡ None → IsSameSeat a.seat z.seat → Advances a z v
-        → (disk.is_honest z.segment.device → disk.is_honest a.segment.device) → AnyTime
-        → (disk.is_honest z.segment.device → (x : List ℕ)
-        → MayLeave (disk.device z.segment.device) x
-        → IsFileOf a.segment.index a.segment.count (number_of a + 1) v x)
-        → First v a z
-    unfolding between
-    advanced shown unfenced seat adv honest_then any last =
-        let is = adv.stored in
-        let index : a.segment.index ≡ z.segment.index =
-        sym (ap (λ (s : SegmentState D). s.index) is) in
-        let count : a.segment.count ≡ z.segment.count =
-        sym (ap (λ (s : SegmentState D). s.count) is) in
-        let number : z.segment.number ≡ number_of a + 1 =
-        ap (λ (s : SegmentState D). s.number) is ∙ ap (λ (k : ℕ). k + 1) shown.0 in
-        let value : z.segment.value ≡ v = ap (λ (s : SegmentState D). s.value) is in
-        let stores : Stores disk v a between = record {
-          seat_is = refl;
-          unfenced = unfenced;
-          shown = shown;
-          ends = inl is;
-          rests = λ hon x left. inl (subst (λ (y : ℕ × ℕ × ℕ × List ℕ).
-              IsFileOf y.0 y.1 y.2 y.3 x)
-              (λ t. (index t, count t, sym number t, sym value t)) (last hon x left));
-          honest_then = honest_then;
-          any_time = any_time_stored shown any;
-        } in
-        let shows : Shows disk between z = record {
-          segment_is = refl;
-          stored = (number, ap (λ (s : SegmentState D). s.begun) is ∙ unfenced);
-          same_seat = seat;
-          shown = subst (λ (w : List ℕ). EndsWith a.seat z.seat w) (sym value) adv.shown;
-        } in
-        (between, stores, inl shows)
+    stores : (z.segment ≡ done) ⊎ (z.segment ≡ fenced) → Rests disk between
+        → Stores disk v a between
+    stores ends rests = record {
+      seat_is = refl;
+      unfenced = unfenced;
+      shown = shown;
+      ends = ends;
+      rests = rests;
+      honest_then = honest_then;
+      any_time = of_stored (λ k u. disk.is_honest z.segment.device
+          → LeavesOnly disk a.segment.device z.segment.device
+          (IsEither a.segment.index a.segment.count k u v)) any_time;
+    }
 
-    pub failed : IsShown a → a.segment.begun ≡ None → Fails a z v
-        → (disk.is_honest z.segment.device → disk.is_honest a.segment.device) → AnyTime
-        → (disk.is_honest z.segment.device → (x : List ℕ)
+    pub went_on : (result : Result ℕ Refusal) → IsSameSeat a.seat z.seat
+        → OnOk result (Advances a z v) → OnErr result (Fails a z v)
+        → (disk.is_honest z.segment.device → OnOk result (IsSettled (disk.device z.segment.device)
+        × ((x : List ℕ) → MayLeave (disk.device z.segment.device) x
+        → IsFileOf a.segment.index a.segment.count (number_of a + 1) v x)))
+        → (disk.is_honest z.segment.device → OnErr result ((x : List ℕ)
         → MayLeave (disk.device z.segment.device) x
-        → IsEither a.segment.index a.segment.count (number_of a) (value_of a) v x)
-        → First v a z
-    unfolding between
-    failed shown unfenced f honest_then any either =
-        let is = f.fenced in
-        let index : a.segment.index ≡ z.segment.index =
-        sym (ap (λ (s : SegmentState D). s.index) is) in
-        let count : a.segment.count ≡ z.segment.count =
-        sym (ap (λ (s : SegmentState D). s.count) is) in
-        let number : number_of a ≡ z.segment.number =
-        sym (ap (λ (s : SegmentState D). s.number) is ∙ shown.0) in
-        let value : value_of a ≡ z.segment.value =
-        sym (ap (λ (s : SegmentState D). s.value) is ∙ shown.1) in
-        let stores : Stores disk v a between = record {
-          seat_is = refl;
-          unfenced = unfenced;
-          shown = shown;
-          ends = inr is;
-          rests = λ hon x left. ⊎_elim
-              (λ old. inl (subst (λ (y : ℕ × ℕ × ℕ × List ℕ). IsFileOf y.0 y.1 y.2 y.3 x)
-              (λ t. (index t, count t, number t, value t)) old))
-              (λ new. inr (
-                v,
-                ap (λ (s : SegmentState D). s.begun) is,
-                subst (λ (y : ℕ × ℕ × ℕ). IsFileOf y.0 y.1 (y.2 + 1) v x)
-                    (λ t. (index t, count t, number t)) new,
-              ))
-              (either hon x left);
-          honest_then = honest_then;
-          any_time = any_time_stored shown any;
-        } in
-        let sees : Sees disk between z =
-        record { segment_is = refl; grows = f.unshown } in
-        (between, stores, inr sees)
+        → IsEither a.segment.index a.segment.count (number_of a) (value_of a) v x))
+        → StoresFirst disk v a z
+    went_on (Ok n) seat advances fails last either = (
+      between,
+      stores (inl advances.stored) (λ hon x left.
+          subst (λ (s : SegmentState D). HoldsOf s x) (sym advances.stored)
+          (inl (of_stored (λ k u. IsFileOf a.segment.index a.segment.count (k + 1) v x)
+          ((last hon).1 x left)))),
+      inl (record {
+        segment_is = refl;
+        stored = subst (λ (s : SegmentState D). IsAhead (record { segment = s; seat = a.seat }))
+            (sym advances.stored) (ap (λ (k : ℕ). k + 1) shown.0, unfenced);
+        same_seat = seat;
+        shown = subst (λ (s : SegmentState D). EndsWith a.seat z.seat s.value)
+            (sym advances.stored) advances.shown;
+      }),
+    )
+    went_on (Err why) seat advances fails last either = (
+      between,
+      stores (inr fails.fenced) (λ hon x left.
+          subst (λ (s : SegmentState D). HoldsOf s x) (sym fails.fenced)
+          (⊎_elim (λ old. inl old) (λ new. inr (v, refl, new))
+          (of_stored (λ k u. IsEither a.segment.index a.segment.count k u v x)
+          (either hon x left)))),
+      inr (record { segment_is = refl; grows = fails.unshown }),
+    )
 
   -- that is a life
-  pub lived_first : (v : List ℕ) (a z : WriterState D) → First v a z → Past a z
+  pub lived_first : (v : List ℕ) (a z : WriterState D) → StoresFirst disk v a z
+      → HasLived disk a z
   lived_first v a z first = (
     first.0 ∷ z ∷ [],
     (
@@ -134,29 +101,7 @@ module _ {D : Type 0} (disk : Disk.Ghosts D) where
     ),
   )
 
-  -- an update that goes on, whatever its store answers
-  pub went_on : (k : ℕ) (v : List ℕ) (a z : WriterState D) (result : Result ℕ Refusal)
-      → IsShown a → a.segment.begun ≡ None → k ≡ number_of a + 1 → IsSameSeat a.seat z.seat
-      → OnOk result (Advances a z v) → OnErr result (Fails a z v)
-      → (disk.is_honest z.segment.device → disk.is_honest a.segment.device)
-      → (disk.is_honest z.segment.device → LeavesOnly disk a.segment.device
-      z.segment.device (IsEither a.segment.index a.segment.count (number_of a) (value_of a) v))
-      → (disk.is_honest z.segment.device → OnOk result (IsSettled (disk.device z.segment.device)
-      × ((x : List ℕ) → MayLeave (disk.device z.segment.device) x
-      → IsFileOf a.segment.index a.segment.count k v x)))
-      → (disk.is_honest z.segment.device → OnErr result ((x : List ℕ)
-      → MayLeave (disk.device z.segment.device) x
-      → IsEither a.segment.index a.segment.count (number_of a) (value_of a) v x))
-      → First v a z
-  went_on k v a z (Ok n) shown unfenced next seat advances fails then any last either =
-      advanced a z v shown unfenced seat advances then any
-      (λ hon x left. subst (λ (m : ℕ). IsFileOf a.segment.index a.segment.count m v x) next
-      ((last hon).1 x left))
-  went_on k v a z (Err why) shown unfenced next seat advances fails then any last either =
-      failed a z v shown unfenced fails then any either
-
-  pub met : (a z : WriterState D) → z.segment ≡ a.segment → Meets a.seat z.seat → Past a z
+  pub met : (a z : WriterState D) → z.segment ≡ a.segment → Meets a.seat z.seat
+      → HasLived disk a z
   met a z segment meets =
-      let sees : Sees disk a z =
-      record { segment_is = segment; grows = meets.grows } in
-      (z ∷ [], (inl sees, refl))
+      (z ∷ [], (inl (record { segment_is = segment; grows = meets.grows }), refl))

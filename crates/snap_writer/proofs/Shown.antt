@@ -1,7 +1,7 @@
 -- What a seat's own number and value are after it has seen more, and after an update was shown.
 use Rattle.std.proofs.Common.{◌≡◌, ℕ, ◌+◌, List, [], ◌∷◌, ◌++◌, ap, sym, ◌∙◌, arith}
 use Rattle.std.proofs.lemmas.List.{append_assoc}
-use Rattle.snap_history.specs.History.{Update, updates_of, last_value, number_after, value_after}
+use Rattle.snap_history.specs.History.{Update, Start, updates_of, number_after, value_after}
 use Rattle.snap_history.proofs.Moments.{updates-append, last-append, last_none, number-push, value-push}
 use Rattle.snap_register.specs.History.{starts}
 use Rattle.snap_register.specs.Seat.{Known, Grows, Shows, own_of, number_in, value_in}
@@ -9,17 +9,17 @@ use Rattle.snap_writer.specs.Update.{IsSameSeat, EndsWith}
 
 -- a list that grows by no update of the segment keeps its number and value
 
-pub number_kept : (a : Known) (h rest : List Update) (i : ℕ) → updates_of i rest ≡ 0
-    → number_in a (h ++ rest) i ≡ number_in a h i
-number_kept a h rest i none =
+pub number_kept : (start : Start) (h rest : List Update) (i : ℕ) → updates_of i rest ≡ 0
+    → number_after start (h ++ rest) i ≡ number_after start h i
+number_kept start h rest i none =
     let sum : updates_of i (h ++ rest) ≡ updates_of i h + updates_of i rest =
     updates-append i h rest in
     omega arith
 
-pub value_kept : (a : Known) (h rest : List Update) (i : ℕ) → updates_of i rest ≡ 0
-    → value_in a (h ++ rest) i ≡ value_in a h i
-value_kept a h rest i none = last-append (starts a.plan i).1 i h rest
-    ∙ last_none (last_value (starts a.plan i).1 i h) i rest none
+pub value_kept : (start : Start) (h rest : List Update) (i : ℕ) → updates_of i rest ≡ 0
+    → value_after start (h ++ rest) i ≡ value_after start h i
+value_kept start h rest i none = last-append (start i).1 i h rest
+    ∙ last_none (value_after start h i) i rest none
 
 -- of a seat that grew, and writes one segment
 
@@ -40,12 +40,12 @@ none_own a b g alone =
 pub number_grown : (a b : Known) → Grows a b → a.high ≡ a.low + 1
     → number_in b b.seen (own_of b) ≡ number_in a a.seen (own_of a)
 number_grown a b g alone = (λ t. number_after (starts (g.plan t)) (g.later.1 t) (g.low t))
-    ∙ number_kept a a.seen g.later.0 a.low (none_own a b g alone)
+    ∙ number_kept (starts a.plan) a.seen g.later.0 a.low (none_own a b g alone)
 
 pub value_grown : (a b : Known) → Grows a b → a.high ≡ a.low + 1
     → value_in b b.seen (own_of b) ≡ value_in a a.seen (own_of a)
 value_grown a b g alone = (λ t. value_after (starts (g.plan t)) (g.later.1 t) (g.low t))
-    ∙ value_kept a a.seen g.later.0 a.low (none_own a b g alone)
+    ∙ value_kept (starts a.plan) a.seen g.later.0 a.low (none_own a b g alone)
 
 -- of a seat that grew and then showed an update
 
@@ -87,7 +87,7 @@ number_shown a b v same e =
     ≡ number_in a (a.seen ++ e.between) (own_of a) + 1 =
     number-push (starts a.plan) (a.seen ++ e.between) u in
     let kept : number_in a (a.seen ++ e.between) (own_of a) ≡ number_in a a.seen (own_of a) =
-    number_kept a a.seen e.between (own_of a) e.others in
+    number_kept (starts a.plan) a.seen e.between (own_of a) e.others in
     omega arith
 
 pub value_shown : (a b : Known) (v : List ℕ) → IsSameSeat a b → EndsWith a b v

@@ -1,46 +1,57 @@
 -- An update under a rule by which nothing is called.
-use Rattle.std.proofs.Common.{◌≡◌, ◌≢◌, ℕ, List, [], Result, refl, subst}
-use Rattle.snap_disk.specs.Device.{MayLeave}
+use Rattle.std.proofs.Common.{◌≡◌, ◌≢◌, ℕ, List, [], Option, None, Result, inl, refl, subst}
+use Rattle.snap_disk.specs.Time.{LeavesOnly}
+use Rattle.snap_disk.specs.Laws.{started}
 use Rattle.snap_disk.specs.declared.disk.Disk as Disk
 use Rattle.snap_disk.specs.declared.refusal.Refusal.{Refusal}
+use Rattle.snap_slot.specs.States.{IsEither}
+use Rattle.snap_slot.proofs.Rest.{at_rest_leaves}
 use Rattle.snap_segment.specs.Segment.{CountsRefusal, IsKept}
 use Rattle.snap_writer.specs.Writer.{WriterState, number_of, value_of}
 use Rattle.snap_writer.specs.Judge.{IsJudged, IsAnswer}
 use Rattle.snap_writer.specs.declared.judgement.Judgement.{Judgement}
 use Rattle.snap_writer.specs.declared.judgement.Judgement.TheVariants.{Go}
 use Rattle.snap_writer.specs.Updated.{IsUpdated}
+use Rattle.snap_writer.proofs.Crashes.{OnlyNow}
 use Rattle.snap_writer.proofs.Judgements.{one_rule}
-use Rattle.snap_writer.proofs.Rest.{rests}
 
-module _ {D : Type 0} (disk : Disk.Ghosts D)
-    (only_now : (d : D) (b : List ℕ) → disk.is_honest d → disk.might_have_left d (disk.clock d) b
-    → MayLeave (disk.device d) b) (w : WriterState D) (k : ℕ) (v : List ℕ) (rule : Judgement)
-    (judged : IsJudged w k v rule) (other : rule ≢ Go) where
-  never : (A : Type 0) → IsJudged w k v Go → A
-  never A go = absurd (other (one_rule w k v rule Go judged go))
+module _ {D : Type 0} (disk : Disk.Ghosts D) (only_now : OnlyNow disk) (w : WriterState D)
+    (kept : disk.is_honest w.segment.device → IsKept w.segment.index w.segment.count (number_of w)
+    (value_of w) w.segment.begun w.segment.spare_open (disk.device w.segment.device)) where
+  -- a crash leaves what a writer without a fence has shown last
+  rests : (v : List ℕ) → disk.is_honest w.segment.device → w.segment.begun ≡ None
+      → LeavesOnly disk w.segment.device w.segment.device
+      (IsEither w.segment.index w.segment.count (number_of w) (value_of w) v)
+  rests v hon unfenced = started disk w.segment.device _ (λ b left.
+      inl (at_rest_leaves _ _ _ _ w.segment.spare_open (disk.device w.segment.device)
+      (subst (λ (x : Option (List ℕ)). IsKept w.segment.index w.segment.count (number_of w)
+      (value_of w) x w.segment.spare_open (disk.device w.segment.device)) unfenced (kept hon))
+      b (only_now w.segment.device b hon left)))
 
-  pub untouched : (told : Result ℕ Refusal) → IsAnswer k rule told
-      → CountsRefusal told (disk.failure_count w.segment.device)
-      (disk.failure_count w.segment.device)
-      → (disk.is_honest w.segment.device → IsKept w.segment.index w.segment.count (number_of w)
-      (value_of w) w.segment.begun w.segment.spare_open (disk.device w.segment.device))
-      → IsUpdated disk w w k v told
-  untouched told answer count kept = record {
-    count = count;
-    honest_then = λ is. is;
-    same_seat = record { table = refl; plan = refl; low = refl; high = refl };
-    judged = λ r is. subst (λ (x : Judgement). IsAnswer k x told)
-        (one_rule w k v rule r judged is) answer;
-    unchanged = λ r is not. refl;
-    advances = never _;
-    fails = never _;
-    calls = never _;
-    left = never _;
-    below = never _;
-    lived = ([], refl);
-    stored_first = never _;
-    any_time = λ honest begun. rests disk only_now w.segment (number_of w) (value_of w) v kept
-        honest begun;
-    last = λ honest. never _;
-    either = λ honest. never _;
-  }
+  module _ (k : ℕ) (v : List ℕ) (rule : Judgement) (judged : IsJudged w k v rule)
+      (other : rule ≢ Go) where
+    never : (A : Type 0) → IsJudged w k v Go → A
+    never A go = absurd (other (one_rule w k v rule Go judged go))
+
+    pub untouched : (told : Result ℕ Refusal) → IsAnswer k rule told
+        → CountsRefusal told (disk.failure_count w.segment.device)
+        (disk.failure_count w.segment.device)
+        → IsUpdated disk w w k v told
+    untouched told answer count = record {
+      count = count;
+      honest_then = λ is. is;
+      same_seat = record { table = refl; plan = refl; low = refl; high = refl };
+      judged = λ r is. subst (λ (x : Judgement). IsAnswer k x told)
+          (one_rule w k v rule r judged is) answer;
+      unchanged = λ r is not. refl;
+      advances = never _;
+      fails = never _;
+      calls = never _;
+      left = never _;
+      below = never _;
+      lived = ([], refl);
+      stored_first = never _;
+      any_time = rests v;
+      last = λ honest. never _;
+      either = λ honest. never _;
+    }

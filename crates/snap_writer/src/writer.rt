@@ -142,14 +142,8 @@ impl<D: Disk> Writer<D> {
         ensures updated { IsUpdated D.Disk self.old self.new number value.now result }
     {
         match self.judge(number, value) {
-            Judgement::TooLong => Err(Refusal::TooLong),
-            Judgement::Stored => Ok(number),
-            Judgement::Conflict => Err(Refusal::Conflict),
-            Judgement::OutOfStep => Err(Refusal::OutOfStep),
-            Judgement::Exhausted => Err(Refusal::Exhausted),
-            Judgement::Fenced => Err(Refusal::Fenced),
-            Judgement::Worn => Err(Refusal::Worn),
             Judgement::Go => self.advance(value),
+            rule => answer(rule, number),
         }
     }
 
@@ -250,6 +244,24 @@ impl<D: Disk> Writer<D> {
         let view = prepare(&mut self.seat);
         self.segment.store(value)?;
         Ok(show_stored(&self.segment, &mut self.seat, view))
+    }
+}
+
+/// What an update to this number is answered under a rule by which nothing is called.
+fn answer(rule: Judgement, number: u64) -> Result<u64, Refusal>
+    requires { rule ≢ Judgement.Go }
+    ensures answer { IsAnswer number rule result }
+    ensures count { (n : ℕ) → CountsRefusal result n n }
+{
+    match rule {
+        Judgement::TooLong => Err(Refusal::TooLong),
+        Judgement::Stored => Ok(number),
+        Judgement::Conflict => Err(Refusal::Conflict),
+        Judgement::OutOfStep => Err(Refusal::OutOfStep),
+        Judgement::Exhausted => Err(Refusal::Exhausted),
+        Judgement::Fenced => Err(Refusal::Fenced),
+        Judgement::Worn => Err(Refusal::Worn),
+        Judgement::Go => unreachable!(),
     }
 }
 

@@ -6,26 +6,35 @@
 //! sockets, threads and standard streams, of which the last gets a server's log too (`snap_log`).
 #![tactic(auto)]
 
-ghost use Rattle.snap_order.specs.Order.{IsCallable, IsFileWithinLimits, IsPlace};
-ghost use Rattle.snap_order.specs.Order.{IsServable, IsWithinLimits};
+ghost use Rattle.std.specs.Prelude.{◌<◌, ◌≤◌, length};
+ghost use Rattle.snap_order.specs.Limits.{MAX_COUNT};
+ghost use Rattle.snap_order.specs.Order.{IsCallable, IsFileWithinLimits, IsOneTo, IsPlace};
+ghost use Rattle.snap_order.specs.Order.{IsServable, IsWithinLimits, KeepsLimits};
 
 mod call_command;
+mod complaint;
 mod files;
+mod folder;
+mod init_command;
 mod serve_command;
 mod store_log;
+mod time_limit;
 
 use call_command::call;
+use complaint::{fail_at, fail_at_folder, fail_in, fail_twice, stop, stop_without_memory};
 use files::{
     FirstFault, PairFault, check_streams, first_faults, open_file, open_pair, too_short_files,
     writes,
 };
+use folder::{files_in_order, segment_files};
+use init_command::init;
 use serve_command::{FilesFault, open_files, serve};
-use snap_args::{WordFault, lack_of, order};
+use snap_args::{WordFault, lack_of, order, text_of};
 use snap_devices::FileFault;
 use snap_disk::Refusal;
 use snap_file_commands::{Causes, CommandFailure, MigrationFailure, act, act_pair};
 use snap_log::Destination;
-use snap_order::{Calling, FileOrder, Migration, Order, Serving, Status};
+use snap_order::{Calling, Explanation, FileOrder, Founding, Migration, Order, Serving, Status};
 use snap_script::play;
 use snap_server::ServerFault;
 use snap_slot::FILE_LEN;
@@ -70,9 +79,23 @@ fn do_order<X: Threads + Wait + Clock + Net + Sync + Send + Copy>(
     match order {
         Order::File(order) => run(rt, order),
         Order::Migrate(order) => run_migration(rt, order),
+        Order::Init(order) => run_init(rt, order),
         Order::Serve(order) => run_server(threads, rt, order),
+        Order::ServeFolder { folder, serving } => run_folder_server(threads, rt, folder, serving),
         Order::Call(order) => run_call(rt, order),
         Order::Script => play_script(threads, rt),
+        Order::Explain(explanation) => print_explanation(rt, *explanation),
+    }
+}
+
+/// Prints what explains the program.
+fn print_explanation(rt: &HostRuntime, explanation: Explanation) -> Status {
+    match text_of(rt.alloc(), explanation) {
+        Ok(text) => match rt.print(&text) {
+            Ok(()) => Status::Done,
+            Err(error) => stop(rt, &CommandFailure::Output(error)),
+        },
+        Err(_) => stop_without_memory(rt),
     }
 }
 
@@ -83,7 +106,7 @@ fn explain(rt: &HostRuntime, fault: &WordFault) -> Status {
             Ok(()) => Status::Done,
             Err(error) => stop(rt, &CommandFailure::Output(error)),
         },
-        WordFault::Memory => stop(rt, &CommandFailure::Refused(Refusal::NoMemory)),
+        WordFault::Memory => stop_without_memory(rt),
         _ => {
             let _ = match fault.to_string(rt.alloc()) {
                 // Some texts have a line feed of their own.
@@ -167,26 +190,92 @@ fn run_migration<'a>(rt: &'a HostRuntime, order: &Migration<'a>) -> Status
     ended.status
 }
 
+/// Makes the files of a folder.
+fn run_init(rt: &HostRuntime, order: &Founding<'_>) -> Status
+    requires { IsOneTo MAX_COUNT order.now.count }
+{
+    if !are_streams_open(rt) || !may_write(rt) {
+        return Status::Failed;
+    }
+    init(rt, order)
+}
+
 /// Opens the order's files, and serves them: `threads` is the runtime as what may wait, start
 /// threads and open sockets.
-fn run_server<'a, X: Threads + Wait + Clock + Net + Sync + Send + Copy>(
+fn run_server<X: Threads + Wait + Clock + Net + Sync + Send + Copy>(
     threads: &X,
-    rt: &'a HostRuntime,
-    order: &Serving<'a>,
+    rt: &HostRuntime,
+    order: &Serving<'_>,
 ) -> Status
     requires { IsServable order.now }
 {
-    if !are_streams_open(rt) || !is_address(rt, order.address) || !may_write(rt) {
+    if !may_serve(rt, order.address) {
         return Status::Failed;
     }
+    serve_files(threads, rt, order)
+}
+
+/// Finds the files of a folder, and serves them. `serving` has none.
+fn run_folder_server<X: Threads + Wait + Clock + Net + Sync + Send + Copy>(
+    threads: &X,
+    rt: &HostRuntime,
+    folder: &str,
+    serving: &Serving<'_>,
+) -> Status
+    requires { KeepsLimits serving.now }
+{
+    if !may_serve(rt, serving.address) {
+        return Status::Failed;
+    }
+    let files = match segment_files(rt, rt.alloc(), folder) {
+        Ok(files) => files,
+        Err(reason) => return fail_at_folder(rt, folder, reason),
+    };
+    match files_in_order(rt, rt.alloc(), folder, &files) {
+        Ok(files) => serve_files(threads, rt, &with_files(serving, files)),
+        Err(trouble) => fail_in(rt, &trouble),
+    }
+}
+
+/// The same order for these files.
+fn with_files<'a>(serving: &Serving<'a>, files: Vec<&'a str>) -> Serving<'a>
+    requires limits { KeepsLimits serving.now }
+    requires some { 0 < length files.items }
+    requires few { length files.items ≤ MAX_COUNT }
+    ensures { IsServable result }
+{
+    Serving {
+        address: serving.address,
+        files,
+        scanners: serving.scanners,
+        connections: serving.connections,
+        clients: serving.clients,
+        idle: serving.idle,
+        log: serving.log,
+    }
+}
+
+/// What a server needs of the system before a file is opened is there. Says what isn't.
+fn may_serve(rt: &HostRuntime, address: &str) -> bool {
+    are_streams_open(rt) && is_address(rt, address) && may_write(rt)
+}
+
+/// Opens the files, and serves them.
+fn serve_files<X: Threads + Wait + Clock + Net + Sync + Send + Copy>(
+    threads: &X,
+    rt: &HostRuntime,
+    order: &Serving<'_>,
+) -> Status
+    requires { IsServable order.now }
+{
     let Ok(told) = first_faults(rt.alloc(), order.files.len()) else {
-        return stop(rt, &CommandFailure::Refused(Refusal::NoMemory));
+        return stop_without_memory(rt);
     };
     let devices = match open_files(rt, rt.alloc(), &order.files, &told) {
         Ok(devices) => devices,
         Err(FilesFault::Path { file, fault }) => return fail_at(rt, file, &fault),
         Err(FilesFault::SameFile { first, second }) => return fail_twice(rt, first, second),
-        Err(FilesFault::NoMemory) => return stop(rt, &CommandFailure::Refused(Refusal::NoMemory)),
+        Err(FilesFault::NoMemory) => return stop_without_memory(rt),
     };
     let served = serve(
         threads,
@@ -201,7 +290,7 @@ fn run_server<'a, X: Threads + Wait + Clock + Net + Sync + Send + Copy>(
     );
     match served {
         Ok(ended) => ended.status,
-        Err(ServerFault::NoMemory) => stop(rt, &CommandFailure::Refused(Refusal::NoMemory)),
+        Err(ServerFault::NoMemory) => stop_without_memory(rt),
         Err(fault) => {
             let _ = complain(rt.alloc(), &mut rt.stderr(), &fault);
             Status::Failed
@@ -216,7 +305,14 @@ fn run_call(rt: &HostRuntime, order: &Calling<'_>) -> Status
     if !are_streams_open(rt) || !is_address(rt, order.address) {
         return Status::Failed;
     }
-    call(rt, rt.alloc(), order, &mut rt.stdout(), &mut rt.stderr())
+    call(
+        rt,
+        rt.alloc(),
+        order,
+        &mut rt.stdin(),
+        &mut rt.stdout(),
+        &mut rt.stderr(),
+    )
 }
 
 /// The standard streams are open. Says which one isn't.
@@ -256,26 +352,6 @@ fn is_address(rt: &HostRuntime, address: &str) -> bool {
     }
 }
 
-/// Says why the file at this path could not be taken.
-fn fail_at(rt: &HostRuntime, file: &str, fault: &FileFault) -> Status {
-    let _ = complain(
-        rt.alloc(),
-        &mut rt.stderr(),
-        &format_args!("{file}: {fault}"),
-    );
-    Status::Failed
-}
-
-/// Says that two paths of one command name one file.
-fn fail_twice(rt: &HostRuntime, first: &str, second: &str) -> Status {
-    let _ = complain(
-        rt.alloc(),
-        &mut rt.stderr(),
-        &format_args!("{second}: it is the same file as {first}: each file is named once"),
-    );
-    Status::Failed
-}
-
 /// Runs the script on standard input, which need not end: `waiting` is the runtime as what may
 /// wait. Its output is buffered, since each line of it is one write, and flushed before each read.
 fn play_script<X: Wait>(waiting: &X, rt: &HostRuntime) -> Status {
@@ -284,11 +360,6 @@ fn play_script<X: Wait>(waiting: &X, rt: &HostRuntime) -> Status {
             let (mut reader, mut errors) = (rt.stdin(), rt.stderr());
             play(waiting, rt.alloc(), &mut reader, &mut writer, &mut errors).status
         }
-        Err(_) => stop(rt, &CommandFailure::Refused(Refusal::NoMemory)),
+        Err(_) => stop_without_memory(rt),
     }
-}
-
-/// Says why the program stops.
-fn stop(rt: &HostRuntime, failure: &CommandFailure) -> Status {
-    failure.report(rt.alloc(), &mut rt.stderr()).status
 }

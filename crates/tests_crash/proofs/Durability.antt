@@ -1,11 +1,11 @@
 -- A life goes on behind a life, and loses nothing that was stored.
-use Rattle.std.proofs.Common.{◌≡◌, ℕ, List, [], ◌∷◌, ◌++◌, length, Option, Some, slice_get, ap, sym, subst, ◌∙◌}
+use Rattle.std.proofs.Common.{◌≡◌, List, [], ◌∷◌, ◌++◌, length, Option, Some, refl, sym, subst}
 use Rattle.std.specs.Option.{option_to_list}
-use Rattle.snap_slot.specs.Layout.{IsFileOf}
-use Rattle.snap_history.proofs.Lists.{get-append_last}
+use Rattle.snap_memory.proofs.Popped.{last_has}
 use Rattle.snap_writer.specs.Writer.{WriterState}
-use Rattle.snap_writer.specs.Life.{Lived, HasLived}
+use Rattle.snap_writer.specs.Life.{Lived, HasLived, IsWriterOf}
 use Rattle.snap_cut.specs.Durability.{Keeps, StaysLaw}
+use Rattle.snap_cut.proofs.Placed.{same_file}
 use Rattle.snap_cut.proofs.Durability.{lived_is}
 use Rattle.snap_restart.specs.Crash.{AreOpened}
 use Rattle.tests_crash.specs.Durability.{IsAWriter, LosesNothing}
@@ -31,8 +31,7 @@ module _ {D : Type 0} (disk : Disk.Ghosts D) where
       let k : Keeps is.1 is.2 a (first.0 ++ second.0) b = stays.any_time.each b left in (
         k.number,
         k.value,
-        subst (λ (y : ℕ × ℕ). IsFileOf y.0 y.1 k.number k.value b)
-            (λ t. (sym is.3.index_is t, sym is.3.count_is t)) k.file,
+        same_file (sym is.3.index_is) (sym is.3.count_is) refl refl k.file,
         k.no_less,
         k.same_value,
       )
@@ -45,14 +44,7 @@ module _ {D : Type 0} (disk : Disk.Ghosts D) where
       → HasLived disk w z
       → IsAWriter disk z
   is_a_writer devices writers mid popped w z opened all some lived =
-      let are : writers ≡ mid ++ w ∷ [] =
-      all ∙ ap (λ (o : Option (WriterState D)). mid ++ option_to_list o) some in
-      let at : slice_get writers (length mid) ≡ Some w =
-      ap (λ (l : List (WriterState D)). slice_get l (length mid)) are
-      ∙ get-append_last mid w in (
-        opened.plan,
-        length writers,
-        length mid,
-        lived_is disk opened.plan (length writers) (length mid) w z
-            lived.0 (opened.writers_are (length mid) w at) lived.1,
-      )
+      let n = length writers in
+      let is = last_has (λ i x. IsWriterOf disk opened.plan n i x) writers mid popped w all some
+      opened.writers_are in
+      (opened.plan, n, length mid, lived_is disk opened.plan n (length mid) w z lived.0 is lived.1)

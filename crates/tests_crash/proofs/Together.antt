@@ -1,15 +1,12 @@
 -- The premises of the law of a cut, where two writers are at work.
-use Rattle.std.proofs.Common.{◌≡◌, ◌⊎◌, ℕ, zero, suc, ◌+◌, ◌≤◌, inl, inr, List, [], ◌∷◌, ◌++◌, length, Option, Some, slice_get, refl}
-use Rattle.std.proofs.Common.{ap, sym, subst, ◌∙◌, arith, length-append}
+use Rattle.std.proofs.Common.{◌≡◌, ◌⊎◌, ℕ, zero, suc, ◌+◌, ◌≤◌, inl, inr, List, [], ◌∷◌, ◌++◌, length, Option, Some, slice_get, refl, ap, sym, subst, ◌∙◌, arith, length-append}
 use Rattle.std.specs.Option.{option_to_list}
 use Rattle.std.proofs.lemmas.Bool.{cases_lt}
-use Rattle.std.proofs.lemmas.Option.{same_Some, slice_get_within}
+use Rattle.std.proofs.lemmas.Option.{same_Some}
 use Rattle.snap_history.specs.History.{Update, IsBeginning, number_after}
 use Rattle.snap_history.specs.Limits.{IsNumber, IsShort}
 use Rattle.snap_history.specs.declared.limits.TheConstants.{LAST_NUMBER}
 use Rattle.snap_history.proofs.Beginnings.{beginning-self}
-use Rattle.snap_history.proofs.Pairs.{element}
-use Rattle.snap_memory.proofs.Collects.{grows_self}
 use Rattle.snap_scan.specs.Looks.{most_looks}
 use Rattle.snap_register.specs.declared.plan.Plan.{Plan}
 use Rattle.snap_register.specs.History.{starts}
@@ -20,18 +17,15 @@ use Rattle.snap_writer.specs.Writer.{WriterState, number_of}
 use Rattle.snap_writer.specs.Judge.{IsJudged}
 use Rattle.snap_writer.specs.declared.judgement.Judgement.TheVariants.{Go}
 use Rattle.snap_writer.specs.Life.{Place, in_store, resting, seen_at, Sees, Shows, StoresFirst, IsWriterOf}
-use Rattle.snap_cut.specs.Crash.{all_seen}
 use Rattle.snap_cut.specs.Laws.{IsLivedIn}
-use Rattle.snap_cut.proofs.Crash.{cut_recovers}
-use Rattle.snap_restart.proofs.Removals.{get_map}
+use Rattle.snap_cut.proofs.Crash.{each_seen, cut_recovers}
+use Rattle.snap_restart.proofs.Crash.{opened_on}
 use Rattle.tests_crash.specs.Opened.{AreNew}
 use Rattle.tests_crash.specs.Together.{stored_unshown, AreTwo, IsRecoveredAt}
+use Rattle.tests_crash.proofs.Premises.{sees_itself}
 use Rattle.snap_disk.specs.declared.disk.Disk as Disk
 
 module _ {D : Type 0} (disk : Disk.Ghosts D) where
-  sees_itself : (w : WriterState D) → Sees disk w w
-  sees_itself w = record { segment_is = refl; grows = grows_self w.seat }
-
   -- what is shown, or seen more, leaves the segment as it was
   same_segment : (b z : WriterState D) → (Shows disk b z)
       ⊎ (Sees disk b z) → z.segment ≡ b.segment
@@ -58,7 +52,7 @@ module _ {D : Type 0} (disk : Disk.Ghosts D) where
           inr (inl (
             a,
             v,
-            sees_itself a,
+            sees_itself disk a,
             subst (λ (k : Known). IsBeginning a.seat.seen k.seen) (sym first.1.seat_is)
                 (beginning-self a.seat.seen),
             first.1,
@@ -81,7 +75,7 @@ module _ {D : Type 0} (disk : Disk.Ghosts D) where
           (inr (inl (v, first.1)), refl),
           inr (inr (
             b,
-            sees_itself b,
+            sees_itself disk b,
             beginning-self b.seat.seen,
             λ t. resting (record { segment = segment t; seat = sym seat t }),
           )),
@@ -92,31 +86,24 @@ module _ {D : Type 0} (disk : Disk.Ghosts D) where
       (first : IsLivedIn disk plan 2 [] 0 p)
       (second : IsLivedIn disk plan 2 [] 1 q)
       (p_fresh : seen_at p ≡ []) (q_fresh : seen_at q ≡ []) where
-    lived : (i : ℕ) (r : Place D) → slice_get (p ∷ q ∷ []) i ≡ Some r
-        → IsLivedIn disk plan 2 [] i r
-    lived zero r e = subst (IsLivedIn disk plan 2 [] 0)
-        (same_Some p r e) first
-    lived (suc zero) r e = subst (IsLivedIn disk plan 2 [] 1)
-        (same_Some q r e) second
-    lived (suc (suc i)) r e = absurd (cc e)
-
-    fresh_seen : (j : ℕ) (seen : List Update)
-        → slice_get (all_seen (p ∷ q ∷ []) []) j ≡ Some seen → seen ≡ []
-    fresh_seen zero seen e = sym (same_Some (seen_at p) seen e) ∙ p_fresh
-    fresh_seen (suc zero) seen e = sym (same_Some (seen_at q) seen e) ∙ q_fresh
-    fresh_seen (suc (suc j)) seen e = absurd (cc e)
+    of_both : (P : ℕ → Place D → Type 0) → P 0 p → P 1 q → (i : ℕ) (r : Place D)
+        → slice_get (p ∷ q ∷ []) i ≡ Some r → P i r
+    of_both P one other zero r e = subst (P 0) (same_Some p r e) one
+    of_both P one other (suc zero) r e = subst (P 1) (same_Some q r e) other
+    of_both P one other (suc (suc i)) r e = absurd (cc e)
 
     fresh_at : (i : ℕ) (r : Place D) → slice_get (p ∷ q ∷ []) i ≡ Some r → seen_at r ≡ []
-    fresh_at zero r e = ap (λ (x : Place D). seen_at x) (sym (same_Some p r e)) ∙ p_fresh
-    fresh_at (suc zero) r e = ap (λ (x : Place D). seen_at x) (sym (same_Some q r e)) ∙ q_fresh
-    fresh_at (suc (suc i)) r e = absurd (cc e)
+    fresh_at = of_both (λ _ r. seen_at r ≡ []) p_fresh q_fresh
 
     recovered_at : IsRecoveredAt disk plan (p ∷ q ∷ [])
     recovered_at files left =
         cut_recovers disk plan [] (p ∷ q ∷ []) [] files
-        (omega arith) lived (λ k seen e. absurd (cc e))
+        (omega arith) (of_both (λ i r. IsLivedIn disk plan 2 [] i r) first second)
+        (λ k seen e. absurd (cc e))
         (λ j seen e i r at. (
-        let one = ap (λ (h : List Update). number_after (starts plan) h i) (fresh_seen j seen e) in
+        let fresh = each_seen (λ (h : List Update). h ≡ []) (p ∷ q ∷ []) [] fresh_at
+        (λ k x there. absurd (cc there)) j seen e in
+        let one = ap (λ (h : List Update). number_after (starts plan) h i) fresh in
         let two = ap (λ (h : List Update). number_after (starts plan) h i) (fresh_at i r at) in
         omega (arith, one, two)))
         left
@@ -126,31 +113,31 @@ module _ {D : Type 0} (disk : Disk.Ghosts D) where
       (two : AreTwo disk first second)
       (one : StoresFirst disk v first first_new)
       (other : StoresFirst disk w second second_new) where
-    inside_first : IsLivedIn disk first.seat.plan 2 [] 0
-        (in_store first v first_new.segment.device)
-    inside_first = lived_inside first.seat.plan 0 v first first_new two.first_is two.first_fresh one
+    abbrev plan : Plan
+    plan = first.seat.plan
 
-    between_second : IsLivedIn disk first.seat.plan 2 [] 1
-        (stored_unshown second second_new)
-    between_second =
-        lived_between first.seat.plan 1 w second second_new two.second_is two.second_fresh other
+    first_inside : IsLivedIn disk plan 2 [] 0 (in_store first v first_new.segment.device)
+    first_inside = lived_inside plan 0 v first first_new two.first_is two.first_fresh one
 
-    pub both_inside : IsRecoveredAt disk first.seat.plan
-        (in_store first v first_new.segment.device ∷ in_store second w second_new.segment.device ∷ [])
-    both_inside = recovered_at first.seat.plan _ _ inside_first
-        (lived_inside first.seat.plan 1 w second second_new two.second_is two.second_fresh other)
-        two.first_fresh two.second_fresh
+    second_between : IsLivedIn disk plan 2 [] 1 (stored_unshown second second_new)
+    second_between = lived_between plan 1 w second second_new two.second_is two.second_fresh other
 
-    pub one_beside : IsRecoveredAt disk first.seat.plan
-        (in_store first v first_new.segment.device ∷ stored_unshown second second_new ∷ [])
-    one_beside =
-        recovered_at first.seat.plan _ _ inside_first between_second two.first_fresh two.second_fresh
-
-    pub both_between : IsRecoveredAt disk first.seat.plan
-        (stored_unshown first first_new ∷ stored_unshown second second_new ∷ [])
-    both_between = recovered_at first.seat.plan _ _
-        (lived_between first.seat.plan 0 v first first_new two.first_is two.first_fresh one)
-        between_second two.first_fresh two.second_fresh
+    -- both inside their stores, one of them so, and both between their stores and their shows
+    pub at_work : IsRecoveredAt disk plan (in_store first v first_new.segment.device
+        ∷ in_store second w second_new.segment.device ∷ [])
+        × IsRecoveredAt disk plan (in_store first v first_new.segment.device
+        ∷ stored_unshown second second_new ∷ [])
+        × IsRecoveredAt disk plan (stored_unshown first first_new
+        ∷ stored_unshown second second_new ∷ [])
+    at_work = (
+      recovered_at plan _ _ first_inside
+          (lived_inside plan 1 w second second_new two.second_is two.second_fresh other)
+          two.first_fresh two.second_fresh,
+      recovered_at plan _ _ first_inside second_between two.first_fresh two.second_fresh,
+      recovered_at plan _ _
+          (lived_between plan 0 v first first_new two.first_is two.first_fresh one)
+          second_between two.first_fresh two.second_fresh,
+    )
 
 -- ---- they are met by what an opening ensures
 
@@ -212,11 +199,7 @@ module _ {D : Type 0} (disk : Disk.Ghosts D) (devices : List D)
   goes_at : (i : ℕ) (w : WriterState D) (k : ℕ) (v : List ℕ) → slice_get writers i ≡ Some w
       → IsShort v → k ≡ number_of w + 1 → IsNumber k → IsJudged w k v Go
   goes_at i w k v at short next number =
-      let segment_of : WriterState D → SegmentState D = λ u. u.segment in
-      let low = slice_get_within writers i w at in
-      let each = new.opened.one_each in
-      let d = element devices i (omega (arith, low, each)) in
-      let is = new.were.each i d.0 w.segment d.1 (get_map segment_of writers i w at) in
+      let is = (opened_on disk devices writers new.were i w at).2 in
       let left = (new.fresh i w at).1 in
       let count : segments w.seat.plan ≡ 2 =
       ap (λ (p : Plan). segments p) (new.opened.writers_are i w at).plan_is

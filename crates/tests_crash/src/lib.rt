@@ -51,7 +51,7 @@ pub fn open_and_give_back<D: Disk + Drop>(alloc: Global, devices: Vec<D>) -> Vec
     }
 }
 
-/// Closes a store, whatever its writers did, and opens its files again. The writers of the second
+/// Closes a [`Store`], whatever its writers did, and opens its files again. The writers of the second
 /// opening go on where those of the first one stopped.
 pub fn reopen<D: Disk + Drop>(alloc: Global, store: Store<D>) -> Result<Store<D>, Stopped<D>>
     requires back { AreBack store.writers.items store.scanners.items }

@@ -1,4 +1,4 @@
-//! What a desk answers while its stores work, fail or are held, and which writers come back.
+//! What a desk answers while its storers work, fail or are held, and which writers come back.
 mod course;
 mod seats;
 
@@ -140,7 +140,7 @@ fn writer_goes_home_from_a_worker_that_left(rt: HostRuntime) -> Result<(), Fail>
     Ok(())
 }
 
-/// What the windows of stores that are gone are asked, and what a look answers.
+/// What the windows of storers that are gone are asked, and what a look answers.
 const ALONE: [Pair<'static>; 3] = [(HI, FENCED), (REPEAT, STORED_0), (SCAN, EMPTY)];
 
 #[test]

@@ -1,13 +1,16 @@
 //! What a call prints and says, and how it ends, for each reply and each fault.
 ghost use Rattle.std.specs.Prelude.{◌≤◌, length};
 ghost use Rattle.snap_frame.specs.Messages.{IsAskable, max_payload, payload};
-ghost use Rattle.snap_order.specs.Order.{request_of};
+ghost use Rattle.snap_order.specs.Order.{IsWithin, request_of};
+
+mod layouts;
+mod puts;
 
 use bytes::Bytes;
 use snap_call::ask;
 use snap_client::MAX_TRIES;
 use snap_frame::Request;
-use snap_order::{Calling, Question, SegmentSet, Status};
+use snap_order::{Calling, Layout, Putting, Question, SegmentSet, Source, Status};
 use snap_stream::TestStream;
 use std::alloc::{AllocError, Global};
 use std::process::Abort;
@@ -73,11 +76,18 @@ enum Asked {
     Part,
     Status,
     Health,
+    /// Segment 3 alone.
+    Get,
+    /// Standard input, for this segment.
+    Put(u8),
+    /// `hi` for segment 0, behind number 6.
+    PutBehind,
 }
 
 fn question_of(asked: Asked) -> Question
     ensures fits { length (payload (request_of result)) ≤ max_payload }
     ensures askable { IsAskable (request_of result) }
+    ensures within { IsWithin result }
 {
     match asked {
         Asked::Update => Question::Request(Request::Update {
@@ -89,14 +99,28 @@ fn question_of(asked: Asked) -> Question
         Asked::Part => Question::Request(Request::Part(SegmentSet { bits: 0x1008 })),
         Asked::Status => Question::Request(Request::Status),
         Asked::Health => Question::Health,
+        Asked::Get => Question::Get { segment: 3 },
+        Asked::Put(segment) => Question::Put(Putting {
+            segment,
+            value: Source::Input,
+            after: None,
+        }),
+        Asked::PutBehind => Question::Put(Putting {
+            segment: 0,
+            value: Source::Words(Bytes::from_static(b"hi")),
+            after: Some(6),
+        }),
     }
 }
 
-/// A call: the connections that there are for it, its tries, and the room on standard output. How it
-/// has to end, what it prints and says, and how many connections aren't asked for.
+/// A call: how its answer is printed where it lists segments, what standard input has and how much of it passes, the connections that there are for it, its
+/// tries, and the room on standard output. How it has to end, what it prints and says, and how many
+/// connections aren't asked for.
 #[derive(Clone, Copy)]
 struct Case<'a> {
     asked: Asked,
+    layout: Layout,
+    input: (&'a [u8], usize),
     links: &'a [Link<'a>],
     tries: u8,
     room: usize,
@@ -109,6 +133,8 @@ struct Case<'a> {
 /// An update that is stored at the first connection.
 const UPDATE: Case<'static> = Case {
     asked: Asked::Update,
+    layout: Layout::Lines,
+    input: (b"", 0),
     links: &[Some((STORED, WHOLE))],
     tries: 1,
     room: WHOLE,
@@ -143,14 +169,30 @@ fn ends(alloc: Global, case: &Case<'_>) -> Result<bool, AllocError> {
         Some(link) => link,
         None => None,
     };
+    let question = question_of(case.asked);
+    let layout = if question.lists_segments() {
+        case.layout
+    } else {
+        Layout::Lines
+    };
     let order = Calling {
         address: "host:7",
-        question: question_of(case.asked),
+        question,
         tries: case.tries.clamp(1, MAX_TRIES),
+        timeout: None,
+        layout,
     };
+    let mut input = stream(alloc, case.input.0, case.input.1)?;
     let mut out = stream(alloc, b"", case.room)?;
     let mut errors = stream(alloc, b"", WHOLE)?;
-    let ended = ask(alloc, &order, &mut connect, &mut out, &mut errors);
+    let ended = ask(
+        alloc,
+        &order,
+        &mut connect,
+        &mut input,
+        &mut out,
+        &mut errors,
+    );
     Ok(
         ended.status == case.status
             && ended.is_told
@@ -169,21 +211,25 @@ fn all_end(rt: &(impl Abort + AllocGlobal), cases: &[Case<'_>]) -> Result<(), Al
     Ok(())
 }
 
+/// A scan that is answered.
+const SCANNED: Case<'static> = Case {
+    asked: Asked::Scan,
+    links: &[Some((SNAPSHOT, WHOLE))],
+    printed: "segment 0 number 1 value 6869\nsegment 1 number 0 value -\n",
+    ..UPDATE
+};
+
+/// A status that is answered.
+const STATED: Case<'static> = Case {
+    asked: Asked::Status,
+    links: &[Some((STATUS, WHOLE))],
+    printed: "segment 0 number 1 fenced 0\nsegment 1 number 12 fenced 1\n",
+    ..UPDATE
+};
+
 #[test]
 fn replies_are_printed(rt: HostRuntime) -> Result<(), Fail> {
-    let scan = Case {
-        asked: Asked::Scan,
-        links: &[Some((SNAPSHOT, WHOLE))],
-        printed: "segment 0 number 1 value 6869\nsegment 1 number 0 value -\n",
-        ..UPDATE
-    };
-    let status = Case {
-        asked: Asked::Status,
-        links: &[Some((STATUS, WHOLE))],
-        printed: "segment 0 number 1 fenced 0\nsegment 1 number 12 fenced 1\n",
-        ..UPDATE
-    };
-    Ok(all_end(&rt, &[UPDATE, scan, status])?)
+    Ok(all_end(&rt, &[UPDATE, SCANNED, STATED])?)
 }
 
 /// A fence is told by its line and by the status.
@@ -342,38 +388,41 @@ fn third_try_succeeds(rt: HostRuntime) -> Result<(), Fail> {
     Ok(all_end(&rt, &[third, patient, second])?)
 }
 
-/// Connections that give no answer, and what is said: why, and what to do.
-const UNANSWERED: [(Link<'static>, &str); 4] = [
-    (
-        None,
-        "snapd: host:7: no connection to the server could be made: start snapd serve \
+/// No connection is made: what is said is why, and what to do.
+const UNCONNECTED: Case<'static> = Case {
+    links: &[None],
+    status: Status::Failed,
+    printed: "",
+    said: "snapd: host:7: no connection to the server could be made: start snapd serve \
 there, or try again with --tries\n",
-    ),
-    (
-        Some((STORED, 15)),
-        "snapd: host:7: the request couldn't be sent whole: send it again, since an \
+    ..UPDATE
+};
+
+/// The connection takes a part of the request.
+const UNSENT: Case<'static> = Case {
+    links: &[Some((STORED, 15))],
+    said: "snapd: host:7: the request couldn't be sent whole: send it again, since an \
 update is stored once\n",
-    ),
-    (
-        Some((&[0, 0, 0, 9, 0x81, 0, 0, 0, 0, 0, 0, 0], WHOLE)),
-        ENDED,
-    ),
-    (Some((STATUS, WHOLE)), NO_ANSWER),
-];
+    ..UNCONNECTED
+};
+
+/// It gives a part of the reply.
+const UNHEARD: Case<'static> = Case {
+    links: &[Some((&[0, 0, 0, 9, 0x81, 0, 0, 0, 0, 0, 0, 0], WHOLE))],
+    said: ENDED,
+    ..UNCONNECTED
+};
+
+/// It gives the reply to another request.
+const UNANSWERED: Case<'static> = Case {
+    links: &[Some((STATUS, WHOLE))],
+    said: NO_ANSWER,
+    ..UNCONNECTED
+};
 
 #[test]
 fn faults_name_the_address(rt: HostRuntime) -> Result<(), Fail> {
-    for (link, said) in UNANSWERED {
-        let fault = Case {
-            links: &[link],
-            status: Status::Failed,
-            printed: "",
-            said,
-            ..UPDATE
-        };
-        all_end(&rt, &[fault])?;
-    }
-    Ok(())
+    Ok(all_end(&rt, &[UNCONNECTED, UNSENT, UNHEARD, UNANSWERED])?)
 }
 
 /// A reply that can't be printed whole has failed, also that of an update that was stored.

@@ -51,231 +51,130 @@ pub(crate) fn stops(
     says(rt, &written, output.as_bytes(), input);
 }
 
-pub(crate) const BORROWED_VIEW: &str = "world 2 1
-begin 0 61
-look w0
-look w0
-look w0
-look w0
-call 0
-call 0
-call 0
-call 0
-scan 0
-look s0
-show 0
-ack 0
-look s0
-look s0
-begin 0 62
-look w0
-look w0
-look w0
-look w0
-call 0
-call 0
-call 0
-call 0
-call 0
-show 0
-look s0
-look s0
-answer 0
-";
+/// The text of a script, and what it writes. Each row has a line and, behind `>`, what the line
+/// writes each time that it stands there; a line alone writes itself.
+pub(crate) fn texts(alloc: Global, rows: &str) -> Result<(String, String), AllocError> {
+    let (mut input, mut output) = (String::new(alloc), String::new(alloc));
+    for row in rows.lines() {
+        let (line, answers) = row.split_once('>').unwrap_or((row, row));
+        for answer in answers.split(',') {
+            input.push_str(line.trim())?;
+            input.push('\n')?;
+            output.push_str(answer.trim())?;
+            output.push('\n')?;
+        }
+    }
+    Ok((input, output))
+}
 
-pub(crate) const BORROWED_VIEW_OUTPUT: &str = "world 2 1
-begun
-number 0
-number 0
-number 0
-number 0
-called body
-called sync
-called open
-called sync
-scanning
-number 0
-shown
-stored 1
-number 0
-number 1
-begun
-number 1
-number 0
-number 1
-number 0
-called close
-called body
-called sync
-called open
-called sync
-shown
-number 0
-number 2
-memory 61 -
+/// The script of these rows writes what they say.
+pub(crate) fn does_rows(
+    rt: &(impl Wait + Abort),
+    alloc: Global,
+    rows: &str,
+) -> Result<(), AllocError> {
+    let (input, output) = texts(alloc, rows)?;
+    does(rt, alloc, &input, &output);
+    Ok(())
+}
+
+pub(crate) const BORROWED_VIEW: &str = "world 2 1
+begin 0 61 > begun
+look w0 > number 0, number 0, number 0, number 0
+call 0 > called body, called sync, called open, called sync
+scan 0 > scanning
+look s0 > number 0
+show 0 > shown
+ack 0 > stored 1
+look s0 > number 0, number 1
+begin 0 62 > begun
+look w0 > number 1, number 0, number 1, number 0
+call 0 > called close, called body, called sync, called open, called sync
+show 0 > shown
+look s0 > number 0, number 2
+answer 0 > memory 61 -
 ";
 
 /// A crash in a store, and one after a fault, with a fault inside the second restart.
 pub(crate) const WORKED: &str = "world 1 1
-begin 0 6869
-show 0
-look w0
-look w0
-call 0
-call 0
-call 0
-scan 0
-look s0
-look s0
-answer 0
-crash a5
-restart
-recall
-recall
-serve
-ack 0
-begin 0 796f
-look w0
-look w0
-call 0
-fail 0 00
-begin 0 796f
-crash keep
-restart
-refail a5
-serve
-restart
-recall
-recall
-serve
-";
-
-pub(crate) const WORKED_OUTPUT: &str = "world 1 1
-begun
-not now
-number 0
-number 0
-called body
-called sync
-called open
-scanning
-number 0
-number 0
-memory -
-crashed
-restarting
-called sync
-called read
-memory 6869
-not now
-begun
-number 1
-number 1
-called close
-device failed
-not now
-crashed
-restarting
-device failed
-not now
-restarting
-called sync
-called read
-memory 6869
+begin 0 6869 > begun
+show 0 > not now
+look w0 > number 0, number 0
+call 0 > called body, called sync, called open
+scan 0 > scanning
+look s0 > number 0, number 0
+answer 0 > memory -
+crash a5 > crashed
+restart > restarting
+recall > called sync, called read
+serve > memory 6869
+ack 0 > not now
+begin 0 796f > begun
+look w0 > number 1, number 1
+call 0 > called close
+fail 0 00 > device failed
+begin 0 796f > not now
+crash keep > crashed
+restart > restarting
+refail a5 > device failed
+serve > not now
+restart > restarting
+recall > called sync, called read
+serve > memory 6869
 ";
 
 const UPDATE_INSIDE_SCAN: &str = "world 1 1
-begin 0 6869
-look w0
-look w0
-call 0
-call 0
-call 0
-call 0
-scan 0
-look s0
-show 0
-look s0
-ack 0
-look s0
-answer 0
-";
-
-const UPDATE_INSIDE_SCAN_OUTPUT: &str = "world 1 1
-begun
-number 0
-number 0
-called body
-called sync
-called open
-called sync
-scanning
-number 0
-shown
-number 1
-stored 1
-number 1
-memory 6869
+begin 0 6869 > begun
+look w0 > number 0, number 0
+call 0 > called body, called sync, called open, called sync
+scan 0 > scanning
+look s0 > number 0
+show 0 > shown
+look s0 > number 1
+ack 0 > stored 1
+look s0 > number 1
+answer 0 > memory 6869
 ";
 
 /// Where the crash closes the gate that was written open, the restart finds the old value.
 const CLOSED_BY_A_CRASH: &str = "world 1 1
-begin 0 61
-look w0
-look w0
-call 0
-call 0
-call 0
-crash 00
-restart
-recall
-recall
-serve
-";
-
-const CLOSED_BY_A_CRASH_OUTPUT: &str = "world 1 1
-begun
-number 0
-number 0
-called body
-called sync
-called open
-crashed
-restarting
-called sync
-called read
-memory -
+begin 0 61 > begun
+look w0 > number 0, number 0
+call 0 > called body, called sync, called open
+crash 00 > crashed
+restart > restarting
+recall > called sync, called read
+serve > memory -
 ";
 
 #[test]
-fn worked_script(rt: HostRuntime) {
-    does(&rt, rt.alloc(), WORKED, WORKED_OUTPUT);
-    does(&rt, rt.alloc(), CLOSED_BY_A_CRASH, CLOSED_BY_A_CRASH_OUTPUT);
+fn worked_script(rt: HostRuntime) -> Result<(), AllocError> {
+    does_rows(&rt, rt.alloc(), WORKED)?;
+    does_rows(&rt, rt.alloc(), CLOSED_BY_A_CRASH)
 }
 
 #[test]
-fn borrowed_view_script(rt: HostRuntime) {
-    does(&rt, rt.alloc(), BORROWED_VIEW, BORROWED_VIEW_OUTPUT);
+fn borrowed_view_script(rt: HostRuntime) -> Result<(), AllocError> {
+    does_rows(&rt, rt.alloc(), BORROWED_VIEW)
 }
 
 /// The program's help shows this script: an update is shown between the scan's first two looks, so
 /// they differ, and the scan looks once more.
 #[test]
-fn an_update_inside_a_scan_costs_one_more_look(rt: HostRuntime) {
-    does(
-        &rt,
-        rt.alloc(),
-        UPDATE_INSIDE_SCAN,
-        UPDATE_INSIDE_SCAN_OUTPUT,
-    );
+fn an_update_inside_a_scan_costs_one_more_look(rt: HostRuntime) -> Result<(), AllocError> {
+    does_rows(&rt, rt.alloc(), UPDATE_INSIDE_SCAN)
 }
 
 /// Where `rt try --test --fail-alloc N` refuses an allocation, of the script or of the list written
-/// to, what was written is whole lines of the output, from its beginning.
+/// to, what was written is whole lines of the output, from its beginning. The first allocations are
+/// those of the texts.
 #[test]
 fn each_allocation_failing(rt: HostRuntime) {
-    let (end, written) = run(&rt, rt.alloc(), BORROWED_VIEW.as_bytes());
-    let whole = BORROWED_VIEW_OUTPUT.as_bytes();
+    let Ok((input, output)) = texts(rt.alloc(), BORROWED_VIEW) else {
+        return;
+    };
+    let (end, written) = run(&rt, rt.alloc(), input.as_bytes());
+    let whole = output.as_bytes();
     if is_done(&end) {
         says(&rt, &written, whole, "");
         return;
@@ -289,16 +188,17 @@ fn each_allocation_failing(rt: HostRuntime) {
 /// However many bytes the writer takes, it holds a beginning of the text, and the script says that
 /// it failed.
 #[test]
-fn a_writer_that_fails(rt: HostRuntime) {
-    let whole = BORROWED_VIEW_OUTPUT.as_bytes();
-    for room in [0, 1, 9, 10, 11, 100, whole.len() - 1] {
-        has_room(&rt, rt.alloc(), room);
+fn a_writer_that_fails(rt: HostRuntime) -> Result<(), AllocError> {
+    let (input, output) = texts(rt.alloc(), BORROWED_VIEW)?;
+    let whole = output.as_bytes();
+    for room in [0, 1, 9, 10, 11, 100, whole.len().saturating_sub(1)] {
+        has_room(&rt, rt.alloc(), input.as_bytes(), whole, room);
     }
+    Ok(())
 }
 
-/// The writer takes so many bytes, which are too few.
-fn has_room(rt: &(impl Wait + Abort), alloc: Global, room: usize) {
-    let whole = BORROWED_VIEW_OUTPUT.as_bytes();
+/// The writer of this script, which writes this whole, takes so many bytes, which are too few.
+fn has_room(rt: &(impl Wait + Abort), alloc: Global, mut reader: &[u8], whole: &[u8], room: usize) {
     assert!(rt; room < whole.len());
     let mut writer = TestStream {
         bytes: Vec::new(alloc),
@@ -306,7 +206,6 @@ fn has_room(rt: &(impl Wait + Abort), alloc: Global, room: usize) {
         passes: room,
         step: 4096,
     };
-    let mut reader = BORROWED_VIEW.as_bytes();
     let end = script(rt, alloc, &mut reader, &mut writer);
     assert!(rt; matches!(end, ScriptEnd::WriteFailed(_)), "at {room}");
     says(rt, &writer.bytes, &whole[..room], "");
@@ -331,49 +230,24 @@ pub(crate) fn repeated(alloc: Global, text: &str, times: usize) -> Result<String
     Ok(all)
 }
 
-/// What comes behind the value of an update in segment 1 of 2, and what it writes up to the value.
-const SHOWN_AND_SCANNED: &str = "
-look w1
-look w1
-look w1
-look w1
-call 1
-call 1
-call 1
-call 1
-show 1
-scan 0
-look s0
-look s0
-look s0
-look s0
-answer 0
+/// The rows of an update of segment 1 of 2, begun before, and of a scan behind it.
+const SHOWN_AND_SCANNED: &str = "look w1 > number 0, number 0, number 0, number 0
+call 1 > called body, called sync, called open, called sync
+show 1 > shown
+scan 0 > scanning
+look s0 > number 0, number 1, number 0, number 1
 ";
-
-const SHOWN_AND_SCANNED_OUTPUT: &str = "begun
-number 0
-number 0
-number 0
-number 0
-called body
-called sync
-called open
-called sync
-shown
-scanning
-number 0
-number 1
-number 0
-number 1
-memory - ";
 
 /// Values are printed in order, in lower case, also where they are longer than a piece of digits.
 #[test]
 fn printed_memory(rt: HostRuntime) -> Result<(), AllocError> {
-    let begun = repeated(rt.alloc(), "0A", 65)?;
-    let input = format!(in rt.alloc(); "world 2 1\nbegin 1 {begun}{SHOWN_AND_SCANNED}")?;
-    let printed = repeated(rt.alloc(), "0a", 65)?;
-    let output = format!(in rt.alloc(); "world 2 1\n{SHOWN_AND_SCANNED_OUTPUT}{printed}\n")?;
+    let (begun, printed) = (
+        repeated(rt.alloc(), "0A", 65)?,
+        repeated(rt.alloc(), "0a", 65)?,
+    );
+    let (lines, answers) = texts(rt.alloc(), SHOWN_AND_SCANNED)?;
+    let input = format!(in rt.alloc(); "world 2 1\nbegin 1 {begun}\n{lines}answer 0\n")?;
+    let output = format!(in rt.alloc(); "world 2 1\nbegun\n{answers}memory - {printed}\n")?;
     does(&rt, rt.alloc(), &input, &output);
     Ok(())
 }

@@ -92,17 +92,10 @@ fn met_and_unmet_scanners_see_an_update(rt: HostRuntime) -> Result<(), Fail> {
     let (tcp, address) = listen(&rt)?;
     let files = new_files(rt.alloc())?;
     let plan = Plan::of(3, Some(3));
-    let (rt, tcp) = (&rt, &tcp);
+    let (rt, tcp, gate) = (&rt, &tcp, &NoGate);
     let (seen, read) = thread::join(
         rt,
-        move || host_over(
-            rt,
-            rt.alloc(),
-            files,
-            &Ready::new(tcp, address),
-            plan,
-            &NoGate,
-        ),
+        move || host_over(rt, rt.alloc(), files, &Ready::new(tcp, address), plan, gate),
         move || reads_what_others_stored(rt, address),
     );
     assert!(rt; read?);
@@ -116,17 +109,10 @@ fn scan_passes_a_held_store(rt: HostRuntime) -> Result<(), Fail> {
     let flag = Arc::new(rt.alloc(), AtomicU64::new(0))?;
     let files = held_files(rt.alloc(), &flag)?;
     let plan = Plan::of(2, Some(2));
-    let (rt, tcp, released) = (&rt, &tcp, &*flag);
+    let (rt, tcp, gate, released) = (&rt, &tcp, &NoGate, &*flag);
     let (seen, passed) = thread::join(
         rt,
-        move || host_over(
-            rt,
-            rt.alloc(),
-            files,
-            &Ready::new(tcp, address),
-            plan,
-            &NoGate,
-        ),
+        move || host_over(rt, rt.alloc(), files, &Ready::new(tcp, address), plan, gate),
         move || passes_a_held_store(rt, address, released),
     );
     assert!(rt; passed?);

@@ -1,13 +1,13 @@
 -- Two collects that told the same numbers are clean: so it was when the first one ended.
-use Rattle.std.proofs.Common.{◌≡◌, ℕ, ◌+◌, List, Some, ap, sym, subst, ◌∙◌, arith}
-use mathlib.Core.Logic.{dite}
-use native.Mathlib.Decide.{ℕ_discrete}
+use Rattle.std.proofs.Common.{◌≡◌, ℕ, ◌+◌, inl, inr, List, Some, ap, sym, subst, ◌∙◌, arith}
+use Rattle.std.proofs.lemmas.Bool.{cases_eq}
 use Rattle.snap_history.specs.History.{Update, IsBeginning, number_after}
-use Rattle.snap_history.proofs.Beginnings.{beginning-trans, number-beginning}
+use Rattle.snap_history.proofs.Beginnings.{number-beginning}
 use Rattle.snap_register.specs.declared.plan.Plan.{Plan}
 use Rattle.snap_register.specs.History.{starts}
 use Rattle.snap_register.specs.Rule.{segments}
 use Rattle.snap_register.specs.Seat.{Known, looked, number_in, Grows, Looks, IsCollected}
+use Rattle.snap_memory.proofs.Collects.{grows_more}
 
 between : (p : Plan) (early middle late : List Update) (i k : ℕ) → IsBeginning early middle
     → IsBeginning middle late → number_after (starts p) early i ≡ k
@@ -15,63 +15,61 @@ between : (p : Plan) (early middle late : List Update) (i k : ℕ) → IsBeginni
 between p early middle late i k b c e f = let x = number-beginning (starts p) early middle i b in
     let y = number-beginning (starts p) middle late i c in omega arith
 
-same_plan : (p q : Plan) → p ≡ q → (h : List Update) (i k : ℕ) → k ≡ number_after (starts q) h i
-    → number_after (starts p) h i ≡ k
-same_plan p q e h i k is = ap (λ (z : Plan). number_after (starts z) h i) e ∙ sym is
+-- what a seat's look told, by the plan of the same seat later on
+told_then : (a b : Known) (i k : ℕ) → Grows a b → k ≡ number_in a a.seen i
+    → number_in b a.seen i ≡ k
+told_then a b i k g is = ap (λ (z : Plan). number_after (starts z) a.seen i) g.plan ∙ sym is
 
-module _ (a b c d e f : Known) (k l m : ℕ) (first : Grows a b) (second : Grows b c)
-    (third : Grows c d) (fourth : Grows d e) (fifth : Grows e f) where
+module _ (w a b c d e f : Known) (k l m : ℕ) (begun : Grows w a) (first : Grows a b)
+    (second : Grows b c) (third : Grows c d) (fourth : Grows d e) (fifth : Grows e f) where
+  from_d : Grows d f
+  from_d = grows_more d e f fourth fifth
+
+  from_c : Grows c f
+  from_c = grows_more c d f third from_d
+
+  from_b : Grows b f
+  from_b = grows_more b c f second from_c
+
+  from_a : Grows a f
+  from_a = grows_more a b f first from_b
+
+  all : Grows w f
+  all = grows_more w a f begun from_a
+
   pub twice : k ≡ number_in a a.seen 0 → l ≡ number_in b b.seen 1 → m ≡ number_in c c.seen 2
       → k ≡ number_in d d.seen 0 → l ≡ number_in e e.seen 1
-      → Looks c d 0 k → Looks d e 1 l → Looks e f 2 m → segments f.plan ≡ 3 → f.high ≡ f.low + 1
+      → Looks c d 0 k → Looks d e 1 l → Looks e f 2 m → segments w.plan ≡ 3 → w.high ≡ w.low + 1
       → IsCollected f
   twice k_is l_is m_is k_still l_still looks_k looks_l looks_m three alone =
-      let p : Plan = f.plan in
-      let plan_e : p ≡ e.plan = fifth.plan in
-      let plan_d : p ≡ d.plan = plan_e ∙ fourth.plan in
-      let plan_c : p ≡ c.plan = plan_d ∙ third.plan in
-      let plan_b : p ≡ b.plan = plan_c ∙ second.plan in
-      let plan_a : p ≡ a.plan = plan_b ∙ first.plan in
-      let to_e = beginning-trans c.seen d.seen e.seen third.later fourth.later in
-      let is_k : number_after (starts p) c.seen 0 ≡ k =
-      between p a.seen c.seen d.seen 0 k
-      (beginning-trans a.seen b.seen c.seen first.later second.later) third.later
-      (same_plan p a.plan plan_a a.seen 0 k k_is) (same_plan p d.plan plan_d d.seen 0 k k_still) in
-      let is_l : number_after (starts p) c.seen 1 ≡ l =
-      between p b.seen c.seen e.seen 1 l second.later to_e
-      (same_plan p b.plan plan_b b.seen 1 l l_is)
-      (same_plan p e.plan plan_e e.seen 1 l l_still) in
-      let is_m : number_after (starts p) c.seen 2 ≡ m = same_plan p c.plan plan_c c.seen 2 m m_is in
-      let low_c : f.low ≡ c.low = fifth.low ∙ (fourth.low ∙ third.low) in
-      let low_d : f.low ≡ d.low = fifth.low ∙ fourth.low in
-      let low_e : f.low ≡ e.low = fifth.low in
-      let high_c : f.high ≡ c.high = fifth.high ∙ (fourth.high ∙ third.high) in
-      let high_d : f.high ≡ d.high = fifth.high ∙ fourth.high in
-      let high_e : f.high ≡ e.high = fifth.high in
-      let own_d : number_after (starts p) d.seen f.low ≡ number_after (starts p) c.seen f.low =
-      same_plan p c.plan plan_c d.seen f.low _ (sym (third.own f.low (omega arith) (omega arith)
-      ∙ sym (ap (λ (z : Plan). number_after (starts z) c.seen f.low) plan_c))) in
-      let own_e : number_after (starts p) e.seen f.low ≡ number_after (starts p) d.seen f.low =
-      same_plan p d.plan plan_d e.seen f.low _
-      (sym (fourth.own f.low (omega arith) (omega arith)
-      ∙ sym (ap (λ (z : Plan). number_after (starts z) d.seen f.low) plan_d))) in
-      let own_f : number_after (starts p) f.seen f.low ≡ number_after (starts p) e.seen f.low =
-      same_plan p e.plan plan_e f.seen f.low _ (sym (fifth.own f.low (omega arith) (omega arith)
-      ∙ sym (ap (λ (z : Plan). number_after (starts z) e.seen f.low) plan_e))) in
-      let look_k : looked f 0 ≡ Some k = looks_m.others 0 (λ z. omega arith)
+      let is_k = between f.plan a.seen c.seen d.seen 0 k (grows_more a b c first second).later
+      third.later (told_then a f 0 k from_a k_is) (told_then d f 0 k from_d k_still) in
+      let is_l = between f.plan b.seen c.seen e.seen 1 l second.later
+      (grows_more c d e third fourth).later (told_then b f 1 l from_b l_is)
+      (told_then e f 1 l fifth l_still) in
+      let is_m = told_then c f 2 m from_c m_is in
+      let own = from_c.own f.low (omega (arith, from_c.low))
+      (omega (arith, from_c.high, all.low, all.high)) in
+      let whole : number_in f c.seen f.low ≡ number_in f f.seen f.low =
+      ap (λ (z : Plan). number_after (starts z) c.seen f.low) from_c.plan ∙ sym own
+      ∙ sym (ap (λ (z : Plan). number_after (starts z) f.seen f.low) from_c.plan) in
+      let look_l = looks_m.others 1 (λ z. omega arith) ∙ looks_l.here in
+      let look_k = looks_m.others 0 (λ z. omega arith)
       ∙ (looks_l.others 0 (λ z. omega arith) ∙ looks_k.here) in
-      let look_l : looked f 1 ≡ Some l = looks_m.others 1 (λ z. omega arith) ∙ looks_l.here in
-      let told = λ (i n : ℕ) (look : looked f i ≡ Some n) (is : number_after (starts p) c.seen i
-      ≡ n). look ∙ ap (λ (z : ℕ). Some z) (sym is) in
-      let here = λ (i j : ℕ) (is : i ≡ j) (there : looked f j ≡ Some (number_in f c.seen j)).
-      subst (λ (z : ℕ). looked f z ≡ Some (number_in f c.seen z)) (sym is) there in
+      let here = λ (i j n : ℕ) (at : i ≡ j) (look : looked f j ≡ Some n)
+      (is : number_in f c.seen j ≡ n).
+      subst (λ (z : ℕ). looked f z ≡ Some (number_in f c.seen z)) (sym at)
+      (look ∙ ap (λ (z : ℕ). Some z) (sym is)) in
+      let size = ap segments all.plan ∙ three in
       record {
         part = c.seen;
-        beginning = beginning-trans c.seen e.seen f.seen to_e fifth.later;
-        whole = sym (own_f ∙ (own_e ∙ own_d));
-        each = λ i li. dite (ℕ_discrete i 0)
-            (λ zero. here i 0 zero (told 0 k look_k is_k))
-            (λ some. dite (ℕ_discrete i 1)
-            (λ one. here i 1 one (told 1 l look_l is_l))
-            (λ more. here i 2 (omega (arith, three, li, some, more)) (told 2 m looks_m.here is_m)));
+        beginning = from_c.later;
+        whole = whole;
+        each = λ i li. elim (cases_eq i 0) [
+          | inl zero ↦ here i 0 k zero look_k is_k
+          | inr some ↦ elim (cases_eq i 1) [
+            | inl one ↦ here i 1 l one look_l is_l
+            | inr more ↦ here i 2 m (omega arith) looks_m.here is_m
+          ]
+        ];
       }

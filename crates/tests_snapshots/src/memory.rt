@@ -1,15 +1,12 @@
 //! Scans and updates by hand, and in threads.
-ghost use Rattle.std.specs.Prelude.{◌≡◌, ℕ, ◌^◌, ◌<◌, ◌≤◌, length, IfOk};
-ghost use Rattle.snap_register.specs.Registers.{RegistersId};
-ghost use Rattle.snap_register.specs.declared.plan.Plan.{Plan};
-ghost use Rattle.snap_register.specs.Parts.{AreWriters, AreReaders};
+ghost use Rattle.std.specs.Prelude.{◌≡◌, ℕ, ◌^◌, ◌<◌, ◌≤◌, IfOk};
 ghost use Rattle.snap_register.specs.Seat.{AreTogether};
 
-use crate::seats::{last_seat, last_writer};
+use crate::seats::{last_seat, last_writer, open};
 use snap_disk::Refusal;
 use snap_history::MAX_VALUE_LEN;
 use snap_memory::{Scanner, Snapshot, prepare, show};
-use snap_register::{Looker, Parts, Registers, WriteSeat};
+use snap_register::{Looker, Parts, WriteSeat};
 use snap_scan::most_looks;
 use std::alloc::{AllocError, Global};
 use std::process::Abort;
@@ -18,23 +15,6 @@ use std::test::Fail;
 mod some;
 mod staged;
 mod threads;
-
-/// Registers of so many segments, each at number 0 with the empty value.
-fn open(alloc: Global, segments: usize, scanners: usize, looks: u64) -> Result<Parts, AllocError>
-    requires segments { (0 < segments) × (segments ≤ 16) }
-    requires scanners { scanners ≤ 16 }
-    requires looks { looks ≤ 2 ^ 50 }
-    ensures writers { IfOk result (λ r. length r.writers.items ≡ segments) }
-    ensures scanners { IfOk result (λ r. length r.scanners.items ≡ scanners) }
-    ensures seats { IfOk result (λ r. (z : RegistersId) × (p : Plan)
-        × AreWriters z p r.writers.items × AreReaders z p r.scanners.items) }
-{
-    let mut values = Vec::new(alloc);
-    for _ in 0..segments {
-        values.push((0, Vec::new(alloc)))?;
-    }
-    Registers::open(alloc, &values, scanners, looks)
-}
 
 /// An update, its scan and its publication, where the seat has the looks for it.
 fn update(writer: &mut WriteSeat, value: &[u8]) -> Option<u64>

@@ -7,6 +7,7 @@ use crate::seats::{last_seat, last_writer};
 use snap_history::MAX_VALUE_LEN;
 use snap_register::{Looker, Parts, ReadSeat, Registers, View, WriteSeat};
 use std::alloc::{AllocError, Global};
+use std::process::Abort;
 use std::test::Fail;
 use std::thread::{Threads, join};
 
@@ -52,16 +53,20 @@ fn looked<'a>(reader: &mut ReadSeat, room: &'a mut [u8; MAX_VALUE_LEN]) -> Optio
     Some(&room[..length])
 }
 
-// The last eight bytes of the value that was last looked at.
-fn looked_word(reader: &mut ReadSeat) -> Option<u64> {
-    let mut room = [0; MAX_VALUE_LEN];
-    let value = looked(reader, &mut room)?;
+// The word that a value of eight bytes holds.
+fn word_in(value: &[u8]) -> Option<u64> {
     if value.len() != 8 {
         return None;
     }
     Some(u64::from_be_bytes([
         value[0], value[1], value[2], value[3], value[4], value[5], value[6], value[7],
     ]))
+}
+
+// The word of the value that was last looked at.
+fn looked_word(reader: &mut ReadSeat) -> Option<u64> {
+    let mut room = [0; MAX_VALUE_LEN];
+    word_in(looked(reader, &mut room)?)
 }
 
 fn is_empty(reader: &mut ReadSeat) -> bool {
@@ -81,6 +86,20 @@ fn open(alloc: Global, value: &[u8], scanners: usize, looks: u64) -> Result<Part
     Registers::open(alloc, &values, scanners, looks)
 }
 
+// The writer's seat and those of two scanners.
+fn open_three(
+    rt: &impl Abort,
+    alloc: Global,
+) -> Result<(WriteSeat, ReadSeat, ReadSeat), AllocError> {
+    let Parts {
+        mut writers,
+        mut scanners,
+    } = open(alloc, &[], 2, 1000)?;
+    let b = last_seat(rt, &mut scanners);
+    let a = last_seat(rt, &mut scanners);
+    Ok((last_writer(rt, &mut writers), a, b))
+}
+
 /// Whether both scanners keep what they looked at, an update before the second one's look and a
 /// hundred behind it.
 fn are_kept(writer: &mut WriteSeat, a: &mut ReadSeat, b: &mut ReadSeat) -> bool {
@@ -97,13 +116,7 @@ fn are_kept(writer: &mut WriteSeat, a: &mut ReadSeat, b: &mut ReadSeat) -> bool 
 
 #[test]
 fn two_pins_and_a_hundred_updates(rt: HostRuntime) -> Result<(), Fail> {
-    let Parts {
-        mut writers,
-        mut scanners,
-    } = open(rt.alloc(), &[], 2, 1000)?;
-    let mut writer = last_writer(&rt, &mut writers);
-    let mut b = last_seat(&rt, &mut scanners);
-    let mut a = last_seat(&rt, &mut scanners);
+    let (mut writer, mut a, mut b) = open_three(&rt, rt.alloc())?;
     assert!(rt; are_kept(&mut writer, &mut a, &mut b));
     Ok(())
 }
@@ -203,13 +216,7 @@ fn write_and_look<R: Threads + Sync>(
 
 #[test]
 fn a_writer_and_two_scanners_in_threads(rt: HostRuntime) -> Result<(), Fail> {
-    let Parts {
-        mut writers,
-        mut scanners,
-    } = open(rt.alloc(), &[], 2, 1000)?;
-    let mut writer = last_writer(&rt, &mut writers);
-    let mut b = last_seat(&rt, &mut scanners);
-    let mut a = last_seat(&rt, &mut scanners);
+    let (mut writer, mut a, mut b) = open_three(&rt, rt.alloc())?;
     assert!(rt; write_and_look(&rt, &mut writer, &mut a, &mut b));
     Ok(())
 }

@@ -10,7 +10,8 @@ ghost use Rattle.snap_register.specs.Words.{IsWhole, bytes_at, length_at, size_a
 ghost use Rattle.snap_register.specs.Held.{held, IsPinned, HasLookedFrom};
 ghost use Rattle.snap_register.specs.Seat.{Grows, IsBelow, number_in, Looks, HasLooked, IsValue};
 ghost use Rattle.snap_register.specs.Seat.{HasFoundUpdate, IsView};
-ghost use Rattle.snap_register.specs.Steps.{view_of, known_of, HasPin, LiesAt, HasSeat, IsSame};
+ghost use Rattle.snap_register.specs.Steps.{view_at, view_of, known_of};
+ghost use Rattle.snap_register.specs.Steps.{HasPin, LiesAt, HasSeat, IsSame};
 
 use crate::access::{Access, PIN_RANGE};
 use crate::setup::{GiveBack, Pin, Read, TableSeat, WordTable};
@@ -228,14 +229,14 @@ impl Access {
 fn copy_value(table: &WordTable, seat: &mut TableSeat, place: usize, count: usize, out: &mut [u8])
     requires own { seat.old.table_id ≡ table.now.shared.table_id }
     requires seated { HasSeat seat.old }
-    requires block { (j : ℕ) × (at : ℕ) × LiesAt seat.old.me.0 j at place
-        × (at + 2 + count ≤ length (held seat.old.me.0 j)) }
+    requires block { (j : ℕ) × (at : ℕ) × LiesAt (view_at seat.old) j at place
+        × (at + 2 + count ≤ length (held (view_at seat.old) j)) }
     requires fits { place + 2 + count < 2 ^ 64 }
     requires room { 8 * count ≤ length out.old }
     ensures size { length out.new ≡ length out.old }
-    ensures bytes { (j at : ℕ) → LiesAt seat.old.me.0 j at place
-        → at + 2 + count ≤ length (held seat.old.me.0 j)
-        → take (8 * count) out.new ≡ bytes_at (held seat.old.me.0 j) (at + 2) count }
+    ensures bytes { (j at : ℕ) → LiesAt (view_at seat.old) j at place
+        → at + 2 + count ≤ length (held (view_at seat.old) j)
+        → take (8 * count) out.new ≡ bytes_at (held (view_at seat.old) j) (at + 2) count }
     ensures same { (seat.new.table_id ≡ seat.old.table_id) × (seat.new.id ≡ seat.old.id)
         × (seat.new.me ≡ seat.old.me) }
 {
@@ -250,10 +251,10 @@ fn copy_value(table: &WordTable, seat: &mut TableSeat, place: usize, count: usiz
 fn load_word(table: &WordTable, seat: &mut TableSeat, place: usize) -> u64
     requires own { seat.old.table_id ≡ table.now.shared.table_id }
     requires seated { HasSeat seat.old }
-    requires place { (j : ℕ) × (q : ℕ) × LiesAt seat.old.me.0 j q place }
-    ensures word { (j q : ℕ) → LiesAt seat.old.me.0 j q place
-        → result ≡ slice_index (held seat.old.me.0 j) q }
-    ensures legal { IsLegal seat.old.me.0.plan seat.old.me.0.seen }
+    requires place { (j : ℕ) × (q : ℕ) × LiesAt (view_at seat.old) j q place }
+    ensures word { (j q : ℕ) → LiesAt (view_at seat.old) j q place
+        → result ≡ slice_index (held (view_at seat.old) j) q }
+    ensures legal { IsLegal (view_at seat.old).plan (view_at seat.old).seen }
     ensures same { (seat.new.table_id ≡ seat.old.table_id) × (seat.new.id ≡ seat.old.id)
         × (seat.new.me ≡ seat.old.me) }
 {

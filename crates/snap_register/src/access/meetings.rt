@@ -3,10 +3,10 @@ ghost use Rattle.std.specs.Prelude.{◌≡◌, ℕ, ◌<◌, false};
 ghost use mathlib.Core.List.{IsPrefix};
 ghost use Rattle.snap_register.specs.History.{only};
 ghost use Rattle.snap_register.specs.Rule.{Has, IsBelow};
-ghost use Rattle.snap_register.specs.Steps.{view_of, HasHeard};
+ghost use Rattle.snap_register.specs.Steps.{view_at, view_of, HasHeard};
 
 use crate::access::Access;
-use crate::setup::{Glance, JoinAnswer, JoinMessage, SplitMessenger, TableSeat, WordTable};
+use crate::setup::{Hear, JoinAnswer, JoinMessage, SplitMessenger, TableSeat, WordTable};
 
 impl Access {
     /// Afterwards this seat, which writes nothing, has seen what the other has: all that either had
@@ -56,9 +56,9 @@ impl Access {
 fn hear(table: &WordTable, seat: &mut TableSeat)
     requires own { seat.old.table_id ≡ table.now.shared.table_id }
     requires words { 0 < table.now.shared.table_id.words }
-    requires here { seat.old.me.0.spent ≡ false }
+    requires here { (view_at seat.old).spent ≡ false }
     ensures { (seat.new.table_id ≡ seat.old.table_id) × (seat.new.id ≡ seat.old.id)
         × HasHeard seat.old.me seat.new.me }
 {
-    table.shared.load::<Glance>(seat, 0);
+    table.shared.load::<Hear>(seat, 0);
 }

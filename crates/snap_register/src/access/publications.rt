@@ -3,8 +3,9 @@ ghost use Rattle.std.specs.Prelude.{◌-◌, ◌≡◌, ℕ, ◌+◌, ◌<◌, �
 ghost use Rattle.std.specs.Prelude.{IsTrue, IsFalse};
 ghost use Rattle.snap_history.specs.Limits.{IsNumber, IsShort};
 ghost use Rattle.snap_register.specs.History.{entry, number};
-ghost use Rattle.snap_register.specs.Rule.{seats, buffers, next_other, Publishes, Follows, IsLegal};
-ghost use Rattle.snap_register.specs.Held.{CanTake, MayTake, IsShown, moved_pool};
+ghost use Rattle.snap_register.specs.Rule.{seats, buffers, next_other, moved_pool};
+ghost use Rattle.snap_register.specs.Rule.{Publishes, Follows, IsLegal};
+ghost use Rattle.snap_register.specs.Held.{CanTake, MayTake, IsShown};
 ghost use Rattle.snap_register.specs.Setup.{IsPool};
 ghost use Rattle.snap_register.specs.Steps.{view_of, pool_of, draft_of, Owns, IsFree, IsSameSeat};
 ghost use Rattle.snap_register.specs.Steps.{HasPool};

@@ -1,4 +1,3 @@
-use Rattle.std.proofs.Common.{◌++◌}
 use Rattle.snap_told.proofs.Ever.{session_stands, client_stands, before_stands, ever}
 use Rattle.snap_told.proofs.plug_laws.Goals as goal
 
@@ -6,9 +5,8 @@ pub returns-clause-plug : goal.returns-clause-plug
 returns-clause-plug g c = λ devices writers start before earlier opened on s kept crashed files
     size each left. (
       on.any_moment s kept crashed files size each left,
-      λ a b talk read_old read_new written_old written_new t same was.
-          session_stands g.D.Disk devices writers opened start before earlier on s kept b same was
-          a t.goes.payloads (t.goes.replies ++ t.goes.unsaid) t.goes.run,
+      λ b t same was.
+          session_stands g.D.Disk devices writers opened start before earlier on s kept b same was t,
       λ b qs rs answered same was.
           client_stands g.D.Disk devices writers opened start before earlier on s kept b same was
           g.R.Read.remaining g.W.Write.contents qs rs answered,

@@ -40,19 +40,14 @@ impl Actors {
         requires among { set_of self.old.segments asked < 2 ^ self.old.segments }
         ensures step { IsActorsStep self.old (asking at asked) result self.new }
     {
-        if at >= self.scanners.len() {
+        if !self.scanner_is(at, ScannerPhase::Idle) {
             return Reply::NotNow;
         }
-        match self.scanners[at].phase {
-            ScannerPhase::Idle => {
-                let scanner = &mut self.scanners[at];
-                scanner.asked = asked;
-                scanner.collector.scan = Scan::of(asked.set(self.segments));
-                scanner.phase = ScannerPhase::Scanning;
-                Reply::ScanBegun
-            }
-            _ => Reply::NotNow,
-        }
+        let scanner = &mut self.scanners[at];
+        scanner.asked = asked;
+        scanner.collector.scan = Scan::of(asked.set(self.segments));
+        scanner.phase = ScannerPhase::Scanning;
+        Reply::ScanBegun
     }
 
     /// A scan looks once.
@@ -60,20 +55,15 @@ impl Actors {
         requires stands { Stand self.old }
         ensures step { IsActorsStep self.old (Event.Look (Actor.Scanner at)) result self.new }
     {
-        if at >= self.scanners.len() {
+        if !self.scanner_is(at, ScannerPhase::Scanning) {
             return Reply::NotNow;
         }
-        match self.scanners[at].phase {
-            ScannerPhase::Scanning => {
-                let scanner = &mut self.scanners[at];
-                let number = scanner.collector.look(&self.registers);
-                if scanner.collector.is_done() {
-                    scanner.phase = ScannerPhase::Ready;
-                }
-                Reply::Number(number)
-            }
-            _ => Reply::NotNow,
+        let scanner = &mut self.scanners[at];
+        let number = scanner.collector.look(&self.registers);
+        if scanner.collector.is_done() {
+            scanner.phase = ScannerPhase::Ready;
         }
+        Reply::Number(number)
     }
 
     /// A scan gives its answer. Where memory runs out it keeps it.
@@ -85,16 +75,11 @@ impl Actors {
             (ScannerIs (phases_of_actors self.old) at ScannerPhase.Ready) }
         ensures err { OnErr result (self.new ≡ self.old) }
     {
-        if at >= self.scanners.len() {
+        if !self.scanner_is(at, ScannerPhase::Ready) {
             return Ok(Reply::NotNow);
         }
-        match self.scanners[at].phase {
-            ScannerPhase::Ready => {
-                let reply = self.scanners[at].reply(alloc)?;
-                self.scanners[at].phase = ScannerPhase::Idle;
-                Ok(reply)
-            }
-            _ => Ok(Reply::NotNow),
-        }
+        let reply = self.scanners[at].reply(alloc)?;
+        self.scanners[at].phase = ScannerPhase::Idle;
+        Ok(reply)
     }
 }

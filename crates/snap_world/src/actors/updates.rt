@@ -20,22 +20,17 @@ impl Actors {
         requires stands { Stand self.old }
         ensures step { IsActorsStep self.old (Event.Begin segment value.now) result self.new }
     {
-        if segment >= self.segments || value.len() > MAX_VALUE_LEN {
+        if !self.writer_is(segment, WriterPhase::Idle) || value.len() > MAX_VALUE_LEN {
             return Reply::NotNow;
         }
         if self.registers[segment].number >= LAST_NUMBER {
             return Reply::NotNow;
         }
-        match self.writers[segment].phase {
-            WriterPhase::Idle => {
-                let writer = &mut self.writers[segment];
-                writer.value.set(value);
-                writer.collector.scan = Scan::new(self.segments);
-                writer.phase = WriterPhase::Scanning;
-                Reply::Begun
-            }
-            _ => Reply::NotNow,
-        }
+        let writer = &mut self.writers[segment];
+        writer.value.set(value);
+        writer.collector.scan = Scan::new(self.segments);
+        writer.phase = WriterPhase::Scanning;
+        Reply::Begun
     }
 
     /// A writer's embedded scan looks once. Once it has its answer, the store is to begin.
@@ -43,20 +38,15 @@ impl Actors {
         requires stands { Stand self.old }
         ensures step { IsActorsStep self.old (Event.Look (Actor.Writer segment)) result self.new }
     {
-        if segment >= self.segments {
+        if !self.writer_is(segment, WriterPhase::Scanning) {
             return Reply::NotNow;
         }
-        match self.writers[segment].phase {
-            WriterPhase::Scanning => {
-                let writer = &mut self.writers[segment];
-                let number = writer.collector.look(&self.registers);
-                if writer.collector.is_done() {
-                    writer.phase = WriterPhase::Storing;
-                }
-                Reply::Number(number)
-            }
-            _ => Reply::NotNow,
+        let writer = &mut self.writers[segment];
+        let number = writer.collector.look(&self.registers);
+        if writer.collector.is_done() {
+            writer.phase = WriterPhase::Storing;
         }
+        Reply::Number(number)
     }
 
     /// A writer publishes its update: the next number, its value, and the answer of the embedded
@@ -65,21 +55,16 @@ impl Actors {
         requires stands { Stand self.old }
         ensures step { IsActorsStep self.old (Event.Show segment) result self.new }
     {
-        if segment >= self.segments {
+        if !self.writer_is(segment, WriterPhase::Stored) {
             return Reply::NotNow;
         }
-        match self.writers[segment].phase {
-            WriterPhase::Stored => {
-                let register = &mut self.registers[segment];
-                let writer = &mut self.writers[segment];
-                register.number += 1;
-                register.value.copy_from(&writer.value);
-                copy_all(&mut register.view, &writer.collector.memory);
-                writer.phase = WriterPhase::Shown;
-                Reply::Shown
-            }
-            _ => Reply::NotNow,
-        }
+        let register = &mut self.registers[segment];
+        let writer = &mut self.writers[segment];
+        register.number += 1;
+        register.value.copy_from(&writer.value);
+        copy_all(&mut register.view, &writer.collector.memory);
+        writer.phase = WriterPhase::Shown;
+        Reply::Shown
     }
 
     /// A writer's update is acknowledged.
@@ -87,16 +72,11 @@ impl Actors {
         requires stands { Stand self.old }
         ensures step { IsActorsStep self.old (Event.Acknowledge segment) result self.new }
     {
-        if segment >= self.segments {
+        if !self.writer_is(segment, WriterPhase::Shown) {
             return Reply::NotNow;
         }
-        match self.writers[segment].phase {
-            WriterPhase::Shown => {
-                self.writers[segment].phase = WriterPhase::Idle;
-                Reply::Stored(self.registers[segment].number)
-            }
-            _ => Reply::NotNow,
-        }
+        self.writers[segment].phase = WriterPhase::Idle;
+        Reply::Stored(self.registers[segment].number)
     }
 
     /// The last device call of a writer's store has succeeded.

@@ -50,18 +50,10 @@ impl Node {
 
     /// Whether the store of this segment has a device call to make.
     fn may_store(&self, segment: usize) -> bool
-        requires stands { NodeStand self.now }
         ensures { IsTrue result ↔ MayStore self.now segment }
     {
         match self.phase {
-            NodePhase::Up => {}
-            _ => return false,
-        }
-        if segment >= self.actors.segments {
-            return false;
-        }
-        match self.actors.writers[segment].phase {
-            WriterPhase::Storing => true,
+            NodePhase::Up => self.actors.writer_is(segment, WriterPhase::Storing),
             _ => false,
         }
     }

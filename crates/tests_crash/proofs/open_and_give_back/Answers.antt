@@ -1,14 +1,20 @@
-use Rattle.tests_crash.proofs.Premises.{through_opened, through_stopped}
+use Rattle.std.proofs.Common.{List, sym, subst}
+use Rattle.snap_restart.proofs.Crash.{backs_opened, backs_stopped}
+use Rattle.tests_crash.specs.Worked.{ComeThrough}
+use Rattle.tests_crash.proofs.Premises.{come_through}
 use Rattle.tests_crash.proofs.open_and_give_back.Goals as goal
 
 pub returns-in-Ok : goal.returns-in-Ok
 returns-in-Ok g c =
-    through_opened g.D.Disk g.met.D.Disk.counts_now c.args.devices.items
-    c.in-Ok.store.writers.items c.close.result.items c.close.ensures.devices
-    c.in-Ok.ensures.opened c.in-Ok.ensures.kept_ok
+    let ds = c.args.devices.items in
+    let told = c.in-Ok.ensures in
+    subst (λ (l : List g.row.D.Denot). ComeThrough g.D.Disk ds l) (sym c.close.ensures.devices)
+    (come_through g.D.Disk g.met.D.Disk.counts_now ds _ told.kept_ok
+    (backs_opened g.D.Disk ds c.in-Ok.store.writers.items told.opened))
 
 pub returns : goal.returns
 returns g c =
-    through_stopped g.D.Disk g.met.D.Disk.counts_now c.args.devices.items
-    c.in-Err.stopped.devices.items c.in-Err.stopped.refusal c.in-Err.stopped.segment
-    c.in-Err.ensures.stopped c.in-Err.ensures.kept_err
+    let ds = c.args.devices.items in
+    let told = c.in-Err.ensures in
+    come_through g.D.Disk g.met.D.Disk.counts_now ds _ told.kept_err
+    (backs_stopped g.D.Disk ds _ _ _ told.stopped)

@@ -1,4 +1,8 @@
-use Rattle.std.proofs.Common.{◌-◌, ◌^◌, ◌<◌, List, All, sym, subst}
+use Rattle.std.proofs.Common.{◌-◌, ◌^◌, ◌<◌, List, length, map, All, sym, subst}
+use Rattle.snap_history.specs.Pairs.{Pairs}
+use Rattle.snap_restart.specs.Opened.{IsOpened}
+use Rattle.snap_restart.specs.Crash.{AreOpened}
+use Rattle.snap_restart.proofs.Crash.{its_segment}
 use Rattle.tests_crash.proofs.Again.{go_on_behind}
 use Rattle.tests_crash.proofs.reopen.Goals as goal
 
@@ -10,7 +14,10 @@ open_all-requires-clause-headroom g c =
 pub returns-in-Ok : goal.returns-in-Ok
 returns-in-Ok g c =
     let told = c.close.ensures.crash in
-    go_on_behind g.D.Disk c.requires.writers.0 told.0 c.args.store.writers.items
-    c.args.store.scanners.items c.close.result.items c.in-Ok.store.writers.items
-    c.close.ensures.devices c.requires.writers.1 told.1 told.2 c.in-Ok.ensures.opened
-    c.in-Ok.ensures.crash
+    let firsts = c.args.store.writers.items in
+    let seconds = c.in-Ok.store.writers.items in
+    let opened = subst (λ (l : List g.row.D.Denot).
+    Pairs (IsOpened g.D.Disk (length l)) l (map its_segment seconds) × AreOpened g.D.Disk l seconds)
+    c.close.ensures.devices (c.in-Ok.ensures.opened, c.in-Ok.ensures.crash) in
+    go_on_behind g.D.Disk c.requires.writers.0 told.0 firsts c.args.store.scanners.items seconds
+    c.requires.writers.1 told.1 told.2 opened.0 opened.1

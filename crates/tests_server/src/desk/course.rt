@@ -1,4 +1,4 @@
-//! What a desk's worker is asked while its stores work beside it.
+//! What a desk's worker is asked while its storers work beside it.
 use crate::frames::SCAN;
 use crossbeam_channel::Receiver;
 use snap_desk::{Desk, Outcome};
@@ -23,7 +23,7 @@ pub(crate) enum Course {
     Gone,
     /// A peer sends the update, and then the worker leaves.
     Left,
-    /// The stores are gone. Then a peer sends the frames, and takes what it is owed at once.
+    /// The storers are gone. Then a peer sends the frames, and takes what it is owed at once.
     Alone,
 }
 

@@ -1,11 +1,11 @@
-//! A desk's worker and two stores, each in a thread of its own.
+//! A desk's worker and two storers, each in a thread of its own.
 ghost use Rattle.std.specs.Prelude.{◌≡◌, length, IfOk, IfErr};
 ghost use Rattle.snap_restart.specs.Closed.{AreBack};
 ghost use Rattle.snap_service.specs.Memory.{AreWriters, IsOf};
 
 use super::course::{Course, Worker};
 use crossbeam_channel::{Sender, bounded};
-use snap_desk::{Desk, Outcome, StoreThread, Window};
+use snap_desk::{Desk, Outcome, Storer, Window};
 use snap_devices::{Held, Waited};
 use snap_disk::Disk;
 use snap_memory::Scanner;
@@ -31,20 +31,20 @@ pub(crate) struct Seen {
     pub flag: u64,
 }
 
-/// How many stores there are.
-const STORES: usize = 2;
+/// How many storers there are.
+const STORERS: usize = 2;
 
-/// Stores, each of which gets a thread of its own, and the windows through which desks see them.
+/// Storers, each of which gets a thread of its own, and the windows through which desks see them.
 #[derive(Drop)]
-struct Stores<R: Wait + Copy, M: Memory> {
-    threads: Vec<StoreThread<R, M, Held>>,
+struct Storers<R: Wait + Copy, M: Memory> {
+    threads: Vec<Storer<R, M, Held>>,
     windows: Vec<Window>,
 }
 
-impl<R: Wait + Copy, M: Memory> Stores<R, M> {
-    /// Adds the store of this writer.
+impl<R: Wait + Copy, M: Memory> Storers<R, M> {
+    /// Adds the storer of this writer.
     fn add(&mut self, rt: &R, alloc: Global, writer: WriterOf<M, Held>) -> Result<(), AllocError> {
-        let (thread, window) = StoreThread::new(*rt, alloc, writer)?;
+        let (thread, window) = Storer::new(*rt, alloc, writer)?;
         self.threads.push(thread)?;
         self.windows.push(window)?;
         Ok(())
@@ -52,13 +52,13 @@ impl<R: Wait + Copy, M: Memory> Stores<R, M> {
 }
 
 /// Stores what is handed over, until no desk is left.
-fn work_store<R: Wait + Copy, M: Memory>(
+fn work_storer<R: Wait + Copy, M: Memory>(
     rt: &R,
-    store: &mut StoreThread<R, M, Held>,
+    storer: &mut Storer<R, M, Held>,
     desks: &[Sender<Done<Outcome<R, M, Held>>>],
 ) {
     for _ in rt.forever() {
-        let Some(told) = store.next() else {
+        let Some(told) = storer.next() else {
             return;
         };
         if let Some(desk) = desks.get(told.worker) {
@@ -73,12 +73,12 @@ fn waited_of(writer: Writer<Held>) -> Option<Waited> {
     writer.into_segment().into_device().waited()
 }
 
-/// Adds what the store's writer shows at the end.
+/// Adds what the storer's writer shows at the end.
 fn tell<R: Wait + Copy, M: Memory>(
-    store: StoreThread<R, M, Held>,
+    storer: Storer<R, M, Held>,
     seen: &mut Seen,
 ) -> Result<(), AllocError> {
-    if let Some(writer) = store.into_writer() {
+    if let Some(writer) = storer.into_writer() {
         seen.numbers.push(writer.number())?;
         if let Some(waited) = waited_of(writer.into_writer()) {
             seen.flag = waited.flag;
@@ -98,10 +98,10 @@ fn work_desk<R: Wait + Copy + Clock, M: Memory>(
     worker.run(rt, &mut desk, course, bytes, released)
 }
 
-/// All at once, each store in a thread of its own.
+/// All at once, each storer in a thread of its own.
 fn run_threads<R: Threads + Wait + Clock + Sync + Send + Copy, M: Memory + Send>(
     rt: &R,
-    stores: &mut [StoreThread<R, M, Held>],
+    storers: &mut [Storer<R, M, Held>],
     worker: &mut Worker<R, M>,
     desk: Desk<R, M, Held>,
     desks: &[Sender<Done<Outcome<R, M, Held>>>],
@@ -111,37 +111,37 @@ fn run_threads<R: Threads + Wait + Clock + Sync + Send + Copy, M: Memory + Send>
         rt,
         || for_each_mut(
             rt,
-            stores,
-            STORES,
-            &|_, store| { work_store(rt, store, desks) },
+            storers,
+            STORERS,
+            &|_, storer| { work_storer(rt, storer, desks) },
         ),
         || work_desk(rt, worker, desk, work),
     );
     done
 }
 
-/// What the stores and the worker have at the end.
+/// What the storers and the worker have at the end.
 fn seen_by<R: Wait + Copy, M: Memory>(
     alloc: Global,
     written: Vec<u8>,
-    stores: Vec<StoreThread<R, M, Held>>,
+    storers: Vec<Storer<R, M, Held>>,
 ) -> Result<Seen, AllocError> {
     let mut seen = Seen {
         written,
         numbers: Vec::new(alloc),
         flag: 0,
     };
-    for store in stores {
-        tell(store, &mut seen)?;
+    for storer in storers {
+        tell(storer, &mut seen)?;
     }
     Ok(seen)
 }
 
-/// A run of this desk beside these stores. What its peers were sent.
+/// A run of this desk beside these storers. What its peers were sent.
 fn run_desk<R: Threads + Wait + Clock + Sync + Send + Copy, M: Memory + Send>(
     rt: &R,
     alloc: Global,
-    stores: &mut [StoreThread<R, M, Held>],
+    storers: &mut [Storer<R, M, Held>],
     desk: Desk<R, M, Held>,
     work: (Course, &[u8], &AtomicU64),
 ) -> Result<Vec<u8>, AllocError> {
@@ -153,25 +153,25 @@ fn run_desk<R: Threads + Wait + Clock + Sync + Send + Copy, M: Memory + Send>(
         inbox: Some(inbox),
         written: Vec::new(alloc),
     };
-    run_threads(rt, stores, &mut worker, desk, &desks, work)?;
+    run_threads(rt, storers, &mut worker, desk, &desks, work)?;
     let Worker { written, .. } = worker;
     Ok(written)
 }
 
-/// The stores of these writers, and the windows on them, in order.
-fn stores_of<R: Wait + Copy, M: Memory>(
+/// The storers of these writers, and the windows on them, in order.
+fn storers_of<R: Wait + Copy, M: Memory>(
     rt: &R,
     alloc: Global,
     writers: Vec<WriterOf<M, Held>>,
-) -> Result<Stores<R, M>, AllocError> {
-    let mut stores = Stores {
+) -> Result<Storers<R, M>, AllocError> {
+    let mut storers = Storers {
         threads: Vec::new(alloc),
         windows: Vec::new(alloc),
     };
     for writer in writers {
-        stores.add(rt, alloc, writer)?;
+        storers.add(rt, alloc, writer)?;
     }
-    Ok(stores)
+    Ok(storers)
 }
 
 /// The desk of these windows and this scanner.
@@ -200,10 +200,10 @@ fn run_writers<R: Threads + Wait + Clock + Sync + Send + Copy, M: Memory + Send>
 ) -> Result<Seen, AllocError>
     requires { IsOf M.table M.plan scanner }
 {
-    let Stores {
+    let Storers {
         mut threads,
         windows,
-    } = stores_of(rt, alloc, writers)?;
+    } = storers_of(rt, alloc, writers)?;
     let desk = desk_of(rt, alloc, windows, scanner)?;
     if matches!(work.0, Course::Alone) {
         threads.clear();

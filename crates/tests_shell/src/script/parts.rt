@@ -1,54 +1,22 @@
 //! Scripts with scans of some segments.
-use super::does;
+use super::{does, does_rows};
+use std::alloc::AllocError;
 
 /// A scan of segments 0 and 2, inside which segment 1 shows an update.
 const PARTIAL: &str = "world 3 1
-pick 0 0005
-look s0
-look s0
-begin 1 61
-look w1
-look w1
-look w1
-look w1
-look w1
-look w1
-call 1
-call 1
-call 1
-call 1
-show 1
-look s0
-look s0
-answer 0
-answer 0
-";
-
-const PARTIAL_OUTPUT: &str = "world 3 1
-scanning
-number 0
-number 0
-begun
-number 0
-number 0
-number 0
-number 0
-number 0
-number 0
-called body
-called sync
-called open
-called sync
-shown
-number 0
-number 0
-part 0=- 2=-
-not now
+pick 0 0005 > scanning
+look s0 > number 0, number 0
+begin 1 61 > begun
+look w1 > number 0, number 0, number 0, number 0, number 0, number 0
+call 1 > called body, called sync, called open, called sync
+show 1 > shown
+look s0 > number 0, number 0
+answer 0 > part 0=- 2=-, not now
 ";
 
 #[test]
-fn partial_script(rt: HostRuntime) {
-    does(&rt, rt.alloc(), PARTIAL, PARTIAL_OUTPUT);
+fn partial_script(rt: HostRuntime) -> Result<(), AllocError> {
+    does_rows(&rt, rt.alloc(), PARTIAL)
 }
 
 /// The set has to name a segment, and none that isn't there.
@@ -93,78 +61,23 @@ fn masks(rt: HostRuntime) {
 /// Segment 0 is shown twice inside a scan of segments 0 and 2, which then takes their values from
 /// the view of the second of these updates: the memory as it stood before that one.
 const BORROWED: &str = "world 3 1
-pick 0 0005
-look s0
-begin 0 0A
-look w0
-look w0
-look w0
-look w0
-look w0
-look w0
-call 0
-call 0
-call 0
-call 0
-show 0
-ack 0
-look s0
-look s0
-begin 0 62
-look w0
-look w0
-look w0
-look w0
-look w0
-look w0
-call 0
-call 0
-call 0
-call 0
-call 0
-show 0
-look s0
-look s0
-answer 0
-";
-
-const BORROWED_OUTPUT: &str = "world 3 1
-scanning
-number 0
-begun
-number 0
-number 0
-number 0
-number 0
-number 0
-number 0
-called body
-called sync
-called open
-called sync
-shown
-stored 1
-number 0
-number 1
-begun
-number 1
-number 0
-number 0
-number 1
-number 0
-number 0
-called close
-called body
-called sync
-called open
-called sync
-shown
-number 0
-number 2
-part 0=0a 2=-
+pick 0 0005 > scanning
+look s0 > number 0
+begin 0 0A > begun
+look w0 > number 0, number 0, number 0, number 0, number 0, number 0
+call 0 > called body, called sync, called open, called sync
+show 0 > shown
+ack 0 > stored 1
+look s0 > number 0, number 1
+begin 0 62 > begun
+look w0 > number 1, number 0, number 0, number 1, number 0, number 0
+call 0 > called close, called body, called sync, called open, called sync
+show 0 > shown
+look s0 > number 0, number 2
+answer 0 > part 0=0a 2=-
 ";
 
 #[test]
-fn borrowed_part(rt: HostRuntime) {
-    does(&rt, rt.alloc(), BORROWED, BORROWED_OUTPUT);
+fn borrowed_part(rt: HostRuntime) -> Result<(), AllocError> {
+    does_rows(&rt, rt.alloc(), BORROWED)
 }

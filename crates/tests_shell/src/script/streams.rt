@@ -1,5 +1,5 @@
 //! Scripts over streams that fail or move few bytes.
-use super::{BORROWED_VIEW, BORROWED_VIEW_OUTPUT, WORKED, WORKED_OUTPUT, is_done, repeated, says};
+use super::{BORROWED_VIEW, WORKED, is_done, repeated, says, texts};
 use snap_order::Status;
 use snap_script::{play, script};
 use snap_stream::TestStream;
@@ -112,14 +112,11 @@ fn a_reader_that_fails(rt: HostRuntime) -> Result<(), Fail> {
 /// However the reads cut it, a script writes the same, also where its last line has no end.
 #[test]
 fn scripts_cut_after_every_byte(rt: HostRuntime) -> Result<(), Fail> {
-    for (script, output) in [
-        (WORKED, WORKED_OUTPUT),
-        (BORROWED_VIEW, BORROWED_VIEW_OUTPUT),
-    ] {
-        let script = script.as_bytes();
+    for rows in [WORKED, BORROWED_VIEW] {
+        let (script, output) = texts(rt.alloc(), rows)?;
         for step in [1usize, 2, 3, 7, 20] {
-            is_cut(&rt, rt.alloc(), script, step, output)?;
-            is_cut(&rt, rt.alloc(), &script[..script.len() - 1], step, output)?;
+            is_cut(&rt, rt.alloc(), script.as_bytes(), step, &output)?;
+            is_cut(&rt, rt.alloc(), script.trim_end().as_bytes(), step, &output)?;
         }
     }
     Ok(())

@@ -3,8 +3,8 @@ ghost use Rattle.std.specs.Prelude.{◌≤◌, ◌^◌};
 
 mod kept;
 
-use crate::memory::{is_value_of, open, open_three, scan, update, value_of};
-use crate::seats::last_seat;
+use crate::memory::{is_value_of, open_three, scan, update, value_of};
+use crate::seats::{last_seat, open};
 use snap_disk::Refusal;
 use snap_memory::{Scanner, SegmentSet, SegmentValue, Snapshot};
 use snap_register::{Parts, WriteSeat};
@@ -121,6 +121,11 @@ fn renumber(numbers: &mut Numbers, set: SegmentSet, number: u64) {
     }
 }
 
+/// Whether a scanner that had so many looks left took two at each of these segments.
+fn took_two_collects(scanner: &Scanner, left: u64, set: SegmentSet) -> bool {
+    left.saturating_sub(scanner.looks_left()) == (set.len() as u64).saturating_mul(2)
+}
+
 /// Whether a scan of these segments after an update of all takes two collects, and writes what it
 /// names over what the snapshot has.
 fn is_written(three: &mut Three, set: SegmentSet, number: u64, numbers: &mut Numbers) -> bool {
@@ -132,8 +137,7 @@ fn is_written(three: &mut Three, set: SegmentSet, number: u64, numbers: &mut Num
         return false;
     }
     renumber(numbers, set, number);
-    let taken = left.saturating_sub(three.scanner.looks_left());
-    taken == (set.len() as u64).saturating_mul(2) && shows(&three.out, numbers)
+    took_two_collects(&three.scanner, left, set) && shows(&three.out, numbers)
 }
 
 #[test]
@@ -158,8 +162,7 @@ fn is_listed(three: &mut Three, alloc: Global, set: SegmentSet, number: u64) -> 
     };
     let mut numbers = [0; MAX_SEGMENTS];
     renumber(&mut numbers, set, number);
-    let taken = left.saturating_sub(three.scanner.looks_left());
-    taken == (set.len() as u64).saturating_mul(2) && numbers_of(set, &values) == Some(numbers)
+    took_two_collects(&three.scanner, left, set) && numbers_of(set, &values) == Some(numbers)
 }
 
 #[test]

@@ -1,8 +1,8 @@
 //! Scans between whose looks updates are shown.
 ghost use Rattle.std.specs.Prelude.{◌≡◌, ◌≤◌, ◌<◌, length};
 
-use crate::memory::{open, update};
-use crate::seats::{last_seat, last_writer};
+use crate::memory::update;
+use crate::seats::{last_seat, last_writer, open};
 use bytes::Bytes;
 use snap_memory::{SegmentSet, prepare, scan, show};
 use snap_register::{Looker, Parts, ReadSeat, SnapshotBuf, WriteSeat};

@@ -1,14 +1,13 @@
 //! Three writers and two scanners in threads of their own. What the scanners found is judged
 //! afterwards, by a checker that knows nothing of the registers.
-ghost use Rattle.std.specs.Prelude.{◌≡◌, ◌≤◌, ◌^◌, IsTrue};
-ghost use Rattle.snap_history.specs.declared.limits.TheConstants.{MAX_SCANNERS};
+ghost use Rattle.std.specs.Prelude.{◌≡◌, ◌≤◌, IsTrue};
 ghost use Rattle.snap_register.specs.Rule.{segments};
 ghost use Rattle.snap_register.specs.Seat.{IsCollected};
 
-use crate::seats::{last_seat, last_writer};
+use crate::register::word_in;
+use crate::seats::{last_seat, last_writer, open};
 use snap_history::MAX_VALUE_LEN;
-use snap_register::{Looker, Parts, ReadSeat, Registers, View, WriteSeat};
-use std::alloc::{AllocError, Global};
+use snap_register::{Looker, Parts, ReadSeat, View, WriteSeat};
 use std::test::Fail;
 use std::thread::{Threads, join};
 
@@ -27,17 +26,6 @@ struct Found {
     segment: usize,
     number: u64,
     word: Option<u64>,
-}
-
-// Three segments at number 0 with the empty value.
-fn open(alloc: Global, scanners: usize, looks: u64) -> Result<Parts, AllocError>
-    requires { (scanners ≤ MAX_SCANNERS) × (looks ≤ 2 ^ 50) }
-{
-    let mut values = Vec::new(alloc);
-    values.push((0, Vec::new(alloc)))?;
-    values.push((0, Vec::new(alloc)))?;
-    values.push((0, Vec::new(alloc)))?;
-    Registers::open(alloc, &values, scanners, looks)
 }
 
 // Looks at each segment twice. Whether no number changed in between.
@@ -102,16 +90,11 @@ fn find(reader: &mut ReadSeat, segment: usize) -> Option<Found> {
         return None;
     }
     let mut room = [0; MAX_VALUE_LEN];
-    let word = match reader.value(segment, &mut room) {
-        8 => Some(u64::from_be_bytes([
-            room[0], room[1], room[2], room[3], room[4], room[5], room[6], room[7],
-        ])),
-        _ => None,
-    };
+    let length = reader.value(segment, &mut room);
     Some(Found {
         segment,
         number,
-        word,
+        word: word_in(&room[..length]),
     })
 }
 
@@ -202,7 +185,7 @@ fn three_writers_and_two_scanners_in_threads(rt: HostRuntime) -> Result<(), Fail
     let Parts {
         mut writers,
         mut scanners,
-    } = open(rt.alloc(), 2, 1_000_000)?;
+    } = open(rt.alloc(), SEGMENTS, 2, 1_000_000)?;
     let mut z = last_writer(&rt, &mut writers);
     let mut y = last_writer(&rt, &mut writers);
     let mut x = last_writer(&rt, &mut writers);

@@ -1,7 +1,6 @@
 use Rattle.snap_args.proofs.grammar.call_command.Goals as goal
 
 pub returns : goal.returns
-returns c = c.with_arg.ensures _ _
+returns c = c.with_layouts.ensures _ (c.with_storing.ensures _ (c.with_patience.ensures _
     (c.with_arg-command.ensures _ _ c.addressed_command-command.ensures
-    c.required_words.ensures.rule)
-    c.number_option.ensures.rule
+    c.required_words.ensures.rule)))

@@ -4,6 +4,7 @@ pub returns : goal.returns
 returns c =
     let one = c.with_command-commands.ensures _ _ c.segment_commands.ensures
     c.migrate_command.ensures in
-    let two = c.with_command-commands-2.ensures _ _ one c.serve_command.ensures in
-    let three = c.with_command-commands-3.ensures _ _ two c.call_command.ensures in
-    c.with_command.ensures _ _ three c.script_command.ensures
+    let two = c.with_command-commands-2.ensures _ _ one c.init_command.ensures in
+    let three = c.with_command-commands-3.ensures _ _ two c.serve_command.ensures in
+    let four = c.with_command-commands-4.ensures _ _ three c.call_command.ensures in
+    c.with_command.ensures _ _ four c.script_command.ensures

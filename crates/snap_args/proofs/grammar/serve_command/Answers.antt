@@ -2,5 +2,4 @@ use Rattle.snap_args.proofs.grammar.serve_command.Goals as goal
 
 pub returns : goal.returns
 returns c = c.with_limits.ensures _ (c.with_service.ensures _
-    (c.with_arg-command.ensures _ _ c.addressed_command-command.ensures
-    c.required_words.ensures.rule))
+    (c.with_supply.ensures _ c.addressed_command-command.ensures))

@@ -1,40 +1,14 @@
 use Rattle.std.proofs.Common.{◌∙◌, codes, rules, sym}
 use Rattle.clap.specs.Words.{found_of}
-use Rattle.snap_args.specs.Numbers.{IsLevelOf}
+use Rattle.snap_args.specs.Numbers.{IsLayoutOf}
 use Rattle.snap_args.specs.Requests.{IsQuestionOf}
-use Rattle.snap_args.proofs.Asked.{asked_pair, by_words, large_number_is, named, place_is, number_is, word_is, words_are}
-use Rattle.snap_args.proofs.Faulted.{call_fault, migrate_fault, serve_fault}
+use Rattle.snap_args.proofs.Asked.{asked_pair, by_words, large_number_is, named, place_is, number_is, word_is}
+use Rattle.snap_args.proofs.Faulted.{call_fault, init_fault, migrate_fault}
 use Rattle.snap_args.proofs.words.order_of.Goals as goal
 
 pub returns-then-is-clause-asked : goal.returns-then-is-clause-asked
 returns-then-is-clause-asked c = λ words has.
     named has (codes "script") (c.is.ensures.0 c.if-is.true)
-
-pub returns-in_err-serving-clause-faults : goal.returns-in_err-serving-clause-faults
-returns-in_err-serving-clause-faults c =
-    let fault = serve_fault (found_of c.args.matches.now) (c.is-2.ensures.0 c.if-is-2.true)
-    c.in_err-serving.field-0.0 c.in_err-serving.ensures.fault in
-    search rules
-
-pub returns-then-is-2-clause-asked : goal.returns-then-is-2-clause-asked
-returns-then-is-2-clause-asked c = λ words has.
-    let serving = c.in_ok-serving.ensures in record {
-      command = named has (codes "serve") (c.is-2.ensures.0 c.if-is-2.true);
-      address = sym (word_is has (codes "address")) ∙ sym serving.address;
-      files = sym (words_are has (codes "files")) ∙ sym serving.files;
-      log = by_words has (λ of all. IsLevelOf (of (codes "log")) c.in_ok-serving.field-0.log)
-          serving.log;
-    }
-
-pub returns-then-is-2-clause-numbers : goal.returns-then-is-2-clause-numbers
-returns-then-is-2-clause-numbers c = λ words has.
-    let serving = c.in_ok-serving.field-0 in
-    let its = c.in_ok-serving.ensures in record {
-      scanners = number_is has (codes "scanners") _ its.scanners;
-      connections = large_number_is has (codes "connections") serving.connections its.connections;
-      clients = large_number_is has (codes "clients-max") serving.clients its.clients;
-      idle = large_number_is has (codes "idle") serving.idle its.idle;
-    }
 
 pub returns-in_err-calling-clause-faults : goal.returns-in_err-calling-clause-faults
 returns-in_err-calling-clause-faults c =
@@ -47,13 +21,18 @@ returns-then-is-3-clause-asked c = λ words has.
     let calling = c.in_ok-calling.ensures in record {
       command = named has (codes "call") (c.is-3.ensures.0 c.if-is-3.true);
       address = sym (word_is has (codes "address")) ∙ sym calling.address;
-      request = by_words has (λ of all.
-          IsQuestionOf (all (codes "request")) c.in_ok-calling.field-0.question) calling.request;
+      request = by_words has (λ of all. IsQuestionOf (all (codes "request")) (of (codes "value"))
+          (of (codes "after")) c.in_ok-calling.field-0.question) calling.request;
+      layout = by_words has (λ of all. IsLayoutOf (of (codes "text")) (of (codes "json"))
+          c.in_ok-calling.field-0.layout) calling.layout;
     }
 
 pub returns-then-is-3-clause-numbers : goal.returns-then-is-3-clause-numbers
 returns-then-is-3-clause-numbers c = λ words has.
-    number_is has (codes "tries") _ c.in_ok-calling.ensures.tries
+    let calling = c.in_ok-calling.ensures in record {
+      tries = number_is has (codes "tries") _ calling.tries;
+      timeout = large_number_is has (codes "timeout") c.in_ok-calling.field-0.timeout calling.timeout;
+    }
 
 pub returns-in_err-migration-clause-faults : goal.returns-in_err-migration-clause-faults
 returns-in_err-migration-clause-faults c =
@@ -70,3 +49,19 @@ returns-then-is-4-clause-asked c = λ words has.
 pub returns-then-is-4-clause-numbers : goal.returns-then-is-4-clause-numbers
 returns-then-is-4-clause-numbers c = λ words has.
     place_is has _ _ c.in_ok-migration.ensures.index c.in_ok-migration.ensures.count
+
+pub returns-in_err-founding-clause-faults : goal.returns-in_err-founding-clause-faults
+returns-in_err-founding-clause-faults c =
+    let fault = init_fault (found_of c.args.matches.now) (c.is-5.ensures.0 c.if-is-5.true)
+    c.in_err-founding.field-0.0 c.in_err-founding.ensures.fault in
+    search rules
+
+pub returns-then-is-5-clause-asked : goal.returns-then-is-5-clause-asked
+returns-then-is-5-clause-asked c = λ words has. record {
+  command = named has (codes "init") (c.is-5.ensures.0 c.if-is-5.true);
+  folder = sym (word_is has (codes "folder")) ∙ sym c.in_ok-founding.ensures.folder;
+}
+
+pub returns-then-is-5-clause-numbers : goal.returns-then-is-5-clause-numbers
+returns-then-is-5-clause-numbers c = λ words has.
+    number_is has (codes "count") _ c.in_ok-founding.ensures.number

@@ -3,7 +3,8 @@ use Rattle.std.proofs.KnownBytes.{Consumes-trans}
 use Rattle.snap_frame.specs.Stream.{Held, IsBytes, IsNextReply}
 use Rattle.snap_frame.specs.declared.reply_feed.ReplyFault.TheVariants.{Failed}
 use Rattle.snap_frame.specs.declared.frame_buffer.Failure.TheVariants.{TooLarge}
-use Rattle.snap_client.proofs.Remainder.{few_bytes, bytes-append}
+use Rattle.snap_frame.proofs.Cuts.{partial_is_short}
+use Rattle.snap_frame.proofs.Decode.{bytes-append}
 use Rattle.snap_client.proofs.Replies.{read_more}
 use Rattle.snap_client.proofs.exchange.hear.Goals as goal
 
@@ -34,7 +35,7 @@ loop-n-smaller g c =
     ap (λ (z : Held). z.bytes) next.1 ∙ ap (λ (z : Held). z.bytes) pushed in
     omega (
       arith,
-      few_bytes _ c.loop-n.invariant.bytes c.loop-n.invariant.partial,
+      partial_is_short _ c.loop-n.invariant.bytes c.loop-n.invariant.partial,
       ap length held,
       length-append c.loop-n.feed.bytes piece,
       length-take c.in-Ok.n c.read.new.buf,

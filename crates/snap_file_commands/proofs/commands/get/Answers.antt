@@ -1,4 +1,3 @@
-use Rattle.std.proofs.Common.{rules}
 use Rattle.snap_file_commands.proofs.commands.get.Goals as goal
 
 pub returns-in-Ok-write_whole-clause-wrong_length :
@@ -10,9 +9,3 @@ pub returns-in-Err-write_whole-clause-wrong_length :
     goal.returns-in-Err-write_whole-clause-wrong_length
 returns-in-Err-write_whole-clause-wrong_length g c =
     λ other. absurd (other c.in-Ok.ensures.file_length)
-
-pub returns-in-Ok-write_whole-clause-ends : goal.returns-in-Ok-write_whole-clause-ends
-returns-in-Ok-write_whole-clause-ends g c = search rules
-
-pub returns-in-Err-write_whole-clause-ends : goal.returns-in-Err-write_whole-clause-ends
-returns-in-Err-write_whole-clause-ends g c = search rules

@@ -1,14 +1,10 @@
-use Rattle.std.proofs.Common.{rules, ◌≡◌, ℕ, [], take, subst, sym, ap, ◌∙◌, Err}
+use Rattle.std.proofs.Common.{rules, ◌≡◌, [], take, ap, ◌∙◌, Err}
 use Rattle.std.proofs.KnownBytes.{Keeps-refl}
-use Rattle.snap_disk.specs.Device.{MayLeave}
-use Rattle.snap_disk.specs.Time.{LeavesOnly}
 use Rattle.snap_stream.proofs.Known.{had}
-use Rattle.snap_file_commands.specs.Calls.{CountsPut}
-use Rattle.snap_file_commands.specs.Commands.{CountsEnd, EndsPut, PutLeaves}
 use Rattle.snap_file_commands.specs.Effects.{LeavesNoMore}
 use Rattle.snap_file_commands.specs.declared.failure.CommandFailure.TheVariants.{Refused}
 use Rattle.snap_file_commands.proofs.Refused.{put_keeps, refused_count, refused_keeps, refused_open}
-use Rattle.snap_file_commands.proofs.Stored.{held, put_calls, put_ends, put_leaves, store_ends_put}
+use Rattle.snap_file_commands.proofs.Stored.{held, put_calls, put_leaves, store_ends_put}
 use Rattle.snap_file_commands.proofs.commands.put.Goals as goal
 
 pub returns-in-Err-open-clause-count : goal.returns-in-Err-open-clause-count
@@ -46,52 +42,38 @@ returns-in-Err-open-clause-keeps g c =
 
 pub returns-clause-honest : goal.returns-clause-honest
 returns-clause-honest g c = λ honest. c.in-Ok-open.ensures.honest_ok
-    (c.store-end.ensures.honest (subst g.D.Disk.is_honest c.into_device.ensures.device honest))
+    (c.store-end.ensures.honest (rw c.into_device.ensures.device at honest))
 
 pub returns-clause-count : goal.returns-clause-count
-returns-clause-count g c =
-    let failures = g.D.Disk.failure_count in
-    subst (λ (d : g.row.D.Denot). CountsEnd c.store-end.result (failures c.args.disk) (failures d))
-    (sym c.into_device.ensures.device)
-    (subst (λ (k : ℕ). CountsEnd c.store-end.result k (failures c.store-end.new.segment.device))
-    c.in-Ok-open.ensures.count_ok c.store-end.ensures.count)
+returns-clause-count g c = rw c.into_device.ensures.device
+    (rw c.in-Ok-open.ensures.count_ok at c.store-end.ensures.count)
 
 pub returns-clause-calls : goal.returns-clause-calls
-returns-clause-calls g c =
-    let clock = g.D.Disk.clock in
-    subst (λ (d : g.row.D.Denot). CountsPut c.store-end.result (clock c.args.disk) (clock d))
-    (sym c.into_device.ensures.device)
+returns-clause-calls g c = rw c.into_device.ensures.device
     (put_calls _ _ _ c.store-end.result c.in-Ok-open.ensures.calls_ok c.store-end.ensures.calls)
 
 pub returns-clause-ends : goal.returns-clause-ends
 returns-clause-ends g c =
-    let device = g.D.Disk.device in
+    let device = g.D.Disk.device c.args.disk in
     let came = c.in-Ok.ensures in
     let segment = c.in-Ok-open.segment in
     let opened = c.in-Ok-open.ensures in
-    subst (λ (d : g.row.D.Denot). EndsPut (g.D.Disk.is_honest d) c.args.index c.args.count
-    (g.R.Read.remaining c.args.reader.now) (device c.args.disk) (device d)
-    (g.W.Write.contents c.args.writer.now) (g.W.Write.contents c.store-end.new.writer)
-    c.store-end.result)
-    (sym c.into_device.ensures.device)
-    (put_ends _ _ _ _ _ _ _ _ _ _ _ c.store-end.result opened.opened.0 opened.opened.1
-    (had _ _ _ came.came (came.ended (search rules)))
-    (c.store-end.ensures.ends (device c.args.disk) (λ honest. held c.args.index c.args.count
-    segment.index segment.count segment.number segment.value (device c.args.disk).bytes
-    opened.opened.0 opened.opened.1 opened.file_length (opened.holds honest))))
+    let ends = c.store-end.ensures.ends device (λ honest. held c.args.index c.args.count
+    segment.index segment.count segment.number segment.value device.bytes
+    opened.opened.0 opened.opened.1 opened.file_length (opened.holds honest)) in
+    rw c.into_device.ensures.device (store_ends_put _ _ _ _ _ _ _ _ _ c.store-end.result
+    (had _ _ _ came.came (came.ended (search rules))) (rw (opened.opened.0, opened.opened.1) at ends))
 
 pub returns-clause-keeps : goal.returns-clause-keeps
 returns-clause-keeps g c =
-    let device = g.D.Disk.device in
+    let device = g.D.Disk.device c.args.disk in
     let segment = c.in-Ok-open.segment in
     let opened = c.in-Ok-open.ensures in
     put_keeps _ _ _ _ _ _ _ _ _ _ _ c.store-end.result (λ same honest.
     let is = c.into_device.ensures.device ∙ ap (λ s. s.device) same in
-    subst (λ (d : g.row.D.Denot). LeavesOnly g.D.Disk c.args.disk d
-    (MayLeave (device c.args.disk))) (sym is)
-    (opened.any_time_ok (subst g.D.Disk.is_honest is honest)))
-    (c.store-end.ensures.ends (device c.args.disk) (λ honest. held c.args.index c.args.count
-    segment.index segment.count segment.number segment.value (device c.args.disk).bytes
+    rw is (opened.any_time_ok (rw is at honest)))
+    (c.store-end.ensures.ends device (λ honest. held c.args.index c.args.count
+    segment.index segment.count segment.number segment.value device.bytes
     opened.opened.0 opened.opened.1 opened.file_length (opened.holds honest)))
     c.store-end.ensures.keeps
 
@@ -103,12 +85,9 @@ returns-clause-any_time g c = λ honest.
     let came = c.in-Ok.ensures in
     let segment = c.in-Ok-open.segment in
     let opened = c.in-Ok-open.ensures in
-    let is_honest = subst g.D.Disk.is_honest c.into_device.ensures.device honest in
+    let is_honest = rw c.into_device.ensures.device at honest in
     let was_honest = c.store-end.ensures.honest is_honest in
-    subst (λ (d : g.row.D.Denot). LeavesOnly g.D.Disk c.args.disk d
-    (PutLeaves c.args.index c.args.count (g.R.Read.remaining c.args.reader.now)
-    (g.D.Disk.device c.args.disk))) (sym c.into_device.ensures.device)
-    (put_leaves g.D.Disk
+    rw c.into_device.ensures.device (put_leaves g.D.Disk
     (g.D.Disk.is_honest c.store-end.new.segment.device) c.args.disk segment c.store-end.new.segment
     (g.D.Disk.device c.args.disk) _ c.args.index c.args.count _ is_honest opened.opened.0
     opened.opened.1 (had _ _ _ came.came (came.ended (search rules))) (opened.holds was_honest)

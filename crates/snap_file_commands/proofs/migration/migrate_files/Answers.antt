@@ -1,17 +1,16 @@
-use Rattle.std.proofs.Common.{rules, ◌≡◌, ◌++◌, ◌∙◌, ap, ap₂, subst, List, ℕ, Err, codes}
+use Rattle.std.proofs.Common.{rules, ◌≡◌, ◌++◌, ◌∙◌, ap, ap₂, List, ℕ, Err, codes}
 use Rattle.std.specs.Fmt.{decimal}
-use Rattle.std.specs.Io.KnownBytes.{Appends}
 use Rattle.snap_disk.specs.Device.{MayLeave}
 use Rattle.snap_disk.specs.Time.{LeavesOnly}
 use Rattle.snap_disk.specs.declared.refusal.Refusal.{Refusal}
 use Rattle.snap_disk.specs.declared.refusal.Refusal.TheVariants.{DeviceFailed}
 use Rattle.snap_segment.specs.declared.migration.Which.{Which}
 use Rattle.snap_segment.specs.declared.migration.Which.TheVariants.{Old}
-use Rattle.snap_stream.specs.Streams.{AppendsBeginning}
-use Rattle.snap_file_commands.specs.Migration.{MigrationLeaves, migrated_line}
+use Rattle.snap_file_commands.specs.Migration.{IsMigrated, MigrationLeaves, migrated_line}
 use Rattle.snap_file_commands.proofs.Carried.{by_refusal, made_leaves, migrated, migration_keeps, refused_reads, told_apart}
 use Rattle.snap_file_commands.proofs.Carried.{untouched_leaves}
 use Rattle.snap_file_commands.proofs.migration.migrate_files.Goals as goal
+use Rattle.snap_file_commands.proofs.migration.migrate_files.Goals.{After-write_whole}
 
 pub returns-in-Err-clause-new_any_time : goal.returns-in-Err-clause-new_any_time
 returns-in-Err-clause-new_any_time g c = λ old_honest new_honest.
@@ -33,14 +32,36 @@ returns-in-Err-clause-new_any_time g c = λ old_honest new_honest.
     (λ past. made_leaves disk c.args.new c.migrate.new.new index count old new
     (answer.old_read old_honest past) (answer.any_time old_honest new_honest))
 
+-- the line that is written once the old file was carried over
+line : (g : _) (c : After-write_whole g) → c.as_bytes.result.now
+    ≡ migrated_line c.args.order.now.index c.args.order.now.count c.in-Ok-migrate.number
+line g c = c.as_bytes.ensures.value ∙ c.end_line.ensures
+    ∙ ap (λ (l : List ℕ). l ++ (decimal c.in-Ok-migrate.number ++ codes "\n")) c.in-Ok.ensures.text
+
+-- what both files are then
+carried : (g : _) (c : After-write_whole g) → g.O.Disk.is_honest c.migrate.new.old
+    → g.N.Disk.is_honest c.migrate.new.new
+    → IsMigrated c.args.order.now.index c.args.order.now.count c.in-Ok-migrate.number
+    (g.O.Disk.device c.args.old) (g.N.Disk.device c.args.new) (g.N.Disk.device c.migrate.new.new)
+carried g c old_honest new_honest =
+    let answer = c.in-Ok-migrate.ensures in
+    migrated _ _ _ _ _ _ (answer.old_read old_honest tt) (answer.unformatted new_honest)
+    (answer.last old_honest new_honest) (answer.bytes old_honest new_honest)
+
+-- and what a crash leaves of the new one
+leaves : (g : _) (c : After-write_whole g) → g.O.Disk.is_honest c.migrate.new.old
+    → g.N.Disk.is_honest c.migrate.new.new → LeavesOnly g.N.Disk c.args.new c.migrate.new.new
+    (MigrationLeaves c.args.order.now.index c.args.order.now.count (g.O.Disk.device c.args.old)
+    (g.N.Disk.device c.args.new))
+leaves g c old_honest new_honest =
+    let answer = c.in-Ok-migrate.ensures in
+    made_leaves g.N.Disk c.args.new c.migrate.new.new c.args.order.now.index c.args.order.now.count
+    (g.O.Disk.device c.args.old) (g.N.Disk.device c.args.new) (answer.old_read old_honest tt)
+    (answer.any_time old_honest new_honest)
+
 pub returns-in-Ok-write_whole-clause-ends : goal.returns-in-Ok-write_whole-clause-ends
 returns-in-Ok-write_whole-clause-ends g c =
-    let answer = c.in-Ok-migrate.ensures in
-    let line : c.as_bytes.result.now
-    ≡ migrated_line c.args.order.now.index c.args.order.now.count c.in-Ok-migrate.number =
-    c.as_bytes.ensures.value ∙ c.end_line.ensures
-    ∙ ap (λ (l : List ℕ). l ++ (decimal c.in-Ok-migrate.number ++ codes "\n"))
-    c.in-Ok.ensures.text in record {
+    let at = (goal.at.returns-in-Ok-write_whole-clause-ends g c).After-write_whole in record {
       count = search rules;
       old_calls = search rules;
       new_calls = search rules;
@@ -49,57 +70,30 @@ returns-in-Ok-write_whole-clause-ends g c =
       ends = (
         c.in-Ok-migrate.number,
         search rules,
-        (λ old_honest new_honest. migrated c.args.order.now.index c.args.order.now.count
-            c.in-Ok-migrate.number (g.O.Disk.device c.args.old) (g.N.Disk.device c.args.new)
-            (g.N.Disk.device c.migrate.new.new) (answer.old_read old_honest tt)
-            (answer.unformatted new_honest) (answer.last old_honest new_honest)
-            (answer.bytes old_honest new_honest)),
-        subst (λ (l : List ℕ). Appends (g.W.Write.contents c.args.writer.now)
-            (g.W.Write.contents c.write_whole.new.writer) l) line c.in-Ok-write_whole.ensures.whole,
+        carried g at,
+        rw (line g at) at c.in-Ok-write_whole.ensures.whole,
       );
     }
 
 pub returns-in-Ok-write_whole-clause-new_any_time :
     goal.returns-in-Ok-write_whole-clause-new_any_time
-returns-in-Ok-write_whole-clause-new_any_time g c = λ old_honest new_honest.
-    let answer = c.in-Ok-migrate.ensures in
-    made_leaves g.N.Disk c.args.new c.migrate.new.new
-    c.args.order.now.index c.args.order.now.count (g.O.Disk.device c.args.old)
-    (g.N.Disk.device c.args.new) (answer.old_read old_honest tt)
-    (answer.any_time old_honest new_honest)
+returns-in-Ok-write_whole-clause-new_any_time g c =
+    leaves g (goal.at.returns-in-Ok-write_whole-clause-new_any_time g c).After-write_whole
 
 pub returns-clause-ends : goal.returns-clause-ends
 returns-clause-ends g c =
-    let answer = c.in-Ok-migrate.ensures in
-    let line : c.as_bytes.result.now
-    ≡ migrated_line c.args.order.now.index c.args.order.now.count c.in-Ok-migrate.number =
-    c.as_bytes.ensures.value ∙ c.end_line.ensures
-    ∙ ap (λ (l : List ℕ). l ++ (decimal c.in-Ok-migrate.number ++ codes "\n"))
-    c.in-Ok.ensures.text in record {
+    let at = (goal.at.returns-clause-ends g c).After-write_whole in record {
       count = search rules;
       old_calls = search rules;
       new_calls = search rules;
       reads = search rules;
       keeps = tt;
-      ends = (
-        c.in-Ok-migrate.number,
-        (λ old_honest new_honest. migrated c.args.order.now.index c.args.order.now.count
-            c.in-Ok-migrate.number (g.O.Disk.device c.args.old) (g.N.Disk.device c.args.new)
-            (g.N.Disk.device c.migrate.new.new) (answer.old_read old_honest tt)
-            (answer.unformatted new_honest) (answer.last old_honest new_honest)
-            (answer.bytes old_honest new_honest)),
-        subst (λ (l : List ℕ). AppendsBeginning (g.W.Write.contents c.args.writer.now)
-            (g.W.Write.contents c.write_whole.new.writer) l) line c.write_whole.ensures.beginning,
-      );
+      ends = (c.in-Ok-migrate.number, carried g at, rw (line g at) at c.write_whole.ensures.beginning);
     }
 
 pub returns-clause-new_any_time : goal.returns-clause-new_any_time
-returns-clause-new_any_time g c = λ old_honest new_honest.
-    let answer = c.in-Ok-migrate.ensures in
-    made_leaves g.N.Disk c.args.new c.migrate.new.new
-    c.args.order.now.index c.args.order.now.count (g.O.Disk.device c.args.old)
-    (g.N.Disk.device c.args.new) (answer.old_read old_honest tt)
-    (answer.any_time old_honest new_honest)
+returns-clause-new_any_time g c =
+    leaves g (goal.at.returns-clause-new_any_time g c).After-write_whole
 
 pub returns-in-Err-clause-ends : goal.returns-in-Err-clause-ends
 returns-in-Err-clause-ends g c =

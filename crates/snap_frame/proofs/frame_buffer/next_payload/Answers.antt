@@ -2,17 +2,12 @@ use Rattle.std.proofs.Common.{sym, ◌∙◌}
 use Rattle.snap_frame.proofs.Decode.{answered, refused}
 use Rattle.snap_frame.proofs.frame_buffer.next_payload.Goals as goal
 
-pub returns-in-Ok-clause-found : goal.returns-in-Ok-clause-found
-returns-in-Ok-clause-found c =
-    (answered c.args.codec.now c.decode-decoded.new.self c.args.bytes.now.items
+pub returns-in-Ok : goal.returns-in-Ok
+returns-in-Ok c =
+    let both = answered c.args.codec.now c.decode-decoded.new.self c.args.bytes.now.items
     c.decode-decoded.new.src.items c.in-Ok.payload c.requires c.all_bytes.ensures
-    c.all_bytes-2.ensures c.in-Ok.ensures.next c.in-Ok.ensures.settled).0
-
-pub returns-in-Ok-clause-ready : goal.returns-in-Ok-clause-ready
-returns-in-Ok-clause-ready c =
-    (answered c.args.codec.now c.decode-decoded.new.self c.args.bytes.now.items
-    c.decode-decoded.new.src.items c.in-Ok.payload c.requires c.all_bytes.ensures
-    c.all_bytes-2.ensures c.in-Ok.ensures.next c.in-Ok.ensures.settled).1
+    c.all_bytes-2.ensures c.in-Ok.ensures.next c.in-Ok.ensures.settled in
+    record { found = both.0; ready = both.1 }
 
 pub returns-in-OutOfMemory-clause-found : goal.returns-in-OutOfMemory-clause-found
 returns-in-OutOfMemory-clause-found c =

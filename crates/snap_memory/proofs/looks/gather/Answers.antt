@@ -1,4 +1,4 @@
-use Rattle.std.proofs.Common.{◌≡◌, ℕ, ◌^◌, ◌<◌, List, sym, subst, ◌∙◌, arith}
+use Rattle.std.proofs.Common.{◌≡◌, ℕ, ◌^◌, ◌<◌, List, slice_set, sym, subst, ◌∙◌, arith}
 use Rattle.snap_scan.specs.declared.next.Next.{Next}
 use Rattle.snap_scan.specs.declared.next.Next.TheVariants.{Clean, Borrow}
 use Rattle.snap_scan.specs.Looks.{IsBorrow}
@@ -8,7 +8,7 @@ use Rattle.snap_register.specs.Rule.{segments}
 use Rattle.snap_register.specs.declared.plan.Plan.{Plan}
 use Rattle.snap_scan.proofs.Sets.{at_some, at_below, at_named, some}
 use Rattle.snap_memory.specs.Scans.{IsCleanScan, TakesLooksOf}
-use Rattle.snap_memory.proofs.Collects.{Gathers-none, Gathers-look, told_fits, takes_looks, clean_some, borrow_some, clean_scan}
+use Rattle.snap_memory.proofs.Collects.{Gathers, Gathers-none, Gathers-look, told_fits, takes_looks, clean_some, borrow_some, clean_scan}
 use Rattle.snap_memory.proofs.Collects.{numbers_are, borrowed_scan}
 use Rattle.snap_memory.proofs.looks.gather.Goals as goal
 
@@ -24,15 +24,15 @@ no_borrow set told v decides clean p b = not_both v _ clean
 pub looks-init : goal.looks-init
 looks-init g c =
     let a = g.L.Looker.known c.args.seat.now in
-    let set_is = c.of-scan.ensures.set in
-    let short : c.args.set.bits < 2 ^ 16 = omega (arith, c.well_formed, c.of-scan.type_inv) in
+    let set = c.args.set.bits in
+    let short : set < 2 ^ 16 = omega (arith, c.well_formed, c.of-scan.type_inv) in
     record {
-      gathers = Gathers-none a c.of-scan.result c.args.numbers.now
-          (subst (λ v. v < 2 ^ segments a.plan) (sym set_is) c.requires.set.among)
-          (subst (λ v. v < 2 ^ 16) (sym set_is) short)
-          (subst (λ v. 0 < size v) (sym set_is) (some c.args.set.bits short c.requires.set.some))
-          c.told-numbers c.of-scan.ensures.told;
-      set = set_is;
+      gathers = subst (λ v. Gathers a a v c.of-scan.result.told c.args.numbers.now)
+          (sym c.of-scan.ensures.set)
+          (subst (λ L. Gathers a a set L c.args.numbers.now) (sym c.of-scan.ensures.told)
+          (Gathers-none a set c.args.numbers.now c.requires.set.among short
+          (some set short c.requires.set.some) c.told-numbers));
+      set = c.of-scan.ensures.set;
     }
 
 -- the segment whose turn it is
@@ -57,22 +57,27 @@ offset_bounds-numbers-segment g c =
 pub told-requires-clause-rising : goal.told-requires-clause-rising
 told-requires-clause-rising g c =
     told_fits (g.L.Looker.known c.args.seat.now) (g.L.Looker.known c.looks.seat)
-    (g.L.Looker.known c.look-number.new.self) c.looks.scan c.looks.numbers c.in-Look.segment
-    c.look-number.result
+    (g.L.Looker.known c.look-number.new.self) c.looks.scan.set c.looks.scan.told c.looks.numbers
+    c.in-Look.segment c.look-number.result
     c.looks.invariant.gathers (c.next.ensures.decides.look c.in-Look.segment c.in-Look.is)
     c.look-number.ensures.seen c.look-number.ensures.number
 
 pub looks-preserved : goal.looks-preserved
 looks-preserved g c =
+    let a = g.L.Looker.known c.args.seat.now in
+    let b = g.L.Looker.known c.look-number.new.self in
+    let set = c.looks.scan.set in
+    let told = c.told.new.self.told in
+    let numbers = slice_set c.looks.numbers c.in-Look.segment c.look-number.result in
     record {
-      gathers = Gathers-look (g.L.Looker.known c.args.seat.now) (g.L.Looker.known c.looks.seat)
-          (g.L.Looker.known c.look-number.new.self) c.looks.scan c.looks.numbers c.in-Look.segment
-          c.look-number.result
-          c.looks.invariant.gathers (c.next.ensures.decides.look c.in-Look.segment c.in-Look.is)
-          c.look-number.ensures.seen c.look-number.ensures.number
-          c.told.new.self c.told.ensures.set c.told.ensures.told
+      gathers = subst (λ v. Gathers a b v told numbers) (sym c.told.ensures.set)
+          (subst (λ L. Gathers a b set L numbers) (sym c.told.ensures.told)
+          (Gathers-look a (g.L.Looker.known c.looks.seat) b set c.looks.scan.told c.looks.numbers
+          c.in-Look.segment c.look-number.result c.looks.invariant.gathers
+          (c.next.ensures.decides.look c.in-Look.segment c.in-Look.is) c.look-number.ensures.seen
+          c.look-number.ensures.number
           (c.next.ensures.decides.bound c.in-Look.segment c.in-Look.is) c.look-number.ensures.looked
-          c.look-number.ensures.sights c.look-number.ensures.left c.look-number.ensures.below;
+          c.look-number.ensures.sights c.look-number.ensures.left c.look-number.ensures.below));
       set = c.told.ensures.set ∙ c.looks.invariant.set;
     }
 
@@ -80,13 +85,13 @@ pub returns-in-Clean-clause-below : goal.returns-in-Clean-clause-below
 returns-in-Clean-clause-below g c =
     let clean = c.next.ensures.decides.clean.0 c.in-Clean.is in
     let gathers = c.looks.invariant.gathers in
-    gathers.below (clean_some _ _ _ _ gathers clean)
+    gathers.below (clean_some _ _ _ _ _ gathers clean)
 
 pub returns-in-Clean-clause-scan : goal.returns-in-Clean-clause-scan
 returns-in-Clean-clause-scan g c =
     subst (λ v. IsCleanScan v (g.L.Looker.known c.args.seat.now) (g.L.Looker.known c.looks.seat))
     c.looks.invariant.set
-    (clean_scan _ _ _ _ c.looks.invariant.gathers (c.next.ensures.decides.clean.0 c.in-Clean.is)
+    (clean_scan _ _ _ _ _ c.looks.invariant.gathers (c.next.ensures.decides.clean.0 c.in-Clean.is)
     (no_borrow _ _ _ c.next.ensures.decides c.in-Clean.is))
 
 pub returns-in-Clean-clause-left : goal.returns-in-Clean-clause-left
@@ -94,12 +99,12 @@ returns-in-Clean-clause-left g c =
     let gathers = c.looks.invariant.gathers in
     subst (λ v. TakesLooksOf (size v) (g.L.Looker.known c.args.seat.now)
     (g.L.Looker.known c.looks.seat)) c.looks.invariant.set
-    (takes_looks _ _ _ _ gathers
-    (clean_some _ _ _ _ gathers (c.next.ensures.decides.clean.0 c.in-Clean.is)))
+    (takes_looks _ _ _ _ _ gathers
+    (clean_some _ _ _ _ _ gathers (c.next.ensures.decides.clean.0 c.in-Clean.is)))
 
 pub returns-in-Clean-clause-numbers : goal.returns-in-Clean-clause-numbers
 returns-in-Clean-clause-numbers g c = λ _ i l named.
-    numbers_are _ _ _ _ c.looks.invariant.gathers (c.next.ensures.decides.clean.0 c.in-Clean.is)
+    numbers_are _ _ _ _ _ c.looks.invariant.gathers (c.next.ensures.decides.clean.0 c.in-Clean.is)
     (no_borrow _ _ _ c.next.ensures.decides c.in-Clean.is) i l
     (subst (λ v. Names v i) (sym c.looks.invariant.set) named)
 
@@ -107,11 +112,11 @@ pub returns-in-Borrow-clause-below : goal.returns-in-Borrow-clause-below
 returns-in-Borrow-clause-below g c =
     let from = (c.next.ensures.decides.borrow c.in-Borrow.segment).0 c.in-Borrow.is in
     let gathers = c.looks.invariant.gathers in
-    gathers.below (borrow_some _ _ _ _ gathers from.0 from.2)
+    gathers.below (borrow_some _ _ _ _ _ gathers from.0 from.2)
 
 pub returns-in-Borrow-clause-scan : goal.returns-in-Borrow-clause-scan
 returns-in-Borrow-clause-scan g c =
-    borrowed_scan _ _ _ _ c.looks.invariant.gathers c.in-Borrow.segment
+    borrowed_scan _ _ _ _ _ c.looks.invariant.gathers c.in-Borrow.segment
     ((c.next.ensures.decides.borrow c.in-Borrow.segment).0 c.in-Borrow.is)
 
 pub returns-in-Borrow-clause-left : goal.returns-in-Borrow-clause-left
@@ -120,4 +125,4 @@ returns-in-Borrow-clause-left g c =
     let gathers = c.looks.invariant.gathers in
     subst (λ v. TakesLooksOf (size v) (g.L.Looker.known c.args.seat.now)
     (g.L.Looker.known c.looks.seat)) c.looks.invariant.set
-    (takes_looks _ _ _ _ gathers (borrow_some _ _ _ _ gathers from.0 from.2))
+    (takes_looks _ _ _ _ _ gathers (borrow_some _ _ _ _ _ gathers from.0 from.2))

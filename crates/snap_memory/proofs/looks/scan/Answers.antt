@@ -5,28 +5,29 @@ use Rattle.snap_memory.proofs.looks.scan.Goals as goal
 
 pub scan_some-requires-clause-set : goal.scan_some-requires-clause-set
 scan_some-requires-clause-set g c =
-    all_set (g.L.Looker.known c.args.seat.now) c.segments.result c.all.result.bits
-    c.segments.ensures.count c.all.ensures.all c.segments.ensures.some.0
+    all_set (g.L.Looker.known c.args.seat.now) _ _ c.segments.ensures.count c.all.ensures.all
+    c.segments.ensures.some.0
 
 pub scan_some-requires-clause-left : goal.scan_some-requires-clause-left
 scan_some-requires-clause-left g c =
     let a = g.L.Looker.known c.args.seat.now in
-    subst (λ n. HasLooks n a) (sym (all_count a c.segments.result c.all.result.bits
-    c.segments.ensures.count c.all.ensures.all c.segments.ensures.some.1)) c.requires.left
+    let n = c.segments.ensures in
+    subst (λ n. HasLooks n a) (sym (all_count a _ _ n.count c.all.ensures.all n.some.1))
+    c.requires.left
 
 pub returns-clause-snapshot : goal.returns-clause-snapshot
 returns-clause-snapshot g c =
     let a = g.L.Looker.known c.args.seat.now in
     let b = g.L.Looker.known c.scan_some.new.seat in
-    snapshot_all a b (all_grown a b c.scan_some.ensures.seen c.segments.result
-    c.segments.ensures.count c.segments.ensures.some.1) c.scan_some.new.out
+    let n = c.segments.ensures in
+    let seen = c.scan_some.ensures.seen in
+    snapshot_all a b (all_grown a b seen _ n.count n.some.1) c.scan_some.new.out
     (subst (λ v. HasPart v a b c.scan_some.new.out)
-    (all_is a c.segments.result c.all.result.bits c.segments.ensures.count c.all.ensures.all
-    ∙ all_same a b c.scan_some.ensures.seen) c.scan_some.ensures.part)
+    (all_is a _ _ n.count c.all.ensures.all ∙ all_same a b seen) c.scan_some.ensures.part)
 
 pub returns-clause-left : goal.returns-clause-left
 returns-clause-left g c =
     let a = g.L.Looker.known c.args.seat.now in
-    subst (λ n. TakesLooksOf n a (g.L.Looker.known c.scan_some.new.seat)) (all_count a
-    c.segments.result c.all.result.bits c.segments.ensures.count c.all.ensures.all
-    c.segments.ensures.some.1) c.scan_some.ensures.left
+    let n = c.segments.ensures in
+    subst (λ n. TakesLooksOf n a (g.L.Looker.known c.scan_some.new.seat))
+    (all_count a _ _ n.count c.all.ensures.all n.some.1) c.scan_some.ensures.left

@@ -1,14 +1,14 @@
-use Rattle.std.proofs.Common.{◌≡◌, ◌+◌, [], ◌∷◌, ◌++◌, None, length, map, Some, refl, ap, sym, subst, ◌∙◌, arith}
+use Rattle.std.proofs.Common.{◌≡◌, ◌+◌, [], ◌∷◌, ◌++◌, None, map, Some, refl, ap, sym, subst, ◌∙◌, arith}
 use Rattle.std.proofs.lemmas.Bool.{iff_false}
 use Rattle.std.proofs.lemmas.List.{length-set, map-append}
-use Rattle.std.proofs.lemmas.Option.{slice_get_read}
 use Rattle.snap_register.specs.Rule.{segments}
 use Rattle.snap_register.specs.Seat.{Known}
 use Rattle.snap_scan.specs.Sets.{named_below}
 use Rattle.snap_scan.specs.Values.{pair_of}
 use Rattle.snap_scan.proofs.Sets.{list_named, list_unnamed, named_all}
-use Rattle.snap_memory.specs.Rooms.{AreEntries, IsEntry, IsKeptOf}
-use Rattle.snap_memory.proofs.Kept.{kept_at, kept_set}
+use Rattle.snap_memory.specs.Rooms.{AreEntries, IsEntry}
+use Rattle.snap_memory.proofs.Kept.{kept_of, kept_in}
+use Rattle.snap_memory.proofs.ScanAnswer.{entries_short}
 use Rattle.snap_memory.proofs.room.list.Goals.{then-has+in_ok-entry+in_ok-push, else-has}
 use Rattle.snap_memory.proofs.room.list.Goals as goal
 
@@ -28,47 +28,29 @@ loop-i-init g c = record {
 pub take_entry-requires-clause-kept : goal.take_entry-requires-clause-kept
 take_entry-requires-clause-kept g c =
     let inv = c.loop-i.invariant in
-    let long = inv.room in
-    let room = c.requires.room in
-    let count = c.segments-i-end.ensures.count in
-    let test = c.loop-i-test.true in
-    subst (λ (z : Known). IsKeptOf z c.loop-i.i c.index_mut.result.now) (sym inv.same)
-    (kept_at (g.L.Looker.known c.args.seat.now) c.loop-i.room.items c.loop-i.i
-    c.index_mut.result.now inv.kept
-    (slice_get_read c.loop-i.room.items (length c.loop-i.room.items) c.loop-i.i
-    c.index_mut.result.now refl (omega arith) c.index_mut.ensures.value))
+    kept_of (g.L.Looker.known c.args.seat.now) (g.L.Looker.known c.loop-i.seat) _ _ _ _ inv.room
+    c.requires.room c.segments-i-end.ensures.count c.loop-i-test.true c.index_mut.result.now inv.same
+    inv.kept c.index_mut.ensures.value
 
 -- and what is kept of it then
 pub returns-in_err-entry-clause-kept : goal.returns-in_err-entry-clause-kept
 returns-in_err-entry-clause-kept g c =
     let inv = c.loop-i.invariant in
-    let long = inv.room in
-    let room = c.requires.room in
-    let count = c.segments-i-end.ensures.count in
-    let test = c.loop-i-test.true in
-    kept_set (g.L.Looker.known c.args.seat.now) c.loop-i.room.items c.loop-i.i c.take_entry.new.kept
-    inv.kept (omega arith) (subst (λ (z : Known). IsKeptOf z c.loop-i.i c.take_entry.new.kept)
-    inv.same c.take_entry.ensures.kept)
+    kept_in (g.L.Looker.known c.args.seat.now) (g.L.Looker.known c.loop-i.seat) _ _ _ _ inv.room
+    c.requires.room c.segments-i-end.ensures.count c.loop-i-test.true c.take_entry.new.kept inv.same
+    inv.kept c.take_entry.ensures.kept
 
 pub returns-in_err-push-clause-kept : goal.returns-in_err-push-clause-kept
 returns-in_err-push-clause-kept g c =
     let inv = c.loop-i.invariant in
-    let long = inv.room in
-    let room = c.requires.room in
-    let count = c.segments-i-end.ensures.count in
-    let test = c.loop-i-test.true in
-    kept_set (g.L.Looker.known c.args.seat.now) c.loop-i.room.items c.loop-i.i c.take_entry.new.kept
-    inv.kept (omega arith) (subst (λ (z : Known). IsKeptOf z c.loop-i.i c.take_entry.new.kept)
-    inv.same c.take_entry.ensures.kept)
+    kept_in (g.L.Looker.known c.args.seat.now) (g.L.Looker.known c.loop-i.seat) _ _ _ _ inv.room
+    c.requires.room c.segments-i-end.ensures.count c.loop-i-test.true c.take_entry.new.kept inv.same
+    inv.kept c.take_entry.ensures.kept
 
 pub loop-i-preserved : goal.loop-i-preserved
 loop-i-preserved g c =
     let inv = c.loop-i.invariant in
     let a = g.L.Looker.known c.args.seat.now in
-    let long = inv.room in
-    let room = c.requires.room in
-    let count = c.segments-i-end.ensures.count in
-    let test = c.loop-i-test.true in
     let before = map pair_of c.loop-i.values.items in
     elim c.if-has.branch [
       | then-has+in_ok-entry+in_ok-push w ↦ (
@@ -85,9 +67,9 @@ loop-i-preserved g c =
             set = refl;
             found = refl;
             room = length-set c.loop-i.room.items c.loop-i.i w.take_entry.new.kept ∙ inv.room;
-            kept = kept_set a c.loop-i.room.items c.loop-i.i w.take_entry.new.kept inv.kept
-                (omega arith) (subst (λ (z : Known). IsKeptOf z c.loop-i.i w.take_entry.new.kept)
-                inv.same w.take_entry.ensures.kept);
+            kept = kept_in a (g.L.Looker.known c.loop-i.seat) _ _ _ _ inv.room c.requires.room
+                c.segments-i-end.ensures.count c.loop-i-test.true w.take_entry.new.kept inv.same
+                inv.kept w.take_entry.ensures.kept;
             entries = subst (AreEntries (named_below c.args.set.bits (c.loop-i.i + 1)) a c.args.found)
                 (sym values) (record { count = listed.0; each = listed.1 });
           }))))
@@ -104,8 +86,8 @@ loop-i-preserved g c =
           }))))
     ]
 
-pub returns-clause-entries : goal.returns-clause-entries
-returns-clause-entries g c =
+pub returns : goal.returns
+returns g c =
     let a = g.L.Looker.known c.args.seat.now in
     let inv = c.loop-i.invariant in
     let count = c.segments-i-end.ensures.count in
@@ -113,6 +95,13 @@ returns-clause-entries g c =
     let done = c.loop-i-test.false in
     let end = c.loop-i.auto.i-end in
     let is : c.loop-i.i ≡ segments a.plan = omega arith in
-    subst (λ l. AreEntries l a c.args.found (map pair_of c.loop-i.values.items))
+    let entries = subst (λ l. AreEntries l a c.args.found (map pair_of c.loop-i.values.items))
     (ap (named_below c.args.set.bits) is ∙ named_all c.args.set.bits (segments a.plan) (omega arith)
-    c.requires.set) inv.entries
+    c.requires.set) inv.entries in
+    record {
+      entries = entries;
+      short = entries_short c.args.set.bits a a c.args.found c.loop-i.values.items entries;
+      room = inv.room;
+      kept = inv.kept;
+      same = inv.same;
+    }

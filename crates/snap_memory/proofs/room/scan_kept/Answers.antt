@@ -8,7 +8,7 @@ use Rattle.snap_scan.proofs.Sets.{names_below}
 use Rattle.snap_memory.specs.Rooms.{AreKept, WasSeen}
 use Rattle.snap_memory.specs.Scans.{IsScan, IsPart}
 use Rattle.snap_memory.proofs.Kept.{kept_grown}
-use Rattle.snap_memory.proofs.ScanAnswer.{list_clean, list_borrowed, entries_short, view_seen, map_ok}
+use Rattle.snap_memory.proofs.ScanAnswer.{list_clean, list_borrowed, view_seen, map_ok}
 use Rattle.snap_memory.proofs.room.scan_kept.Goals as goal
 
 pub list-requires-clause-found : goal.list-requires-clause-found
@@ -81,19 +81,7 @@ returns-in-Collected-clause-kept g c =
     subst (λ (z : Known). AreKept z c.list.new.room.items) (sym c.list.ensures.same)
     c.list.ensures.kept
 
-pub returns-in-Collected-clause-short : goal.returns-in-Collected-clause-short
-returns-in-Collected-clause-short g c =
-    map_ok c.list.result _ _ (λ values e. entries_short c.args.set.bits
-    (g.L.Looker.known c.args.seat.now) (g.L.Looker.known c.gather.new.seat) _ values.items e)
-    c.list.ensures.entries
-
 pub returns-in_ok-view-in-Borrowed-clause-kept : goal.returns-in_ok-view-in-Borrowed-clause-kept
 returns-in_ok-view-in-Borrowed-clause-kept g c =
     subst (λ (z : Known). AreKept z c.list-in-Borrowed.new.room.items)
     (sym c.list-in-Borrowed.ensures.same) c.list-in-Borrowed.ensures.kept
-
-pub returns-in_ok-view-in-Borrowed-clause-short : goal.returns-in_ok-view-in-Borrowed-clause-short
-returns-in_ok-view-in-Borrowed-clause-short g c =
-    map_ok c.list-in-Borrowed.result _ _ (λ values e. entries_short c.args.set.bits
-    (g.L.Looker.known c.args.seat.now) (g.L.Looker.known c.view.new.self) _ values.items e)
-    c.list-in-Borrowed.ensures.entries

@@ -3,36 +3,35 @@ use Rattle.snap_memory.specs.Scans.{HasLooks, IsScan, TakesLooksOf}
 use Rattle.snap_memory.proofs.ScanAnswer.{may_publish, all_set, all_is, all_count, all_grown, all_same}
 use Rattle.snap_memory.proofs.update.prepare.Goals as goal
 
-pub gather-requires-clause-set : goal.gather-requires-clause-set
-gather-requires-clause-set c =
-    all_set c.args.seat.now c.segments.result c.all.result.bits c.segments.ensures.count
-    c.all.ensures.all c.segments.ensures.some.0
-
-pub gather-requires-clause-left : goal.gather-requires-clause-left
-gather-requires-clause-left c =
+pub gather-requires : goal.gather-requires
+gather-requires c =
     let a = c.args.seat.now in
-    subst (λ n. HasLooks n a) (sym (all_count a c.segments.result c.all.result.bits
-    c.segments.ensures.count c.all.ensures.all c.segments.ensures.some.1)) c.requires.left
+    let n = c.segments.ensures in
+    record {
+      set = all_set a _ _ n.count c.all.ensures.all n.some.0;
+      left = subst (λ n. HasLooks n a) (sym (all_count a _ _ n.count c.all.ensures.all n.some.1))
+          c.requires.left;
+    }
 
 pub returns-clause-scan : goal.returns-clause-scan
 returns-clause-scan c =
     let a = c.args.seat.now in
-    subst (λ v. IsScan v a c.gather.new.seat c.gather.result) (all_is a c.segments.result
-    c.all.result.bits c.segments.ensures.count c.all.ensures.all) c.gather.ensures.scan
+    subst (λ v. IsScan v a c.gather.new.seat c.gather.result)
+    (all_is a _ _ c.segments.ensures.count c.all.ensures.all) c.gather.ensures.scan
 
 pub returns-clause-view : goal.returns-clause-view
 returns-clause-view c =
     let a = c.args.seat.now in
     let b = c.gather.new.seat in
     let g = c.gather.ensures.seen in
-    may_publish a b g c.segment-own.ensures.alone (all_grown a b g c.segments.result
-    c.segments.ensures.count c.segments.ensures.some.1) c.gather.result
-    (subst (λ v. IsScan v a b c.gather.result) (all_is a c.segments.result c.all.result.bits
-    c.segments.ensures.count c.all.ensures.all ∙ all_same a b g) c.gather.ensures.scan)
+    let n = c.segments.ensures in
+    may_publish a b g c.segment-own.ensures.alone (all_grown a b g _ n.count n.some.1)
+    c.gather.result (subst (λ v. IsScan v a b c.gather.result)
+    (all_is a _ _ n.count c.all.ensures.all ∙ all_same a b g) c.gather.ensures.scan)
 
 pub returns-clause-left : goal.returns-clause-left
 returns-clause-left c =
     let a = c.args.seat.now in
-    subst (λ n. TakesLooksOf n a c.gather.new.seat) (all_count a c.segments.result
-    c.all.result.bits c.segments.ensures.count c.all.ensures.all c.segments.ensures.some.1)
-    c.gather.ensures.left
+    let n = c.segments.ensures in
+    subst (λ n. TakesLooksOf n a c.gather.new.seat)
+    (all_count a _ _ n.count c.all.ensures.all n.some.1) c.gather.ensures.left

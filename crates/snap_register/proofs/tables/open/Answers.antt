@@ -1,8 +1,8 @@
 use Rattle.std.proofs.Common.{rules, ◌≡◌, ℕ, ◌<◌, List, [], length, subst, sym, ap, ◌∙◌, arith}
-use Rattle.atomic_table.specs.Table.{opening, Me}
+use Rattle.snap_register.specs.Registers.{Mine}
+use Rattle.atomic_table.specs.Table.{opening}
 use Rattle.atomic_table.specs.Seated.{TableId}
 use Rattle.snap_register.specs.declared.plan.Plan.{Plan}
-use Rattle.snap_register.specs.declared.plan.SeatView.{SeatView}
 use Rattle.snap_register.specs.History.{start_at}
 use Rattle.snap_register.specs.Rule.{Kept, segments}
 use Rattle.snap_register.specs.Setup.{plan_with, first_view, opening_words}
@@ -11,15 +11,15 @@ use Rattle.snap_register.proofs.Opens.{opens, wide, opening_words_are, first_is,
 use Rattle.snap_register.proofs.tables.open.Goals as goal
 use Rattle.snap_register.proofs.tables.open.Goals.{After-as_slice}
 
+abbrev plan : After-as_slice → Plan
+plan c = plan_with c.args.scanners c.args.looks c.args.block_words c.args.values.now.items
+
 -- the plan that the table is told is that of the values
 plan_is : (c : After-as_slice)
-    → plan_with c.args.scanners c.args.looks c.args.block_words c.of.result.value.items
-    ≡ plan_with c.args.scanners c.args.looks c.args.block_words c.args.values.now.items
+    → plan_with c.args.scanners c.args.looks c.args.block_words c.of.result.value.items ≡ plan c
 plan_is c = λ i. plan_with c.args.scanners c.args.looks c.args.block_words (c.of.ensures i).items
 
-words_are : (c : After-as_slice)
-    → c.as_slice.result.now ≡ opening_words
-    (plan_with c.args.scanners c.args.looks c.args.block_words c.args.values.now.items)
+words_are : (c : After-as_slice) → c.as_slice.result.now ≡ opening_words (plan c)
 words_are c = c.as_slice.ensures.value
     ∙ (c.in_ok-words.ensures ∙ opening_words_are c.len-n.result c.args.scanners c.args.looks
     c.args.block_words c.args.values.now.items (search rules))
@@ -27,37 +27,29 @@ words_are c = c.as_slice.ensures.value
 pub of_words-requires : goal.of_words-requires
 of_words-requires c =
     let a = (goal.at.of_words-requires c).After-as_slice in
-    let p : Plan = plan_with c.args.scanners c.args.looks c.args.block_words
-    c.args.values.now.items in
-    subst (λ (q : Plan). Kept {S = Unit {0}} q (opening c.as_slice.result.now [] (first_view q)))
-    (sym (plan_is a))
-    (subst (λ (ws : List ℕ). Kept {S = Unit {0}} p (opening ws [] (first_view p)))
-    (sym (words_are a)) (opens p c.requires.ready (Unit {0})))
+    subst (λ (x : Plan × List ℕ). Kept {S = Unit {0}} x.0 (opening x.1 [] (first_view x.0)))
+    (λ t. (sym (plan_is a) t, sym (words_are a) t)) (opens (plan a) c.requires.ready (Unit {0}))
 
 pub seat_writers-requires-clause-first : goal.seat_writers-requires-clause-first
 seat_writers-requires-clause-first c =
     let a = (goal.at.seat_writers-requires-clause-first c).After-as_slice in
     let tab = c.in_ok-table.ensures in
-    let p : Plan = plan_with c.args.scanners c.args.looks c.args.block_words
-    c.args.values.now.items in
     let me = tab.4 ∙ (λ i. (first_view (plan_is a i), [])) in
     let size_is = ap (λ (t : TableId). t.words) tab.2
-    ∙ (tab.0 ∙ (ap length (words_are a) ∙ wide p c.requires.ready)) in (
-      first_is (Unit {0}) p _ _ c.requires.ready size_is me,
-      ap (λ (m : Me (Unit {0}) SeatView). m.0.low) me,
-      ap (λ (m : Me (Unit {0}) SeatView). m.0.high) me
+    ∙ (tab.0 ∙ (ap length (words_are a) ∙ wide (plan a) c.requires.ready)) in (
+      first_is (Unit {0}) (plan a) _ _ c.requires.ready size_is me,
+      ap (λ (m : Mine). m.0.low) me,
+      ap (λ (m : Mine). m.0.high) me
           ∙ (sym (count_of c.args.values.now.items) ∙ (search rules)),
     )
 
 pub seat_writers-requires-clause-numbers : goal.seat_writers-requires-clause-numbers
 seat_writers-requires-clause-numbers c =
     let a = (goal.at.seat_writers-requires-clause-numbers c).After-as_slice in
-    let p : Plan = plan_with c.args.scanners c.args.looks c.args.block_words
-    c.args.values.now.items in
-    let first = ap (λ (m : Me (Unit {0}) SeatView). m.0.plan) c.in_ok-table.ensures.4 ∙ plan_is a in
+    let first = ap (λ (m : Mine). m.0.plan) c.in_ok-table.ensures.4 ∙ plan_is a in
     let l = count_of c.args.values.now.items in (
       search rules,
-      λ i li. let li' : i < segments p = subst (λ (q : Plan). i < segments q) first li in
+      λ i li. let li' : i < segments (plan a) = subst (λ (q : Plan). i < segments q) first li in
           base_of c.args.values.now.items i (omega arith)
           ∙ ap (λ (q : Plan). (start_at q i).number) (sym first),
     )
@@ -65,7 +57,7 @@ seat_writers-requires-clause-numbers c =
 pub returns-clause-seats : goal.returns-clause-seats
 returns-clause-seats c =
     let a = (goal.at.returns-clause-seats c).After-as_slice in
-    let first = ap (λ (m : Me (Unit {0}) SeatView). m.0.plan) c.in_ok-table.ensures.4 ∙ plan_is a in
+    let first = ap (λ (m : Mine). m.0.plan) c.in_ok-table.ensures.4 ∙ plan_is a in
     let placed = c.in_ok-writers.ensures.first_seat in (
       c.in_ok-table.first_seat.table_id,
       subst (λ (q : Plan). AreWriters c.in_ok-table.first_seat.table_id q

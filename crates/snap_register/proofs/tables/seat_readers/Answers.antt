@@ -1,11 +1,11 @@
-use Rattle.std.proofs.Common.{rules, ◌≡◌, ℕ, ◌<◌, List, subst, sym, ap, ◌∙◌, arith, refl}
+use Rattle.std.proofs.Common.{rules, ◌≡◌, ◌<◌, List, subst, sym, ap, ◌∙◌, arith, refl}
 use Rattle.atomic_table.specs.Seated.{TableId}
 use Rattle.snap_register.specs.declared.plan.Plan.{Plan}
-use Rattle.snap_register.specs.Rule.{segments}
+use Rattle.snap_register.specs.Rule.{size}
 use Rattle.snap_register.specs.Seat.{Known}
 use Rattle.snap_register.specs.Parts.{IsNewSeat, AreReaders}
 use Rattle.snap_register.proofs.Joins.{seats_reader}
-use Rattle.snap_register.proofs.Places.{word_inside}
+use Rattle.snap_register.proofs.Later.{some_words}
 use Rattle.snap_register.proofs.Opens.{enough, bare, first_after, readers_more, new_seat}
 use Rattle.snap_register.proofs.tables.seat_readers.Goals as goal
 
@@ -13,16 +13,11 @@ pub split_seat-seat-requires : goal.split_seat-seat-requires
 split_seat-seat-requires c =
     let inv = c.loop-k.invariant in
     let own : c.loop-k.first_seat.table_id ≡ c.deref.result.now.shared.table_id = search rules in
-    let sized = c.requires.sized.0 in
-    let some_segments : 0 < segments c.loop-k.first_seat.me.0.plan =
-    subst (λ (p : Plan). 0 < segments p) (sym inv.plan)
-    (subst (λ (z : ℕ). 0 < z) sized.segments_are sized.some) in
     let more = enough (Unit {0}) _ _ _ inv.first (omega arith) in (
       own,
-      subst (λ (t : TableId). 0 < t.words) own (subst (λ (z : ℕ). 0 < z) (sym inv.first.words_are)
-          (word_inside c.loop-k.first_seat.me.0.plan 0 some_segments)),
-      seats_reader (Unit {0}) _ _ _ inv.first.received_none
-          (bare (Unit {0}) _ _ _ inv.first) more.0 more.1,
+      subst (λ (t : TableId). 0 < t.words) own
+          (some_words c.requires.sized.0 (inv.first.words_are ∙ ap size inv.plan)),
+      seats_reader (Unit {0}) _ _ _ (bare (Unit {0}) _ _ _ inv.first) more.0 more.1,
     )
 
 pub loop-k-preserved : goal.loop-k-preserved

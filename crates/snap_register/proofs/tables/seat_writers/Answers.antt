@@ -1,11 +1,11 @@
 use Rattle.std.proofs.Common.{rules, ◌≡◌, ℕ, ◌+◌, ◌<◌, List, subst, sym, ap, ◌∙◌, arith, refl}
 use Rattle.atomic_table.specs.Seated.{TableId}
 use Rattle.snap_register.specs.declared.plan.Plan.{Plan}
-use Rattle.snap_register.specs.Rule.{segments}
+use Rattle.snap_register.specs.Rule.{size}
 use Rattle.snap_register.specs.Seat.{Known}
 use Rattle.snap_register.specs.Parts.{IsNewSeat, AreWriters}
 use Rattle.snap_register.proofs.Joins.{gives}
-use Rattle.snap_register.proofs.Places.{word_inside}
+use Rattle.snap_register.proofs.Later.{some_words}
 use Rattle.snap_register.proofs.Opens.{enough, bare, first_after, writers_more, new_seat}
 use Rattle.snap_register.proofs.tables.seat_writers.Goals as goal
 
@@ -13,15 +13,11 @@ pub split_seat-seat-requires : goal.split_seat-seat-requires
 split_seat-seat-requires c =
     let inv = c.loop-i.invariant in
     let own : c.loop-i.first_seat.table_id ≡ c.deref.result.now.shared.table_id = search rules in
-    let sized = c.requires.sized.0 in
-    let some_segments : 0 < segments c.loop-i.first_seat.me.0.plan =
-    subst (λ (p : Plan). 0 < segments p) (sym inv.plan)
-    (subst (λ (z : ℕ). 0 < z) sized.segments_are sized.some) in
-    let e = sized.segments_are in
+    let e = c.requires.sized.0.segments_are in
     let more = enough (Unit {0}) _ _ _ inv.first (omega arith) in (
       own,
-      subst (λ (t : TableId). 0 < t.words) own (subst (λ (z : ℕ). 0 < z) (sym inv.first.words_are)
-          (word_inside c.loop-i.first_seat.me.0.plan 0 some_segments)),
+      subst (λ (t : TableId). 0 < t.words) own
+          (some_words c.requires.sized.0 (inv.first.words_are ∙ ap size inv.plan)),
       gives (Unit {0}) _ _ _ inv.first.seen_end_is inv.first.pool_end_is (let a = inv.low in let b =
           inv.high in omega arith) (bare (Unit {0}) _ _ _ inv.first) more.0 more.1,
     )

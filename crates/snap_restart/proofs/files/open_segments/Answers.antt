@@ -5,7 +5,7 @@ use Rattle.snap_segment.specs.Segment.{SegmentState}
 use Rattle.snap_history.specs.Pairs.{Pairs}
 use Rattle.snap_register.proofs.Pairs.{Pairs-push}
 use Rattle.snap_restart.specs.Opened.{IsOpened, IsReturned}
-use Rattle.snap_restart.proofs.Removals.{all_dropped, none_comes}
+use Rattle.snap_restart.proofs.Removals.{one_fewer, all_dropped, none_comes}
 use Rattle.snap_restart.proofs.Refusals.{back_later, returned_here, stopped_at}
 use Rattle.snap_restart.proofs.files.open_segments.Goals as goal
 
@@ -45,7 +45,7 @@ opening-preserved g c =
     let count : length c.keep.new.items.items ≡ k + 1 = ap length c.keep.ensures.items ∙ length_push ss s in
     record {
       rest = next.left _ count;
-      long = (let was = inv.long in let gone = c.in-Some.ensures.cases.1 in let short = ap length c.in-Some.ensures.cases.0 in omega arith);
+      long = one_fewer inv.long c.in-Some.ensures.cases.0 c.in-Some.ensures.cases.1;
       opened = subst (λ (l : List (SegmentState _)). Pairs (Opened (length ds)) (take (length c.keep.new.items.items) ds) l) (sym c.keep.ensures.items)
           (subst (λ l. Pairs (Opened (length ds)) l (ss ++ s ∷ [])) (sym (next.front _ count)) more);
       within = omega arith;

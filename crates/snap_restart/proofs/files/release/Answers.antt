@@ -1,7 +1,7 @@
 use Rattle.std.proofs.Common.{ℕ, ◌∷◌, ◌++◌, [], length, map, take, append_assoc, ap, sym, ◌∙◌, arith}
 use Rattle.std.proofs.lemmas.List.{length_push}
 use Rattle.snap_history.proofs.Removals.{taken, map_front, all_taken}
-use Rattle.snap_restart.proofs.Removals.{so_far}
+use Rattle.snap_restart.proofs.Removals.{one_fewer, so_far}
 use Rattle.snap_restart.proofs.files.release.Goals as goal
 
 pub keep-requires : goal.keep-requires
@@ -24,8 +24,7 @@ segments-preserved g c =
     let on = length_push c.segments.yielded s in
     record {
       rest = next.left _ on;
-      long = (let was = inv.long in let gone = c.in-Some.ensures.steps.1 in
-          let short = ap length c.in-Some.ensures.steps.0 in omega arith);
+      long = one_fewer inv.long c.in-Some.ensures.steps.0 c.in-Some.ensures.steps.1;
       items = c.keep.ensures.items
           ∙ ((λ i. inv.items i ++ c.into_device.ensures.device i ∷ [])
           ∙ (append_assoc c.args.devices.now.items (map (λ s. s.device) (take k ss)) (s.device ∷ [])

@@ -1,6 +1,7 @@
 use Rattle.std.proofs.Common.{◌++◌, ◌∷◌, [], length, append_assoc, ap, sym, ◌∙◌, arith}
 use Rattle.std.specs.Vec.Iter.{into_iter_items}
 use Rattle.std.proofs.lemmas.List.{length_push}
+use Rattle.snap_restart.proofs.Removals.{one_fewer}
 use Rattle.snap_restart.proofs.files.returned.Goals as goal
 
 pub rest-preserved : goal.rest-preserved
@@ -8,8 +9,7 @@ rest-preserved g c =
     let inv = c.rest.invariant in
     let next = c.in-Some.ensures.steps in
     record {
-      long = (let was = inv.long in let gone = next.1 in let short = ap length next.0 in omega
-          arith);
+      long = one_fewer inv.long next.0 next.1;
       items = ap (λ l. l ++ into_iter_items c.next.new.self) c.keep-in-rest.ensures.items
           ∙ (append_assoc c.rest.devices.items (c.in-Some.device ∷ [])
           (into_iter_items c.next.new.self)

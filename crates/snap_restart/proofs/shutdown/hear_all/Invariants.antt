@@ -1,4 +1,4 @@
-use Rattle.std.proofs.Common.{◌≡◌, ℕ, ◌<◌, length, slice_get, Some}
+use Rattle.std.proofs.Common.{◌≡◌, ℕ, ◌<◌, slice_get, Some}
 use Rattle.snap_history.specs.History.{IsBeginning}
 use Rattle.snap_history.specs.Pairs.{Pairs}
 use Rattle.snap_register.specs.Seat.{Known, Grows}
@@ -7,7 +7,6 @@ use Rattle.snap_restart.proofs.shutdown.hear_all.Given as goal
 
 abbrev pub invariant-loop-k : goal.invariant-loop-k
 invariant-loop-k g l = record {
-  long : length l.scanners.items ≡ length l.fn.scanners.items;
   writer : HasMet l.fn.writer l.writer;
   scanners : Pairs (λ _. Grows) l.fn.scanners.items l.scanners.items;
   heard : (j : ℕ) (b : Known) → slice_get l.fn.scanners.items j ≡ Some b → j < l.k

@@ -1,26 +1,28 @@
-use Rattle.std.proofs.Common.{rules, ◌≡◌, ◌<◌, ◌≤◌, length, Some, slice_get, ap, ◌∙◌, arith}
-use Rattle.std.proofs.lemmas.List.{length-set}
-use Rattle.std.proofs.lemmas.Option.{slice_get_within, slice_get-get_or}
-use Rattle.snap_history.proofs.Pairs.{element, Pairs-right}
+use Rattle.std.proofs.Common.{rules, ◌≡◌, ◌≤◌, length, Some, slice_get, refl, arith}
+use Rattle.std.proofs.lemmas.Option.{slice_get_within, slice_get_read}
+use Rattle.snap_history.proofs.Pairs.{element}
 use Rattle.snap_memory.proofs.Collects.{grows_more}
 use Rattle.snap_writer.specs.Writer.{WriterState}
 use Rattle.snap_restart.specs.Closed.{HasMet}
+use Rattle.snap_restart.proofs.Pairs.{pairs_moved}
 use Rattle.snap_restart.proofs.Meetings.{together_grown, told_step, met_more}
 use Rattle.snap_restart.proofs.shutdown.meet_all.Goals as goal
 use Rattle.snap_restart.proofs.shutdown.meet_all.Goals.{After-index_mut}
+
+at : (g : _) (c : After-index_mut g)
+    → slice_get c.loop-i.writers.items c.loop-i.i ≡ Some c.index_mut.result.now
+at g c = slice_get_read c.loop-i.writers.items (length c.loop-i.writers.items) c.loop-i.i
+    c.index_mut.result.now refl (search rules) (search rules)
 
 -- the writer that is met next, at first and now
 next : (g : _) (c : After-index_mut g) → (w : WriterState g.row.D.Denot)
     × (slice_get c.args.writers.now.items c.loop-i.i ≡ Some w) × HasMet w c.index_mut.result.now
 next g c =
     let inv = c.loop-i.invariant in
-    let long = inv.long in
-    let inside : c.loop-i.i < length c.loop-i.writers.items = search rules in
+    let long = inv.writers.size in
+    let inside = slice_get_within c.loop-i.writers.items c.loop-i.i c.index_mut.result.now (at g c) in
     let old = element c.args.writers.now.items c.loop-i.i (omega arith) in
-    let at : slice_get c.loop-i.writers.items c.loop-i.i ≡ Some c.index_mut.result.now =
-    slice_get-get_or c.loop-i.writers.items c.loop-i.i c.index_mut.result.now inside
-    ∙ ap (λ x. Some x) (search rules) in
-    (old.0, old.1, inv.writers.each c.loop-i.i old.0 c.index_mut.result.now old.1 at)
+    (old.0, old.1, inv.writers.each c.loop-i.i old.0 c.index_mut.result.now old.1 (at g c))
 
 pub meet-requires : goal.meet-requires
 meet-requires g c =
@@ -34,31 +36,23 @@ meet-requires g c =
 pub loop-i-preserved : goal.loop-i-preserved
 loop-i-preserved g c =
     let inv = c.loop-i.invariant in
-    let w = next g (goal.at.loop-i-preserved g c).After-index_mut in
-    let now : HasMet c.index_mut.result.now c.meet.new.self =
+    let now = (goal.at.loop-i-preserved g c).After-index_mut in
+    let w = next g now in
+    let met : HasMet c.index_mut.result.now c.meet.new.self =
     record { segment_is = c.meet.ensures.segment; grows = c.meet.ensures.writer.grows } in
-    let met = met_more w.0 c.index_mut.result.now c.meet.new.self w.2 now in
-    let inside : c.loop-i.i < length c.loop-i.writers.items = search rules in
-    let at : slice_get c.loop-i.writers.items c.loop-i.i ≡ Some c.index_mut.result.now =
-    slice_get-get_or c.loop-i.writers.items c.loop-i.i c.index_mut.result.now inside
-    ∙ ap (λ x. Some x) (search rules) in
+    let grows = c.meet.ensures.scanner.grows in
     record {
-      long = length-set c.loop-i.writers.items c.loop-i.i c.meet.new.self ∙ inv.long;
-      writers = Pairs-right (λ _. HasMet) c.args.writers.now.items c.loop-i.writers.items
-          c.loop-i.i c.meet.new.self inside
-          (λ a ea. met_more a c.index_mut.result.now c.meet.new.self
-          (inv.writers.each c.loop-i.i a c.index_mut.result.now ea at) now) inv.writers;
-      scanner = grows_more c.args.scanner.now c.loop-i.scanner c.meet.new.scanner inv.scanner
-          c.meet.ensures.scanner.grows;
+      writers = pairs_moved HasMet met_more c.args.writers.now.items c.loop-i.writers.items
+          c.loop-i.i c.index_mut.result.now c.meet.new.self (at g now) met inv.writers;
+      scanner = grows_more c.args.scanner.now c.loop-i.scanner c.meet.new.scanner inv.scanner grows;
       told = told_step c.args.writers.now.items c.loop-i.i w.0 c.args.scanner.now
-          c.loop-i.scanner c.meet.new.scanner c.meet.new.self.seat w.1 inv.told inv.scanner
-          c.meet.ensures.scanner.grows met.grows c.meet.ensures.met;
+          c.loop-i.scanner c.meet.new.scanner c.meet.new.self.seat w.1 inv.told inv.scanner grows
+          (met_more w.0 c.index_mut.result.now c.meet.new.self w.2 met).grows c.meet.ensures.met;
     }
 
 pub returns-clause-told : goal.returns-clause-told
-returns-clause-told g c = λ i w at. (
-    let inside : i < length c.args.writers.now.items =
-    slice_get_within c.args.writers.now.items i w at in
-    let long = c.loop-i.invariant.long in
+returns-clause-told g c = λ i w there. (
+    let inside = slice_get_within c.args.writers.now.items i w there in
+    let long = c.loop-i.invariant.writers.size in
     let end : length c.args.writers.now.items ≤ c.loop-i.i = search rules in
-    c.loop-i.invariant.told i w at (omega arith))
+    c.loop-i.invariant.told i w there (omega arith))

@@ -2,8 +2,9 @@ use Rattle.std.proofs.Common.{ℕ, ◌∷◌, ◌++◌, [], length, map, ap, sym
 use Rattle.std.proofs.lemmas.List.{length_push}
 use Rattle.std.proofs.lemmas.Option.{slice_get_within}
 use Rattle.snap_history.proofs.Removals.{taken, map_front, all_taken, none_after}
-use Rattle.snap_restart.proofs.Removals.{so_far}
-use Rattle.snap_restart.proofs.Meetings.{rests_moved, rests_more}
+use Rattle.snap_restart.specs.Closed.{Rests}
+use Rattle.snap_restart.proofs.Removals.{one_fewer, so_far}
+use Rattle.snap_restart.proofs.Meetings.{one_more, rests_moved}
 use Rattle.snap_restart.proofs.shutdown.release_all.Goals as goal
 
 pub writers-preserved : goal.writers-preserved
@@ -17,15 +18,14 @@ writers-preserved g c =
     let on = length_push c.writers.yielded w in
     record {
       rest = next.left _ on;
-      long = (let was = inv.long in let gone = c.in-Some.ensures.steps.1 in
-          let short = ap length c.in-Some.ensures.steps.0 in omega arith);
+      long = one_fewer inv.long c.in-Some.ensures.steps.0 c.in-Some.ensures.steps.1;
       devices = c.keep.ensures.items
           ∙ ((λ i. inv.devices i ++ (c.into_device.ensures.device
           ∙ ap (λ s. s.device) c.into_segment.ensures.segment) i ∷ [])
           ∙ sym (map_front (λ w. w.segment.device) k ws w _ next _ on));
       room = (let r = c.keep.ensures.room in let was = inv.room in omega arith);
       within = omega arith;
-      rests = λ i x there low. rests_more g.D.Disk ws k w next.at inv.rests
+      rests = λ i x there low. one_more (λ y. Rests g.D.Disk y) ws k w next.at inv.rests
           (rests_moved g.D.Disk w _ _
           c.into_segment.ensures.segment c.into_device.ensures.device
           c.into_segment.ensures.number c.into_segment.ensures.value

@@ -7,15 +7,15 @@ use Rattle.snap_restart.specs.Opened.{AreFresh, IsOpened, IsStopped, recovered}
 use Rattle.snap_restart.specs.Closed.{AreBack}
 use Rattle.snap_restart.proofs.Refusals.{stopped_last}
 use Rattle.snap_restart.proofs.NewSeats.{map_both, starts_are, fresh_are, back_are, paired_are}
-use Rattle.snap_restart.proofs.Crash.{opened, kept_opened, kept_stopped}
+use Rattle.snap_restart.proofs.Crash.{opened, stay_kept, backs_opened, backs_stopped}
 use Rattle.snap_restart.proofs.Durability.{stay_stored}
 use Rattle.snap_restart.proofs.store.open_all.Goals as goal
 
 pub place_writers-requires-clause-starts : goal.place_writers-requires-clause-starts
 place_writers-requires-clause-starts g c =
-    let seats = c.in-Ok-take_memory.ensures.seats in
-    starts_are seats.0 seats.1 c.in-Ok.opened.0.items c.in-Ok-take_memory.field-0.parts.writers.items
-    c.in-Ok-take_memory.ensures.counts.0 seats.2 seats.3
+    let had = c.in-Ok-take_memory.ensures in
+    starts_are had.seats.0 had.seats.1 c.in-Ok.opened.0.items _ had.seats.2 had.seats.3
+    had.counts.0
 
 pub returns-in-Ok-take_memory-clause-opened : goal.returns-in-Ok-take_memory-clause-opened
 returns-in-Ok-take_memory-clause-opened g c =
@@ -25,34 +25,28 @@ returns-in-Ok-take_memory-clause-opened g c =
 
 pub returns-in-Ok-take_memory-clause-starts : goal.returns-in-Ok-take_memory-clause-starts
 returns-in-Ok-take_memory-clause-starts g c =
-    let seats = c.in-Ok-take_memory.ensures.seats in
-    let ss : List (SegmentState _) = c.in-Ok.opened.0.items in
-    let ws : List Known = c.in-Ok-take_memory.field-0.parts.writers.items in
-    paired_are seats.0 seats.1 ss ws c.place_scanners.result.items c.place_writers.result.items
-    c.place_writers.ensures.segments c.place_writers.ensures.seats
-    (starts_are seats.0 seats.1 ss ws c.in-Ok-take_memory.ensures.counts.0 seats.2 seats.3) seats.3
+    let had = c.in-Ok-take_memory.ensures in
+    paired_are had.seats.0 had.seats.1 c.in-Ok.opened.0.items _ had.seats.2 had.seats.3
+    had.counts.0 c.place_scanners.result.items c.place_writers.result.items
+    c.place_writers.ensures.seats c.place_writers.ensures.segments
 
 pub returns-in-Ok-take_memory-clause-fresh : goal.returns-in-Ok-take_memory-clause-fresh
 returns-in-Ok-take_memory-clause-fresh g c =
-    let seats = c.in-Ok-take_memory.ensures.seats in
-    let rs : List Known = c.in-Ok-take_memory.field-0.parts.scanners.items in
-    let looks = seats.2.looks_are in
+    let had = c.in-Ok-take_memory.ensures in
     subst (λ (l : List Known). AreFresh c.place_writers.result.items l) (sym c.place_scanners.ensures)
-    (fresh_are seats.0 seats.1 c.in-Ok.opened.0.items c.in-Ok-take_memory.field-0.parts.writers.items rs
-    c.place_writers.result.items c.place_writers.ensures.seats (omega (arith, looks)) seats.3 seats.4)
+    (fresh_are had.seats.0 had.seats.1 c.in-Ok.opened.0.items _ had.seats.2 had.seats.3
+    had.counts.0 _ c.place_writers.result.items c.place_writers.ensures.seats had.seats.4)
 
 pub returns-in-Ok-take_memory-clause-back : goal.returns-in-Ok-take_memory-clause-back
 returns-in-Ok-take_memory-clause-back g c =
-    let seats = c.in-Ok-take_memory.ensures.seats in
+    let had = c.in-Ok-take_memory.ensures in
     let size = c.in-Ok.ensures.opened.size in
     let few = c.requires.count in
     let some = c.requires.scanners in
-    let count = c.in-Ok-take_memory.ensures.counts in
-    let rs : List Known = c.in-Ok-take_memory.field-0.parts.scanners.items in
     subst (λ (l : List Known). AreBack c.place_writers.result.items l) (sym c.place_scanners.ensures)
-    (back_are seats.0 seats.1 c.in-Ok.opened.0.items c.in-Ok-take_memory.field-0.parts.writers.items rs
-    c.place_writers.result.items c.place_writers.ensures.seats count.0 (omega arith) (omega arith)
-    (omega arith) seats.2 seats.3 seats.4)
+    (back_are had.seats.0 had.seats.1 c.in-Ok.opened.0.items _ had.seats.2 had.seats.3
+    had.counts.0 _ c.place_writers.result.items c.place_writers.ensures.seats
+    (omega arith) (omega arith) (omega (arith, had.counts.1)) had.seats.4)
 
 pub returns-in-Ok-take_memory-clause-crash : goal.returns-in-Ok-take_memory-clause-crash
 returns-in-Ok-take_memory-clause-crash g c =
@@ -68,12 +62,13 @@ returns-in-Ok-take_memory-clause-stays g c =
 
 pub returns-in-Ok-take_memory-clause-kept_ok : goal.returns-in-Ok-take_memory-clause-kept_ok
 returns-in-Ok-take_memory-clause-kept_ok g c =
-    kept_opened g.D.Disk c.args.devices.items c.place_writers.result.items
-    (returns-in-Ok-take_memory-clause-opened g c)
+    stay_kept g.D.Disk c.args.devices.items _ (backs_opened g.D.Disk c.args.devices.items
+    c.place_writers.result.items (returns-in-Ok-take_memory-clause-opened g c))
 
 pub returns-in-Err-clause-kept_err : goal.returns-in-Err-clause-kept_err
 returns-in-Err-clause-kept_err g c =
-    kept_stopped g.D.Disk c.args.devices.items _ _ _ c.in-Err.ensures.stopped
+    stay_kept g.D.Disk c.args.devices.items _ (backs_stopped g.D.Disk c.args.devices.items _ _ _
+    c.in-Err.ensures.stopped)
 
 pub returns-in-Ok-take_memory-clause-report : goal.returns-in-Ok-take_memory-clause-report
 returns-in-Ok-take_memory-clause-report g c =
@@ -95,8 +90,8 @@ returns-in-Err-take_memory-clause-stopped g c =
 
 pub returns-in-Err-take_memory-clause-kept_err : goal.returns-in-Err-take_memory-clause-kept_err
 returns-in-Err-take_memory-clause-kept_err g c =
-    kept_stopped g.D.Disk c.args.devices.items c.release.new.devices.items NoMemory _
-    (returns-in-Err-take_memory-clause-stopped g c)
+    stay_kept g.D.Disk c.args.devices.items _ (backs_stopped g.D.Disk c.args.devices.items
+    c.release.new.devices.items NoMemory _ (returns-in-Err-take_memory-clause-stopped g c))
 
 pub take_memory-requires-clause-count : goal.take_memory-requires-clause-count
 take_memory-requires-clause-count g c = rw (← c.in-Ok.ensures.opened.size) c.requires.count

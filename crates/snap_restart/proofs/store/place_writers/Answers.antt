@@ -1,26 +1,18 @@
 use Rattle.std.proofs.Common.{ℕ, ◌+◌, ◌∷◌, ◌++◌, [], length, map, ap, sym, ◌∙◌, arith}
 use Rattle.std.proofs.lemmas.List.{length_push, map-append, take_all}
 use Rattle.snap_history.proofs.Removals.{taken, all_taken, none_after}
-use Rattle.snap_restart.specs.Opened.{Starts}
-use Rattle.snap_restart.proofs.Removals.{none_comes}
+use Rattle.snap_restart.proofs.Removals.{one_fewer, none_comes}
 use Rattle.snap_restart.proofs.store.place_writers.Goals as goal
-use Rattle.snap_restart.proofs.store.place_writers.Goals.{In-Some-next}
 
--- the next segment and the next seat
-starts : (g : _) (c : In-Some-next g) → Starts c.in-Some.segment c.in-Some-next.seat
-starts g c =
+pub new-requires : goal.new-requires
+new-requires g c =
     let inv = c.writers.invariant in
     let k : ℕ = length c.writers.yielded in
     let segment = taken k c.args.segments.items c.in-Some.segment _ _ inv.rest c.in-Some.ensures.steps.0 in
     let seat = taken k c.args.seats.items c.in-Some-next.seat _ _ inv.seats_rest
     c.in-Some-next.ensures.cases.0 in
-    c.requires.starts.each k _ _ segment.at seat.at
-
-pub new-requires-clause-number : goal.new-requires-clause-number
-new-requires-clause-number g c = (starts g (goal.at.new-requires-clause-number g c).In-Some-next).number_is
-
-pub new-requires-clause-value : goal.new-requires-clause-value
-new-requires-clause-value g c = (starts g (goal.at.new-requires-clause-value g c).In-Some-next).value_is
+    let starts = c.requires.starts.each k _ _ segment.at seat.at in
+    record { number = starts.number_is; value = starts.value_is }
 
 pub writers-preserved : goal.writers-preserved
 writers-preserved g c =
@@ -35,9 +27,9 @@ writers-preserved g c =
     let inside = segment.inside in
     record {
       rest = segment.left _ on;
-      long = (let was = inv.long in let gone = c.in-Some.ensures.steps.1 in let short = ap length c.in-Some.ensures.steps.0 in omega arith);
+      long = one_fewer inv.long c.in-Some.ensures.steps.0 c.in-Some.ensures.steps.1;
       seats_rest = seat.left _ on;
-      seats_long = (let was = inv.seats_long in let gone = c.in-Some-next.ensures.cases.1 in let short = ap length c.in-Some-next.ensures.cases.0 in omega arith);
+      seats_long = one_fewer inv.seats_long c.in-Some-next.ensures.cases.0 c.in-Some-next.ensures.cases.1;
       segments = ap (map (λ w. w.segment)) c.keep.ensures.items ∙ (map-append (λ w. w.segment) ws (c.new.result ∷ []) ∙ ((λ i. inv.segments i ++ c.new.ensures.segment i ∷ []) ∙ sym (segment.front _ on)));
       seats = ap (map (λ w. w.seat)) c.keep.ensures.items ∙ (map-append (λ w. w.seat) ws (c.new.result ∷ []) ∙ ((λ i. inv.seats i ++ c.new.ensures.seat i ∷ []) ∙ sym (seat.front _ on)));
       within = omega arith;

@@ -1,7 +1,6 @@
 use Rattle.std.proofs.Common.{◌≡◌, List, length, map, sym, ap, ◌∙◌}
 use Rattle.std.proofs.lemmas.List.{length-map}
 use Rattle.snap_restart.specs.Opened.{contents}
-use Rattle.snap_restart.proofs.Removals.{no_ok}
 use Rattle.snap_restart.proofs.store.take_memory.Goals as goal
 
 same_long : {A B C : Type 0} (f : A → C) (g : B → C) (xs : List A) (ys : List B)
@@ -20,23 +19,3 @@ returns-clause-counts g c = (
       c.in_ok-values.ensures.contents),
   c.in_ok-parts.ensures.scanners,
 )
-
-pub returns-in_err-with_capacity-2 : goal.returns-in_err-with_capacity-2
-returns-in_err-with_capacity-2 g c =
-    let is = c.from_residual-in_err-with_capacity-2.ensures.0 in record {
-      counts = no_ok _ _ is;
-      seats = no_ok _ _ is;
-      writers = no_ok _ _ is;
-      scanners = no_ok _ _ is;
-      report = no_ok _ _ is;
-    }
-
-pub returns-in_err-report_of : goal.returns-in_err-report_of
-returns-in_err-report_of g c =
-    let is = c.from_residual-in_err-report_of.ensures.0 in record {
-      counts = no_ok _ _ is;
-      seats = no_ok _ _ is;
-      writers = no_ok _ _ is;
-      scanners = no_ok _ _ is;
-      report = no_ok _ _ is;
-    }

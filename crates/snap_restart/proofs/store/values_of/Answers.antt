@@ -4,7 +4,6 @@ use Rattle.std.proofs.lemmas.Option.{slice_get_read}
 use Rattle.snap_history.proofs.Lists.{get-push}
 use Rattle.snap_register.proofs.Pairs.{map_next}
 use Rattle.snap_restart.specs.Opened.{contents}
-use Rattle.snap_restart.proofs.Removals.{no_ok}
 use Rattle.snap_restart.proofs.store.values_of.Goals as goal
 
 abbrev contents_of : ℕ × Vec ℕ Global → ℕ × List ℕ
@@ -28,14 +27,6 @@ loop-segment-preserved g c =
       contents = ap (map (λ x. (x.0, x.1.items))) pushed ∙ (map-append (λ x. (x.0, x.1.items)) vs (x ∷ []) ∙ ((λ i. inv.contents i ++ same i ∷ []) ∙ sym (map_next contents k ss s e)));
       numbers = λ i y at. get-push (λ z. z.0 < 2 ^ 63) vs x inv.numbers c.number.ensures.low i y (subst (λ l. slice_get l i ≡ Some y) pushed at);
       sizes = λ i y at. get-push (λ z. length z.1.items ≤ 4080) vs x inv.sizes fits i y (subst (λ l. slice_get l i ≡ Some y) pushed at);
-    }
-
-pub returns-in_err-value : goal.returns-in_err-value
-returns-in_err-value g c =
-    let is = c.from_residual.ensures.0 in record {
-      contents = no_ok _ _ is;
-      numbers = no_ok _ _ is;
-      sizes = no_ok _ _ is;
     }
 
 all_of : {A B : Type 0} (f : A → B) (k : ℕ) (items xs : List A) → length items ≤ k → items ≡ xs

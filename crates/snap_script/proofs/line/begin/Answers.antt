@@ -1,5 +1,5 @@
-use Rattle.std.proofs.Common.{◌≡◌, refl, sym, ◌∙◌, subst}
-use Rattle.snap_hex.specs.Text.{IsHex}
+use Rattle.std.proofs.Common.{refl}
+use Rattle.snap_script.proofs.Operands.{second_same}
 use Rattle.snap_script.proofs.line.begin.Goals as goal
 
 pub returns-in-Some-2 : goal.returns-in-Some-2
@@ -15,8 +15,5 @@ returns-in-Some-2 c = (
 )
 
 pub returns-in-None : goal.returns-in-None
-returns-in-None c = λ e form.
-    let same = sym form.5 ∙ c.in-Some.ensures in
-    let word : form.1 ≡ c.in-Some.digits.now = cc in
-    (rw c.in-None.is at c.in_ok-value.ensures) form.3.items
-    (subst (λ w. IsHex w form.3.items) word form.7)
+returns-in-None c = λ e form. (rw c.in-None.is at c.in_ok-value.ensures) form.3.items
+    (rw (second_same form.5 c.in-Some.ensures) at form.7)

@@ -4,15 +4,13 @@ use Rattle.snap_script.proofs.line.crash.Goals as goal
 
 pub returns-in-None : goal.returns-in-None
 returns-in-None c = λ e form.
-    no_fills c.args.operands.now c.loop-rest.fills.items c.loop-rest.rest c.cut.result.1
-    c.in-Some.text c.cut.result.0.now c.loop-rest.invariant c.in-Some.is c.cut.ensures
+    no_fills c.cut.result.1 c.cut.result.0.now c.loop-rest.invariant c.in-Some.is c.cut.ensures
     (rw c.in-None.is at c.in_ok-fill.ensures) form.0.items form.3
 
 pub loop-rest-preserved : goal.loop-rest-preserved
 loop-rest-preserved c =
     rw c.in_ok-push-in-Some-2.ensures.items
-    (read_on c.args.operands.now c.loop-rest.fills.items c.loop-rest.rest c.cut.result.1
-    c.in-Some.text c.cut.result.0.now c.loop-rest.invariant c.in-Some.is c.cut.ensures
+    (read_on c.cut.result.1 c.cut.result.0.now c.loop-rest.invariant c.in-Some.is c.cut.ensures
     c.in-Some-2.fill (rw c.in-Some-2.is at c.in_ok-fill.ensures))
 
 pub returns : goal.returns
@@ -20,6 +18,5 @@ returns c = (
   _,
   refl,
   some_word c.args.operands.now,
-  read_whole c.args.operands.now c.loop-rest.fills.items c.loop-rest.rest c.loop-rest.invariant
-      c.in_default.not-Some,
+  read_whole c.loop-rest.invariant c.in_default.not-Some,
 )

@@ -1,4 +1,4 @@
-use Rattle.std.proofs.Common.{◌≡◌, ◌⊎◌, inl, inr, ℕ, List, subst}
+use Rattle.std.proofs.Common.{◌≡◌, ◌⊎◌, inl, inr, ℕ, List}
 use Rattle.snap_script.specs.Words.{words_of}
 use Rattle.snap_script.specs.Line.{HasForm}
 use Rattle.snap_script.specs.declared.verb.Verb.{Verb}
@@ -25,14 +25,9 @@ returns-in-Look c = rw c.in-Look.is c.look.ensures
 -- the verbs behind which nothing stands
 bare : (v : Verb) (line : List ℕ) → (v ≡ verb.Restart) ⊎ ((v ≡ verb.RestartCall) ⊎ (v ≡ verb.Serve))
     → (e : Event) → HasForm v (words_of line) e → ⊥
-bare v line (inl is) e form = parts-ne-nil 32 line (let f : HasForm verb.Restart (words_of line) e =
-    subst (λ x. HasForm x (words_of line) e) is form in f.1)
-bare v line (inr (inl is)) e form =
-    parts-ne-nil 32 line (let f : HasForm verb.RestartCall (words_of line) e =
-    subst (λ x. HasForm x (words_of line) e) is form in f.1)
-bare v line (inr (inr is)) e form =
-    parts-ne-nil 32 line (let f : HasForm verb.Serve (words_of line) e =
-    subst (λ x. HasForm x (words_of line) e) is form in f.1)
+bare v line (inl is) e form = parts-ne-nil 32 line (rw is at form).1
+bare v line (inr (inl is)) e form = parts-ne-nil 32 line (rw is at form).1
+bare v line (inr (inr is)) e form = parts-ne-nil 32 line (rw is at form).1
 
 pub returns-in-Restart : goal.returns-in-Restart
 returns-in-Restart c = bare c.args.verb c.args.operands.now c.in-Restart.is

@@ -1,4 +1,4 @@
-use Rattle.snap_script.proofs.Plays.{played_first, from_empty}
+use Rattle.snap_script.proofs.Plays.{played_first}
 use Rattle.snap_script.proofs.player.play_world.Goals as goal
 
 pub returns-clause-ok : goal.returns-clause-ok
@@ -6,4 +6,4 @@ returns-clause-ok c =
     played_first c.in_ok-world.world c.args.line.now _ _ _ c.in-Some.ensures
     c.in_ok-world.ensures.segments c.in_ok-world.ensures.phases c.in_ok-world.ensures.devices
     c.in_ok-world.ensures.stands
-    (from_empty _ _ _ c.requires c.in_ok-print_world.ensures)
+    (rw c.requires at c.in_ok-print_world.ensures)

@@ -5,9 +5,9 @@ pub returns-in_default : goal.returns-in_default
 returns-in_default g c = runs_none _ _
 
 pub returns-in-Ok-flush : goal.returns-in-Ok-flush
-returns-in-Ok-flush g c = runs_flushed _ _ _ _ _ c.run_pieces-end.result c.run_pieces-end.ensures
+returns-in-Ok-flush g c = runs_flushed _ c.run_pieces-end.result c.run_pieces-end.ensures
     c.flush.ensures.bytes
 
 pub returns : goal.returns
-returns g c = runs_unflushed _ _ _ _ _ c.run_pieces-end.result c.in-Err.error
-    c.run_pieces-end.ensures c.flush.ensures.bytes
+returns g c = runs_unflushed _ c.run_pieces-end.result c.run_pieces-end.ensures
+    c.flush.ensures.bytes c.in-Err.error

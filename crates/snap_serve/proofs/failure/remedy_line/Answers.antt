@@ -1,8 +1,6 @@
-use Rattle.std.proofs.Common.{◌≡◌, ◌<◌, ◌≤◌, Bor, ℕ, List, Some, ap, arith, get_or, length, refl, subst}
+use Rattle.std.proofs.Common.{◌≡◌, ◌<◌, ◌≤◌, ℕ, List, Some, ap, arith, get_or, length, refl}
 use Rattle.std.proofs.Common.{slice_get, string_bytes, sym, ◌∙◌}
 use Rattle.std.proofs.lemmas.Option.{IfSome_then, same_Some, slice_get_read, slice_get_within}
-use Rattle.snap_stream.specs.Streams.{file_line}
-use Rattle.snap_serve.specs.Serve.{IsAdvice}
 use Rattle.snap_serve.proofs.failure.remedy_line.Goals as goal
 
 none_there : {A : Type 0} (xs ys : List A) (k : ℕ) (x : A) → xs ≡ ys → length xs ≤ k
@@ -21,15 +19,10 @@ returns-in_default g c = λ file at other. absurd (none_there c.deref.result.now
 
 pub returns-in-Ok : goal.returns-in-Ok
 returns-in-Ok g c =
-    let files = c.args.files.now.items in
-    let text = string_bytes c.in-Ok.remedy in
-    let advises = λ (f : Bor (List ℕ)) (n : ℕ). IsAdvice f.now c.args.segment n c.args.why c.args.len text in
     IfSome_then c.line_of.result c.line_of.ensures (λ line is file at other.
     let same = one_there c.deref.result.now _ _ c.in-Some.file.now file c.deref.ensures.value
     c.in-Some.ensures.lookup.3.0 c.in-Some.ensures.lookup.1 at in (
-      text,
-      is ∙ ap (λ f. file_line f.now text) same,
-      subst (λ (f : Bor (List ℕ)). advises f (length files)) same
-          (subst (λ (n : ℕ). advises c.in-Some.file.now n) (c.len.ensures ∙ c.args.files.now.ok.0)
-          c.in-Ok.ensures),
+      string_bytes c.in-Ok.remedy,
+      rw same at is,
+      rw (same, c.len.ensures ∙ c.args.files.now.ok.0) at c.in-Ok.ensures,
     ))

@@ -1,4 +1,4 @@
-use Rattle.std.proofs.Common.{◌≡◌, ⊎_elim, ℕ, ◌-◌, ◌<◌, length, sym, ◌∙◌, arith, rules}
+use Rattle.std.proofs.Common.{◌≡◌, ⊎_elim, ℕ, ◌-◌, ◌<◌, length, sym, ◌∙◌, arith}
 use Rattle.snap_slot.specs.declared.slot.Slot.TheVariants.{Closed, Open}
 use Rattle.snap_slot.proofs.Recovered.{slots_read}
 use Rattle.snap_slot.proofs.findings.held_in.Goals as goal
@@ -41,6 +41,3 @@ pub returns-in_default-5 : goal.returns-in_default-5
 returns-in_default-5 c b s here next spare k v at is =
     c.in_default.not-Open-0 k (length v)
     (slots_read b s c.args.here c.args.next c.args.spare here next spare k v at is).here
-
-pub returns-in-Open-Closed-Open : goal.returns-in-Open-Closed-Open
-returns-in-Open-Closed-Open c = search rules

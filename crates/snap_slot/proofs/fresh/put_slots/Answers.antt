@@ -1,4 +1,4 @@
-use Rattle.std.proofs.Common.{◌≡◌, ℕ, ◌-◌, ◌*◌, ◌%◌, List, ◌++◌, sym, ◌∙◌, ap, arith}
+use Rattle.std.proofs.Common.{◌≡◌, ℕ, ◌-◌, ◌*◌, ◌%◌, sym, ◌∙◌, ap, arith}
 use Rattle.snap_slot.specs.Layout.{zeros, open_slot}
 use Rattle.snap_slot.proofs.Blocks.{one_open_bytes}
 use Rattle.snap_slot.proofs.fresh.put_slots.Goals as goal
@@ -11,7 +11,4 @@ returns c =
     c.clear.ensures ∙ ap (λ (n : ℕ). zeros n) (omega arith) in
     let back : c.clear-2.new.bytes ≡ zeros (8192 * (2 - s)) =
     c.clear-2.ensures ∙ ap (λ (n : ℕ). zeros n) (omega arith) in
-    ap (λ (l : List ℕ). l ++ (c.put_open_slot.new.slot ++ c.clear-2.new.bytes)) front
-    ∙ ap (λ (l : List ℕ). zeros (8192 * s) ++ (l ++ c.clear-2.new.bytes)) c.put_open_slot.ensures
-    ∙ ap (λ (l : List ℕ). zeros (8192 * s) ++ (slot ++ l)) back
-    ∙ sym (one_open_bytes s slot (omega arith))
+    rw (front, c.put_open_slot.ensures, back) (sym (one_open_bytes s slot (omega arith)))

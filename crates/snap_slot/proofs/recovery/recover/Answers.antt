@@ -1,10 +1,4 @@
-use Rattle.std.proofs.Common.{◌≡◌, ℕ, Result, IfErr, inr, subst, sym, ◌∙◌, ap}
-use Rattle.snap_disk.specs.declared.refusal.Refusal.{Refusal}
-use Rattle.snap_slot.specs.Header.{IsHeaderOf}
-use Rattle.snap_slot.specs.Layout.{Head}
-use Rattle.snap_slot.specs.Findings.{IsNoOpening, IsOfBytes}
-use Rattle.snap_slot.specs.declared.findings.Found.{Found}
-use Rattle.snap_slot.specs.declared.header.Header.{Header}
+use Rattle.std.proofs.Common.{◌≡◌, ℕ, inr, ◌∙◌, ap}
 use Rattle.snap_slot.specs.declared.header.Header.TheVariants.{Open}
 use Rattle.snap_slot.proofs.Whole.{damaged, wrong_file}
 use Rattle.snap_slot.proofs.recovery.recover.Goals as goal
@@ -16,13 +10,8 @@ returns-in-Open-clause-refused c =
     let named : found.result.header ≡ Open c.args.index c.args.count =
     c.in-Open.is ∙ ap (λ (i : ℕ). Open i c.in-Open.n) c.if-i-index.true
     ∙ ap (λ (n : ℕ). Open c.args.index n) c.if-n-count.true in
-    let head : Head file c.args.index c.args.count =
-    subst (λ (h : Header). IsHeaderOf file h) named found.ensures.header in
-    subst (λ (r : Result Found Refusal).
-    IfErr r (λ why. IsNoOpening c.args.index c.args.count file why
-    × IsOfBytes why)) (sym c.ok_or.ensures.value)
-    (damaged file c.args.index c.args.count found.result.answer c.requires head
-    found.ensures.answer)
+    rw c.ok_or.ensures.value (damaged file c.args.index c.args.count found.result.answer c.requires
+    (rw named at found.ensures.header) found.ensures.answer)
 
 pub returns-in_default-clause-refused : goal.returns-in_default-clause-refused
 returns-in_default-clause-refused c =

@@ -7,36 +7,37 @@ use Rattle.snap_memory.proofs.scanner.Scanner.scan_into.Goals as goal
 
 pub scan_some-requires-clause-set : goal.scan_some-requires-clause-set
 scan_some-requires-clause-set c =
-    all_set c.args.self.now c.segments.result c.all.result.bits c.segments.ensures.count
-    c.all.ensures.all c.segments.ensures.some.0
+    let n = c.segments.ensures in
+    all_set c.args.self.now _ _ n.count c.all.ensures.all n.some.0
 
 pub returns-clause-enough : goal.returns-clause-enough
 returns-clause-enough c =
     let a = c.args.self.now in
-    subst (λ n. OnOk c.scan_some.result (HasLooks n a)) (all_count a c.segments.result
-    c.all.result.bits c.segments.ensures.count c.all.ensures.all c.segments.ensures.some.1)
-    c.scan_some.ensures.enough
+    let n = c.segments.ensures in
+    subst (λ n. OnOk c.scan_some.result (HasLooks n a))
+    (all_count a _ _ n.count c.all.ensures.all n.some.1) c.scan_some.ensures.enough
 
 pub returns-clause-worn : goal.returns-clause-worn
 returns-clause-worn c =
     let a = c.args.self.now in
+    let n = c.segments.ensures in
     subst (λ n. IfErr c.scan_some.result (λ why. (why ≡ Worn) × (a.left < most_looks n)))
-    (all_count a c.segments.result c.all.result.bits c.segments.ensures.count c.all.ensures.all
-    c.segments.ensures.some.1) c.scan_some.ensures.worn
+    (all_count a _ _ n.count c.all.ensures.all n.some.1) c.scan_some.ensures.worn
 
 pub returns-clause-snapshot : goal.returns-clause-snapshot
 returns-clause-snapshot c =
     let a = c.args.self.now in
     let b = c.scan_some.new.self in
-    both_ok c.scan_some.result _ _ _ (λ part seen. snapshot_all a b (all_grown a b seen
-    c.segments.result c.segments.ensures.count c.segments.ensures.some.1) c.scan_some.new.out
+    let n = c.segments.ensures in
+    both_ok c.scan_some.result _ _ _ (λ part seen.
+    snapshot_all a b (all_grown a b seen _ n.count n.some.1) c.scan_some.new.out
     (subst (λ v. HasPart v a b c.scan_some.new.out)
-    (all_is a c.segments.result c.all.result.bits c.segments.ensures.count c.all.ensures.all
-    ∙ all_same a b seen) part)) c.scan_some.ensures.part c.scan_some.ensures.seen
+    (all_is a _ _ n.count c.all.ensures.all ∙ all_same a b seen) part))
+    c.scan_some.ensures.part c.scan_some.ensures.seen
 
 pub returns-clause-left : goal.returns-clause-left
 returns-clause-left c =
     let a = c.args.self.now in
-    subst (λ n. OnOk c.scan_some.result (TakesLooksOf n a c.scan_some.new.self)) (all_count a
-    c.segments.result c.all.result.bits c.segments.ensures.count c.all.ensures.all
-    c.segments.ensures.some.1) c.scan_some.ensures.left
+    let n = c.segments.ensures in
+    subst (λ n. OnOk c.scan_some.result (TakesLooksOf n a c.scan_some.new.self))
+    (all_count a _ _ n.count c.all.ensures.all n.some.1) c.scan_some.ensures.left

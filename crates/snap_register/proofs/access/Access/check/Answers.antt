@@ -1,15 +1,14 @@
-use Rattle.std.proofs.Common.{rules, ◌≡◌, ℕ, ◌<◌, ap, subst, sym, ◌∙◌, get_or}
+use Rattle.std.proofs.Common.{rules, ◌≡◌, ℕ, ◌<◌, ap, subst, ◌∙◌, get_or}
 use mathlib.Core.Logic.{dite}
 use native.Mathlib.Decide.{ℕ_discrete}
 use Rattle.atomic_table.specs.Seated.{TableId}
-use Rattle.atomic_table.specs.Table.{Me}
+use Rattle.snap_register.specs.Registers.{Mine}
 use Rattle.snap_register.specs.declared.plan.Pool.{Pool}
-use Rattle.snap_register.specs.declared.plan.SeatView.{SeatView}
 use Rattle.snap_register.specs.Rule.{buffers, given, next_other}
-use Rattle.snap_register.specs.Setup.{IsSized, IsSeated}
+use Rattle.snap_register.specs.Setup.{IsSeated}
 use Rattle.snap_register.specs.Steps.{view_of, pool_of}
 use Rattle.snap_register.proofs.Pools.{checks}
-use Rattle.snap_register.proofs.Later.{seated_pool}
+use Rattle.snap_register.proofs.Later.{seated_pool, sized_still}
 use Rattle.snap_register.proofs.access.Access.check.Goals as goal
 
 pub load-found-requires : goal.load-found-requires
@@ -30,14 +29,12 @@ invariant_of-self c =
     let step = c.load-found.ensures in
     let after = c.load-found.new.seat in
     let mine : (d : Pool) → after.me ≡ (record (view_of me) { pool = d }, me.seat.me.1)
-    → IsSized me.segments me.scanners me.block_words me.words after.me.0.plan
+    → (after.me.0.plan ≡ (view_of me).plan)
     × IsSeated {S = Unit {0}} after.table_id.words me.pins me.left after.me = λ d is. (
-      subst (λ (m : Me (Unit {0}) SeatView).
-          IsSized me.segments me.scanners me.block_words me.words m.0.plan) (sym is) me.sized,
-      seated_pool (Unit {0}) _ _ me.pins me.left me.seat.me after.me d
-          (ap (λ (t : TableId). t.words) step.0) is me.seated,
+      ap (λ (m : Mine). m.0.plan) is,
+      seated_pool me.seated d (ap (λ (t : TableId). t.words) step.0) is,
     ) in
     let both = dite (ℕ_discrete c.load-found.result
     (get_or (pool_of me).counted (next_other (pool_of me)) 0)) (λ same.
     mine _ (step.2.0 same)) (λ differs. mine _ (step.2.1 differs).0) in
-    record { own = step.0 ∙ me.own; sized = both.0; seated = both.1 }
+    record { own = step.0 ∙ me.own; sized = sized_still me both.0; seated = both.1 }

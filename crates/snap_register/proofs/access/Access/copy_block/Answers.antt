@@ -1,7 +1,6 @@
 use Rattle.std.proofs.Common.{◌≡◌, ℕ, ◌+◌, ◌<◌, ◌≤◌, ◌++◌, ◌∷◌, [], List, length, get_or, refl, ap, sym, subst, ◌∙◌, arith}
 use Rattle.std.proofs.Common.{append_assoc}
-use Rattle.atomic_table.specs.Table.{Me}
-use Rattle.snap_register.specs.declared.plan.SeatView.{SeatView}
+use Rattle.snap_register.specs.Registers.{Mine}
 use Rattle.snap_register.specs.Held.{held}
 use Rattle.snap_register.specs.Words.{piece, size_at}
 use Rattle.snap_register.specs.Rule.{width}
@@ -28,12 +27,10 @@ lies c =
     let inside : from + size_at w from ≤ length w = c.requires.block.inside in
     let lt' : from + q < length w = omega arith in
     let here : LiesAt b.0 c.args.j (from + q) (first + q) =
-    subst (λ (m : Me (Unit {0}) SeatView). LiesAt m.0 c.args.j (from + q) (first + q))
-    (sym c.size_at-count.ensures.same.2)
-    (lies_more a.0 c.args.j from q (from + q) first (first + q) c.place-source.ensures.place lt'
-    refl refl) in
-    subst (λ (m : Me (Unit {0}) SeatView). LiesAt m.0 c.args.j (from + q) (first + q))
-    (sym c.loop-q.invariant.same.3)
+    subst (λ (m : Mine). LiesAt m.0 c.args.j (from + q) (first + q))
+    (sym c.size_at-count.ensures.same.2) (lies_more a.0 c.args.j from q (from + q) first (first + q)
+    c.place-source.ensures.place lt' refl refl) in
+    subst (λ (m : Mine). LiesAt m.0 c.args.j (from + q) (first + q)) (sym c.loop-q.invariant.same.3)
     (record { pinned = here.pinned; inside = here.inside; is = here.is })
 
 pub load-word-requires : goal.load-word-requires
@@ -57,18 +54,16 @@ draft-requires c =
     let fits : c.args.to + 512 ≤ wide = c.requires.place.1 in
     let inside : c.args.to + q < wide = omega arith in
     let there : IsNext (record a.0 {
-      pool =
-          record a.0.pool { draft = a.0.pool.draft ++ piece (held a.0 c.args.j) c.args.from q };
+      pool = record a.0.pool { draft = a.0.pool.draft ++ piece (held a.0 c.args.j) c.args.from q };
     }) (target + q) = next_more a.0 c.args.i c.args.b c.args.to q target (target + q)
     (piece (held a.0 c.args.j) c.args.from q) c.requires.own c.requires.buffer c.requires.place.0
     (piece_length (held a.0 c.args.j) c.args.from q) inside c.cell-target.ensures.0 refl in
     record {
-      place = subst (λ (m : Me (Unit {0}) SeatView). IsNext m.0 (target + q)) (sym now)
-          (subst (λ (m : Me (Unit {0}) SeatView).
+      place = subst (λ (m : Mine). IsNext m.0 (target + q)) (sym now)
+          (subst (λ (m : Mine).
           IsNext (record m.0 {
             pool = record m.0.pool {
-              draft =
-                  m.0.pool.draft ++ piece (held m.0 c.args.j) c.args.from q;
+              draft = m.0.pool.draft ++ piece (held m.0 c.args.j) c.args.from q;
             };
           }) (target + q)) (sym c.size_at-count.ensures.same.2) there);
     }
@@ -84,12 +79,11 @@ loop-q-preserved c =
     let x : ℕ = c.load-word.result in
     let step = c.draft.ensures in
     let same = c.load-word.ensures.same in
-    let now : DraftedBy (Unit {0}) a (d ++ p) c.load-word.new.self.seat.me = same.2 ∙ inv.same.3 in
+    let now : DraftedBy a (d ++ p) c.load-word.new.self.seat.me = same.2 ∙ inv.same.3 in
     let word : x ≡ get_or w (c.args.from + q) 0 =
     c.load-word.ensures.word c.args.j (c.args.from + q)
     (lies (goal.at.loop-q-preserved c).In-loop-q)
-    ∙ ap (λ (m : Me (Unit {0}) SeatView).
-    get_or (held m.0 c.args.j) (c.args.from + q) 0) inv.same.3 in
+    ∙ ap (λ (m : Mine). get_or (held m.0 c.args.j) (c.args.from + q) 0) inv.same.3 in
     let more : (d ++ p) ++ x ∷ [] ≡ d ++ piece w c.args.from (q + 1) =
     append_assoc d p (x ∷ []) ∙ ap (λ (l : List ℕ). d ++ l) (ap (λ (z : ℕ). p ++ z ∷ []) word
     ∙ sym (piece_more w c.args.from q)) in
@@ -98,7 +92,7 @@ loop-q-preserved c =
         step.0 ∙ (same.3 ∙ inv.same.0),
         step.1 ∙ (same.0 ∙ inv.same.1),
         step.2 ∙ (same.1 ∙ inv.same.2),
-        step.3 ∙ (ap (λ (m : Me (Unit {0}) SeatView).
+        step.3 ∙ (ap (λ (m : Mine).
             (record m.0 { pool = record m.0.pool { draft = m.0.pool.draft ++ x ∷ [] } }, m.1)) now
             ∙ ap (λ (l : List ℕ). (record a.0 { pool = record a.0.pool { draft = l } }, a.1)) more),
       );

@@ -2,8 +2,7 @@ use Rattle.std.proofs.Common.{◌≡◌, ℕ, ◌+◌, ◌-◌, ◌*◌, ◌<◌
 use Rattle.std.proofs.Common.{length-drop}
 use Rattle.std.proofs.lemmas.List.{take-append-drop, take_all}
 use Rattle.std.specs.Int.{w64, to_le_bytes}
-use Rattle.atomic_table.specs.Table.{Me}
-use Rattle.snap_register.specs.declared.plan.SeatView.{SeatView}
+use Rattle.snap_register.specs.Registers.{Mine}
 use Rattle.snap_register.specs.Words.{bytes_at, words_for}
 use Rattle.snap_register.specs.Steps.{draft_of}
 use Rattle.snap_register.proofs.Blocks.{tail_bytes}
@@ -16,7 +15,7 @@ returns-then-from-value-clause-bytes c =
     let x : ℕ = c.tail_word.result in
     let tail : List ℕ = drop (8 * c.args.whole) value in
     let new : draft_of c.draft.new.self ≡ d ++ x ∷ [] =
-    ap (λ (m : Me (Unit {0}) SeatView). m.0.pool.draft) c.draft.ensures.3 in
+    ap (λ (m : Mine). m.0.pool.draft) c.draft.ensures.3 in
     let slice : List ℕ = take (length value - 8 * c.args.whole) tail in
     let all : slice ≡ tail = take_all (length value - 8 * c.args.whole) tail (omega (
       arith,

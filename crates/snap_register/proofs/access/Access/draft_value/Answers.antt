@@ -16,8 +16,8 @@ loop-q-preserved c =
     let d : List ℕ = m.0.pool.draft in
     let x : ℕ = c.word_of.result in
     let step = c.draft-in-loop-q.ensures in
-    let by = drafted_then (Unit {0}) a m n (d ++ x ∷ []) inv.same.3 step.3 in
-    let new : n.0.pool.draft ≡ d ++ x ∷ [] = draft_is (Unit {0}) a n (d ++ x ∷ []) by in
+    let by = drafted_then a m n (d ++ x ∷ []) inv.same.3 step.3 in
+    let new : n.0.pool.draft ≡ d ++ x ∷ [] = draft_is a n (d ++ x ∷ []) by in
     let long = inv.long in
     let more = length-append d (x ∷ []) in
     let eight : 8 * q + 8 - 8 * q ≡ 8 = omega arith in
@@ -28,7 +28,7 @@ loop-q-preserved c =
         step.0 ∙ inv.same.0,
         step.1 ∙ inv.same.1,
         step.2 ∙ inv.same.2,
-        drafted (Unit {0}) a n (d ++ x ∷ []) by,
+        drafted a n (d ++ x ∷ []) by,
       );
       long = ap length new ∙ omega arith;
       number = ap (λ (l : List ℕ). get_or l 0 0) new

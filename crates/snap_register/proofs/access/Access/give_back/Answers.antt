@@ -1,11 +1,9 @@
-use Rattle.std.proofs.Common.{rules, ◌-◌, ◌≡◌, ◌<◌, refl, sym, ap, subst, ◌∙◌, arith, get_or, set}
+use Rattle.std.proofs.Common.{rules, ◌-◌, ◌≡◌, ◌<◌, refl, ap, subst, ◌∙◌, arith, get_or, set}
 use Rattle.atomic_table.specs.Seated.{TableId}
-use Rattle.atomic_table.specs.Table.{Me}
-use Rattle.snap_register.specs.declared.plan.SeatView.{SeatView}
-use Rattle.snap_register.specs.Setup.{IsSized}
+use Rattle.snap_register.specs.Registers.{Mine}
 use Rattle.snap_register.specs.Steps.{view_of}
 use Rattle.snap_register.proofs.Keeps.{gives_back}
-use Rattle.snap_register.proofs.Later.{seated_bare}
+use Rattle.snap_register.proofs.Later.{seated_bare, sized_still}
 use Rattle.snap_register.proofs.access.Access.give_back.Goals as goal
 use Rattle.snap_register.proofs.access.Access.give_back.Goals.{After-fetch_add}
 
@@ -40,13 +38,11 @@ pub invariant_of-self : goal.invariant_of-self
 invariant_of-self c =
     let me = c.args.self.now in
     let is = is_bare c in
-    let after = c.fetch_add.new.seat in
     record {
       own = c.fetch_add.ensures.0 ∙ me.own;
-      sized = subst (λ (m : Me (Unit {0}) SeatView).
-          IsSized me.segments me.scanners me.block_words me.words m.0.plan) (sym is) me.sized;
-      seated = seated_bare (Unit {0}) _ _ me.pins me.left me.seat.me after.me c.args.j c.requires
-          (search rules) (ap (λ (t : TableId). t.words) c.fetch_add.ensures.0) is me.seated;
+      sized = sized_still me (ap (λ (m : Mine). m.0.plan) is);
+      seated = seated_bare me.seated c.args.j c.requires (search rules)
+          (ap (λ (t : TableId). t.words) c.fetch_add.ensures.0) is;
     }
 
 pub returns-then-self-j-gt0 : goal.returns-then-self-j-gt0

@@ -1,5 +1,5 @@
 use Rattle.std.proofs.Common.{rules, ◌≡◌, ℕ, ◌+◌, ◌<◌, ◌≤◌, ◌/◌, List, length, sym, ap, subst, ◌∙◌, arith, get_or}
-use Rattle.atomic_table.specs.Table.{Me}
+use Rattle.snap_register.specs.Registers.{Mine}
 use Rattle.snap_register.specs.declared.plan.Plan.{Plan}
 use Rattle.snap_register.specs.declared.plan.SeatView.{SeatView}
 use Rattle.snap_register.specs.History.{number, start_at}
@@ -13,7 +13,7 @@ use Rattle.snap_register.proofs.access.Access.look.Goals.{After-pin, After-read}
 
 in_plan : (c : After-pin) → c.args.j < segments (view_of c.pin.new.self).plan
 in_plan c =
-    let gone = ap (λ (m : Me (Unit {0}) SeatView). m.0.plan) c.give_back.ensures.3 in
+    let gone = ap (λ (m : Mine). m.0.plan) c.give_back.ensures.3 in
     let plan = ap (λ (u : SeatView). u.plan) c.pin.ensures.view ∙ gone in
     subst (λ (p : Plan). c.args.j < segments p) (sym plan) c.requires.0
 
@@ -35,7 +35,7 @@ looked_from c = search rules
 learns : (c : After-read) → Learns (view_of c.args.self.now) (view_of c.read.new.self)
 learns c =
     let v : SeatView = view_of c.args.self.now in
-    let l = subst (λ (m : Me (Unit {0}) SeatView).
+    let l = subst (λ (m : Mine).
     Learns m.0 (view_of c.pin.new.self)) c.give_back.ensures.3 c.pin.ensures.learns in
     let mine : Learns v (view_of c.pin.new.self) =
     record {
@@ -43,11 +43,10 @@ learns c =
       received = l.received;
       own = l.own;
       given = l.given;
-      legal =
-          l.legal;
+      legal = l.legal;
       below = l.below;
     } in
-    subst (λ (m : Me (Unit {0}) SeatView). Learns v m.0) (sym c.read.ensures.same.2) mine
+    subst (λ (m : Mine). Learns v m.0) (sym c.read.ensures.same.2) mine
 
 pub returns-clause-seen : goal.returns-clause-seen
 returns-clause-seen c =
@@ -81,8 +80,7 @@ returns-clause-number c =
     let last = c.pin.ensures.looks.last in
     let is : (start_at v.plan j).number + get_or v.records j 0 ≡ number v.plan v.seen j =
     ap (λ (z : ℕ). (start_at v.plan j).number + z) last in
-    c.read.ensures.word ∙ (n ∙ (is
-    ∙ (ap (λ (m : Me (Unit {0}) SeatView). number m.0.plan m.0.seen j)
+    c.read.ensures.word ∙ (n ∙ (is ∙ (ap (λ (m : Mine). number m.0.plan m.0.seen j)
     (sym c.read.ensures.same.2) ∙ sym (number_is w.plan w.seen j))))
 
 pub returns-clause-learns : goal.returns-clause-learns

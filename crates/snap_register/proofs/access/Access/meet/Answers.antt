@@ -2,14 +2,13 @@ use Rattle.std.proofs.Common.{rules, ◌≡◌, ◌<◌, List, [], subst, sym, a
 use mathlib.Core.List.{IsPrefix}
 use Rattle.snap_register.specs.declared.plan.Entry.{Entry}
 use Rattle.atomic_table.specs.Seated.{TableId}
-use Rattle.atomic_table.specs.Table.{Me}
+use Rattle.snap_register.specs.Registers.{Mine}
 use Rattle.snap_register.specs.declared.plan.Plan.{Plan}
 use Rattle.snap_register.specs.declared.plan.SeatView.{SeatView}
 use Rattle.snap_register.specs.Rule.{Learns, IsLegal, with_received}
-use Rattle.snap_register.specs.Setup.{IsSized}
 use Rattle.snap_register.specs.Steps.{view_of, pool_of}
 use Rattle.snap_register.proofs.Joins.{shares, tells, adopts}
-use Rattle.snap_register.proofs.Later.{seated_shown, some_words}
+use Rattle.snap_register.proofs.Later.{seated_shown, sized_still, some_words}
 use Rattle.snap_register.proofs.access.Access.meet.Goals as goal
 use Rattle.snap_register.proofs.access.Access.meet.Goals.{After-split_seat-answer, After-join_seat-2}
 
@@ -18,8 +17,7 @@ split_seat-messenger-requires c =
     let me = c.args.self.now in
     let own : me.seat.table_id ≡ c.deref.result.now.shared.table_id = search rules in (
       own,
-      subst (λ (t : TableId). 0 < t.words) own
-          (some_words (Unit {0}) _ _ _ _ _ _ _ _ me.sized me.seated),
+      subst (λ (t : TableId). 0 < t.words) own (some_words me.sized me.seated.words_are),
       shares (Unit {0}) _ _ _,
     )
 
@@ -29,12 +27,10 @@ join_seat-requires c =
     let own : them.seat.table_id ≡ c.deref-2.result.now.shared.table_id = search rules in (
       own,
       c.split_seat-messenger.ensures.3 ∙ (sym c.requires.0 ∙ own),
-      ap (λ (m : Me (Unit {0}) SeatView). m.1) c.split_seat-messenger.ensures.4,
-      subst (λ (t : TableId). 0 < t.words) own
-          (some_words (Unit {0}) _ _ _ _ _ _ _ _ them.sized them.seated),
+      ap (λ (m : Mine). m.1) c.split_seat-messenger.ensures.4,
+      subst (λ (t : TableId). 0 < t.words) own (some_words them.sized them.seated.words_are),
       tells (Unit {0}) _ _ _ _ _ them.seated.seen_end_is (λ i.
-          ap (λ (m : Me (Unit {0}) SeatView).
-          get_or m.0.pins i 0) c.split_seat-messenger.ensures.4),
+          ap (λ (m : Mine). get_or m.0.pins i 0) c.split_seat-messenger.ensures.4),
     )
 
 pub hear-requires : goal.hear-requires
@@ -44,9 +40,8 @@ hear-requires c =
     record {
       own = c.join_seat.ensures.0 ∙ own;
       words = subst (λ (t : TableId). 0 < t.words) own
-          (some_words (Unit {0}) _ _ _ _ _ _ _ _ them.sized them.seated);
-      here =
-          ap (λ (m : Me (Unit {0}) SeatView). m.0.spent) c.join_seat.ensures.2 ∙ them.seated.here;
+          (some_words them.sized them.seated.words_are);
+      here = ap (λ (m : Mine). m.0.spent) c.join_seat.ensures.2 ∙ them.seated.here;
     }
 
 pub split_seat-answer-requires : goal.split_seat-answer-requires
@@ -54,8 +49,7 @@ split_seat-answer-requires c =
     let them = c.args.other.now in
     let own : them.seat.table_id ≡ c.deref-4.result.now.shared.table_id = search rules in (
       c.hear.ensures.0 ∙ (c.join_seat.ensures.0 ∙ own),
-      subst (λ (t : TableId). 0 < t.words) own
-          (some_words (Unit {0}) _ _ _ _ _ _ _ _ them.sized them.seated),
+      subst (λ (t : TableId). 0 < t.words) own (some_words them.sized them.seated.words_are),
       shares (Unit {0}) _ _ _,
     )
 
@@ -68,56 +62,40 @@ join_seat-requires-2 c =
       c.split_seat-messenger.ensures.0 ∙ own,
       c.split_seat-answer.ensures.3
           ∙ (c.hear.ensures.0 ∙ (c.join_seat.ensures.0 ∙ (c.requires.0 ∙ own))),
-      ap (λ (m : Me (Unit {0}) SeatView). m.1) c.split_seat-answer.ensures.4,
-      subst (λ (t : TableId). 0 < t.words) own
-          (some_words (Unit {0}) _ _ _ _ _ _ _ _ me.sized me.seated),
-      adopts (Unit {0}) _ _ _ _ _ (ap (λ (m : Me (Unit {0}) SeatView). m.0.low) same
-          ∙ c.requires.2) (ap (λ (m : Me (Unit {0}) SeatView). m.0.high) same
-          ∙ c.requires.3) (ap (λ (m : Me (Unit {0}) SeatView). m.0.received) same
-          ∙ me.seated.received_none)
-          (λ i. ap (λ (m : Me (Unit {0}) SeatView).
-          get_or m.0.pins i 0) c.split_seat-answer.ensures.4),
+      ap (λ (m : Mine). m.1) c.split_seat-answer.ensures.4,
+      subst (λ (t : TableId). 0 < t.words) own (some_words me.sized me.seated.words_are),
+      adopts (Unit {0}) _ _ _ _ _ (ap (λ (m : Mine). m.0.low) same ∙ c.requires.2)
+          (ap (λ (m : Mine). m.0.high) same ∙ c.requires.3)
+          (λ i. ap (λ (m : Mine). get_or m.0.pins i 0) c.split_seat-answer.ensures.4),
     )
 
 told_by : (c : After-split_seat-answer)
     → Learns (with_received (view_of c.args.other.now) c.split_seat-messenger.result.me.0)
     c.split_seat-answer.new.seat.me.0
-told_by c = subst (λ (m : Me (Unit {0}) SeatView).
-    Learns (with_received (view_of c.args.other.now) c.split_seat-messenger.result.me.0) m.0)
-    (sym c.split_seat-answer.ensures.2)
-    (subst (λ (m : Me (Unit {0}) SeatView).
-    Learns m.0 c.hear.new.seat.me.0) c.join_seat.ensures.2 c.hear.ensures.2.0)
+told_by c = subst (λ (m : Mine × Mine). Learns m.0.0 m.1.0)
+    (λ t. (c.join_seat.ensures.2 t, sym c.split_seat-answer.ensures.2 t)) c.hear.ensures.2.0
 
 other_is : (c : After-split_seat-answer)
-    → c.split_seat-answer.new.seat.me.0 ≡ record (view_of c.args.other.now) {
-      seen =
-          c.split_seat-answer.new.seat.me.0.seen;
-    }
+    → c.split_seat-answer.new.seat.me ≡ (
+      record (view_of c.args.other.now) { seen = c.split_seat-answer.new.seat.me.0.seen },
+      c.args.other.now.seat.me.1,
+    )
 other_is c =
     let them = c.args.other.now in
     let v : SeatView = view_of them in
     let s : List Entry = c.hear.new.seat.me.0.seen in
     let split = c.split_seat-answer.ensures.2 in
-    let loaded : c.hear.new.seat.me.0 ≡ record v { seen = s } = c.hear.ensures.2.2
-    ∙ (ap (λ (m : Me (Unit {0}) SeatView). record m.0 {
-      seen = s;
-      received = [];
-      seen_end =
-          m.0.high;
-    }) c.join_seat.ensures.2
-    ∙ (λ i. record v {
-      seen = s;
-      received = sym them.seated.received_none i;
-      seen_end =
-          sym them.seated.seen_end_is i;
-    })) in
-    ap (λ (m : Me (Unit {0}) SeatView). m.0) split
-    ∙ (loaded ∙ ap (λ (m : Me (Unit {0}) SeatView). record v { seen = m.0.seen }) (sym split))
-
-other_alone : (c : After-split_seat-answer)
-    → c.split_seat-answer.new.seat.me.1 ≡ c.args.other.now.seat.me.1
-other_alone c = ap (λ (m : Me (Unit {0}) SeatView). m.1) c.split_seat-answer.ensures.2
-    ∙ (c.hear.ensures.2.1 ∙ ap (λ (m : Me (Unit {0}) SeatView). m.1) c.join_seat.ensures.2)
+    split ∙ ((λ t. (c.hear.ensures.2.2 t, c.hear.ensures.2.1 t))
+    ∙ (ap (λ (m : Mine). (record m.0 { seen = s; received = []; seen_end = m.0.high }, m.1))
+    c.join_seat.ensures.2
+    ∙ ((λ t. (
+      record v {
+        seen = s;
+        received = sym them.seated.received_none t;
+        seen_end = sym them.seated.seen_end_is t;
+      },
+      them.seat.me.1,
+    )) ∙ ap (λ (m : Mine). (record v { seen = m.0.seen }, them.seat.me.1)) (sym split))))
 
 pub invariant_of-other : goal.invariant_of-other
 invariant_of-other c =
@@ -126,13 +104,9 @@ invariant_of-other c =
     let table = c.split_seat-answer.ensures.0 ∙ (c.hear.ensures.0 ∙ c.join_seat.ensures.0) in
     record {
       own = table ∙ them.own;
-      sized = subst (λ (p : Plan).
-          IsSized them.segments them.scanners them.block_words them.words p)
-          (sym (ap (λ (v : SeatView). v.plan) (other_is a))) them.sized;
-      seated = seated_shown (Unit {0}) _ _ _ _ _ _ them.pins them.left them.seat.me
-          c.split_seat-answer.new.seat.me (pool_of them) _
-          (ap (λ (t : TableId). t.words) table) (other_is a) (other_alone a) (told_by a).later
-          (told_by a).legal them.sized them.seated;
+      sized = sized_still them (ap (λ (m : Mine). m.0.plan) (other_is a));
+      seated = seated_shown them.seated (pool_of them) _ them.sized
+          (ap (λ (t : TableId). t.words) table) (other_is a) (told_by a).later (told_by a).legal;
     }
 
 self_is : (c : After-join_seat-2)
@@ -141,23 +115,20 @@ self_is : (c : After-join_seat-2)
       c.args.self.now.seat.me.1,
     )
 self_is c =
+    let answer = c.split_seat-answer.ensures in
     c.join_seat-2.ensures.2
-    ∙ (ap (λ (m : Me (Unit {0}) SeatView). (
-      record m.0 { seen = c.split_seat-answer.result.me.0.seen },
-      m.1,
-    )) c.split_seat-messenger.ensures.2
+    ∙ (ap (λ (m : Mine). (record m.0 { seen = c.split_seat-answer.result.me.0.seen }, m.1))
+    c.split_seat-messenger.ensures.2
     ∙ ap (λ (l : List Entry). (
       record (view_of c.args.self.now) { seen = l },
       c.args.self.now.seat.me.1,
-    ))
-    (ap (λ (m : Me (Unit {0}) SeatView). m.0.seen) c.split_seat-answer.ensures.4
-    ∙ sym (ap (λ (m : Me (Unit {0}) SeatView). m.0.seen) c.split_seat-answer.ensures.2)))
+    )) (ap (λ (m : Mine). m.0.seen) answer.4 ∙ sym (ap (λ (m : Mine). m.0.seen) answer.2)))
 
 self_later : (c : After-split_seat-answer)
     → IsPrefix (view_of c.args.self.now).seen c.split_seat-answer.new.seat.me.0.seen
-self_later c = subst (λ (m : Me (Unit {0}) SeatView).
-    IsPrefix m.0.seen c.split_seat-answer.new.seat.me.0.seen) c.split_seat-messenger.ensures.4
-    (told_by c).received
+self_later c =
+    subst (λ (m : Mine). IsPrefix m.0.seen c.split_seat-answer.new.seat.me.0.seen)
+    c.split_seat-messenger.ensures.4 (told_by c).received
 
 pub invariant_of-self : goal.invariant_of-self
 invariant_of-self c =
@@ -168,12 +139,9 @@ invariant_of-self c =
     let is = self_is b in
     record {
       own = table ∙ me.own;
-      sized = subst (λ (m : Me (Unit {0}) SeatView).
-          IsSized me.segments me.scanners me.block_words me.words m.0.plan) (sym is) me.sized;
-      seated = seated_shown (Unit {0}) _ _ _ _ _ _ me.pins me.left me.seat.me
-          c.join_seat-2.new.seat.me (pool_of me) _ (ap (λ (t : TableId). t.words) table)
-          (ap (λ (m : Me (Unit {0}) SeatView). m.0) is) (ap (λ (m : Me (Unit {0}) SeatView).
-          m.1) is) (self_later a)
+      sized = sized_still me (ap (λ (m : Mine). m.0.plan) is);
+      seated = seated_shown me.seated (pool_of me) _ me.sized
+          (ap (λ (t : TableId). t.words) table) is (self_later a)
           (subst (λ (p : Plan). IsLegal p c.split_seat-answer.new.seat.me.0.seen) c.requires.1
-          (told_by a).legal) me.sized me.seated;
+          (told_by a).legal);
     }

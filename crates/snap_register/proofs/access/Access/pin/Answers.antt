@@ -1,12 +1,10 @@
 use Rattle.std.proofs.Common.{rules, ◌≡◌, ℕ, ◌<◌, sym, ap, subst, ◌∙◌, arith}
 use Rattle.atomic_table.specs.Seated.{TableId}
-use Rattle.snap_register.specs.declared.plan.Plan.{Plan}
 use Rattle.snap_register.specs.declared.plan.SeatView.{SeatView}
-use Rattle.snap_register.specs.Setup.{IsSized}
 use Rattle.snap_register.specs.Steps.{view_of}
 use Rattle.snap_register.proofs.Keeps.{pins}
 use Rattle.snap_register.proofs.Places.{word_inside}
-use Rattle.snap_register.proofs.Later.{seated_pinned}
+use Rattle.snap_register.proofs.Later.{seated_pinned, sized_still}
 use Rattle.snap_register.proofs.access.Access.pin.Goals as goal
 
 pub fetch_add-found-requires : goal.fetch_add-found-requires
@@ -31,13 +29,10 @@ pub invariant_of-self : goal.invariant_of-self
 invariant_of-self c =
     let me = c.args.self.now in
     let step = c.fetch_add-found.ensures in
-    let after = c.fetch_add-found.new.seat in
     record {
       own = step.0 ∙ me.own;
-      sized = subst (λ (p : Plan). IsSized me.segments me.scanners me.block_words me.words p)
-          (sym (ap (λ (v : SeatView). v.plan) step.2.3)) me.sized;
-      seated = seated_pinned (Unit {0}) _ _ _ _ _ _ me.pins me.left _ me.seat.me after.me c.args.j
-          c.fetch_add-found.result c.requires.0 (search rules)
-          (ap (λ (t : TableId). t.words) step.0) step.2.1 step.2.2 (let some = c.requires.2 in
-          omega arith) step.2.0.later step.2.0.legal me.sized step.2.3 me.seated;
+      sized = sized_still me (ap (λ (v : SeatView). v.plan) step.2.3);
+      seated = seated_pinned me.seated c.args.j _ me.sized c.requires.0 (search rules) step.2.2
+          (ap (λ (t : TableId). t.words) step.0) (let some = c.requires.2 in omega arith)
+          step.2.0.later step.2.0.legal (λ t. (step.2.3 t, step.2.1 t));
     }

@@ -1,5 +1,5 @@
 use Rattle.std.proofs.Common.{◌≡◌, ℕ, ◌+◌, ◌++◌, ◌∷◌, [], List, length, refl, ap, sym, subst, ◌∙◌, arith}
-use Rattle.atomic_table.specs.Table.{Me}
+use Rattle.snap_register.specs.Registers.{Mine}
 use Rattle.snap_register.specs.declared.plan.Entry.{Entry}
 use Rattle.snap_register.specs.declared.plan.Plan.{Plan}
 use Rattle.snap_register.specs.declared.plan.Pool.{Pool}
@@ -26,37 +26,29 @@ taken_pool v p (Borrowed j) = refl
 abbrev WithPool : SeatView → Pool → SeatView
 WithPool v p = record v { pool = p }
 
+pool_then : (v u w : SeatView) (p : Pool) → u ≡ WithPool v u.pool → w ≡ WithPool u p
+    → w ≡ WithPool v w.pool
+pool_then v u w p first next =
+    let e : w ≡ WithPool v p = next ∙ ap (λ (x : SeatView). WithPool x p) first in
+    e ∙ ap (WithPool v) (sym (ap (λ (x : SeatView). x.pool) e))
+
 second_is : (c : After-copy_view)
     → view_of c.draft_value-filled.new.self
     ≡ WithPool (view_of c.args.self.now) (pool_of c.draft_value-filled.new.self)
 second_is c =
-    let e : view_of c.draft_value-filled.new.self
-    ≡ WithPool (view_of c.args.self.now) (record (pool_of c.find_free-b.new.self) {
-      draft =
-          draft_of c.draft_value-filled.new.self;
-    })
-    = ap (λ (m : Me (Unit {0}) SeatView). m.0) c.draft_value-filled.ensures.same.3
-    ∙ ap (λ (m : Me (Unit {0}) SeatView).
-    WithPool m.0 (record (pool_of c.find_free-b.new.self) {
-      draft =
-          draft_of c.draft_value-filled.new.self;
-    })) c.find_free-b.ensures.free.1 in
-    e ∙ ap (WithPool (view_of c.args.self.now)) (sym (ap (λ (v : SeatView). v.pool) e))
+    let v : SeatView = view_of c.args.self.now in
+    pool_then v (view_of c.find_free-b.new.self) (view_of c.draft_value-filled.new.self) _
+    (pool_then v v (view_of c.find_free-b.new.self) _ refl
+    (ap (λ (m : Mine). m.0) c.find_free-b.ensures.free.1))
+    (ap (λ (m : Mine). m.0) c.draft_value-filled.ensures.same.3)
 
 third_is : (c : After-copy_view)
     → view_of c.copy_view.new.self
     ≡ WithPool (view_of c.args.self.now) (pool_of c.copy_view.new.self)
 third_is c =
-    let e : view_of c.copy_view.new.self
-    ≡ WithPool (view_of c.args.self.now)
-    (record (pool_of c.draft_value-filled.new.self) { draft = draft_of c.copy_view.new.self })
-    = ap (λ (m : Me (Unit {0}) SeatView). m.0) c.copy_view.ensures.same.3
-    ∙ ap (λ (v : SeatView). WithPool v
-    (record (pool_of c.draft_value-filled.new.self) {
-      draft =
-          draft_of c.copy_view.new.self;
-    })) (second_is c) in
-    e ∙ ap (WithPool (view_of c.args.self.now)) (sym (ap (λ (v : SeatView). v.pool) e))
+    pool_then (view_of c.args.self.now) (view_of c.draft_value-filled.new.self)
+    (view_of c.copy_view.new.self) _ (second_is c)
+    (ap (λ (m : Mine). m.0) c.copy_view.ensures.same.3)
 
 may_follow : (c : After-copy_view)
     → IsLegal (view_of c.args.self.now).plan (view_of c.args.self.now).seen
@@ -102,8 +94,7 @@ returns-clause-shown c =
     let first : w ≡ record u { seen = w.seen; pool = w.pool } =
     shown.same ∙ ap (λ (q : Pool). record u {
       seen = w.seen;
-      pool =
-          q;
+      pool = q;
     }) (sym (ap (λ (x : SeatView). x.pool) shown.same)) in
     let same : w ≡ record v { seen = w.seen; pool = w.pool } = first ∙ moved in
     let d : List ℕ = draft_of c.draft_value-filled.new.self in

@@ -1,7 +1,6 @@
 use Rattle.std.proofs.Common.{rules, ◌≡◌, ℕ, ◌+◌, ◌*◌, ◌/◌, ◌^◌, ◌<◌, ◌≤◌, List, length, take, ap, sym, subst, ◌∙◌, arith}
 use Rattle.std.proofs.lemmas.List.{take-take}
-use Rattle.atomic_table.specs.Table.{Me}
-use Rattle.snap_register.specs.declared.plan.SeatView.{SeatView}
+use Rattle.snap_register.specs.Registers.{Mine}
 use Rattle.snap_register.specs.Held.{held}
 use Rattle.snap_register.specs.Words.{bytes_at, length_at, words_for}
 use Rattle.snap_register.specs.Steps.{view_of, LiesAt}
@@ -11,7 +10,7 @@ use Rattle.snap_register.proofs.access.Access.read_value.Goals.{After-read-lengt
 -- where the block lies
 lies : (c : After-read-length) → LiesAt (view_of c.read-length.new.self) c.args.j c.args.at
     c.place-place.result
-lies c = subst (λ (m : Me (Unit {0}) SeatView). LiesAt m.0 c.args.j c.args.at c.place-place.result)
+lies c = subst (λ (m : Mine). LiesAt m.0 c.args.j c.args.at c.place-place.result)
     (sym c.read-length.ensures.same.2) c.place-place.ensures.place
 
 -- its value lies in the record
@@ -25,7 +24,7 @@ fits c =
     let end : at + (2 + words_for (length_at w at)) ≤ length w = c.requires.block.inside in
     let inside : at + (2 + words_for n) ≤ length w =
     subst (λ (z : ℕ). at + (2 + words_for z) ≤ length w) (sym told) end in
-    subst (λ (m : Me (Unit {0}) SeatView). at + 2 + (n + 7) / 8 ≤ length (held m.0 c.args.j))
+    subst (λ (m : Mine). at + 2 + (n + 7) / 8 ≤ length (held m.0 c.args.j))
     (sym c.read-length.ensures.same.2) (let goal : at + 2 + (n + 7) / 8 ≤ length w = omega arith in
     goal)
 
@@ -37,7 +36,7 @@ copy_value-requires c =
     let inside = fits e in
     let same : length (held (view_of b) c.args.j)
     ≡ length (held (view_of c.args.self.now) c.args.j) =
-    ap (λ (m : Me (Unit {0}) SeatView). length (held m.0 c.args.j)) c.read-length.ensures.same.2 in
+    ap (λ (m : Mine). length (held m.0 c.args.j)) c.read-length.ensures.same.2 in
     let small : c.place-place.result + length (held (view_of c.args.self.now) c.args.j)
     < 2 ^ 64 + c.args.at = c.place-place.ensures.fits in
     let short : length_at (held (view_of c.args.self.now) c.args.j) c.args.at ≤ 4080 =
@@ -62,9 +61,8 @@ returns-clause-value c =
     let told : n ≡ length_at w c.args.at = c.read-length.ensures.word in
     let all : List ℕ = c.copy_value.new.out in
     let bytes : take (8 * ((n + 7) / 8)) all ≡ bytes_at w (c.args.at + 2) ((n + 7) / 8) =
-    c.copy_value.ensures.bytes c.args.j c.args.at (lies e) (fits e)
-    ∙ ap (λ (m : Me (Unit {0}) SeatView).
-    bytes_at (held m.0 c.args.j) (c.args.at + 2) ((n + 7) / 8)) c.read-length.ensures.same.2 in
+    c.copy_value.ensures.bytes c.args.j c.args.at (lies e) (fits e) ∙ ap (λ (m : Mine). bytes_at
+    (held m.0 c.args.j) (c.args.at + 2) ((n + 7) / 8)) c.read-length.ensures.same.2 in
     sym (take-take n (8 * ((n + 7) / 8)) all (omega arith))
     ∙ (ap (take n) bytes
     ∙ ap (λ (z : ℕ). take z (bytes_at w (c.args.at + 2) (words_for z))) told)

@@ -11,7 +11,7 @@ store-requires c =
     let last = c.requires.place in (
       own,
       subst (λ (t : TableId). c.args.place < t.words) own
-          (last_inside (Unit {0}) _ _ _ me.seat.me me.seated c.args.place last),
+          (last_inside me.seated last),
       redrafts (Unit {0}) _ _ _ me.seat.me last.own _ _ me.seated.here last.owns.0 last.owns.1
           last.free last.some last.inside last.is,
     )

@@ -11,7 +11,7 @@ load-requires c =
     let next = c.requires.place in (
       own,
       subst (λ (t : TableId). c.args.place < t.words) own
-          (next_inside (Unit {0}) _ _ _ me.seat.me me.seated c.args.place next),
+          (next_inside me.seated next),
       reuses (Unit {0}) _ _ _ me.seat.me next.own _ me.seated.here next.owns.0 next.owns.1
           next.free next.inside next.is,
     )

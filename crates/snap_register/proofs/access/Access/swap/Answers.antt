@@ -1,13 +1,11 @@
 use Rattle.std.proofs.Common.{rules, ◌*◌, ◌^◌, ◌≡◌, ℕ, ◌<◌, sym, ap, subst, ◌∙◌}
 use Rattle.atomic_table.specs.Seated.{TableId}
-use Rattle.snap_register.specs.declared.plan.Plan.{Plan}
 use Rattle.snap_register.specs.declared.plan.SeatView.{SeatView}
 use Rattle.snap_register.specs.Rule.{buffers}
-use Rattle.snap_register.specs.Setup.{IsSized}
 use Rattle.snap_register.specs.Steps.{view_of}
 use Rattle.snap_register.proofs.Pools.{publishes}
 use Rattle.snap_register.proofs.Places.{word_inside}
-use Rattle.snap_register.proofs.Later.{seated_shown, publishes_later}
+use Rattle.snap_register.proofs.Later.{seated_shown, publishes_later, sized_still}
 use Rattle.snap_register.proofs.access.Access.swap.Goals as goal
 
 pub swap-found-requires : goal.swap-found-requires
@@ -28,13 +26,11 @@ pub invariant_of-self : goal.invariant_of-self
 invariant_of-self c =
     let me = c.args.self.now in
     let step = c.swap-found.ensures in
-    let after = c.swap-found.new.seat in
     let shown = step.2.0 in
     record {
       own = step.0 ∙ me.own;
-      sized = subst (λ (p : Plan). IsSized me.segments me.scanners me.block_words me.words p)
-          (sym (ap (λ (v : SeatView). v.plan) shown.same)) me.sized;
-      seated = seated_shown (Unit {0}) _ _ _ _ _ _ me.pins me.left me.seat.me after.me _ _
-          (ap (λ (t : TableId). t.words) step.0) shown.same step.2.2
-          (publishes_later (view_of me) after.me.0 c.args.i _ shown) shown.legal me.sized me.seated;
+      sized = sized_still me (ap (λ (v : SeatView). v.plan) shown.same);
+      seated = seated_shown me.seated _ _ me.sized (ap (λ (t : TableId). t.words) step.0)
+          (λ t. (shown.same t, step.2.2 t))
+          (publishes_later (view_of me) c.swap-found.new.seat.me.0 c.args.i _ shown) shown.legal;
     }

@@ -1,7 +1,6 @@
 use Rattle.std.proofs.Common.{◌≡◌, ◌++◌, length, take, drop, ap, ◌∙◌, arith}
 use Rattle.std.proofs.Math.Seq.{take-append_seam}
-use Rattle.atomic_table.specs.Table.{Me}
-use Rattle.snap_register.specs.declared.plan.SeatView.{SeatView}
+use Rattle.snap_register.specs.Registers.{Mine}
 use Rattle.snap_register.specs.Held.{held}
 use Rattle.snap_register.specs.Words.{value_at}
 use Rattle.snap_register.specs.Steps.{view_of}
@@ -12,14 +11,16 @@ pub returns-clause-value : goal.returns-clause-value
 returns-clause-value c =
     let me = c.args.self.now in
     let out = c.read_value-length.new.out in
-    let whole : take c.resize.new.self.len (out ++ drop (length out) c.resize.new.self.items) ≡ out =
-    (let long : c.resize.new.self.len ≡ length out = (let same = c.read_value-length.ensures.room in
-    let len = c.deref_mut.ensures.len in let value = ap length c.deref_mut.ensures.value in omega arith) in
-    ap (λ n. take n (out ++ drop (length out) c.resize.new.self.items)) long
-    ∙ take-append_seam out (drop (length out) c.resize.new.self.items)) in
+    let rest = drop (length out) c.resize.new.self.items in
+    let long : c.resize.new.self.len ≡ length out =
+    let same = c.read_value-length.ensures.room in
+    let len = c.deref_mut.ensures.len in
+    let value = ap length c.deref_mut.ensures.value in omega arith in
+    let whole : take c.resize.new.self.len (out ++ rest) ≡ out =
+    ap (λ n. take n (out ++ rest)) long ∙ take-append_seam out rest in
     value_shown me.seat.table_id (view_of me) c.args.j _ c.requires.looked
     (me.seated.records_are c.args.j c.requires.segment)
     (c.in_ok-from_vec.ensures.ok ∙ c.truncate.ensures.items
     ∙ ap (take c.read_value-length.result) whole ∙ c.read_value-length.ensures.value
-    ∙ ap (λ (m : Me (Unit {0}) SeatView). value_at (held m.0 c.args.j) 0)
+    ∙ ap (λ (m : Mine). value_at (held m.0 c.args.j) 0)
     c.size_at-words.ensures.same.2)

@@ -1,34 +1,32 @@
-use Rattle.std.proofs.Common.{rules, ◌≡◌, ℕ, ◌+◌, ◌^◌, ◌<◌, ◌≤◌, List, Some, slice_get, slice_set, length, refl, ap, sym, subst}
+use Rattle.std.proofs.Common.{rules, ◌≡◌, ℕ, ◌+◌, ◌<◌, List, Some, slice_get, slice_set, length, refl, ap, sym, subst}
 use Rattle.std.proofs.Common.{◌∙◌, arith}
 use mathlib.Core.Logic.{dite}
 use native.Mathlib.Decide.{ℕ_discrete}
 use Rattle.std.proofs.lemmas.Bool.{MatchBool-at_true, MatchBool-at_false, false_from_ne_true}
 use Rattle.std.proofs.lemmas.Option.{slice_get_read}
-use Rattle.atomic_table.specs.Table.{Me}
+use Rattle.snap_register.specs.Registers.{Mine}
 use Rattle.snap_scan.specs.Sets.{Names}
 use Rattle.snap_history.proofs.Lists.{get-set_same, get-set_other}
-use Rattle.snap_register.specs.declared.plan.SeatView.{SeatView}
 use Rattle.snap_register.specs.Rule.{segments}
 use Rattle.snap_register.specs.Held.{held, view_in}
 use Rattle.snap_register.specs.Words.{IsWhole, size_at, block_at, behind}
 use Rattle.snap_register.specs.Steps.{view_of}
 use Rattle.snap_register.proofs.Blocks.{behind_more}
-use Rattle.snap_register.proofs.Views.{view_whole, held_small}
+use Rattle.snap_register.proofs.Views.{view_whole, ends_small}
 use Rattle.snap_register.proofs.Updates.{update_found, view_shown}
 use Rattle.snap_register.proofs.access.Access.view.Goals as goal
 use Rattle.snap_register.proofs.access.Access.view.Goals.{In-loop-k}
 
 words_are : (c : In-loop-k)
     → held (view_of c.loop-k.self) c.args.j ≡ held (view_of c.args.self.now) c.args.j
-words_are c = ap (λ (m : Me (Unit {0}) SeatView). held m.0 c.args.j) (c.loop-k.invariant.same.2
+words_are c = ap (λ (m : Mine). held m.0 c.args.j) (c.loop-k.invariant.same.2
     ∙ c.size_at-at.ensures.same.2)
 
 at_is : (c : In-loop-k) → c.loop-k.at
     ≡ behind (held (view_of c.args.self.now) c.args.j)
     (size_at (held (view_of c.args.self.now) c.args.j) 0) c.loop-k.k
 at_is c = c.loop-k.invariant.at
-    ∙ ap (λ (m : Me (Unit {0}) SeatView).
-    behind (held m.0 c.args.j) (size_at (held m.0 c.args.j) 0) c.loop-k.k)
+    ∙ ap (λ (m : Mine). behind (held m.0 c.args.j) (size_at (held m.0 c.args.j) 0) c.loop-k.k)
     c.size_at-at.ensures.same.2
 
 whole : (c : In-loop-k) → IsWhole (held (view_of c.loop-k.self) c.args.j) c.loop-k.at
@@ -48,14 +46,11 @@ read_named-at-requires-clause-block c =
 pub overflow_add-at : goal.overflow_add-at
 overflow_add-at c =
     let e = (goal.at.overflow_add-at c).In-loop-k in
-    let w : List ℕ = held (view_of c.loop-k.self) c.args.j in
-    let inside : c.loop-k.at + size_at w c.loop-k.at ≤ length w = (whole e).inside in
-    let same : length w ≡ length (held (view_of c.args.self.now) c.args.j) =
-    ap length (words_are e) in
-    let few = held_small c.args.self.now c.args.j c.requires.segment in
-    let size : c.read_named-at.result ≡ size_at w c.loop-k.at = c.read_named-at.ensures.size in
-    let small_sum : c.loop-k.at + c.read_named-at.result < 2 ^ 64 = omega arith in
-    omega (arith, small_sum)
+    omega (
+      arith,
+      ends_small c.args.self.now c.args.j _ _ _ c.requires.segment (words_are e) (whole e)
+          c.read_named-at.ensures.size,
+    )
 
 pub loop-k-preserved : goal.loop-k-preserved
 loop-k-preserved c =
@@ -65,7 +60,7 @@ loop-k-preserved c =
     let k : ℕ = c.loop-k.k in
     let w : List ℕ = held a.0 c.args.j in
     let words : held (view_of c.loop-k.self) c.args.j ≡ w =
-    ap (λ (m : Me (Unit {0}) SeatView). held m.0 c.args.j) inv.same.2 in
+    ap (λ (m : Mine). held m.0 c.args.j) inv.same.2 in
     let here : block_at (held (view_of c.loop-k.self) c.args.j) c.loop-k.at ≡ view_in w k =
     λ t. block_at (words t) (inv.at t) in
     let size : c.read_named-at.result ≡ size_at w (behind w (size_at w 0) k) =
@@ -93,7 +88,8 @@ loop-k-preserved c =
           (c.has.ensures.names.1 (subst (Names c.args.set.bits) e named))
           c.read_named-at.ensures.block ∙ here)
           ∙ ap (λ (z : ℕ). Some (view_in w z)) (sym e))))
-          (λ ne. get-set_other items k i c.read_named-at.new.out ne ∙ inv.view i (omega arith) named);
+          (λ ne. get-set_other items k i c.read_named-at.new.out ne
+          ∙ inv.view i (omega arith) named);
       others = λ i un. dite (ℕ_discrete i k)
           (λ e. ap (slice_get (slice_set items k c.read_named-at.new.out)) e
           ∙ (get-set_same items k c.read_named-at.new.out (omega arith)
@@ -119,5 +115,5 @@ returns-clause-view c =
     let size : length xs ≡ segments (view_of a).plan = omega arith in
     view_shown a.seat.table_id (view_of a) c.args.j c.args.set.bits xs c.size_at-at.ensures.legal
     c.requires.updated (a.seated.records_are c.args.j c.requires.segment) size
-    (λ k lk named. inv.view k (omega arith) named ∙ ap (λ (m : Me (Unit {0}) SeatView).
+    (λ k lk named. inv.view k (omega arith) named ∙ ap (λ (m : Mine).
     Some (view_in (held m.0 c.args.j) k)) c.size_at-at.ensures.same.2)

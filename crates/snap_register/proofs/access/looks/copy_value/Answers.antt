@@ -2,8 +2,7 @@ use Rattle.std.proofs.Common.{rules, ◌≡◌, ℕ, ◌+◌, ◌-◌, ◌≤◌
 use Rattle.std.specs.Int.{w64, to_le_bytes}
 use Rattle.std.proofs.lemmas.Slice.{take-put_mid}
 use Rattle.atomic_table.specs.Seated.{TableId}
-use Rattle.atomic_table.specs.Table.{Me}
-use Rattle.snap_register.specs.declared.plan.SeatView.{SeatView}
+use Rattle.snap_register.specs.Registers.{Mine}
 use Rattle.snap_register.specs.Held.{held}
 use Rattle.snap_register.specs.Setup.{IsSeated}
 use Rattle.snap_register.specs.Steps.{LiesAt}
@@ -20,7 +19,7 @@ lies c j at lies' inside =
     let q : ℕ = c.loop-q.q in
     let place : ℕ = c.args.place in
     let lt = c.loop-q-test.true in
-    subst (λ (m : Me (Unit {0}) SeatView). LiesAt m.0 j (at + 2 + q) (place + 2 + q))
+    subst (λ (m : Mine). LiesAt m.0 j (at + 2 + q) (place + 2 + q))
     (sym c.loop-q.invariant.me) (lies_more c.args.seat.now.me.0 j at (2 + q) (at + 2 + q) place
     (place + 2 + q) lies' (omega arith) (omega arith) (omega arith))
 
@@ -34,7 +33,7 @@ load_word-word-requires c =
       seated = (
         seated.0,
         seated.1,
-        subst (λ (m : Me (Unit {0}) SeatView).
+        subst (λ (m : Mine).
             IsSeated c.loop-q.seat.table_id.words seated.0 seated.1 m) (sym inv.me)
             (subst (λ (t : TableId). IsSeated t.words seated.0 seated.1 c.args.seat.now.me)
             (sym inv.table) seated.2),
@@ -65,7 +64,7 @@ loop-q-preserved c =
           let word : c.load_word-word.result ≡ get_or w (from + q) 0 =
           c.load_word-word.ensures.word j (from + q)
           (lies (goal.at.loop-q-preserved c).In-loop-q j at lies' inside)
-          ∙ ap (λ (m : Me (Unit {0}) SeatView). get_or (held m.0 j) (from + q) 0) inv.me in
+          ∙ ap (λ (m : Mine). get_or (held m.0 j) (from + q) 0) inv.me in
           let bytes : c.copy_from_slice.new.self ≡ to_le_bytes w64 (get_or w (from + q) 0) =
           c.copy_from_slice.ensures.after
           ∙ (c.to_le_bytes.ensures ∙ ap (to_le_bytes w64) word) in

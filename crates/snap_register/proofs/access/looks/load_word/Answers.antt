@@ -12,7 +12,7 @@ load-requires c =
     let seated = c.requires.seated.2 in (
       c.requires.own,
       subst (λ (t : TableId). c.args.place < t.words) c.requires.own
-          (lies_inside (Unit {0}) _ _ _ s.me seated at.0 at.1 _ at.2),
+          (lies_inside seated at.2),
       reads (Unit {0}) _ _ _ _ _ seated.here,
     )
 

@@ -1,4 +1,4 @@
-use Rattle.std.proofs.Common.{rules, ◌≡◌, ℕ, ◌+◌, List, [], ◌∷◌, ◌++◌, length, map, take, slice_get, Some, refl, subst, sym, arith}
+use Rattle.std.proofs.Common.{rules, ◌≡◌, ℕ, List, [], ◌∷◌, ◌++◌, length, map, take, slice_get, Some, refl, subst, sym, arith}
 use Rattle.std.proofs.lemmas.Option.{slice_get_read}
 use Rattle.std.proofs.lemmas.Result.{IfOk-weaker}
 use Rattle.snap_history.specs.Pairs.{Pairs}
@@ -30,32 +30,31 @@ loop-start-preserved c =
       x.0,
       x.1.items,
     ) o c.loop-start.invariant packed in
-    subst (λ (os : List Opening).
-    Pairs (λ _. IsPacked) (map (λ x. (x.0, x.1.items)) (take (k + 1) vs)) os) (sym items)
-    (subst (λ (xs : List (ℕ × List ℕ)). Pairs (λ _. IsPacked) xs (c.loop-start.openings.items
-    ++ o ∷ [])) (sym (map_next (λ x. (x.0, x.1.items)) k vs x e)) more)
+    subst (λ (x : List (ℕ × List ℕ) × List Opening). Pairs (λ _. IsPacked) x.0 x.1)
+    (λ t. (sym (map_next (λ x. (x.0, x.1.items)) k vs x e) t, sym items t)) more
 
 all_packed : (c : After-loop-start)
     → Pairs (λ _. IsPacked) (map (λ x. (x.0, x.1.items)) c.args.values.now)
     c.loop-start.openings.items
 all_packed c = packed_all _ _ _ _ c.loop-start-test.false c.loop-start.invariant
 
+all_opened : (c : After-loop-start)
+    → length c.args.values.now ≡ length c.loop-start.openings.items
+all_opened c = packed_length _ _ _ (all_packed c)
+
 pub open-requires-clause-count : goal.open-requires-clause-count
 open-requires-clause-count c =
-    let p = all_packed (goal.at.open-requires-clause-count c).After-loop-start in
-    let long : length c.args.values.now ≡ length c.loop-start.openings.items =
-    packed_length _ _ _ p in
+    let long = all_opened (goal.at.open-requires-clause-count c).After-loop-start in
     let some = c.requires.count.0 in
     let few = c.requires.count.1 in
     (omega arith, omega arith, c.requires.scanners)
 
 pub open-requires-clause-ready : goal.open-requires-clause-ready
 open-requires-clause-ready c =
-    let p = all_packed (goal.at.open-requires-clause-ready c).After-loop-start in
-    let long : length c.args.values.now ≡ length c.loop-start.openings.items =
-    packed_length _ _ _ p in
+    let a = (goal.at.open-requires-clause-ready c).After-loop-start in
     let few = c.requires.count.1 in
-    ready_is c.args.scanners c.args.looks _ _ c.requires.scanners (omega arith) c.requires.looks p
+    ready_is c.args.scanners c.args.looks _ _ c.requires.scanners (omega (arith, all_opened a))
+    c.requires.looks (all_packed a)
 
 pub returns-clause-seats : goal.returns-clause-seats
 returns-clause-seats c =
@@ -71,7 +70,5 @@ returns-clause-seats c =
 
 pub returns-clause-writers : goal.returns-clause-writers
 returns-clause-writers c =
-    let p = all_packed (goal.at.returns-clause-writers c).After-loop-start in
-    let long : length c.args.values.now ≡ length c.loop-start.openings.items =
-    packed_length _ _ _ p in
+    let long = all_opened (goal.at.returns-clause-writers c).After-loop-start in
     IfOk-weaker c.open.result _ _ (λ r s. let a = s.0 in omega arith) c.open.ensures.counts

@@ -1,5 +1,5 @@
 use Rattle.std.proofs.Common.{◌≡◌, List, ap, sym, subst, ◌∙◌, arith}
-use Rattle.atomic_table.specs.Table.{Me}
+use Rattle.snap_register.specs.Registers.{Mine}
 use Rattle.snap_register.specs.declared.plan.Plan.{Plan}
 use Rattle.snap_register.specs.declared.plan.SeatView.{SeatView}
 use Rattle.snap_register.specs.declared.plan.Entry.{Entry}
@@ -15,10 +15,9 @@ returns-clause-scanner c =
     let b = c.meet.new.self in
     let l = c.meet.ensures in
     let high = c.self.invariant.1 in
-    subst (λ (k : Known). Meets k (known_of b)) c.self.view_is
-    (meets_is a.seat.table_id b.seat.table_id (view_of a) (view_of b) (view_of c.meet.new.other).seen
-    l.me.0 (ap (λ (m : Me (Unit {0}) SeatView). m.0) l.me.1) l.received
-    (λ i has. let x = has.1 in absurd (omega arith)))
+    subst (λ (k : Known). Meets k (known_of b)) c.self.view_is (meets_is a.seat.table_id
+    b.seat.table_id (view_of a) (view_of b) (view_of c.meet.new.other).seen l.me.0
+    (ap (λ (m : Mine). m.0) l.me.1) l.received (λ i has. let x = has.1 in absurd (omega arith)))
 
 pub returns-clause-writer : goal.returns-clause-writer
 returns-clause-writer c =
@@ -27,7 +26,7 @@ returns-clause-writer c =
     let l = c.meet.ensures in
     subst (λ (k : Known). Meets k (known_of b)) c.writer.view_is
     (meets_is a.seat.table_id b.seat.table_id (view_of a) (view_of b) (view_of b).seen l.other.0
-    (ap (λ (m : Me (Unit {0}) SeatView). m.0) l.other.1) l.seen l.own)
+    (ap (λ (m : Mine). m.0) l.other.1) l.seen l.own)
 
 pub returns-clause-below : goal.returns-clause-below
 returns-clause-below c =
@@ -38,8 +37,8 @@ returns-clause-below c =
     let plans : (view_of c.writer.inside.access).plan ≡ (view_of c.self.inside.access).plan =
     ap (λ (a : Known). a.plan) c.writer.view_is
     ∙ (c.requires.together.plan ∙ ap (λ (a : Known). a.plan) (sym c.self.view_is)) in
-    let plan : u.plan ≡ w.plan = ap (λ (m : Me (Unit {0}) SeatView). m.0.plan) l.other.1
-    ∙ (plans ∙ sym (ap (λ (m : Me (Unit {0}) SeatView). m.0.plan) mine)) in
-    let seen : u.seen ≡ w.seen = sym (ap (λ (m : Me (Unit {0}) SeatView). m.0.seen) mine) in
+    let plan : u.plan ≡ w.plan = ap (λ (m : Mine). m.0.plan) l.other.1
+    ∙ (plans ∙ sym (ap (λ (m : Mine). m.0.plan) mine)) in
+    let seen : u.seen ≡ w.seen = sym (ap (λ (m : Mine). m.0.seen) mine) in
     below_is c.meet.new.self.seat.table_id w
     (subst (λ (x : Plan × List Entry). rule.IsBelow x.0 x.1) (λ t. (plan t, seen t)) l.below)

@@ -1,19 +1,18 @@
-use Rattle.std.proofs.Common.{◌≤◌, ap, sym, ◌∙◌, arith, length, get_or, List}
+use Rattle.std.proofs.Common.{ap, sym, ◌∙◌, arith, length, get_or, List}
 use Rattle.std.proofs.lemmas.List.{length-replicate, get_or-replicate}
 use Rattle.snap_register.specs.declared.plan.Pool.{Pool}
 use Rattle.snap_register.specs.declared.plan.Entry.{Entry}
 use Rattle.snap_register.specs.History.{count}
 use Rattle.snap_register.specs.Rule.{buffers}
 use Rattle.snap_register.specs.Steps.{view_of}
+use Rattle.snap_register.proofs.Views.{few_buffers}
 use Rattle.snap_register.proofs.seats.WriteSeat.of.Goals as goal
 
 pub invariant_of-result : goal.invariant_of-result
 invariant_of-result c =
     let v = view_of c.args.access in
     let d = c.requires.pool in
-    let sized = c.args.access.sized in
-    let few : buffers v.plan ≤ 34 = let a = sized.few in let b = sized.few_scanners in let e =
-    sized.segments_are in let f = sized.scanners_are in omega arith in
+    let few = few_buffers c.args.access.sized in
     let none = ap (λ (h : List Entry). count c.args.segment h) c.requires.number.1 in
     record {
       role = c.requires.role.0;

@@ -1,11 +1,11 @@
 use Rattle.std.proofs.Common.{[], ◌∷◌, ◌++◌, arith}
 use Rattle.snap_scan.specs.Stands.{StandsFor}
-use Rattle.snap_scan.proofs.Kept.{close, borrow, StandsFor-next_segment, StandsFor-end_collect, of_picked, turn_fits, firsts_fit}
+use Rattle.snap_scan.proofs.Kept.{close, StandsFor-borrow, StandsFor-next_segment, StandsFor-end_collect, of_picked, turn_fits}
 use Rattle.snap_scan.proofs.machine.Machine.told.Goals as goal
 
 pub has_moved_twice-requires : goal.has_moved_twice-requires
 has_moved_twice-requires c =
-    firsts_fit c.args.self.now c.args.segment c.args.number c.requires.turn c.requires.stands
+    (turn_fits c.args.self.now c.args.segment c.args.number c.requires.turn c.requires.stands).2
 
 pub overflow_add-self : goal.overflow_add-self
 overflow_add-self c = omega (
@@ -16,19 +16,14 @@ overflow_add-self c = omega (
 pub returns-then-has_moved_twice-clause-told : goal.returns-then-has_moved_twice-clause-told
 returns-then-has_moved_twice-clause-told c = λ told st.
     let moved = c.has_moved_twice.ensures.0 c.if-has_moved_twice.true in
-    borrow c.args.self.now told c.args.segment c.args.number st c.requires.turn moved.0 moved.1
+    StandsFor-borrow c.args.self.now told c.args.segment c.args.number st c.requires.turn moved.0
+    moved.1
 
-pub keep-requires-clause-place : goal.keep-requires-clause-place
-keep-requires-clause-place c =
-    (turn_fits c.args.self.now c.args.segment c.args.number c.requires.turn c.requires.stands).0
-
-pub keep-requires-clause-headroom : goal.keep-requires-clause-headroom
-keep-requires-clause-headroom c =
-    omega (
-      arith,
-      (turn_fits c.args.self.now c.args.segment c.args.number c.requires.turn
-          c.requires.stands).1,
-    )
+pub keep-requires : goal.keep-requires
+keep-requires c =
+    let fits = turn_fits c.args.self.now c.args.segment c.args.number c.requires.turn
+    c.requires.stands in
+    record { place = fits.0; headroom = omega (arith, fits.1) }
 
 pub overflow_add-segment : goal.overflow_add-segment
 overflow_add-segment c = omega (

@@ -5,15 +5,12 @@ use Rattle.snap_script.proofs.progress.Progress.line.Goals as goal
 
 pub returns-then-is_empty-clause-ok : goal.returns-then-is_empty-clause-ok
 returns-then-is_empty-clause-ok g c = λ done old h.
-    done_empty done old _ _ _ h c.args.line.now _ c.saturating_add-self.ensures (grind (
-      arith,
-      nat_tests,
-    )) c.requires
+    done_empty h c.args.line.now _ c.saturating_add-self.ensures (grind (arith, nat_tests)) c.requires
 
 pub returns-in-Ok-write_whole-clause-ok : goal.returns-in-Ok-write_whole-clause-ok
 returns-in-Ok-write_whole-clause-ok g c = λ done old h.
     let some : 0 < length c.args.line.now = grind (arith, nat_tests) in
-    done_on done old _ _ _ h c.args.line.now some c.line.new.self.world c.line.new.self.text.items
+    done_on h c.args.line.now some c.line.new.self.world c.line.new.self.text.items
     c.in-Ok.ensures.ok _ _ c.saturating_add-self.ensures c.requires
     (rw c.deref.ensures.value at c.in-Ok-write_whole.ensures.whole)
 
@@ -22,6 +19,6 @@ returns-in-Err-clause-err g c = λ done old h.
     let some : 0 < length c.args.line.now = grind (arith, nat_tests) in
     let part = rw c.deref.ensures.value at c.in-Err.ensures.beginning in (
       c.requires,
-      prints_part done old _ _ _ h c.args.line.now some c.line.new.self.world
-          c.line.new.self.text.items c.in-Ok.ensures.ok _ part.0 part.1,
+      prints_part h c.args.line.now some c.line.new.self.world c.line.new.self.text.items
+          c.in-Ok.ensures.ok _ part.0 part.1,
     )

@@ -1,36 +1,43 @@
 use Rattle.std.proofs.Common.{◌≡◌, ℕ, ◌+◌, length, ap, sym, ◌∙◌, arith}
+use Rattle.std.specs.Vec.Iter.{into_iter_items}
 use Rattle.std.proofs.lemmas.List.{length_push, length-drop}
-use Rattle.snap_history.proofs.Removals.{taken}
+use Rattle.snap_history.proofs.Removals.{Taken, taken}
 use Rattle.snap_service.proofs.shared.Shared.new.Goals as goal
+use Rattle.snap_service.proofs.shared.Shared.new.Goals.{In-Some}
+
+-- the writer that is taken next is that of the next segment
+next_of : (g : _) (c : In-Some g) → Taken (length c.writers.locks.items) c.args.writers.items
+    c.in-Some.writer (into_iter_items c.next.new.self)
+next_of g c = taken _ _ _ _ _ c.writers.invariant.rest c.in-Some.ensures.steps.0
 
 pub new-requires-clause-memory : goal.new-requires-clause-memory
 new-requires-clause-memory g c =
-    let ws = c.args.writers.items in
-    let k : ℕ = length c.writers.locks.items in
-    let next = taken k ws _ _ _ c.writers.invariant.rest c.in-Some.ensures.steps.0 in
-    (c.requires.each k c.in-Some.writer next.at).0
+    let next = next_of g (goal.at.new-requires-clause-memory g c).In-Some in
+    (c.requires.each _ c.in-Some.writer next.at).0
 
 pub new-requires-clause-own : goal.new-requires-clause-own
 new-requires-clause-own g c =
-    let ws = c.args.writers.items in
-    let k : ℕ = length c.writers.locks.items in
-    let next = taken k ws _ _ _ c.writers.invariant.rest c.in-Some.ensures.steps.0 in
-    let own = (c.requires.each k c.in-Some.writer next.at).1 in
+    let next = next_of g (goal.at.new-requires-clause-own g c).In-Some in
+    let own = (c.requires.each _ c.in-Some.writer next.at).1 in
     let count = c.len-segment.ensures in
     let len = c.writers.locks.ok in
     omega arith
 
 pub writers-preserved : goal.writers-preserved
 writers-preserved g c =
-    let ws = c.args.writers.items in
     let inv = c.writers.invariant in
-    let k : ℕ = length c.writers.locks.items in
-    let next = taken k ws _ _ _ inv.rest c.in-Some.ensures.steps.0 in
+    let next = next_of g (goal.at.writers-preserved g c).In-Some in
     let inside = next.inside in
-    let on : length c.push.new.self.items ≡ k + 1 = ap length c.in-Ok-push.ensures.items ∙ length_push c.writers.locks.items _ in
+    let on : length c.push.new.self.items ≡ length c.writers.locks.items + 1 =
+    ap length c.in-Ok-push.ensures.items ∙ length_push c.writers.locks.items _ in
     record {
       rest = next.left _ on;
-      long = (let was = inv.long in let gone = c.in-Some.ensures.steps.1 in let short = ap length c.in-Some.ensures.steps.0 in omega arith);
+      long = (
+          let was = inv.long in
+          let gone = c.in-Some.ensures.steps.1 in
+          let short = ap length c.in-Some.ensures.steps.0 in
+          omega arith
+          );
       within = omega arith;
       room = (let r = c.in-Ok-push.ensures.capacity in let was = inv.room in omega arith);
     }
@@ -45,9 +52,6 @@ invariant_of-result g c =
 
 pub unreachable-requires : goal.unreachable-requires
 unreachable-requires g c =
-    let ws = c.args.writers.items in
-    let inv = c.writers.invariant in
-    let k : ℕ = length c.writers.locks.items in
-    let inside = (taken k ws _ _ _ inv.rest c.in-Some.ensures.steps.0).inside in
+    let inside = (next_of g (goal.at.unreachable-requires g c).In-Some).inside in
     let full = c.in-Err.ensures.full in
-    let count = c.writers.locks.ok.0 in let room = inv.room in omega arith
+    let count = c.writers.locks.ok.0 in let room = c.writers.invariant.room in omega arith

@@ -1,9 +1,9 @@
 use Rattle.std.proofs.Common.{◌≡◌, [], length, refl, ap, subst, sym, inl, inr, ◌∙◌, Some, None, arith}
-use Rattle.snap_frame.specs.declared.frame_buffer.Failure.TheVariants.{TooLarge, NoMemory}
+use Rattle.snap_frame.specs.declared.frame_buffer.Failure.TheVariants.{NoMemory}
 use Rattle.snap_session.specs.Talk.{refused_malformed, refused_too_large}
 use Rattle.snap_frame.specs.Messages.{says}
-use Rattle.snap_session.proofs.Steps.{rests, by_more, gives_up, answers, refuses, found_first, hands, came_free, owes_free, owes_some}
-use Rattle.snap_session.proofs.Steps.{owes_over, asked_of, over_of}
+use Rattle.snap_session.proofs.Steps.{rests, by_more, gives_up, answers, refuses, found_first, hands, came_free, owes_turn}
+use Rattle.snap_session.proofs.Steps.{asked_of}
 use Rattle.snap_frame.specs.Stream.{HasLongLength}
 use Rattle.snap_session.proofs.session.Session.answer_one.Goals as goal
 
@@ -69,31 +69,21 @@ returns-in-NoMemory-clause-goes g c =
     (gives_up g.S.Service.gives _ c.args.self.now _ c.hear.new.self c.requires.going h.0 h.1)
 
 pub returns-in-Some-clause-wants : goal.returns-in-Some-clause-wants
-returns-in-Some-clause-wants g c = (
-  owes_free c.hear.new.self (says c.in-Some.reply) c.owe.new.self c.owe.result c.owe.ensures.owes
-      (c.in-Asked.ensures.5 ∙ c.requires.free),
-  owes_some c.hear.new.self (says c.in-Some.reply) c.owe.new.self c.owe.result c.owe.ensures.owes,
-)
+returns-in-Some-clause-wants g c =
+    owes_turn c.hear.new.self (says c.in-Some.reply) c.owe.new.self c.owe.result
+    c.owe.ensures.owes (c.in-Asked.ensures.5 ∙ c.requires.free)
 
 pub returns-in-Malformed-clause-wants : goal.returns-in-Malformed-clause-wants
-returns-in-Malformed-clause-wants g c = (
-  owes_free c.hear.new.self refused_malformed c.owe-in-Malformed.new.self
-      c.owe-in-Malformed.result c.owe-in-Malformed.ensures.owes
-      (c.in-Malformed.ensures.5 ∙ c.requires.free),
-  owes_some c.hear.new.self refused_malformed c.owe-in-Malformed.new.self
-      c.owe-in-Malformed.result c.owe-in-Malformed.ensures.owes,
-)
+returns-in-Malformed-clause-wants g c =
+    owes_turn c.hear.new.self refused_malformed c.owe-in-Malformed.new.self
+    c.owe-in-Malformed.result c.owe-in-Malformed.ensures.owes
+    (c.in-Malformed.ensures.5 ∙ c.requires.free)
 
 pub returns-in-TooLarge-clause-wants : goal.returns-in-TooLarge-clause-wants
-returns-in-TooLarge-clause-wants g c = (
-  owes_free c.hear.new.self refused_too_large c.owe-in-TooLarge.new.self c.owe-in-TooLarge.result
-      c.owe-in-TooLarge.ensures.owes (ap asked_of c.in-TooLarge.ensures.1 ∙ c.requires.free),
-  λ going none. absurd (owes_over c.hear.new.self refused_too_large c.owe-in-TooLarge.new.self
-      c.owe-in-TooLarge.result c.owe-in-TooLarge.ensures.owes
-      (λ wrong. let both : Some TooLarge ≡ None = sym (ap over_of c.in-TooLarge.ensures.1)
-      ∙ wrong in
-      cc) going),
-)
+returns-in-TooLarge-clause-wants g c =
+    owes_turn c.hear.new.self refused_too_large c.owe-in-TooLarge.new.self
+    c.owe-in-TooLarge.result c.owe-in-TooLarge.ensures.owes
+    (ap asked_of c.in-TooLarge.ensures.1 ∙ c.requires.free)
 
 pub returns-in-NoMemory-clause-wants : goal.returns-in-NoMemory-clause-wants
 returns-in-NoMemory-clause-wants g c = (

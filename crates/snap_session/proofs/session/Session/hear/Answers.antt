@@ -1,7 +1,7 @@
 use Rattle.std.proofs.Common.{◌≡◌, ◌<◌, None, length, subst, sym, ◌∙◌, ap}
 use Rattle.snap_frame.specs.Stream.{Held, IsPartial, HasLongLength}
+use Rattle.snap_frame.proofs.Cuts.{partial_is_short}
 use Rattle.snap_session.specs.Talk.{Talk, longest_frame}
-use Rattle.snap_session.proofs.Held.{partial_is_short}
 use Rattle.snap_session.proofs.FeedAnswers.{asked_leaves, malformed_leaves, too_large_leaves}
 use Rattle.snap_session.proofs.session.Session.hear.Goals as goal
 

@@ -1,6 +1,6 @@
 use Rattle.std.proofs.Common.{refl}
 use Rattle.snap_world.specs.declared.actors.Actors.{Actors}
-use Rattle.snap_world.proofs.NewWorld.{starts, starts_idle}
+use Rattle.snap_world.proofs.NewWorld.{starts, phases_idle}
 use Rattle.snap_world.proofs.actors.Actors.new.Goals as goal
 
 pub returns : goal.returns
@@ -16,6 +16,7 @@ returns c =
     let d = c.in_ok-scanners.ensures in
     record {
       segments = refl;
-      phases = starts_idle w c.args.scanners b.0 d.0 b.1 d.1;
+      phases = phases_idle w c.args.segments c.args.scanners b.0 d.0
+          (λ i x e. (b.1 i x e).phase) (λ i x e. (d.1 i x e).phase);
       stands = starts w c.args.scanners c.requires.least c.requires.most a.0 b.0 d.0 a.1 b.1 d.1;
     }

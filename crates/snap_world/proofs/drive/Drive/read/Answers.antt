@@ -1,4 +1,4 @@
-use Rattle.std.proofs.Common.{length, ap, sym, ◌∙◌, subst, rules}
+use Rattle.std.proofs.Common.{length, ap, sym, ◌∙◌, subst}
 use Rattle.std.proofs.Math.Logic.{∥∥₁_elim}
 use Rattle.std.proofs.Props.{props}
 use Rattle.snap_slot.specs.Layout.{IsFileOf}
@@ -13,6 +13,3 @@ unreachable-requires c = ∥∥₁_elim c.requires (hlevel props) (λ q.
     not_refused c.args.index c.args.count q.0 q.1 c.bytes.result.now c.in-Err.field-0
     (subst (IsFileOf c.args.index c.args.count q.0 q.1) (sym c.bytes.ensures) q.2)
     c.in-Err.ensures.refused.0 c.in-Err.ensures.refused.1)
-
-pub returns-clause-found : goal.returns-clause-found
-returns-clause-found c = search rules

@@ -1,4 +1,4 @@
-use Rattle.std.proofs.Common.{◌≡◌, ℕ, false, [], length, map, replicate, Some, slice_get, refl, ap, sym, ◌∙◌, subst}
+use Rattle.std.proofs.Common.{◌≡◌, ℕ, false, [], Some, slice_get, refl, ap, sym, ◌∙◌, subst}
 use Rattle.std.proofs.lemmas.List.{length-map}
 use Rattle.snap_slot.specs.States.{IsAtRest}
 use Rattle.snap_persist.specs.Stage.{calls_left, store_calls}
@@ -12,8 +12,7 @@ use Rattle.snap_world.specs.declared.node.Node.{Node}
 use Rattle.snap_world.specs.declared.node.NodePhase.TheVariants.{Up}
 use Rattle.snap_world.specs.declared.writer.WriterPhase.TheVariants as writer
 use Rattle.snap_world.proofs.Events.{same_phases}
-use Rattle.snap_world.proofs.NewWorld.{all_same}
-use Rattle.snap_world.proofs.Sweep.{map_element}
+use Rattle.snap_world.proofs.Elements.{map_element, all_same}
 use Rattle.snap_world.proofs.node.Node.new.Goals as goal
 
 ready_of : (i n : ℕ) (d : Drive) → IsFormatted i n d → IsReady i n 0 [] (device_of d) d.persist
@@ -29,12 +28,10 @@ returns-clause-phases c =
       drives =
           c.in_ok-drives.drives;
     } in
-    let calls : map store_left drives ≡ replicate (length drives) (store_calls false) =
-    all_same store_left (store_calls false) drives (λ i d e.
-    ap calls_left (c.in_ok-drives.ensures.1 i d e).stage) in
     same_phases (start_world_phases n c.args.scanners)
     (phases_of_node w) refl c.in_ok-actors.ensures.phases
-    (calls ∙ ap (λ m. replicate m (store_calls false)) c.in_ok-drives.ensures.0)
+    (all_same store_left (store_calls false) drives n c.in_ok-drives.ensures.0
+    (λ i d e. ap calls_left (c.in_ok-drives.ensures.1 i d e).stage))
 
 pub returns-clause-stands : goal.returns-clause-stands
 returns-clause-stands c =

@@ -65,15 +65,9 @@ pub returns-in_err-store-clause-either : goal.returns-in_err-store-clause-either
 returns-in_err-store-clause-either g c = λ honest.
     on_err c.from_residual.result (λ b left.
     let s = c.self.inside.segment in
-    let w : WriterState _ = record { segment = s; seat = c.self.inside.seat } in
     let why : c.in_err-store.field-0.0 ≡ DeviceFailed = search rules in
     let is = c.in_err-store.ensures.either honest (ap Err why) b left in
     subst (λ (x : WriterState _). IsEither x.segment.index x.segment.count (number_of x)
     (value_of x) c.args.value.now b) c.self.view_is
-    (subst (λ (k : ℕ). IsEither s.index s.count k (value_of w) c.args.value.now b)
-    c.self.invariant.number_is
-    (subst (λ (u : List ℕ). IsEither s.index s.count s.number u c.args.value.now b)
-    c.self.invariant.value_is is)))
-
-pub show_stored-requires-clause-view : goal.show_stored-requires-clause-view
-show_stored-requires-clause-view g c = search rules
+    (subst (λ (y : ℕ × List ℕ). IsEither s.index s.count y.0 y.1 c.args.value.now b)
+    (λ t. (c.self.invariant.number_is t, c.self.invariant.value_is t)) is))

@@ -1,71 +1,22 @@
-use Rattle.std.proofs.Common.{rules, ◌≡◌, ℕ, ◌+◌, List, None, refl, sym, subst}
+use Rattle.std.proofs.Common.{rules, ◌≡◌, ℕ, ◌+◌, List, None, sym, subst}
 use Rattle.std.specs.Prelude.{OnOk}
 use Rattle.snap_disk.specs.Device.{IsSettled, MayLeave}
 use Rattle.snap_slot.specs.Layout.{IsFileOf}
 use Rattle.snap_writer.specs.Judge.{IsAnswer}
 use Rattle.snap_writer.specs.Writer.{number_of}
 use Rattle.snap_writer.specs.declared.judgement.Judgement.{Judgement}
-use Rattle.snap_writer.specs.declared.judgement.Judgement.TheVariants.{TooLong, Stored, Conflict, OutOfStep, Exhausted, Fenced, Worn, Go}
+use Rattle.snap_writer.specs.declared.judgement.Judgement.TheVariants.{Go}
 use Rattle.snap_writer.proofs.Judgements.{one_rule}
 use Rattle.snap_writer.proofs.Untouched.{untouched}
 use Rattle.snap_writer.proofs.Lives.{went_on, lived_first}
 use Rattle.snap_writer.proofs.writer.Writer.update.Goals as goal
 
-pub returns-in-TooLong : goal.returns-in-TooLong
-returns-in-TooLong g c =
-    record {
-      updated = untouched g.D.Disk g.met.D.Disk.only_now c.args.self.now c.args.number
-          c.args.value.now TooLong c.in-TooLong.ensures.rule (search rules) _ refl (search rules)
-          c.judge.ensures.kept;
-    }
-
-pub returns-in-Stored : goal.returns-in-Stored
-returns-in-Stored g c =
-    record {
-      updated = untouched g.D.Disk g.met.D.Disk.only_now c.args.self.now c.args.number
-          c.args.value.now Stored c.in-Stored.ensures.rule (search rules) _ refl (search rules)
-          c.judge.ensures.kept;
-    }
-
-pub returns-in-Conflict : goal.returns-in-Conflict
-returns-in-Conflict g c =
-    record {
-      updated = untouched g.D.Disk g.met.D.Disk.only_now c.args.self.now c.args.number
-          c.args.value.now Conflict c.in-Conflict.ensures.rule (search rules) _ refl (search rules)
-          c.judge.ensures.kept;
-    }
-
-pub returns-in-OutOfStep : goal.returns-in-OutOfStep
-returns-in-OutOfStep g c =
-    record {
-      updated = untouched g.D.Disk g.met.D.Disk.only_now c.args.self.now c.args.number
-          c.args.value.now OutOfStep c.in-OutOfStep.ensures.rule (search rules) _ refl (search rules)
-          c.judge.ensures.kept;
-    }
-
-pub returns-in-Exhausted : goal.returns-in-Exhausted
-returns-in-Exhausted g c =
-    record {
-      updated = untouched g.D.Disk g.met.D.Disk.only_now c.args.self.now c.args.number
-          c.args.value.now Exhausted c.in-Exhausted.ensures.rule (search rules) _ refl (search rules)
-          c.judge.ensures.kept;
-    }
-
-pub returns-in-Fenced : goal.returns-in-Fenced
-returns-in-Fenced g c =
-    record {
-      updated = untouched g.D.Disk g.met.D.Disk.only_now c.args.self.now c.args.number
-          c.args.value.now Fenced c.in-Fenced.ensures.rule (search rules) _ refl (search rules)
-          c.judge.ensures.kept;
-    }
-
-pub returns-in-Worn : goal.returns-in-Worn
-returns-in-Worn g c =
-    record {
-      updated = untouched g.D.Disk g.met.D.Disk.only_now c.args.self.now c.args.number
-          c.args.value.now Worn c.in-Worn.ensures.rule (search rules) _ refl (search rules)
-          c.judge.ensures.kept;
-    }
+pub returns-in_default : goal.returns-in_default
+returns-in_default g c = record {
+  updated = untouched g.D.Disk g.met.D.Disk.only_now c.args.self.now c.judge.ensures.kept
+      c.args.number c.args.value.now c.judge.result c.judge.ensures.rule c.in_default.not-Go _
+      c.answer.ensures.answer (c.answer.ensures.count _);
+}
 
 pub returns-in-Go : goal.returns-in-Go
 returns-in-Go g c =
@@ -77,8 +28,8 @@ returns-in-Go g c =
     let next : number_of w + 1 ≡ k = sym judged.0.1 in
     let unfenced : w.segment.begun ≡ None = search rules in
     let did = c.advance.ensures in
-    let first = went_on g.D.Disk _ v w c.advance.new.self told c.judge.ensures.shown unfenced refl
-    did.same_seat did.advances did.fails did.honest did.any_time did.last did.either in
+    let first = went_on g.D.Disk w c.advance.new.self v c.judge.ensures.shown unfenced did.honest
+    did.any_time told did.same_seat did.advances did.fails did.last did.either in
     record {
       updated = record {
         count = did.count;

@@ -1,0 +1,132 @@
+/* snapd_segment.h: calls on one segment of a snapd server, and a wait for the numbers of some. It stands on snapd.h alone, and
+ * as that it allocates nothing.
+ *
+ *     snapd_entry mine;
+ *     uint64_t number, wanted[SNAPD_MAX_SEGMENTS] = {18, 17};
+ *     snapd_status_list seen;
+ *     if (snapd_get(&client, 0, &mine) == SNAPD_OK                                // where the job was
+ *         && snapd_put(&client, 0, "step 18", 7, &number) == SNAPD_OK)            // it is on the server's disk
+ *         snapd_wait(&client, 1u << 0 | 1u << 1, wanted, 30000, &seen);           // segment 0 has come to 18, and 1 to 17
+ */
+#ifndef SNAPD_SEGMENT_H
+#define SNAPD_SEGMENT_H
+
+#include "snapd.h"
+
+#ifdef __cplusplus
+extern "C" {
+#endif
+
+/* Number and value of one segment, 0 to 15: else SNAPD_BAD_CALL. *entry is as a scan's: it stands until the client's next call.
+ * It has number 0 and no byte where the result isn't SNAPD_OK. */
+static inline snapd_result snapd_get(snapd_client *client, unsigned segment, snapd_entry *entry)
+{
+    snapd_part part;
+    snapd_result result;
+    memset(entry, 0, sizeof *entry);
+    if (segment >= SNAPD_MAX_SEGMENTS)
+        return SNAPD_BAD_CALL;
+    result = snapd_scan_some(client, 1U << segment, &part);
+    if (result == SNAPD_OK)
+        *entry = part.entry[segment];
+    return result;
+}
+
+/* The refusal that a request gets which names a segment that the server hasn't. */
+static inline snapd_result snapd_no_segment(snapd_client *client, int count)
+{
+    client->refusal = SNAPD_NO_SEGMENT;
+    client->detail = (uint64_t)count;
+    return SNAPD_REFUSED;
+}
+
+/* Stores a value behind the one that is there: asks for the segment's number by a status, and updates with the next one.
+ * *number is the one that was sent, and 0 where none was. A segment above 15 is SNAPD_BAD_CALL.
+ *
+ * A refusal isn't tried again. SNAPD_CONFLICT and SNAPD_OUT_OF_STEP say that somebody else stored a value between the two
+ * requests; one that came before is gone unseen. So a job that has to notice another writer keeps its number, and calls
+ * snapd_update. Where there was no answer the value may have been stored: send it again by snapd_update under *number, and it is
+ * stored once. Another snapd_put would store it once more, behind itself. */
+static inline snapd_result snapd_put(snapd_client *client, unsigned segment, const void *value, size_t length, uint64_t *number)
+{
+    snapd_status_list list;
+    snapd_result result;
+    uint64_t stored;
+    *number = 0;
+    if (segment >= SNAPD_MAX_SEGMENTS || length > SNAPD_MAX_SENT)
+        return SNAPD_BAD_CALL;
+    result = snapd_status(client, &list);
+    if (result != SNAPD_OK)
+        return result;
+    if (segment >= (unsigned)list.count)
+        return snapd_no_segment(client, list.count);
+    *number = list.standing[segment].number + 1;
+    return snapd_update(client, segment, *number, value, length, &stored);
+}
+
+/* Whether a segment that the mask names lags behind its number. */
+static inline int snapd_lags(const snapd_status_list *list, unsigned mask, const uint64_t *numbers)
+{
+    for (int i = 0; i < list->count; i++)
+        if (mask >> i & 1 && list->standing[i].number < numbers[i])
+            return 1;
+    return 0;
+}
+
+/* One look of a wait: a status with all segments of the mask, none of them at a smaller number than at the look before. */
+static inline snapd_result snapd_look(snapd_client *client, unsigned mask, snapd_status_list *list)
+{
+    snapd_status_list now;
+    snapd_result result = snapd_status(client, &now);
+    if (result != SNAPD_OK)
+        return result;
+    if (mask >> now.count != 0)
+        return snapd_no_segment(client, now.count);
+    for (int i = 0; i < list->count && i < now.count; i++) {
+        if (mask >> i & 1 && now.standing[i].number < list->standing[i].number) {
+            snapd_close(client);
+            return SNAPD_BAD_REPLY;
+        }
+    }
+    *list = now;
+    return SNAPD_OK;
+}
+
+/* Waits until each segment that the mask names has come to its number, or passed it: where bit i of the mask is 1, segment i to
+ * numbers[i]. It asks for the status, rests for 1 ms, asks again, and rests twice as long each time, up to 100 ms; near the end
+ * for half of the time that is left. *list is what it saw last.
+ *
+ * SNAPD_TIMED_OUT after so many milliseconds: the segments lag that stand in *list below their numbers; its count is 0 where no
+ * look was answered in time. SNAPD_REFUSED with SNAPD_NO_SEGMENT at once where the server hasn't one of them, SNAPD_BAD_REPLY
+ * where a number falls, and SNAPD_NOT_ANSWERED where a look has no answer after the client's tries. A mask as snapd_scan_some
+ * doesn't take it, or a timeout below 1, is SNAPD_BAD_CALL. */
+static inline snapd_result snapd_wait(snapd_client *client, unsigned mask, const uint64_t *numbers, int timeout,
+                                      snapd_status_list *list)
+{
+    int64_t end = snapd_now() + timeout, pause = 1;
+    snapd_result result;
+    memset(list, 0, sizeof *list);
+    if (mask == 0 || mask >> SNAPD_MAX_SEGMENTS != 0 || timeout < 1)
+        return SNAPD_BAD_CALL;
+    for (;;) {
+        int64_t left;
+        client->until = end;
+        result = snapd_look(client, mask, list);
+        client->until = INT64_MAX;
+        left = end - snapd_now();
+        if (result == SNAPD_TIMED_OUT && left > 0)
+            return SNAPD_NOT_ANSWERED;
+        if (result != SNAPD_OK || !snapd_lags(list, mask, numbers))
+            return result;
+        if (left <= 1)
+            return SNAPD_TIMED_OUT;
+        snapd_rest(pause < left / 2 ? pause : left / 2);
+        pause = pause < 50 ? 2 * pause : 100;
+    }
+}
+
+#ifdef __cplusplus
+}
+#endif
+
+#endif

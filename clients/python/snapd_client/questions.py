@@ -1,0 +1,89 @@
+"""What one asks, and what answers it: a request's frame, and how its reply is read."""
+
+from typing import Callable, Dict, Generic, Iterable, Mapping, Tuple, Type, TypeVar, Union
+
+from . import messages
+from .errors import BadReply, NoSegment, Refused
+from .messages import Bytes, Entry, Part, Reply, Snapshot, Standing, Standings, Stored
+
+Answer = TypeVar("Answer", covariant=True)
+Wanted = TypeVar("Wanted", Stored, Snapshot, Standings, Part)
+
+NONE_KNOWN: Mapping[int, int] = {}
+
+
+class Question(Generic[Answer]):
+    """A request's frame, with what its reply comes to."""
+
+    def __init__(self, frame: bytes, read: Callable[[Reply], Union[Answer, Refused]]) -> None:
+        self.frame = frame
+        self._read = read
+
+    def answer(self, payload: bytes) -> Union[Answer, Refused]:
+        """What the payload of a reply answers, or by what it refuses. `BadReply` where it is no reply to this question."""
+        message = messages.reply(payload)
+        return message if isinstance(message, Refused) else self._read(message)
+
+
+def _is(kind: Type[Wanted], message: Reply) -> Wanted:
+    if not isinstance(message, kind):
+        raise BadReply("the reply answers another request")
+    return message
+
+
+def _never_falls(numbers: Mapping[int, int], least: Mapping[int, int]) -> None:
+    """A number that is smaller than it was is another server's, or that of a file from before."""
+    for segment, number in numbers.items():
+        if number < least.get(segment, 0):
+            raise BadReply(f"the reply has segment {segment} at number {number}, and it was at {least[segment]} before")
+
+
+def update(segment: int, number: int, value: Bytes) -> Question[int]:
+    """It answers this number."""
+
+    def read(message: Reply) -> int:
+        stored = _is(Stored, message).number
+        if stored != number:
+            raise BadReply(f"the reply says that number {stored} is stored, and asked was {number}")
+        return stored
+
+    return Question(messages.update(segment, number, value), read)
+
+
+def scan() -> Question[Tuple[Entry, ...]]:
+    """It answers the entries of all segments."""
+    return Question(messages.scan(), lambda message: _is(Snapshot, message).entries)
+
+
+def scan_some(segments: Iterable[int], least: Mapping[int, int] = NONE_KNOWN) -> Question[Dict[int, Entry]]:
+    """It answers the entries of these segments, none of which has a number below the least one that is given for it."""
+    names = messages.named(segments)
+
+    def read(message: Reply) -> Dict[int, Entry]:
+        entries = _is(Part, message).entries
+        if tuple(entries) != names:
+            raise BadReply(f"the reply is of the segments {tuple(entries)}, and asked was {names}")
+        _never_falls({segment: entry.number for segment, entry in entries.items()}, least)
+        return entries
+
+    return Question(messages.scan_some(names), read)
+
+
+def status() -> Question[Tuple[Standing, ...]]:
+    """It answers where all segments stand."""
+    return Question(messages.status(), lambda message: _is(Standings, message).standings)
+
+
+def standings(least: Mapping[int, int]) -> Question[Dict[int, Standing]]:
+    """It answers where these segments stand, each at the number that is given for it or above. A status is asked, which names
+    no segment; where the server hasn't one of them, the answer is the refusal that a request which names it gets."""
+
+    def read(message: Reply) -> Union[Dict[int, Standing], Refused]:
+        found = _is(Standings, message).standings
+        if max(least) >= len(found):
+            return NoSegment(len(found))
+        named = {segment: found[segment] for segment in sorted(least)}
+        _never_falls({segment: standing.number for segment, standing in named.items()}, least)
+        return named
+
+    return Question(messages.status(), read)

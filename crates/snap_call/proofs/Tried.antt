@@ -1,0 +1,63 @@
+-- What tries leave of the connections, and what they answer.
+use Rattle.std.proofs.Common.{◌≡◌, ℕ, zero, suc, ◌+◌, ◌^◌, ◌<◌, List, All, Option, Result, Ok, Err, IfOk, inl, inr}
+use Rattle.std.proofs.Common.{get_or, refl, arith}
+use Rattle.std.proofs.lemmas.List.Elements.{All-get_or}
+use Rattle.std.proofs.lemmas.Option.{get_or_from_slice_get, slice_get_within}
+use denote.Param.Always.{always_mut, mut_next}
+use denote.Param.Members.{Mut, Called}
+use Rattle.snap_frame.specs.Messages.{IsInLimits, IsStatus}
+use Rattle.snap_frame.specs.declared.entries.SegmentStatus.{SegmentStatus}
+use Rattle.snap_frame.specs.declared.request.Request.{Request}
+use Rattle.snap_frame.specs.declared.reply.Reply.{Reply}
+use Rattle.snap_client.specs.declared.fault.ClientFault.{ClientFault}
+use Rattle.snap_client.specs.Again.{Tries, TriesUpTo}
+use Rattle.snap_call.specs.Puts.{TellsNumber}
+
+module _ {F R W : Type 0} (connects : F → Option (R × W) → F → Type 0) (remaining : R
+    → Option (List ℕ)) (contents : W → Option (List ℕ)) (q : Request) where
+  once_says : (old new : F) (r : Reply) → Tries connects remaining contents q old (Ok r) new
+      → IsInLimits r
+  once_says old new r (inl failed) = absurd (grind arith)
+  once_says old new r (inr (reader, writer, s, is, calls)) =
+      let (came, x, asked, has, says, answers) = calls.0 in says.0
+
+  reply_says : (n : ℕ) (old new : F) (r : Reply)
+      → TriesUpTo n connects remaining contents q old (Ok r) new → IsInLimits r
+  reply_says zero old new r none = absurd none
+  reply_says (suc n) old new r (inl (one, last)) = once_says old new r one
+  reply_says (suc n) old new r (inr (fault, mid, may, one, rest)) = reply_says n mid new r rest
+
+  -- a reply is within its limits
+  pub tries_say : (n : ℕ) (old new : F) (result : Result Reply ClientFault)
+      → TriesUpTo n connects remaining contents q old result new → IfOk result IsInLimits
+  tries_say n old new (Ok r) tried = reply_says n old new r tried
+  tries_say n old new (Err fault) tried = tt
+
+module _ {F R W : Type 0} (calls : Mut F (Unit {0}) (Option (R × W))) (remaining : R → Option (List ℕ))
+    (contents : W → Option (List ℕ)) (q : Request) where
+  once_leaves : (old new : F) (result : Result Reply ClientFault) → always_mut calls old
+      → Tries (λ f x f'. Called calls f tt x f') remaining contents q old result new
+      → always_mut calls new
+  once_leaves old new result may (inl (is, failed)) = mut_next calls old tt _ new new is refl may
+  once_leaves old new result may (inr (reader, writer, s, is, did)) =
+      mut_next calls old tt _ new new is refl may
+
+  -- where a connection may always be asked for, it may be after the tries
+  pub tries_leave : (n : ℕ) (old new : F) (result : Result Reply ClientFault) → always_mut calls old
+      → TriesUpTo n (λ f x f'. Called calls f tt x f') remaining contents q old result new
+      → always_mut calls new
+  tries_leave zero old new result may none = absurd none
+  tries_leave (suc n) old new result may (inl (one, last)) = once_leaves old new result may one
+  tries_leave (suc n) old new result may (inr (fault, mid, passes, one, rest)) =
+      tries_leave n mid new result (once_leaves old mid _ may one) rest
+
+-- a number that a status tells has a next one
+pub number_next : (statuses : List SegmentStatus) (i k : ℕ) → All IsStatus statuses
+    → TellsNumber statuses i k → k + 1 < 2 ^ 64
+number_next statuses i k are (s, at, is) =
+    let here : get_or statuses i s ≡ s = get_or_from_slice_get statuses i s s at in
+    let found : IsStatus (get_or statuses i s) =
+    All-get_or IsStatus statuses i s (slice_get_within statuses i s at) are in
+    let within : IsStatus s = rw here at found in
+    let same : s.number ≡ k = is in
+    omega (arith, within, same)

@@ -1,0 +1,97 @@
+-- What a call does that puts a value.
+use Rattle.std.specs.Prelude.{◌≡◌, ◌⊎◌, ℕ, ◌+◌, ◌<◌, ◌≤◌, List, length, slice_get, Option, Some, None, IfSome}
+use Rattle.std.specs.Prelude.{Result, Ok}
+use Rattle.std.specs.Io.KnownBytes.{Keeps}
+use Rattle.snap_client.specs.Again.{TriesUpTo}
+use Rattle.snap_client.specs.declared.fault.ClientFault.{ClientFault}
+use Rattle.snap_frame.specs.declared.entries.SegmentStatus.{SegmentStatus}
+use Rattle.snap_frame.specs.declared.reply.Reply.{Reply}
+use Rattle.snap_frame.specs.declared.reply.Reply.TheVariants as reply
+use Rattle.snap_order.specs.Limits.{MAX_VALUE_LEN}
+use Rattle.snap_order.specs.request.Request.TheVariants.{Status, Update}
+use Rattle.snap_order.specs.declared.order.Layout.{Layout}
+use Rattle.snap_order.specs.declared.order.Layout.TheVariants.{Lines}
+use Rattle.snap_order.specs.declared.order.Putting.{Putting}
+use Rattle.snap_order.specs.declared.order.Question.{Question}
+use Rattle.snap_order.specs.declared.order.Question.TheVariants as question
+use Rattle.snap_order.specs.declared.order.Source.{Source}
+use Rattle.snap_order.specs.declared.order.Source.TheVariants as source
+use Rattle.snap_order.specs.declared.status.Exit.{Exit}
+use Rattle.snap_stream.specs.Streams.{Had, refused_line}
+use Rattle.snap_stream.specs.refusal.Refusal.TheVariants as refusal
+use Rattle.snap_call.specs.Ends.{Asks, EndsAsked, GivesUp, SaysRefused, WantsMemory}
+use Rattle.snap_call.specs.Text.{detailed_line}
+
+-- the value of a put: all that standard input had, which isn't longer than a value may be, or the bytes of
+-- the words
+abbrev pub HasValue : Source → (known : Option (List ℕ)) → List ℕ → Type 0
+HasValue source.Input known v = Had known v × (length v ≤ MAX_VALUE_LEN)
+HasValue (source.Words bytes) known v = v ≡ bytes
+
+-- standard input has more than a value may have
+abbrev pub IsTooLong : Source → (known : Option (List ℕ)) → Type 0
+IsTooLong source.Input known = IfSome known (λ xs. MAX_VALUE_LEN < length xs)
+IsTooLong (source.Words bytes) known = ⊥
+
+-- the value couldn't be had, and so nothing was asked: it is too long, memory was wanting, or standard input
+-- failed
+abbrev pub HasNoValue : Source → (known : Option (List ℕ)) → Exit → (errs errs' : Option (List ℕ))
+    → Type 0
+HasNoValue s known ended errs errs' =
+    (IsTooLong s known × SaysRefused (refused_line refusal.TooLong) ended errs errs')
+    ⊎ (WantsMemory ended errs errs' ⊎ ((s ≡ source.Input) × GivesUp ended errs errs'))
+
+-- the status tells this number of the segment
+abbrev pub TellsNumber : List SegmentStatus → (segment number : ℕ) → Type 0
+TellsNumber statuses i k =
+    (s : SegmentStatus) × (slice_get statuses i ≡ Some s) × (s.number ≡ k)
+
+-- What follows what the server told of its segments: an update with the number behind the one that it told
+-- of this segment, or the refusal of a segment that it doesn't have; where it told nothing, that.
+abbrev pub GoesOn : {F R C : Type 0} → ℕ → (F → Option (R × C) → F → Type 0)
+    → (R → Option (List ℕ)) → (C → Option (List ℕ)) → (segment : ℕ) → (v : List ℕ)
+    → Result Reply ClientFault → F → Exit → F → (out out' errs errs' : Option (List ℕ)) → Type 0
+GoesOn tries connects remaining contents i v (Ok (reply.Status statuses)) mid ended new
+    out out' errs errs' =
+    ((k : ℕ) × TellsNumber statuses.items i k × Asks Lines tries connects remaining contents
+    (question.Request (Update i (k + 1) v)) mid ended new out out' errs errs')
+    ⊎ ((length statuses.items ≤ i) × (new ≡ mid)
+    × SaysRefused (detailed_line refusal.NoSegment (length statuses.items)) ended errs errs'
+    × Keeps out out')
+GoesOn tries connects remaining contents i v told mid ended new out out' errs errs' =
+    (new ≡ mid) × EndsAsked Lines (question.Request Status) told ended out out' errs errs'
+
+-- the value is put behind the number that is given, or behind the one that the server tells in this call
+abbrev pub Stores : {F R C : Type 0} → ℕ → (F → Option (R × C) → F → Type 0)
+    → (R → Option (List ℕ)) → (C → Option (List ℕ)) → (after : Option ℕ) → (segment : ℕ)
+    → (v : List ℕ) → F → Exit → F → (out out' errs errs' : Option (List ℕ)) → Type 0
+Stores tries connects remaining contents (Some k) i v old ended new out out' errs errs' =
+    Asks Lines tries connects remaining contents (question.Request (Update i (k + 1) v)) old ended new
+    out out' errs errs'
+Stores {F} tries connects remaining contents None i v old ended new out out' errs errs' =
+    (told : Result Reply ClientFault) × (mid : F)
+    × TriesUpTo tries connects remaining contents Status old told mid
+    × GoesOn tries connects remaining contents i v told mid ended new out out' errs errs'
+
+-- What a put does: `known` is what standard input has. Without a value no connection is made.
+abbrev pub Puts : {F R C : Type 0} → ℕ → (F → Option (R × C) → F → Type 0)
+    → (R → Option (List ℕ)) → (C → Option (List ℕ)) → Putting → (known : Option (List ℕ))
+    → F → Exit → F → (out out' errs errs' : Option (List ℕ)) → Type 0
+Puts tries connects remaining contents p known old ended new out out' errs errs' =
+    (HasNoValue p.value known ended errs errs' × (new ≡ old) × Keeps out out')
+    ⊎ ((v : List ℕ) × HasValue p.value known v × Stores tries connects remaining contents p.after
+    p.segment v old ended new out out' errs errs')
+
+-- what a call does that asks this, and prints the answer so
+abbrev pub Does : {F R C : Type 0} → Layout → (tries : ℕ) → (F → Option (R × C) → F → Type 0)
+    → (R → Option (List ℕ)) → (C → Option (List ℕ)) → Question → (known : Option (List ℕ))
+    → F → Exit → F → (out out' errs errs' : Option (List ℕ)) → Type 0
+Does layout tries connects remaining contents (question.Put p) known old ended new out out' errs errs' =
+    Puts tries connects remaining contents p known old ended new out out' errs errs'
+Does layout tries connects remaining contents asked known old ended new out out' errs errs' =
+    Asks layout tries connects remaining contents asked old ended new out out' errs errs'
+
+-- it is a put of standard input
+abbrev pub ReadsInput : Question → Type 0
+ReadsInput (question.Put p) = p.value ≡ source.Input
+ReadsInput asked = ⊥

@@ -1,0 +1,287 @@
+//! A put: its value, the number behind which it is stored, and its update.
+ghost use Rattle.std.specs.Prelude.{◌≡◌, ◌+◌, ◌^◌, ◌<◌, ◌≤◌, IfErr, IfOk, None, length};
+ghost use Rattle.snap_frame.specs.Messages.{IsInLimits};
+ghost use Rattle.snap_order.specs.Limits.{MAX_UPDATE_VALUE};
+ghost use Rattle.snap_order.specs.Order.{FitsUpdate, IsCallable, IsWithin};
+ghost use Rattle.snap_order.specs.declared.order.Layout.TheVariants.{Lines};
+ghost use Rattle.snap_order.specs.declared.order.Question.TheVariants as question;
+ghost use Rattle.snap_order.specs.declared.order.Source.TheVariants as sources;
+ghost use Rattle.snap_order.specs.request.Request.TheVariants.{Update};
+ghost use Rattle.snap_call.specs.Ends.{Asks, GivesUp};
+ghost use Rattle.snap_call.specs.Puts.{GoesOn, HasValue, Puts, ReadsInput, Stores, TellsNumber};
+ghost use Rattle.snap_call.specs.Lacks.{MayLack, SaysLack};
+ghost use Rattle.snap_call.specs.declared.put.NoValue.TheVariants.{NoMemory};
+
+use crate::call::{answer_from, end, fail, refuse, refuse_here, stop};
+use bytes::Bytes;
+use snap_client::{ClientFault, call_again};
+use snap_frame::{Reply, SegmentStatus};
+use snap_order::{Calling, Exit, Layout, MAX_VALUE_LEN, Putting, Question, Request, Source};
+use snap_stream::{Refusal, read_up_to};
+use std::alloc::Global;
+use std::io::{self, Read, Write};
+
+/// Why a put has no value.
+#[derive(Drop)]
+enum NoValue {
+    /// Standard input is longer than a value may be.
+    TooLong,
+    /// Standard input failed.
+    Failed(io::Error),
+    /// A growth of memory was refused.
+    NoMemory,
+}
+
+/// Puts the value behind the number that the order has, or behind the one that the server tells. The
+/// value comes first: without one no connection is made.
+pub(crate) fn store<
+    R: Read + Drop,
+    C: Write + Drop,
+    F: FnMut() -> Option<(R, C)>,
+    I: Read,
+    W: Write,
+    E: Write,
+>(
+    alloc: Global,
+    order: &Calling<'_>,
+    put: &Putting,
+    connect: &mut F,
+    input: &mut I,
+    writer: &mut W,
+    errors: &mut E,
+) -> Exit
+    requires limits { IsCallable order.now }
+    requires within { IsWithin (question.Put put.now) }
+    requires callable { F.IsAlwaysCallable connect.old }
+    ensures puts { Puts order.now.tries F.step R.remaining C.contents put.now
+        (I.remaining input.old) connect.old result connect.new (W.contents writer.old)
+        (W.contents writer.new) (E.contents errors.old) (E.contents errors.new) }
+    ensures unread { (ReadsInput (question.Put put.now) → ⊥) → input.new ≡ input.old }
+{
+    match value_of(alloc, &put.value, input) {
+        Ok(value) => store_value(alloc, order, put, value, connect, writer, errors),
+        Err(lack) => say_lack(alloc, lack, errors),
+    }
+}
+
+/// The value of a put.
+fn value_of<I: Read>(alloc: Global, source: &Source, input: &mut I) -> Result<Bytes, NoValue>
+    requires within { FitsUpdate source.now }
+    ensures value { IfOk result (HasValue source.now (I.remaining input.old)) }
+    ensures fits { IfOk result (λ v. length v ≤ MAX_UPDATE_VALUE) }
+    ensures lack { IfErr result (MayLack source.now (I.remaining input.old)) }
+    ensures unread { (source.now ≡ sources.Input → ⊥) → input.new ≡ input.old }
+{
+    match source {
+        Source::Input => value_from(alloc, input),
+        Source::Words(bytes) => copy_of(alloc, bytes.as_slice()),
+    }
+}
+
+/// All that the reader has, where that isn't longer than a value may be.
+fn value_from<I: Read>(alloc: Global, input: &mut I) -> Result<Bytes, NoValue>
+    ensures value { IfOk result (HasValue sources.Input (I.remaining input.old)) }
+    ensures lack { IfErr result (MayLack sources.Input (I.remaining input.old)) }
+{
+    // One byte more than a value may have shows that the input is too long.
+    let mut bytes = [0u8; MAX_VALUE_LEN + 1];
+    let len = match read_up_to(input, &mut bytes) {
+        Ok(len) => len,
+        Err(error) => return Err(NoValue::Failed(error)),
+    };
+    if len > MAX_VALUE_LEN {
+        return Err(NoValue::TooLong);
+    }
+    copy_of(alloc, &bytes[..len])
+}
+
+/// These bytes as a value.
+fn copy_of(alloc: Global, bytes: &[u8]) -> Result<Bytes, NoValue>
+    ensures value { IfOk result (λ v. v ≡ bytes.now) }
+    ensures lack { IfErr result (λ lack. lack ≡ NoMemory) }
+{
+    match Bytes::copy_from_slice(alloc, bytes) {
+        Ok(value) => Ok(value),
+        Err(_) => Err(NoValue::NoMemory),
+    }
+}
+
+/// Says why there is no value.
+fn say_lack<E: Write>(alloc: Global, lack: NoValue, errors: &mut E) -> Exit
+    ensures { SaysLack lack result (E.contents errors.old) (E.contents errors.new) }
+{
+    match lack {
+        NoValue::TooLong => refuse_here(Refusal::TooLong, errors),
+        NoValue::NoMemory => stop(errors),
+        NoValue::Failed(error) => fail(alloc, &format_args!("standard input: {error}"), errors),
+    }
+}
+
+/// Puts this value behind the number that the order has, or behind the one that the server tells.
+fn store_value<R: Read + Drop, C: Write + Drop, F: FnMut() -> Option<(R, C)>, W: Write, E: Write>(
+    alloc: Global,
+    order: &Calling<'_>,
+    put: &Putting,
+    value: Bytes,
+    connect: &mut F,
+    writer: &mut W,
+    errors: &mut E,
+) -> Exit
+    requires limits { IsCallable order.now }
+    requires within { IsWithin (question.Put put.now) }
+    requires fits { length value ≤ MAX_UPDATE_VALUE }
+    requires callable { F.IsAlwaysCallable connect.old }
+    ensures { Stores order.now.tries F.step R.remaining C.contents put.now.after
+        put.now.segment value connect.old result connect.new (W.contents writer.old)
+        (W.contents writer.new) (E.contents errors.old) (E.contents errors.new) }
+{
+    match put.after {
+        Some(number) => update(
+            alloc,
+            order,
+            put.segment,
+            number,
+            value,
+            connect,
+            writer,
+            errors,
+        ),
+        None => store_next(alloc, order, put.segment, value, connect, writer, errors),
+    }
+}
+
+/// Asks for the numbers of all segments, and puts the value behind that of its own.
+fn store_next<R: Read + Drop, C: Write + Drop, F: FnMut() -> Option<(R, C)>, W: Write, E: Write>(
+    alloc: Global,
+    order: &Calling<'_>,
+    segment: u8,
+    value: Bytes,
+    connect: &mut F,
+    writer: &mut W,
+    errors: &mut E,
+) -> Exit
+    requires limits { IsCallable order.now }
+    requires fits { length value ≤ MAX_UPDATE_VALUE }
+    requires callable { F.IsAlwaysCallable connect.old }
+    ensures { Stores order.now.tries F.step R.remaining C.contents None segment value
+        connect.old result connect.new (W.contents writer.old) (W.contents writer.new)
+        (E.contents errors.old) (E.contents errors.new) }
+{
+    let told = call_again(alloc, connect, &Request::Status, order.tries);
+    go_on(alloc, order, segment, value, told, connect, writer, errors)
+}
+
+/// Puts the value behind the number that the server told of the segment. Where it told of no such
+/// segment, or nothing, the call ends by that.
+fn go_on<R: Read + Drop, C: Write + Drop, F: FnMut() -> Option<(R, C)>, W: Write, E: Write>(
+    alloc: Global,
+    order: &Calling<'_>,
+    segment: u8,
+    value: Bytes,
+    told: Result<Reply, ClientFault>,
+    connect: &mut F,
+    writer: &mut W,
+    errors: &mut E,
+) -> Exit
+    requires limits { IsCallable order.now }
+    requires told { IfOk told IsInLimits }
+    requires fits { length value ≤ MAX_UPDATE_VALUE }
+    requires callable { F.IsAlwaysCallable connect.old }
+    ensures { GoesOn order.now.tries F.step R.remaining C.contents segment value told
+        connect.old result connect.new (W.contents writer.old) (W.contents writer.new)
+        (E.contents errors.old) (E.contents errors.new) }
+{
+    match told {
+        Ok(Reply::Status(statuses)) => match number_of(&statuses, segment) {
+            Ok(number) => update(
+                alloc, order, segment, number, value, connect, writer, errors,
+            ),
+            Err(count) => refuse(Refusal::NoSegment, count, errors),
+        },
+        told => {
+            let question = Question::Request(Request::Status);
+            end(
+                alloc,
+                order.address,
+                &question,
+                Layout::Lines,
+                told,
+                writer,
+                errors,
+            )
+        }
+    }
+}
+
+/// The number of this segment; or how many segments there are, where it is none of them.
+fn number_of(statuses: &[SegmentStatus], segment: u8) -> Result<u64, u64>
+    ensures number { IfOk result (TellsNumber statuses.now segment) }
+    ensures none { IfErr result (λ count. length statuses.now ≤ segment) }
+    ensures count { IfErr result (λ count. length statuses.now ≡ count) }
+{
+    match statuses.get(usize::from(segment)) {
+        Some(status) => Ok(status.number),
+        None => Err(statuses.len() as u64),
+    }
+}
+
+/// Sends the update of the number behind this one.
+fn update<R: Read + Drop, C: Write + Drop, F: FnMut() -> Option<(R, C)>, W: Write, E: Write>(
+    alloc: Global,
+    order: &Calling<'_>,
+    segment: u8,
+    number: u64,
+    value: Bytes,
+    connect: &mut F,
+    writer: &mut W,
+    errors: &mut E,
+) -> Exit
+    requires limits { IsCallable order.now }
+    requires next { number + 1 < 2 ^ 64 }
+    requires fits { length value ≤ MAX_UPDATE_VALUE }
+    requires callable { F.IsAlwaysCallable connect.old }
+    ensures { Asks Lines order.now.tries F.step R.remaining C.contents
+        (question.Request (Update segment (number + 1) value)) connect.old result connect.new
+        (W.contents writer.old) (W.contents writer.new) (E.contents errors.old)
+        (E.contents errors.new) }
+{
+    let question = Question::Request(Request::Update {
+        segment,
+        number: number + 1,
+        value,
+    });
+    match answer_from(alloc, &question, order.tries, connect) {
+        Err(fault) if fault.may_pass() => give_up_behind(
+            alloc,
+            order.address,
+            fault,
+            number,
+            errors,
+        ),
+        answer => end(
+            alloc,
+            order.address,
+            &question,
+            Layout::Lines,
+            answer,
+            writer,
+            errors,
+        ),
+    }
+}
+
+/// Says that there is no answer to a put's update, and how to put again: behind this number.
+fn give_up_behind<E: Write>(
+    alloc: Global,
+    address: &str,
+    fault: ClientFault,
+    number: u64,
+    errors: &mut E,
+) -> Exit
+    ensures { GivesUp result (E.contents errors.old) (E.contents errors.new) }
+{
+    let text = format_args!(
+        "{address}: {fault}: send it again with --after {number}, since an update is stored once"
+    );
+    fail(alloc, &text, errors)
+}

@@ -1,0 +1,182 @@
+//! What stores for one segment, in a thread of its own.
+ghost use Rattle.std.specs.Prelude.{◌≡◌, IfOk, IfSome, IfNone, Some, None};
+ghost use Rattle.snap_memory.specs.Seat.{own_of};
+ghost use Rattle.snap_service.specs.Updated.{IsUpdated};
+ghost use Rattle.snap_desk.specs.Storer.{IsNew, IsTaken, IsIdle, StandsAt, StoresOne};
+
+use crate::heap_writer::HeapWriter;
+use crate::job::Job;
+use crate::lent::{Lent, Outcome};
+use crate::outbox::Window;
+use crate::queue::Queue;
+use crate::standing::{Standing, standing_of};
+use crossbeam_channel::{Receiver, Sender, bounded, unbounded};
+use snap_disk::Disk;
+use snap_service::{Memory, WriterOf};
+use snap_session::Done;
+use snap_spin::Spin;
+use std::alloc::{AllocError, Global};
+use std::marker::Model;
+use std::sync::atomic::{AtomicU64, Ordering};
+use std::sync::{Arc, Wait};
+
+/// Does one update, and lends its writer with the outcome.
+pub fn store_one<R: Wait + Copy, M: Memory, D: Disk + Drop>(
+    rt: R,
+    home: Sender<HeapWriter<M, D>>,
+    mut writer: HeapWriter<M, D>,
+    job: Job,
+) -> Outcome<R, M, D>
+    ensures job { result.job ≡ job }
+    ensures updated { IsUpdated D.Disk writer result.writer job.number job.value result.told }
+{
+    let told = writer.update(job.number, job.value.as_slice());
+    Outcome::new(job, told, Lent { rt, home, writer })
+}
+
+/// A window of this segment, and what its storer needs of it: where updates come, and where to say
+/// how it stands, which is so at first.
+fn window_of(
+    alloc: Global,
+    segment: usize,
+    standing: u64,
+) -> Result<(Window, Receiver<Job>, Arc<AtomicU64, Global>), AllocError>
+    ensures { IfOk result (λ made. made.0 ≡ segment) }
+{
+    let standing = Arc::new(alloc, AtomicU64::new(standing))?;
+    let (to, jobs) = unbounded(alloc)?;
+    let window = Window::new(segment, to, Arc::try_clone(&standing)?);
+    Ok((window, jobs, standing))
+}
+
+/// The thread that stores for one segment, and what it owns: its writer, and what was handed over to
+/// it. One thread drives it, step by step. Its value is its writer, none while that is lent, where that stood when it was here last,
+/// and how many updates came and were taken.
+#[derive(Drop)]
+pub struct Storer<R: Wait + Copy, M: Memory, D: Disk + Drop> {
+    rt: R,
+    /// None while it is lent.
+    writer: Option<HeapWriter<M, D>>,
+    /// Where the writer stands, or stood when it was lent.
+    stands: Standing,
+    queue: Queue,
+    spin: Spin,
+    standing: Arc<AtomicU64, Global>,
+    home: Sender<HeapWriter<M, D>>,
+    back: Receiver<HeapWriter<M, D>>,
+}
+
+impl<R: Wait + Copy, M: Memory, D: Disk + Drop> Model for Storer<R, M, D> {
+    ghost use Rattle.std.specs.Prelude.{◌≡◌, Some};
+    ghost use Rattle.snap_service.specs.Writer.{WriterState};
+    ghost use Rattle.snap_desk.specs.Storer.{StorerState, StandsAt};
+
+    ghost Value = { StorerState D };
+
+    ghost view = { λ t. record { writer = t.writer; stands = t.stands; queue = t.queue } };
+
+    ghost invariant = { λ t. (w : WriterState D) → t.writer ≡ Some w → StandsAt w t.stands };
+}
+
+impl<R: Wait + Copy, M: Memory, D: Disk + Drop> Storer<R, M, D> {
+    /// The storer of this writer, and the window through which desks see it: that of its segment.
+    pub fn new(
+        rt: R,
+        alloc: Global,
+        writer: WriterOf<M, D>,
+    ) -> Result<(Storer<R, M, D>, Window), AllocError>
+        ensures window { IfOk result (λ made. made.1 ≡ own_of writer.seat) }
+        ensures storer { IfOk result (λ made. IsNew writer made.0) }
+    {
+        let (home, back) = bounded(alloc, 1)?;
+        let (window, jobs, standing) = window_of(alloc, writer.segment(), standing_of(&writer))?;
+        let stands = Standing::of(&writer);
+        let storer = Storer {
+            rt,
+            writer: Some(HeapWriter::new(alloc, writer)?),
+            stands,
+            queue: Queue::new(jobs),
+            spin: Spin::new(),
+            standing,
+            home,
+            back,
+        };
+        Ok((storer, window))
+    }
+
+    /// Takes the writer. Where it is lent, it is waited for; None where it will not come back. One that
+    /// doesn't stand where it was lent isn't taken.
+    fn take_writer(&mut self) -> Option<HeapWriter<M, D>>
+        ensures taken { IfSome result (λ w. IsTaken self.old w) }
+        ensures here { (w : _) → self.old.writer ≡ Some w → result ≡ Some w }
+        ensures left { self.new ≡ record self.old { writer = None } }
+    {
+        if let Some(writer) = self.writer.take() {
+            return Some(writer);
+        }
+        let writer = self.back.recv(&self.rt).ok()?;
+        if Standing::of(writer.as_ref()) != self.stands {
+            return None;
+        }
+        Some(writer)
+    }
+
+    /// Does this update by this writer, and lends the writer with the outcome.
+    fn store(
+        &mut self,
+        home: Sender<HeapWriter<M, D>>,
+        writer: HeapWriter<M, D>,
+        job: Job,
+    ) -> Done<Outcome<R, M, D>>
+        requires { self.old.writer ≡ None }
+        ensures worker { result.worker ≡ job.worker }
+        ensures key { result.key ≡ job.key }
+        ensures job { result.outcome.job ≡ job }
+        ensures updated { IsUpdated D.Disk
+            writer result.outcome.writer job.number job.value result.outcome.told }
+        ensures lent { self.new.writer ≡ None }
+        ensures stands { StandsAt result.outcome.writer self.new.stands }
+        ensures queue { self.new.queue ≡ self.old.queue }
+    {
+        let (worker, key) = (job.worker, job.key);
+        let outcome = store_one(self.rt, home, writer, job);
+        self.stands = outcome.stands();
+        self.standing.store(outcome.standing(), Ordering::SeqCst);
+        Done {
+            worker,
+            key,
+            outcome,
+        }
+    }
+
+    /// Waits until an update is handed over and its writer is back, does it, and lends the writer
+    /// with the outcome. None where all windows are gone and no update is left, so that none will
+    /// come, or where the writer will not come back, or no memory is left to lend it: nothing was
+    /// done then, and an update that has come waits.
+    pub fn next(&mut self) -> Option<Done<Outcome<R, M, D>>>
+        ensures worker { IfSome result (λ t. t.worker ≡ t.outcome.job.worker) }
+        ensures key { IfSome result (λ t. t.key ≡ t.outcome.job.key) }
+        ensures stored { IfSome result (λ t.
+            StoresOne D.Disk self.old t.outcome self.new) }
+        ensures none { IfNone result (IsIdle self.old self.new) }
+    {
+        if !self.queue.wait(&self.rt, &mut self.spin) {
+            return None;
+        }
+        let home: Result<Sender<HeapWriter<M, D>>, AllocError> = self.home.clone();
+        let Ok(home) = home else {
+            return None;
+        };
+        let writer = self.take_writer()?;
+        let job = self.queue.take();
+        Some(self.store(home, writer, job))
+    }
+
+    /// Its writer, once it is back; None where it will not come back.
+    pub fn into_writer(mut self) -> Option<WriterOf<M, D>>
+        ensures taken { IfSome result (λ w. IsTaken self w) }
+        ensures here { (w : _) → self.writer ≡ Some w → result ≡ Some w }
+    {
+        Some(self.take_writer()?.into_inner())
+    }
+}

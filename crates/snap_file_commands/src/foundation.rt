@@ -1,0 +1,191 @@
+//! Makes the file of one segment of a folder, or leaves it where it is whole: what `init` does with each
+//! of its files.
+//!
+//! So it can be done again, also after a crash. A format takes whatever has no open header. What is here
+//! leaves a file alone that has lost its header and still has a value, since nobody looks at each file of
+//! a folder before `init` is run again.
+ghost use Rattle.std.specs.Prelude.{◌≡◌, ◌≢◌, ◌-◌, ◌^◌, ◌<◌, ◌≤◌, ◌↔◌, length, IfOk, IfErr, IsTrue};
+ghost use Rattle.snap_disk.specs.Device.{Device, IsUnchanged};
+ghost use Rattle.snap_slot.specs.declared.layout.TheConstants.{FILE_LEN};
+ghost use Rattle.snap_history.specs.declared.limits.TheConstants.{MAX_COUNT};
+ghost use Rattle.snap_segment.specs.Calls.{Counts};
+ghost use Rattle.snap_segment.specs.Creation.{IsFresh};
+ghost use Rattle.snap_order.specs.declared.order.FileOrder.TheVariants.{Format};
+ghost use Rattle.snap_file_commands.specs.Calls.{CountsCallsOf};
+ghost use Rattle.snap_file_commands.specs.Commands.{CountsEnd};
+ghost use Rattle.snap_file_commands.specs.Effects.{AnyCrashLeaves, LeavesNoMore, StoreKeeps};
+ghost use Rattle.snap_file_commands.specs.Foundation.{AreEmpty, CountsFounding, EndsFounding, HasFounded};
+ghost use Rattle.snap_file_commands.specs.Foundation.{EndsKeeping, IsBlank, IsEmptySlot, IsFounded};
+ghost use Rattle.snap_file_commands.specs.Foundation.{IsNotBlank, SaysBlank, refusal_of_formatted};
+
+use crate::CommandFailure;
+use crate::commands::format_file;
+use snap_disk::{Disk, Refusal};
+use snap_order::{Exit, FileOrder, Status};
+use snap_segment::{Findings, Header, Segment, Slot, check};
+use snap_stream::{Cause, write_whole};
+use std::alloc::Global;
+use std::io::Write;
+
+/// Makes the device the file of segment `index` of `count`, or leaves it where it is that already, with
+/// its number and value, and says how the program ends. What was done goes to `writer`, as the line
+/// `formatted I of N` or `kept I of N number K`, and why it ended early to `errors`, as a format of
+/// `file` says it. `cause` knows what the system said of the device, where it failed.
+///
+/// A file is made only if its header's gate is closed and no slot has a value, but that of a fresh file:
+/// one that was never formatted, or of which a format was cut off. Refused as `WrongFile` where the device has another
+/// length than a segment file, with no device call; `AlreadyFormatted` where the header's gate is open and
+/// the file is not that of this segment, whole; `Unformatted` where that gate is closed, and a slot
+/// has a value; `DeviceFailed` where a device call failed; `NoMemory` where a growth was refused.
+/// Of a file that isn't made, whatever is answered, a crash leaves what one before could leave.
+pub fn found<D: Disk, C: Cause, W: Write, E: Write>(
+    alloc: Global,
+    file: &str,
+    index: u8,
+    count: u8,
+    disk: D,
+    cause: &C,
+    writer: &mut W,
+    errors: &mut E,
+) -> (D, Exit)
+    requires below { index < count }
+    requires few { count ≤ MAX_COUNT }
+    requires headroom { D.failure_count disk < 2 ^ 64 - 1 }
+    ensures honest { D.is_honest result.0 → D.is_honest disk }
+
+    // There is an end whose status it is, which says what happened to the file and what standard error
+    // got.
+    ensures ends { HasFounded D.Disk (Format file.entry index count) index count disk result.0
+        (W.contents writer.old) (W.contents writer.new) (C.may_give cause.now)
+        (E.contents errors.old) (E.contents errors.new) result.1 }
+
+    // A device of another length is left untouched.
+    ensures wrong_length { length (D.device disk).bytes ≢ FILE_LEN → result.0 ≡ disk }
+
+    // A crash at any time leaves what was there, an unformatted file or the whole new one; and of a file
+    // that has a header or a value, only what was there.
+    ensures any_time { AnyCrashLeaves D.Disk disk result.0 (IsFresh index count (D.device disk)) }
+    ensures spared { (IsBlank (D.device disk).bytes → ⊥) → LeavesNoMore D.Disk disk result.0 }
+{
+    let len = disk.len();
+    let (disk, end) = found_file(alloc, disk, index, count, writer);
+    match end {
+        Ok(status) => {
+            let is_told = true;
+            (disk, Exit { status, is_told })
+        }
+        Err(failure) => {
+            let order = FileOrder::Format { file, index, count };
+            (disk, failure.report_of(alloc, &order, len, cause, errors))
+        }
+    }
+}
+
+/// Makes the file or leaves it, and says so.
+fn found_file<D: Disk, W: Write>(
+    alloc: Global,
+    mut disk: D,
+    index: u8,
+    count: u8,
+    writer: &mut W,
+) -> (D, Result<Status, CommandFailure>)
+    requires below { index < count }
+    requires few { count ≤ MAX_COUNT }
+    requires headroom { D.failure_count disk < 2 ^ 64 - 1 }
+    ensures honest { D.is_honest result.0 → D.is_honest disk }
+    ensures ends { IsFounded D.Disk index count disk result.0 (W.contents writer.old)
+        (W.contents writer.new) result.1 }
+    ensures wrong_length { length (D.device disk).bytes ≢ FILE_LEN → result.0 ≡ disk }
+    ensures any_time { AnyCrashLeaves D.Disk disk result.0 (IsFresh index count (D.device disk)) }
+    ensures spared { (IsBlank (D.device disk).bytes → ⊥) → LeavesNoMore D.Disk disk result.0 }
+{
+    match is_blank(&mut disk) {
+        Ok(true) => {
+            let end = format_file(alloc, &mut disk, index, count, writer);
+            (disk, end)
+        }
+        Ok(false) => keep(alloc, disk, index, count, writer),
+        Err(why) => (disk, Err(CommandFailure::Refused(why))),
+    }
+}
+
+/// Whether a format was cut off on the device, or never begun. If not, its header's gate is open. Refused
+/// as `Unformatted` where that is closed and a slot has a value.
+fn is_blank<D: Disk>(disk: &mut D) -> Result<bool, Refusal>
+    requires { D.failure_count disk.old < 2 ^ 64 - 1 }
+    ensures counts { Counts D.Disk result 1 disk.old disk.new }
+    ensures says { D.is_honest disk.new → SaysBlank (D.device disk.old).bytes result }
+    ensures unchanged { D.is_honest disk.new
+        → IsUnchanged (D.device disk.old) (D.device disk.new) }
+    ensures any_time { LeavesNoMore D.Disk disk.old disk.new }
+    ensures wrong_length { length (D.device disk.old).bytes ≢ FILE_LEN
+        → (result ≡ Err Refusal.WrongFile) × (disk.new ≡ disk.old) }
+{
+    let findings = check(disk)?;
+    match findings.header {
+        Header::Closed if is_empty(&findings) => Ok(true),
+        Header::Closed => Err(Refusal::Unformatted),
+        Header::Open { .. } | Header::Wrong => Ok(false),
+    }
+}
+
+/// No slot has a value, but that of a fresh file.
+fn is_empty(findings: &Findings) -> bool
+    ensures { IsTrue result ↔ AreEmpty findings.now }
+{
+    let (first, second, third) = findings.slots;
+    is_empty_slot(first) && is_empty_slot(second) && is_empty_slot(third)
+}
+
+/// The slot has no value, or that of a fresh file. A crash in a format may leave it bad.
+fn is_empty_slot(slot: Slot) -> bool
+    ensures { IsTrue result ↔ IsEmptySlot slot }
+{
+    match slot {
+        Slot::Closed | Slot::Bad(_) => true,
+        Slot::Open { number, length } => number == 0 && length == 0,
+    }
+}
+
+/// Leaves a formatted file as it is, where it is that of the segment, whole, and says so.
+fn keep<D: Disk, W: Write>(
+    alloc: Global,
+    disk: D,
+    index: u8,
+    count: u8,
+    writer: &mut W,
+) -> (D, Result<Status, CommandFailure>)
+    requires below { index < count }
+    requires few { count ≤ MAX_COUNT }
+    requires headroom { D.failure_count disk < 2 ^ 64 - 1 }
+    ensures honest { D.is_honest result.0 → D.is_honest disk }
+    ensures count { CountsEnd result.1 (D.failure_count disk) (D.failure_count result.0) }
+    ensures calls { CountsCallsOf 2 result.1 (D.clock disk) (D.clock result.0) }
+    ensures ends { EndsKeeping (D.is_honest result.0) index count (D.device disk)
+        (D.device result.0) (W.contents writer.old) (W.contents writer.new) result.1 }
+    ensures any_time { LeavesNoMore D.Disk disk result.0 }
+{
+    let segment = match Segment::open(alloc, disk, index, count) {
+        Ok(segment) => segment,
+        Err((why, disk)) => return (disk, Err(CommandFailure::Refused(of_formatted(why)))),
+    };
+    let number = segment.number();
+    let Ok(line) = format!(in alloc; "kept {index} of {count} number {number}\n") else {
+        let failure = CommandFailure::Refused(Refusal::NoMemory);
+        return (segment.into_device(), Err(failure));
+    };
+    match write_whole(writer, line.as_bytes()) {
+        Ok(()) => (segment.into_device(), Ok(Status::Done)),
+        Err(error) => (segment.into_device(), Err(CommandFailure::Output(error))),
+    }
+}
+
+/// Why a formatted file is neither kept nor made, by why it can't be opened.
+fn of_formatted(why: Refusal) -> Refusal
+    ensures { result ≡ refusal_of_formatted why }
+{
+    match why {
+        Refusal::NoMemory | Refusal::DeviceFailed => why,
+        _ => Refusal::AlreadyFormatted,
+    }
+}

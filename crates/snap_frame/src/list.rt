@@ -1,0 +1,187 @@
+//! The list that a reply says: entries of one kind, one behind the other.
+ghost use Rattle.std.specs.Prelude.{
+  ◌≡◌,
+  ◌+◌,
+  ◌≤◌,
+  ℕ,
+  List,
+  ◌∷◌,
+  ◌++◌,
+  length,
+  drop,
+  flat_map,
+  slice_index,
+  All,
+  IsOk,
+  OnOk,
+  OnErr,
+  IfOk,
+  IfSome,
+  IfNone,
+};
+ghost use Rattle.snap_history.specs.declared.limits.TheConstants.{MAX_COUNT};
+ghost use Rattle.snap_frame.specs.Messages.{
+  max_payload,
+  frame,
+  longest_entry,
+  Separate,
+  AreEntries,
+};
+
+use crate::frame::start_frame;
+use bytes::{Bytes, BytesMut};
+use snap_history::MAX_COUNT;
+use std::alloc::{AllocError, Global};
+
+/// The bytes of a list's payload before its entries: the kind and the count.
+const LIST_HEAD_LEN: usize = 2;
+
+/// An entry of a list.
+pub(crate) trait Entry {
+    /// Its bytes.
+    ghost bytes: { Self → List ℕ };
+
+    /// Whether it may stand in a reply.
+    ghost may_stand: { Self → Type 0 };
+
+    /// Takes the first entry off, or answers `None` where none stands first.
+    fn take_first(rest: &mut Bytes) -> Result<Option<Self>, AllocError>
+        ensures some { IfOk result (λ o. IfSome o (λ e. Self.may_stand e
+            × (rest.old ≡ Self.bytes e ++ rest.new))) }
+        ensures none { IfOk result (λ o. IfNone o ((e : Self) → (tail : List ℕ)
+            → Self.may_stand e → rest.old ≡ Self.bytes e ++ tail → ⊥)) };
+
+    /// How many bytes it has.
+    fn len(&self) -> usize
+        requires { Self.may_stand self.now }
+        ensures len { result ≡ length (Self.bytes self.now) }
+        ensures fits { result ≤ longest_entry };
+
+    /// Writes it. There is room for it.
+    fn put(&self, out: &mut BytesMut)
+        requires may { Self.may_stand self.now }
+        requires room { length (Self.bytes self.now) ≤ out.old.spare }
+        ensures items { out.new.items ≡ out.old.items ++ Self.bytes self.now }
+        ensures room { out.new.spare + length (Self.bytes self.now) ≡ out.old.spare };
+}
+
+/// How many entries a payload says that it has, or `None` where it may not.
+fn entry_count(payload: &[u8]) -> Option<u8>
+    ensures some { IfSome result (λ n. (1 ≤ n) × (n ≤ MAX_COUNT)
+        × (payload.now ≡ slice_index payload.now 0 ∷ n ∷ drop 2 payload.now)) }
+    ensures none { IfNone result ((kind n : ℕ) → (tail : List ℕ) → 1 ≤ n → n ≤ MAX_COUNT
+        → payload.now ≡ kind ∷ n ∷ tail → ⊥) }
+{
+    if payload.len() < LIST_HEAD_LEN {
+        return None;
+    }
+    let count = payload[1];
+    if count == 0 || count > MAX_COUNT {
+        return None;
+    }
+    Some(count)
+}
+
+/// The count of a payload's entries and the bytes behind it, or `None` where it may not be.
+fn split_list(mut payload: BytesMut) -> Result<Option<(u8, Bytes)>, AllocError>
+    ensures some { IfOk result (λ o. IfSome o (λ list. (1 ≤ list.0) × (list.0 ≤ MAX_COUNT)
+        × (payload.items ≡ slice_index payload.items 0 ∷ list.0 ∷ list.1))) }
+    ensures none { IfOk result (λ o. IfNone o ((kind n : ℕ) → (tail : List ℕ) → 1 ≤ n
+        → n ≤ MAX_COUNT → payload.items ≡ kind ∷ n ∷ tail → ⊥)) }
+{
+    let Some(count) = entry_count(payload.as_slice()) else {
+        return Ok(None);
+    };
+    payload.advance(LIST_HEAD_LEN);
+    match payload.freeze() {
+        Ok(entries) => Ok(Some((count, entries))),
+        Err(_) => Err(AllocError),
+    }
+}
+
+/// The entries, `count` of them and nothing behind, or `None` where they aren't so.
+fn read_entries<E: Entry + Drop>(
+    alloc: Global,
+    count: u8,
+    mut rest: Bytes,
+) -> Result<Option<Vec<E>>, AllocError>
+    requires apart { Separate E.bytes E.may_stand }
+    ensures some { IfOk result (λ o. IfSome o (λ es. (length es.items ≡ count)
+        × All E.may_stand es.items × (rest ≡ flat_map E.bytes es.items))) }
+    ensures none { IfOk result (λ o. IfNone o ((es : List E) → length es ≡ count
+        → All E.may_stand es → rest ≡ flat_map E.bytes es → ⊥)) }
+{
+    let mut entries = Vec::new(alloc);
+    for _ in 0..count {
+        match E::take_first(&mut rest)? {
+            Some(entry) => entries.push(entry)?,
+            None => return Ok(None),
+        }
+    }
+    if !rest.is_empty() {
+        return Ok(None);
+    }
+    Ok(Some(entries))
+}
+
+/// The entries of a list's payload, or `None` where it has none or they aren't so.
+pub(crate) fn read_list<E: Entry + Drop>(payload: BytesMut) -> Result<Option<Vec<E>>, AllocError>
+    requires apart { Separate E.bytes E.may_stand }
+    ensures some { IfOk result (λ o. IfSome o (λ es. AreEntries E.may_stand es.items
+        × (payload.items
+        ≡ slice_index payload.items 0 ∷ length es.items ∷ flat_map E.bytes es.items))) }
+    ensures none { IfOk result (λ o. IfNone o ((kind : ℕ) → (es : List E)
+        → AreEntries E.may_stand es → payload.items ≡ kind ∷ length es ∷ flat_map E.bytes es
+        → ⊥)) }
+{
+    let alloc = *payload.allocator();
+    let Some((count, entries)) = split_list(payload)? else {
+        return Ok(None);
+    };
+    read_entries(alloc, count, entries)
+}
+
+/// How many bytes the entries have together.
+fn entries_len<E: Entry>(entries: &[E]) -> usize
+    requires few { length entries.now ≤ MAX_COUNT }
+    requires each { All E.may_stand entries.now }
+    ensures len { result ≡ length (flat_map E.bytes entries.now) }
+    ensures fits { 2 + result ≤ max_payload }
+{
+    let mut len = 0;
+    for entry in entries {
+        len += entry.len();
+    }
+    len
+}
+
+/// Writes the entries. There is room for them.
+fn put_entries<E: Entry>(entries: &[E], out: &mut BytesMut)
+    requires each { All E.may_stand entries.now }
+    requires room { length (flat_map E.bytes entries.now) ≤ out.old.spare }
+    ensures { out.new.items ≡ out.old.items ++ flat_map E.bytes entries.now }
+{
+    for entry in entries {
+        entry.put(out);
+    }
+}
+
+/// Writes the frame of a list of this kind, as [`write_reply`](crate::write_reply) writes one.
+pub(crate) fn append_list<E: Entry>(
+    kind: u8,
+    entries: &[E],
+    out: &mut BytesMut,
+) -> Result<(), AllocError>
+    requires few { length entries.now ≤ MAX_COUNT }
+    requires each { All E.may_stand entries.now }
+    ensures ok { OnOk result (out.new.items ≡ out.old.items
+        ++ frame (kind ∷ length entries.now ∷ flat_map E.bytes entries.now)) }
+    ensures err { OnErr result (out.new.items ≡ out.old.items) }
+    ensures room { length (frame (kind ∷ length entries.now ∷ flat_map E.bytes entries.now))
+        ≤ out.old.spare → IsOk result }
+{
+    start_frame(LIST_HEAD_LEN + entries_len(entries), out)?;
+    out.extend_reserved(&[kind, entries.len() as u8]);
+    put_entries(entries, out);
+    Ok(())
+}

@@ -1,0 +1,20 @@
+-- How the bytes of a value stand in a document.
+use Rattle.std.proofs.Common.{◌≡◌, ℕ, Bool, List, [], ◌∷◌, ap, codes, if◌then◌else◌}
+use Rattle.std.specs.Str.{IsUtf8, is_utf8}
+use Rattle.std.proofs.lemmas.Bool.{false_from_ne_true}
+use Rattle.std.proofs.lemmas.Str.{IsUtf8-from_is_utf8, is_utf8-from_IsUtf8}
+use Rattle.base64.specs.Engines.{standard}
+use Rattle.base64.specs.GeneralPurpose.{encode_of}
+use Rattle.json.specs.Token.{Token, key, string}
+use Rattle.snap_json.specs.Documents.{bytes_tokens}
+
+pub text_tokens : (bytes : List ℕ) → IsUtf8 bytes
+    → bytes_tokens bytes ≡ key (codes "text") ∷ string bytes ∷ []
+text_tokens bytes u = ap (λ (b : Bool). if b then key (codes "text") ∷ string bytes ∷ []
+    else key (codes "base64") ∷ string (encode_of standard bytes) ∷ []) (is_utf8-from_IsUtf8 bytes u)
+
+pub base64_tokens : (bytes : List ℕ) → ¬ (IsUtf8 bytes)
+    → bytes_tokens bytes ≡ key (codes "base64") ∷ string (encode_of standard bytes) ∷ []
+base64_tokens bytes other = ap (λ (b : Bool). if b then key (codes "text") ∷ string bytes ∷ []
+    else key (codes "base64") ∷ string (encode_of standard bytes) ∷ [])
+    (false_from_ne_true (is_utf8 bytes) (λ t. other (IsUtf8-from_is_utf8 bytes t)))

@@ -1,0 +1,31 @@
+//! The numbers that a scan's looks answered. They exist in proofs alone.
+ghost use Rattle.std.specs.Prelude.{◌≡◌, ◌++◌, ◌∷◌, [], List, ℕ};
+ghost use Rattle.std.specs.Borrow.{ftrue};
+
+use std::marker::Model;
+
+/// The numbers that the looks answered so far, in order. It takes no memory.
+#[derive(Debug, Drop)]
+pub struct NumberList {
+    pub ghost list: { List ℕ },
+}
+
+impl Model for NumberList {
+    ghost also_owns = { λ _. ftrue };
+}
+
+impl NumberList {
+    /// No number.
+    pub(crate) fn none() -> NumberList
+        ensures { result.list ≡ [] }
+    {
+        NumberList {}
+    }
+
+    /// These numbers, and this one behind them.
+    pub(crate) fn then(&self, _number: &u64) -> NumberList
+        ensures { result.list ≡ self.now.list ++ _number.now ∷ [] }
+    {
+        NumberList {}
+    }
+}

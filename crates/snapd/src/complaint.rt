@@ -1,0 +1,59 @@
+//! What the program says of files that it could not take.
+
+use crate::folder::FolderTrouble;
+use snap_devices::FileFault;
+use snap_disk::Refusal;
+use snap_file_commands::CommandFailure;
+use snap_order::Status;
+use snap_stream::complain;
+use std::io::{self, ErrorKind};
+
+/// Says why the file at this path could not be taken.
+pub fn fail_at(rt: &HostRuntime, file: &str, fault: &FileFault) -> Status {
+    let _ = complain(
+        rt.alloc(),
+        &mut rt.stderr(),
+        &format_args!("{file}: {fault}"),
+    );
+    Status::Failed
+}
+
+/// Says that two paths of one command name one file.
+pub fn fail_twice(rt: &HostRuntime, first: &str, second: &str) -> Status {
+    let _ = complain(
+        rt.alloc(),
+        &mut rt.stderr(),
+        &format_args!("{second}: it is the same file as {first}: each file is named once"),
+    );
+    Status::Failed
+}
+
+/// Says why the files of a folder could not be taken. What the files themselves are is a refusal.
+pub fn fail_in(rt: &HostRuntime, trouble: &FolderTrouble<'_>) -> Status {
+    match trouble {
+        FolderTrouble::Path { file, fault } => fail_at(rt, file, fault),
+        FolderTrouble::Refused(why) => {
+            let _ = complain(rt.alloc(), &mut rt.stderr(), why);
+            Status::Refused
+        }
+        FolderTrouble::NoMemory => stop_without_memory(rt),
+    }
+}
+
+/// Says why the folder at this path could not be made or listed.
+pub fn fail_at_folder(rt: &HostRuntime, folder: &str, reason: io::Error) -> Status {
+    if reason.kind() == ErrorKind::OutOfMemory {
+        return stop_without_memory(rt);
+    }
+    fail_at(rt, folder, &FileFault::System(reason))
+}
+
+/// Says why the program stops.
+pub fn stop(rt: &HostRuntime, failure: &CommandFailure) -> Status {
+    failure.report(rt.alloc(), &mut rt.stderr()).status
+}
+
+/// Says that there was no memory.
+pub fn stop_without_memory(rt: &HostRuntime) -> Status {
+    stop(rt, &CommandFailure::Refused(Refusal::NoMemory))
+}

@@ -1,0 +1,83 @@
+//! The command `init`: the files of a folder, one after the other.
+ghost use Rattle.std.specs.Prelude.{◌<◌, ◌≤◌};
+ghost use Rattle.snap_order.specs.Limits.{MAX_COUNT};
+ghost use Rattle.snap_order.specs.Order.{IsOneTo};
+
+use crate::complaint::{fail_at, fail_at_folder, fail_in, stop_without_memory};
+use crate::files::FirstFault;
+use crate::folder::{check_names, make_folder, segment_files, segment_path};
+use snap_devices::{FileDisk, FileFault};
+use snap_disk::Refusal;
+use snap_file_commands::{CommandFailure, found};
+use snap_order::{FileOrder, Founding, Status};
+
+/// Makes the folder, and in it the file of each segment in order, or leaves those that are whole already.
+/// It ends at the first that can't be made or left, with its status; a file of a further segment ends it
+/// before any is made.
+pub fn init(rt: &HostRuntime, order: &Founding<'_>) -> Status
+    requires { IsOneTo MAX_COUNT order.now.count }
+{
+    let status = prepare(rt, order);
+    if status != Status::Done {
+        return status;
+    }
+    for index in 0..order.count {
+        let Ok(file) = segment_path(rt.alloc(), order.folder, index) else {
+            return stop_without_memory(rt);
+        };
+        let status = found_at(rt, file.as_str(), index, order.count);
+        if status != Status::Done {
+            return status;
+        }
+    }
+    Status::Done
+}
+
+/// Makes the folder, and looks whether it is one of so many segments by the names in it.
+fn prepare(rt: &HostRuntime, order: &Founding<'_>) -> Status
+    requires { order.now.count ≤ MAX_COUNT }
+{
+    let folder = order.folder;
+    if let Err(reason) = make_folder(rt, folder) {
+        return fail_at_folder(rt, folder, reason);
+    }
+    let files = match segment_files(rt, rt.alloc(), folder) {
+        Ok(files) => files,
+        Err(reason) => return fail_at_folder(rt, folder, reason),
+    };
+    match check_names(rt.alloc(), folder, &files, order.count) {
+        Ok(()) => Status::Done,
+        Err(trouble) => fail_in(rt, &trouble),
+    }
+}
+
+/// Makes the file of a segment, or leaves it where it is whole, and says so.
+fn found_at(rt: &HostRuntime, file: &str, index: u8, count: u8) -> Status
+    requires below { index < count }
+    requires few { count ≤ MAX_COUNT }
+{
+    let told = FirstFault::new();
+    let disk = match FileDisk::create(rt, file) {
+        Ok(disk) => disk.telling(told.place()),
+        Err(FileFault::WrongFile { len }) => {
+            let refused = CommandFailure::Refused(Refusal::WrongFile);
+            let order = FileOrder::Format { file, index, count };
+            let mut errors = rt.stderr();
+            return refused
+                .report_of(rt.alloc(), &order, len, &told, &mut errors)
+                .status;
+        }
+        Err(fault) => return fail_at(rt, file, &fault),
+    };
+    let (_disk, ended) = found(
+        rt.alloc(),
+        file,
+        index,
+        count,
+        disk,
+        &told,
+        &mut rt.stdout(),
+        &mut rt.stderr(),
+    );
+    ended.status
+}
