@@ -161,8 +161,11 @@ class Server:
         except BaseException:
             self.kill()
             raise
+        self.place = self._place()
+
+    def _place(self):
         host, _, port = self.address.rpartition(":")
-        self.place = (host.strip("[]"), int(port))
+        return host.strip("[]"), int(port)
 
     def _printed(self):
         """The report and the address, as soon as they have come. What came with them is kept for `end`."""
@@ -244,3 +247,39 @@ class Server:
         """Resident, in kB."""
         status = pathlib.Path(f"/proc/{self.process.pid}/status").read_text()
         return int(status.split("VmRSS:")[1].split()[0])
+
+
+def at_socket(path, timeout=PATIENCE):
+    """A connection to the Unix socket at this path."""
+    stream = socket.socket(socket.AF_UNIX)
+    # A full queue is waited for, as the system does for a socket that waits.
+    stream.setsockopt(socket.SOL_SOCKET, socket.SO_SNDTIMEO, struct.pack("ll", timeout, 0))
+    try:
+        stream.connect(str(path))
+    except BaseException:
+        stream.close()
+        raise
+    stream.settimeout(timeout)
+    return stream
+
+
+class AtSocket(Server):
+    """A server whose first address is that of a Unix socket, in its folder."""
+
+    def _place(self):
+        return str(self.errors.parent / self.address.removeprefix("unix:"))
+
+    @property
+    def path(self):
+        return self.place
+
+    def connect(self, timeout=PATIENCE):
+        return at_socket(self.place, timeout)
+
+    def printed(self, count):
+        """The lines behind that of the first address, once so many are there."""
+        while self.printed_behind.count(b"\n") < count:
+            piece = os.read(self.process.stdout.fileno(), 65_536)
+            assert piece, self.printed_behind
+            self.printed_behind += piece
+        return self.printed_behind.decode().splitlines()

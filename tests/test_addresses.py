@@ -22,7 +22,7 @@ LACKS = {
 
 
 def lacking(address):
-    return f"snapd: {address}: an address is HOST:PORT, and {LACKS[address]} missing: give for example 127.0.0.1:7070\n"
+    return f"snapd: {address}: an address is HOST:PORT or unix:PATH, and {LACKS[address]} missing: give for example 127.0.0.1:7070\n"
 
 
 def test_an_address_that_lacks_a_part(snapd, _):

@@ -105,7 +105,8 @@ IN_NO_ROW = {
     "its trait's clauses are its own": (
         ("snap_devices/src/file.rt", "failures len from"),
         ("snap_server/src/announce.rt", "announce"), ("snap_server/src/worker.rt", "work_off"),
-        ("snapd/src/folder.rt", "from"),
+        ("snapd/src/folder.rt", "from"), ("snap_server/src/unix.rt", "from"),
+        ("snap_server/src/endpoint.rt", "fmt"), ("snap_server/src/listeners.rt", "endpoints"),
     ),
     "it puts its arguments together, or gives a part of what is there": (
         ("snap_serve/src/bind.rt", "new"), ("snap_server/src/intake.rt", "new"),
@@ -114,9 +115,10 @@ IN_NO_ROW = {
     ),
     "it does nothing, or hands on": (
         ("snap_serve/src/watch.rt", "unstored"), ("snap_server/src/gate.rt", "enter leave"), ("snap_server/src/socket.rt", "flush"),
+        ("snap_server/src/stream.rt", "flush"), ("snapd/src/link.rt", "flush"),
     ),
     "no test was seen to fail on another body: which errors of a folder's sync are none": (
-        ("snap_devices/src/file.rt", "is_not_allowed"), ("snapd/src/folder.rt", "is_not_allowed"),
+        ("snap_devices/src/file.rt", "is_not_allowed"),
     ),
 }
 

@@ -151,7 +151,6 @@ def test_init_refuses_what_is_no_file_of_its_own(snapd, _):
     old = f"{name}: it has the length of the old format: carry it over with snapd migrate {name} NEW"
     for data, lines in (
         (layout.holding((0, b""), index=2, count=3), taken),
-        (layout.holding((5, b"x"), index=1, count=4), taken),
         (bytes(mark), taken),
         (bytes(zero), taken),
         (bytes(closed), taken),
@@ -176,16 +175,15 @@ def test_init_refuses_a_folder_of_more_segments(snapd, _):
     line = f"D/{name_of(2)}: it is none of 2 segments: give the count that D was made with, or move it out of there"
     snapd("init", "D", "--count", 2).gave(3, errors=said(line))
     assert files_in(place) == before
-    # Of fewer segments, the files of it say so.
-    line = "".join(
-        f"snapd: {it}\n"
-        for it in (
-            "refused 12 AlreadyFormatted",
-            f"D/{name_of(0)}: it is formatted already: see snapd check D/{name_of(0)}",
-        )
-    )
-    snapd("init", "D", "--count", 5).gave(3, errors=line)
-    assert files_in(place) == before
+    # Of fewer segments, the files of it say so, also where the first of them is lost.
+    for lost in ((), (0,), (0, 1, 2)):
+        for index in lost:
+            (place / name_of(index)).unlink(missing_ok=True)
+        first = f"D/{name_of(len(lost))}"
+        line = f"{first}: it is of 4 segments, and --count is 5: give --count 4; a folder of more is made of a dump, by snapd load"
+        snapd("init", "D", "--count", 5).gave(3, errors=said(line))
+        assert files_in(place) == {name: data for name, data in before.items() if (place / name).exists()}
+    snapd("init", "D", "--count", 4).gave(0, made(4, kept=[(3, 0)]))
     # Before anything is made, whatever the further file is, and however it is numbered.
     for name in ("segment-02.seg", "segment-1.seg", "segment-.seg", "segment-old.seg"):
         other = snapd.file(f"E {name}")
@@ -307,10 +305,10 @@ def test_the_name_of_a_new_folder_is_made_to_last(snapd, _):
     assert steps[4:] == [("fsync", file)] * 3, steps
 
 
-def test_killed_fifty_times(snapd, random):
+def test_killed_two_hundred_times(snapd, random):
     """Killed at any moment, `init` can be run again, and what was made stays."""
     count = 8
-    for round_ in range(50):
+    for round_ in range(200):
         name = f"D{round_}"
         run = subprocess.Popen([snapd.path, "init", name, "--count", str(count)], cwd=snapd.folder,
                                stdout=subprocess.PIPE, stderr=subprocess.PIPE)
@@ -365,7 +363,7 @@ def test_a_missing_segment(snapd, _):
     for index in (3, 1):
         (place / name_of(index)).rename(snapd.file(f"S{index}"))
         serve(snapd).gave(3, errors=said(
-            f"D: segment {index} of 4 is missing: bring its file back, or make a new one with "
+            f"D: segment {index} of 4 is missing: bring its file back, or make a new and empty one with "
             f"snapd format D/{name_of(index)} --index {index} --count 4"
         ))
     # The first of both is named. What is said to do helps.
@@ -400,7 +398,7 @@ def test_files_that_are_no_segments(snapd, _):
     file, name = place / "x.seg", "D/x.seg"
     header = bytearray(layout.holding((0, b"")))
     header[11] = 1
-    no_segment = f"{name}: it is no segment file: move it out of D, or give it a name that doesn't end in .seg"
+    no_segment = f"{name}: it is no segment file: bring a copy back if it was one, else move it out of D, or give it a name that doesn't end in .seg"
     cut = (
         f"{name}: it was never formatted, or its header is gone: "
         "go on with the init or format that was cut off, or move it out of D"

@@ -91,7 +91,7 @@ def test_words_of_health(snapd, _):
     for more in (["0"], ["1", "00"], ["health"]):
         run = snapd("call", "127.0.0.1:1", "health", *more)
         assert (run.status, run.output) == (2, b""), run
-        assert run.errors.startswith("snapd: error: the request is not `update I NUMBER HEX`, `scan`, `part MASK`, `status` or `health`\n"), run
+        assert run.errors.startswith("snapd: error: the request is not `put I`, `get I`, `update I NUMBER HEX`, `scan`, `part MASK`, `status` or `health`\n"), run
     assert snapd("call", "127.0.0.1:1", "health", "--tries", 11).status == 2
     shown = snapd("call", "--help").output.decode()
     assert "health" in shown and "`fenced I`" in shown

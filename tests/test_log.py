@@ -68,7 +68,7 @@ def test_all_addresses_are_warned_of(snapd, _):
 
 def lost(name, segment, number, why):
     """What is logged of an update that could not be stored."""
-    return f"{name}: segment {segment}: update {number} isn't stored, and the segment is fenced until a restart: {why}"
+    return f"{name}: segment {segment}: update {number} failed: a restart shows whether it is stored, and the segment is fenced until then: {why}"
 
 
 def test_a_store_that_fails_is_logged(snapd, _):

@@ -74,7 +74,7 @@ def test_the_page_names_all_that_help_names(snapd, _):
     for section in ("NAME", "SYNOPSIS", "DESCRIPTION", "OPTIONS", "COMMANDS", "EXIT STATUS"):
         assert f"\n{section}\n" in text, section
     found = commands(snapd)
-    assert len(found) == 10, found
+    assert len(found) == 13, found
     for command, about in found.items():
         assert f"\n   {command}\n" in text, command
         if command != "help":

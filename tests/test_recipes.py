@@ -15,7 +15,7 @@ import time
 
 from clients import Client, oracle
 from program import Skipped
-from serving import Server, fresh, segments, stored, update
+from serving import AtSocket, Server, fresh, segments, stored, update
 from waiting import NO_END, PATIENCE, comes_to, gets_on, moment, wait_until
 
 from snapd_client import Conflict, OutOfStep
@@ -31,7 +31,8 @@ LISTINGS = {
 
 def test_every_listing_is_known(_, __):
     hosts = ["files.sh", "fstab", "snapd-takeover.service", "takeover.py", "volume.sh"]
-    assert sorted(LISTINGS) == sorted([*hosts, "board.py", "checkpoint.py", "launch.sh", "lease.py", "snapd.service", "start.sh"])
+    assert sorted(LISTINGS) == sorted([*hosts, "backup.sh", "board.py", "checkpoint.py", "grow.sh", "launch.sh", "lease.py",
+                                "snapd.service", "socket.conf", "start.sh"])
     assert len(re.findall(r"^```\w+$", RECIPES, re.M)) == len(LISTINGS)
 
 
@@ -62,6 +63,42 @@ def killed(process):
     except ProcessLookupError:
         pass
     return process.communicate()[0]
+
+
+# ---- a copy of everything ----
+
+def test_backups_are_kept_and_restored(snapd, _):
+    written(snapd, "backup.sh")
+    (snapd.folder / "dumps").mkdir()
+    with Server(snapd, *fresh(snapd, 3)) as server:
+        for number in range(1, 5):
+            server.ask(update(1, number, b"%d" % number), stored(number))
+            done = started(snapd, "sh", "backup.sh", server.address, "dumps", 2)
+            assert (done.communicate()[0], done.returncode) == ("", 0)
+            time.sleep(1.1)
+    kept = sorted((snapd.folder / "dumps").iterdir())
+    assert len(kept) == 2 and all(it.suffix == ".dump" for it in kept), kept
+    for number, dump in zip((3, 4), kept):
+        snapd("load", f"board{number}", dump).gave(
+            0, f"loaded 0 of 3 number 0\nloaded 1 of 3 number {number}\nloaded 2 of 3 number 0\nready board{number}\n")
+        with Server(snapd, "--dir", f"board{number}") as server:
+            assert server.scan() == [(0, b""), (number, b"%d" % number), (0, b"")]
+    # A server that is gone leaves no dump, and none of the old ones goes.
+    done = started(snapd, "sh", "backup.sh", "127.0.0.1:1", "dumps", 1, stderr=subprocess.DEVNULL)
+    assert done.wait() == 1 and sorted(it for it in (snapd.folder / "dumps").iterdir() if it.suffix == ".dump") == kept
+
+
+def test_a_job_grows(snapd, _):
+    written(snapd, "grow.sh")
+    snapd("init", "board", "--count", 2)
+    snapd("put", "board/segment-01.seg", "--index", 1, "--count", 2, stdin="hi").gave(0, "stored 1\n")
+    done = started(snapd, "sh", "grow.sh", "board", 4)
+    lines = "".join(f"loaded {index} of 4 number {int(index == 1)}\n" for index in range(4))
+    assert (done.communicate()[0], done.returncode) == (lines + "ready board.new\n", 0)
+    with Server(snapd, "--dir", "board") as server:
+        assert server.scan() == [(0, b""), (1, b"hi"), (0, b""), (0, b"")]
+    with Server(snapd, "--dir", "board.old") as server:
+        assert server.scan() == [(0, b""), (1, b"hi")]
 
 
 # ---- the start ----
@@ -423,6 +460,27 @@ def test_unit_is_as_narrow_as_it_says(snapd, _):
     run = analyzed(snapd, UNIT, "security", "--offline=true", f"--threshold={10 * EXPOSURE:.0f}")
     rated = re.search(r"Overall exposure level for snapd\.service: (\d+\.\d+) ", run.stdout)
     assert run.returncode == 0 and rated and float(rated[1]) < EXPOSURE, (run.returncode, run.stdout[-400:], run.stderr)
+
+
+def test_unit_at_a_socket(snapd, _):
+    """What it serves then, at a path of this folder, and that systemd takes it beside the unit."""
+    text = LISTINGS["socket.conf"]
+    command, = re.findall(r"^ExecStart=(\S.*)$", text, re.M)
+    program, serve, address, option, mode, *words = command.split()
+    assert (program, serve, words) == (PROGRAM, COMMAND, WORDS)
+    assert (address, option, mode) == ("unix:/run/snapd/snapd.sock", "--socket-mode", "0660")
+    # A list begins anew with an empty one; and the unit makes nothing that others may read but what is said.
+    assert "ExecStart=\nExecStart=/" in text and "RestrictAddressFamilies=\nRestrictAddressFamilies=AF_UNIX\n" in text
+    assert "RuntimeDirectory=snapd\nRuntimeDirectoryMode=0711\n" in text and SERVICE["UMask"] == ["0077"]
+    formatted_as_the_unit_wants(snapd)
+    more, before = [option, mode, *words[len(FILES) :]], ("sh", "-c", 'umask 0077 && exec "$@"', "sh")
+    with AtSocket(snapd, *FILES, address="unix:snapd.sock", more=more, before=before) as server:
+        assert os.stat(server.path).st_mode & 0o7777 == 0o660
+        snapd("call", server.address, "health").gave(0, "healthy\n")
+    if shutil.which("systemd-analyze") is not None:
+        (snapd.folder / "snapd.service.d").mkdir()
+        (snapd.folder / "snapd.service.d" / "socket.conf").write_text(text.replace(PROGRAM, snapd.path))
+        analyzed(snapd, UNIT.replace("User=snapd\n", ""), "verify")
 
 
 @functools.cache

@@ -128,7 +128,7 @@ def file_faults(snapd):
     snapd.file("folder").mkdir()
     return [
         ("missing", 1, ["missing: No such file or directory (os error 2)"]),
-        ("folder", 1, ["folder: Is a directory (os error 21)"]),
+        ("folder", 1, ["folder: Is a directory (os error 21)", "folder: it is a folder: give it as --dir folder"]),
         ("damaged", 3, ["refused 10 Damaged", remedy("10", "damaged", **place)]),
         ("unformatted", 3, ["refused 11 Unformatted", remedy("11", "unformatted", **place)]),
         ("empty", 3, ["refused 14 WrongFile", remedy("14, no byte", "empty", **place)]),
@@ -158,6 +158,33 @@ def test_files_that_cannot_be_served(snapd, _):
 def test_each_remedy_is_documented(snapd, _):
     """The text of 13 is met by a start on a failing disk, the others by the files above."""
     assert list(REMEDIES) == ["10", "11", "13", "14, no byte", "14, 20,480 bytes", "14, any other file"]
+
+
+def test_files_in_another_order_are_told_the_right_one(snapd, _):
+    first, second, third = segments(snapd, HELD, FRESH, FRESH)
+    before = {name: snapd.file(name).read_bytes() for name in (first, second, third)}
+    order = f"snapd: each file names its segment, and this is their order: {first} {second} {third}\n"
+    for files, refused in (
+        ((second, first, third), (second, 0, 3)),
+        ((first, third, second), (third, 1, 3)),
+        ((third, second, first), (third, 0, 3)),
+    ):
+        line = remedy("14, any other file", refused[0], index=refused[1], count=refused[2])
+        run = snapd("serve", "127.0.0.1:0", *files)
+        run.gave(3, errors=f"snapd: refused 14 WrongFile\nsnapd: {line}\n{order}")
+    with Server(snapd, *run.errors.rpartition("order: ")[2].split()) as server:
+        assert server.scan() == [(1, b"hi"), (0, b""), (0, b"")]
+        # Where they can't be read nothing more is said.
+        snapd("serve", "127.0.0.1:0", second, first, third).failed_with(1)
+    # Some of them alone are no server, in any order.
+    for files in ((second, first), (first,), (third,)):
+        line = remedy("14, any other file", files[0], index=0, count=len(files))
+        snapd("serve", "127.0.0.1:0", *files).gave(3, errors=f"snapd: refused 14 WrongFile\nsnapd: {line}\n")
+    # In their order, one that is damaged has its own line and no other.
+    snapd.file(second).write_bytes(layout.holding((4, b"a"), (6, b"b"), index=1, count=3))
+    run = snapd("serve", "127.0.0.1:0", first, second, third).failed_with(3)
+    assert run.errors.count("\n") == 2, run.errors
+    assert all(snapd.file(name).read_bytes() == before[name] for name in (first, third))
 
 
 def test_the_first_file_that_fails_is_named(snapd, _):

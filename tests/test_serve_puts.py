@@ -9,7 +9,7 @@ from program import Run
 from serving import FRESH, STATUS, Server, fresh, frame, free_port, refused, segments, standings, stored, update
 from test_serve_disks import TWO, Disk
 
-NO_FORM = "the request is not `update I NUMBER HEX`, `scan`, `part MASK`, `status` or `health`"
+NO_FORM = "the request is not `put I`, `get I`, `update I NUMBER HEX`, `scan`, `part MASK`, `status` or `health`"
 
 
 def put(snapd, server, segment, *more, stdin=b""):

@@ -83,4 +83,4 @@ def test_masks_that_are_none(snapd, _):
             run = snapd("call", address, "part", mask).failed_with(2, why)
             assert run.errors.startswith("snapd: error: ") and "try '--help'" in run.errors, run
     for words in (("part",), ("part", "0001", "0002"), ("Part", "0001"), ("scan", "0001")):
-        snapd("call", ":0", *words).failed_with(2, "the request is not `update I NUMBER HEX`, `scan`, `part MASK`, `status` or `health`")
+        snapd("call", ":0", *words).failed_with(2, "the request is not `put I`, `get I`, `update I NUMBER HEX`, `scan`, `part MASK`, `status` or `health`")

@@ -3,7 +3,8 @@ use Rattle.std.proofs.Common.{◌≡◌, ◌≢◌, ◌⊎◌, ◌∙◌, List, 
 use Rattle.std.proofs.lemmas.Grind.{common_steps}
 use Rattle.clap.specs.Words.{Text, first_value}
 use Rattle.clap.specs.declared.parser.matches.Found.{Found}
-use Rattle.snap_args.specs.Faults.{HasWord, IsCallingFault, IsFaultOf, IsFolderFault, IsFoundingFault, IsMigrationFault}
+use Rattle.snap_args.specs.Faults.{HasWord, IsCallingFault, IsDumpingFault, IsExaminationFault, IsFaultOf, IsFolderFault}
+use Rattle.snap_args.specs.Faults.{IsFoundingFault, IsLoadingFault, IsMigrationFault}
 use Rattle.snap_args.specs.Faults.{IsAnswerFault, IsPathFault, IsServiceFault, IsServingFault}
 use Rattle.snap_args.specs.Requests.{IsRequestFault}
 use Rattle.snap_args.specs.Numbers.{IsCountFault, IsNoNumber, IsNumberFault, IsPlaceFault}
@@ -48,7 +49,7 @@ place_fault its takes why (inr is) = count_fault its (takes _ (inr refl)) why is
 
 -- of the words of a server, but for its files
 service_fault : {words : List Text} {name : Text} {found : Found} → HasCommand words name found
-    → name ≡ codes "serve" → (why : WordFault) → IsServiceFault (word_of words) why
+    → name ≡ codes "serve" → (why : WordFault) → IsServiceFault (word_of words) (words_of words) why
     → IsFaultOf words why
 service_fault its named Memory is = tt
 service_fault its named (Scanners n) (inr (inl is)) = is
@@ -82,6 +83,35 @@ founding_fault its called why (inl is) =
     path_fault its (codes "folder") (inr (inr (inl (called, inl refl)))) why is
 founding_fault its called why (inr is) =
     count_fault its (inr (inr (inl (called, inr refl)))) why is
+
+-- of the words of a folder that is to be looked at
+examination_fault : {words : List Text} {name : Text} {found : Found} → HasCommand words name found
+    → name ≡ codes "doctor" → (why : WordFault) → IsExaminationFault (word_of words) why
+    → IsFaultOf words why
+examination_fault its called why is =
+    path_fault its (codes "folder") (inr (inr (inr (inl (called, refl))))) why is
+
+-- of the words of a dump
+dumping_fault : {words : List Text} {name : Text} {found : Found} → HasCommand words name found
+    → name ≡ codes "dump" → (why : WordFault) → IsDumpingFault (word_of words) why
+    → IsFaultOf words why
+dumping_fault its called (Tries n) (inr (inl is)) = is
+dumping_fault its called why (inl is) =
+    path_fault its (codes "holder") (inr (inr (inr (inr (inl (inl (called, inl refl))))))) why is
+dumping_fault its called why (inr (inl is)) =
+    number_fault its (codes "tries") (inr (inr (inr (inr (inl (inl (called, inr refl))))))) why is
+dumping_fault its called why (inr (inr is)) = rw is.0 (refl, is.1)
+
+-- of the words of a folder that is to be made of a dump
+loading_fault : {words : List Text} {name : Text} {found : Found} → HasCommand words name found
+    → name ≡ codes "load" → (why : WordFault) → IsLoadingFault (word_of words) why
+    → IsFaultOf words why
+loading_fault its called why (inl is) =
+    path_fault its (codes "folder") (inr (inr (inr (inr (inl (inr (called, inl refl))))))) why is
+loading_fault its called why (inr (inl is)) =
+    path_fault its (codes "dump") (inr (inr (inr (inr (inl (inr (called, inr (inl refl)))))))) why is
+loading_fault its called why (inr (inr is)) =
+    count_fault its (inr (inr (inr (inr (inl (inr (called, inr (inr refl)))))))) why is
 
 -- of a request's words
 request_fault : (words : List Text) (why : WordFault)
@@ -150,6 +180,22 @@ pub init_fault : {name : Text} (found : Found) → name ≡ codes "init" → (wh
 init_fault found called why is = λ words its.
     founding_fault its called why (by_words its (λ of all. IsFoundingFault of why) is)
 
+pub doctor_fault : {name : Text} (found : Found) → name ≡ codes "doctor" → (why : WordFault)
+    → IsExaminationFault (first_value found) why
+    → OfCommand name found (λ words. IsFaultOf words why)
+doctor_fault found called why is = λ words its.
+    examination_fault its called why (by_words its (λ of all. IsExaminationFault of why) is)
+
+pub dump_fault : {name : Text} (found : Found) → name ≡ codes "dump" → (why : WordFault)
+    → IsDumpingFault (first_value found) why → OfCommand name found (λ words. IsFaultOf words why)
+dump_fault found called why is = λ words its.
+    dumping_fault its called why (by_words its (λ of all. IsDumpingFault of why) is)
+
+pub load_fault : {name : Text} (found : Found) → name ≡ codes "load" → (why : WordFault)
+    → IsLoadingFault (first_value found) why → OfCommand name found (λ words. IsFaultOf words why)
+load_fault found called why is = λ words its.
+    loading_fault its called why (by_words its (λ of all. IsLoadingFault of why) is)
+
 pub call_fault : {name : Text} (found : Found) → name ≡ codes "call" → (why : WordFault)
     → IsCallingFault (first_value found) (all_values found) why
     → OfCommand name found (λ words. IsFaultOf words why)
@@ -157,11 +203,21 @@ call_fault found named why is = λ words its.
     calling_fault its named why (by_words its (λ of all. IsCallingFault of all why) is)
 
 pub placed_fault : {name : Text} (found : Found) → name ≢ codes "script" → name ≢ codes "serve"
-    → name ≢ codes "call" → name ≢ codes "init" → name ≢ codes "check" → (why : WordFault)
+    → name ≢ codes "call" → name ≢ codes "init" → name ≢ codes "doctor" → name ≢ codes "dump"
+    → name ≢ codes "load" → name ≢ codes "check" → (why : WordFault)
     → IsPlaceFault (first_value found (codes "index")) (first_value found (codes "count")) why
     → OfCommand name found (λ words. IsFaultOf words why)
-placed_fault found script serve call init check why is = λ words its.
-    place_fault its (λ what place. inr (inr (inr (script, serve, call, init, inr (check, place))))) why
+placed_fault found script serve call init doctor dump load check why is = λ words its.
+    place_fault its (λ what place. inr (inr (inr (inr (inr (
+      script,
+      serve,
+      call,
+      init,
+      doctor,
+      dump,
+      load,
+      inr (check, place),
+    )))))) why
     (by_words its (λ of all. IsPlaceFault (of (codes "index")) (of (codes "count")) why) is)
 
 pub migrate_fault : {name : Text} (found : Found) → name ≡ codes "migrate" → (why : WordFault)

@@ -1,21 +1,23 @@
 -- Which order and which fault goes with the words of a command.
-use Rattle.std.specs.Prelude.{◌≡◌, ◌≢◌, ◌⊎◌, ◌<◌, List, [], false, length, Option, Some, None, codes}
+use Rattle.std.specs.Prelude.{◌≡◌, ◌≢◌, ◌⊎◌, ◌+◌, ◌<◌, List, [], false, length, Option, Some, None, codes}
 use Rattle.clap.specs.Words.{IsAmong, Row, Text, fault_of, kind_of, subcommand_of}
 use Rattle.clap.specs.declared.error.Error.{Error}
 use Rattle.clap.specs.declared.error.kind.ErrorKind.{ErrorKind}
 use Rattle.clap.specs.declared.error.kind.ErrorKind.TheVariants.{DisplayHelp, DisplayVersion, OutOfMemory}
 use Rattle.snap_order.specs.Limits.{MAX_COUNT}
 use Rattle.snap_order.specs.Order.{lists_segments}
+use Rattle.snap_order.specs.declared.order.TheConstants.{MAX_ADDRESSES}
 use Rattle.snap_order.specs.declared.order.Order.{Order}
 use Rattle.snap_order.specs.declared.order.Order.TheVariants as order
 use Rattle.snap_order.specs.declared.order.FileOrder.{FileOrder}
 use Rattle.snap_order.specs.declared.order.FileOrder.TheVariants.{Format, Put, Get, Check}
 use Rattle.snap_order.specs.declared.order.Calling.{Calling}
+use Rattle.snap_order.specs.declared.order.Dumping.{Dumping}
 use Rattle.snap_order.specs.declared.order.Question.{Question}
 use Rattle.snap_args.specs.Explanations.{IsShellUnknown}
 use Rattle.snap_args.specs.Grammar.{grammar_of}
 use Rattle.snap_args.specs.Numbers.{IsClientsFault, IsConnectionsFault, IsCountFault, IsGiven, IsIdleFault, IsLargeNumberOf}
-use Rattle.snap_args.specs.Numbers.{IsLayoutFault, IsLevelFault, IsNoNumber, IsNumberOf, IsPlaceFault, IsScannersFault}
+use Rattle.snap_args.specs.Numbers.{IsLayoutFault, IsLevelFault, IsModeFault, IsNoNumber, IsNumberOf, IsPlaceFault, IsScannersFault}
 use Rattle.snap_args.specs.Numbers.{IsTimeoutFault, IsTriesFault}
 use Rattle.snap_args.specs.Orders.{IsNamed}
 use Rattle.snap_args.specs.Requests.{IsNoRequest, IsQuestionOf, IsRequestFault}
@@ -40,6 +42,10 @@ abbrev pub IsFoundingFault : (of : Text → Option Text) → WordFault → Type 
 IsFoundingFault of why = IsPathFault (of (codes "folder")) (codes "folder") why
     ⊎ IsCountFault (of (codes "count")) why
 
+-- what is wrong with the words for a folder that is to be looked at
+abbrev pub IsExaminationFault : (of : Text → Option Text) → WordFault → Type 0
+IsExaminationFault of why = IsPathFault (of (codes "folder")) (codes "folder") why
+
 -- what is wrong with these words for files: there are none, or more than a server may have
 abbrev pub IsFilesFault : List Text → WordFault → Type 0
 IsFilesFault files fault.NoFiles = files ≡ []
@@ -52,20 +58,32 @@ abbrev pub IsLimitsFault : (of : Text → Option Text) → WordFault → Type 0
 IsLimitsFault of why = IsClientsFault (of (codes "clients-max")) why
     ⊎ (IsIdleFault (of (codes "idle")) why ⊎ IsLevelFault (of (codes "log")) why)
 
+-- what is wrong with these further addresses: they are more than a server may have beside its first
+abbrev pub IsAddressesFault : List Text → WordFault → Type 0
+IsAddressesFault further (fault.Addresses n) = (length further + 1 ≡ n) × (MAX_ADDRESSES < n)
+IsAddressesFault further fault.Memory = Unit {0}
+IsAddressesFault further why = ⊥
+
+-- what is wrong with the words for how a server is reached behind its first address
+abbrev pub IsReachFault : (of : Text → Option Text) (all : Text → List Text) → WordFault → Type 0
+IsReachFault of all why = IsAddressesFault (all (codes "listen")) why
+    ⊎ IsModeFault (of (codes "socket-mode")) why
+
 -- what is wrong with the words of a server, but for its files
-abbrev pub IsServiceFault : (of : Text → Option Text) → WordFault → Type 0
-IsServiceFault of why = IsPathFault (of (codes "address")) (codes "address") why
+abbrev pub IsServiceFault : (of : Text → Option Text) (all : Text → List Text) → WordFault → Type 0
+IsServiceFault of all why = IsPathFault (of (codes "address")) (codes "address") why
     ⊎ (IsScannersFault (of (codes "scanners")) why
-    ⊎ (IsConnectionsFault (of (codes "connections")) why ⊎ IsLimitsFault of why))
+    ⊎ (IsReachFault of all why
+    ⊎ (IsConnectionsFault (of (codes "connections")) why ⊎ IsLimitsFault of why)))
 
 -- what is wrong with the words of a server that has no folder
 abbrev pub IsServingFault : (of : Text → Option Text) (all : Text → List Text) → WordFault → Type 0
-IsServingFault of all why = IsFilesFault (all (codes "files")) why ⊎ IsServiceFault of why
+IsServingFault of all why = IsFilesFault (all (codes "files")) why ⊎ IsServiceFault of all why
 
 -- what is wrong with the words of a server that has one
 abbrev pub IsFolderFault : (of : Text → Option Text) (all : Text → List Text) → WordFault → Type 0
 IsFolderFault of all why =
-    ((why ≡ fault.FilesAndFolder) × (all (codes "files") ≢ [])) ⊎ IsServiceFault of why
+    ((why ≡ fault.FilesAndFolder) × (all (codes "files") ≢ [])) ⊎ IsServiceFault of all why
 
 -- a way to print the answer is given, and what these words ask lists no segments
 abbrev pub IsUnlisted : (text json : Option Text) → List Text → (value after : Option Text) → Type 0
@@ -86,6 +104,16 @@ IsCallingFault of all why = IsPathFault (of (codes "address")) (codes "address")
     ⊎ (IsRequestFault (all (codes "request")) (of (codes "value")) (of (codes "after")) why
     ⊎ IsAnswerFault of all why))
 
+-- what is wrong with the words of a dump
+abbrev pub IsDumpingFault : (of : Text → Option Text) → WordFault → Type 0
+IsDumpingFault of why = IsPathFault (of (codes "holder")) (codes "holder") why
+    ⊎ (IsTriesFault (of (codes "tries")) why ⊎ IsTimeoutFault (of (codes "timeout")) why)
+
+-- what is wrong with the words for a folder that is to be made of a dump
+abbrev pub IsLoadingFault : (of : Text → Option Text) → WordFault → Type 0
+IsLoadingFault of why = IsPathFault (of (codes "folder")) (codes "folder") why
+    ⊎ (IsPathFault (of (codes "dump")) (codes "dump") why ⊎ IsCountFault (of (codes "count")) why)
+
 -- the kinds of what is asked for in place of an order
 abbrev pub IsRequest : ErrorKind → Type 0
 IsRequest kind = (kind ≡ DisplayHelp) ⊎ (kind ≡ DisplayVersion)
@@ -102,7 +130,8 @@ abbrev pub IsCommandName : Text → Type 0
 IsCommandName name =
     (name ≡ codes "format") ⊎ ((name ≡ codes "put") ⊎ ((name ≡ codes "get")
     ⊎ ((name ≡ codes "check") ⊎ ((name ≡ codes "migrate") ⊎ ((name ≡ codes "init")
-    ⊎ ((name ≡ codes "serve") ⊎ ((name ≡ codes "call") ⊎ (name ≡ codes "script"))))))))
+    ⊎ ((name ≡ codes "doctor") ⊎ ((name ≡ codes "serve") ⊎ ((name ≡ codes "call")
+    ⊎ ((name ≡ codes "dump") ⊎ ((name ≡ codes "load") ⊎ (name ≡ codes "script")))))))))))
 
 -- the words for files that the command takes
 abbrev pub HasFile : Text → Text → Type 0
@@ -112,8 +141,16 @@ HasFile command what = ((command ≡ codes "migrate") × ((what ≡ codes "old")
 -- the command, which is about one segment, takes this word behind its name
 abbrev pub HasSegmentWord : Text → Text → Type 0
 HasSegmentWord command what = (command ≢ codes "script") × (command ≢ codes "serve")
-    × (command ≢ codes "call") × (command ≢ codes "init") × (HasFile command what
+    × (command ≢ codes "call") × (command ≢ codes "init") × (command ≢ codes "doctor")
+    × (command ≢ codes "dump") × (command ≢ codes "load") × (HasFile command what
     ⊎ ((command ≢ codes "check") × ((what ≡ codes "index") ⊎ (what ≡ codes "count"))))
+
+-- the command, which is about a dump, takes this word behind its name
+abbrev pub HasDumpWord : Text → Text → Type 0
+HasDumpWord command what =
+    ((command ≡ codes "dump") × ((what ≡ codes "holder") ⊎ (what ≡ codes "tries")))
+    ⊎ ((command ≡ codes "load") × ((what ≡ codes "folder") ⊎ ((what ≡ codes "dump")
+    ⊎ (what ≡ codes "count"))))
 
 -- the command takes this word behind its name
 abbrev pub HasWord : Text → Text → Type 0
@@ -121,7 +158,8 @@ HasWord command what =
     ((command ≡ codes "serve") × ((what ≡ codes "address") ⊎ (what ≡ codes "scanners")))
     ⊎ (((command ≡ codes "call") × ((what ≡ codes "address") ⊎ (what ≡ codes "tries")))
     ⊎ (((command ≡ codes "init") × ((what ≡ codes "folder") ⊎ (what ≡ codes "count")))
-    ⊎ HasSegmentWord command what))
+    ⊎ (((command ≡ codes "doctor") × (what ≡ codes "folder"))
+    ⊎ (HasDumpWord command what ⊎ HasSegmentWord command what))))
 
 -- the command takes this word, and none was found
 abbrev pub IsMissing : List Text → Text → Type 0
@@ -151,6 +189,9 @@ IsFaultOf words fault.Connections =
 IsFaultOf words fault.Clients =
     IsClientsFault (word_of words (codes "clients-max")) fault.Clients
 IsFaultOf words fault.Idle = IsIdleFault (word_of words (codes "idle")) fault.Idle
+IsFaultOf words (fault.Addresses n) =
+    IsAddressesFault (words_of words (codes "listen")) (fault.Addresses n)
+IsFaultOf words fault.Mode = IsModeFault (word_of words (codes "socket-mode")) fault.Mode
 IsFaultOf words fault.Level = IsLevelFault (word_of words (codes "log")) fault.Level
 IsFaultOf words fault.Timeout = IsTimeoutFault (word_of words (codes "timeout")) fault.Timeout
 IsFaultOf words fault.TwoLayouts =
@@ -185,6 +226,8 @@ IsLaterFault (fault.Scanners scanners) = Unit {0}
 IsLaterFault fault.Connections = Unit {0}
 IsLaterFault fault.Clients = Unit {0}
 IsLaterFault fault.Idle = Unit {0}
+IsLaterFault (fault.Addresses count) = Unit {0}
+IsLaterFault fault.Mode = Unit {0}
 IsLaterFault fault.Level = Unit {0}
 IsLaterFault (fault.Tries tries) = Unit {0}
 IsLaterFault (fault.Request why) = Unit {0}
@@ -202,20 +245,28 @@ AreFileNumbersOf words (Put file i n) = IsNumberOf (word_of words (codes "index"
     × IsNumberOf (word_of words (codes "count")) n
 AreFileNumbersOf words (Get file i n) = IsNumberOf (word_of words (codes "index")) i
     × IsNumberOf (word_of words (codes "count")) n
-AreFileNumbersOf words (Check file) = Unit {0}
+AreFileNumbersOf words (Check file is_json) = Unit {0}
 
 -- the numbers of a call are those of their words
 pub record AreCallingNumbersOf (words : List Text) (c : Calling) : Type 0 where
   pub tries : IsNumberOf (word_of words (codes "tries")) c.tries
   pub timeout : IsLargeNumberOf (word_of words (codes "timeout")) c.timeout
 
+-- and those of a dump
+pub record AreDumpingNumbersOf (words : List Text) (d : Dumping) : Type 0 where
+  pub tries : IsNumberOf (word_of words (codes "tries")) d.tries
+  pub timeout : IsLargeNumberOf (word_of words (codes "timeout")) d.timeout
+
 abbrev pub AreNumbersOf : List Text → Order → Type 0
 AreNumbersOf words (order.File o) = AreFileNumbersOf words o
 AreNumbersOf words (order.Migrate m) = IsNumberOf (word_of words (codes "index")) m.index
     × IsNumberOf (word_of words (codes "count")) m.count
 AreNumbersOf words (order.Init f) = IsNumberOf (word_of words (codes "count")) f.count
-AreNumbersOf words (order.Serve s) = IsServiceOf (word_of words) s
-AreNumbersOf words (order.ServeFolder folder s) = IsServiceOf (word_of words) s
+AreNumbersOf words (order.Doctor e) = Unit {0}
+AreNumbersOf words (order.Serve s) = IsServiceOf (word_of words) (words_of words) s
+AreNumbersOf words (order.ServeFolder folder s) = IsServiceOf (word_of words) (words_of words) s
 AreNumbersOf words (order.Call c) = AreCallingNumbersOf words c
+AreNumbersOf words (order.Dump d) = AreDumpingNumbersOf words d
+AreNumbersOf words (order.Load l) = IsLargeNumberOf (word_of words (codes "count")) l.count
 AreNumbersOf words order.Script = Unit {0}
 AreNumbersOf words (order.Explain e) = Unit {0}

@@ -36,9 +36,21 @@ large_number_rule name = record (new_rule name) {
   parser = Some (parser.Unsigned 0 18446744073709551615);
 }
 
+-- an option that takes a number from 0 to 255, and may be left out
+abbrev pub free_number_rule : Text → Rule
+free_number_rule name = record (new_rule name) {
+  long = Some name;
+  value_names = 1;
+  parser = Some (parser.Signed (pos 0) (pos 255));
+}
+
 -- an option that takes a word, and may be left out
 abbrev pub text_rule : Text → Rule
 text_rule name = record (new_rule name) { long = Some name; value_names = 1 }
+
+-- an option that takes a word, and may be given again and again, or left out
+abbrev pub texts_rule : Text → Rule
+texts_rule name = record (text_rule name) { action = Some Append }
 
 -- an option that takes a word
 abbrev pub choice_rule : Text → Text → Rule
@@ -55,6 +67,10 @@ flag_rule name = record (new_rule name) { long = Some name; action = Some SetTru
 abbrev pub filed : App → App
 filed app = with_rule app (word_rule (codes "file"))
 
+-- with a file, and whether what it holds is printed as JSON
+abbrev pub checked : App → App
+checked app = with_rule (filed app) (flag_rule (codes "json"))
+
 -- with the place of a segment
 abbrev pub placed : App → App
 placed app = with_rule (with_rule app (number_rule (codes "index") (codes "0")))
@@ -69,6 +85,10 @@ abbrev pub founded : App → App
 founded app = with_rule (with_rule app (word_rule (codes "folder")))
     (number_rule (codes "count") (codes "1"))
 
+-- with a folder, and whether its disk is measured
+abbrev pub examined : App → App
+examined app = with_rule (with_rule app (word_rule (codes "folder"))) (flag_rule (codes "measure"))
+
 abbrev pub addressed : App → App
 addressed app = with_rule app (word_rule (codes "address"))
 
@@ -82,9 +102,14 @@ limited app = with_rule
 abbrev pub supplied : App → App
 supplied app = with_rule (with_rule app (free_words_rule (codes "files"))) (text_rule (codes "dir"))
 
--- with an address, files or a folder, and the numbers of a server
+-- with further addresses, and the mode of the file of a socket
+abbrev pub reached : App → App
+reached app = with_rule (with_rule app (texts_rule (codes "listen")))
+    (choice_rule (codes "socket-mode") (codes "0600"))
+
+-- with addresses, files or a folder, and the numbers of a server
 abbrev pub served : App → App
-served app = limited (with_rule (with_rule (supplied (addressed app))
+served app = limited (with_rule (with_rule (reached (supplied (addressed app)))
     (number_rule (codes "scanners") (codes "4"))) (large_number_rule (codes "connections")))
 
 -- with a put's value, and the number behind which it is stored
@@ -104,6 +129,15 @@ tried app = with_rule (with_rule app (number_rule (codes "tries") (codes "1")))
 abbrev pub called : App → App
 called app = printed (stored (tried (with_rule (addressed app) (words_rule (codes "request")))))
 
+-- with whose values are dumped, and how often and how long a server is waited for
+abbrev pub dumped : App → App
+dumped app = tried (with_rule app (word_rule (codes "holder")))
+
+-- with a folder, a dump and how many segments there are to be
+abbrev pub loaded : App → App
+loaded app = with_rule (with_rule (with_rule app (word_rule (codes "folder")))
+    (word_rule (codes "dump"))) (free_number_rule (codes "count"))
+
 -- this command tells a version, and so does each command below it
 abbrev pub versioned : App → App
 versioned app = record app {
@@ -117,17 +151,20 @@ abbrev pub program_of : App
 program_of = record { top = top_shape; subs = [] }
 
 abbrev pub grammar_of : App
-grammar_of = with_subcommand (with_subcommand
+grammar_of = with_subcommand (with_subcommand (with_subcommand (with_subcommand (with_subcommand
     (with_subcommand (with_subcommand (with_subcommand (with_subcommand (with_subcommand
     (with_subcommand (with_subcommand program_of
     (placed (filed (new_app (codes "format")))).top)
     (placed (filed (new_app (codes "put")))).top)
     (placed (filed (new_app (codes "get")))).top)
-    (filed (new_app (codes "check"))).top)
+    (checked (new_app (codes "check"))).top)
     (paired (new_app (codes "migrate"))).top)
     (founded (new_app (codes "init"))).top)
+    (examined (new_app (codes "doctor"))).top)
     (served (new_app (codes "serve"))).top)
-    (called (new_app (codes "call"))).top) (new_app (codes "script")).top
+    (called (new_app (codes "call"))).top)
+    (dumped (new_app (codes "dump"))).top)
+    (loaded (new_app (codes "load"))).top) (new_app (codes "script")).top
 
 -- the command has these words, and none that holds for other commands too
 pub record IsCommandOf (words : App) (command : Command) : Type 0 where

@@ -1,5 +1,6 @@
 pub mod Grammar
 pub mod Words
+pub mod Dumps
 pub mod Explanations
 pub mod Numbers
 pub mod Requests

@@ -8,7 +8,7 @@ use Rattle.snap_order.specs.declared.order.Layout.{Layout}
 use Rattle.snap_order.specs.declared.order.Layout.TheVariants as layout
 use Rattle.snap_order.specs.declared.order.Level.{Level}
 use Rattle.snap_order.specs.declared.order.Level.TheVariants as level
-use Rattle.snap_order.specs.declared.order.TheConstants.{MAX_CLIENTS, MAX_IDLE, MAX_TIMEOUT}
+use Rattle.snap_order.specs.declared.order.TheConstants.{MAX_CLIENTS, MAX_IDLE, MAX_TIMEOUT, MODE_BITS}
 use Rattle.snap_args.specs.declared.fault.WordFault.{WordFault}
 use Rattle.snap_args.specs.declared.fault.WordFault.TheVariants as fault
 use Rattle.snap_args.specs.declared.fault.RequestFault.TheVariants as request
@@ -54,6 +54,20 @@ IsLargeNumberOf word n = ⊥
 -- the word is four hexadecimal digits of either case, without a sign, and this is their value
 abbrev pub IsMask : Text → ℕ → Type 0
 IsMask word bits = (length word ≡ 4) × IsNumeral 16 word × (digits_value 16 word ≡ bits)
+
+-- the word is an octal number, with or without a plus sign, and this is its value: that of a mode
+abbrev pub IsMode : Text → ℕ → Type 0
+IsMode word mode = IsNumeral 8 (without_leading_plus word)
+    × (digits_value 8 (without_leading_plus word) ≡ mode) × (mode ≤ MODE_BITS)
+
+-- the word is this mode
+abbrev pub IsModeOf : Option Text → ℕ → Type 0
+IsModeOf None mode = ⊥
+IsModeOf (Some word) mode = IsMode word mode
+
+-- what is wrong with this word for a mode: it is none's
+abbrev pub IsModeFault : Option Text → WordFault → Type 0
+IsModeFault word why = (why ≡ fault.Mode) × ((mode : ℕ) → IsModeOf word mode → ⊥)
 
 -- what is wrong with this word for a number
 abbrev pub IsNumberFault : Option Text → Text → WordFault → Type 0

@@ -1,16 +1,20 @@
 -- Which order goes with which words.
-use Rattle.std.specs.Prelude.{◌≡◌, ◌≢◌, List, [], map, Option, Some, None, codes}
+use Rattle.std.specs.Prelude.{◌≡◌, ◌≢◌, ◌↔◌, IsTrue, List, [], map, Option, Some, None, codes}
 use Rattle.clap.specs.Words.{Row, Text, first_of, subcommand_of}
 use Rattle.snap_order.specs.declared.order.Order.{Order}
 use Rattle.snap_order.specs.declared.order.Order.TheVariants as order
 use Rattle.snap_order.specs.declared.order.FileOrder.{FileOrder}
 use Rattle.snap_order.specs.declared.order.FileOrder.TheVariants.{Format, Put, Get, Check}
 use Rattle.snap_order.specs.declared.order.Founding.{Founding}
+use Rattle.snap_order.specs.declared.order.Examination.{Examination}
 use Rattle.snap_order.specs.declared.order.Serving.{Serving}
 use Rattle.snap_order.specs.declared.order.Calling.{Calling}
+use Rattle.snap_order.specs.declared.order.Dumping.{Dumping}
+use Rattle.snap_order.specs.declared.order.Loading.{Loading}
+use Rattle.snap_args.specs.Dumps.{IsHolderOf}
 use Rattle.snap_args.specs.Explanations.{IsExplanationOf}
 use Rattle.snap_args.specs.Grammar.{grammar_of}
-use Rattle.snap_args.specs.Numbers.{IsLayoutOf}
+use Rattle.snap_args.specs.Numbers.{IsGiven, IsLayoutOf}
 use Rattle.snap_args.specs.Requests.{IsQuestionOf}
 use Rattle.snap_args.specs.Services.{IsServiceOf}
 use Rattle.snap_args.specs.Words.{word_of, words_of}
@@ -32,7 +36,8 @@ IsNamed words name = (rows : List Row) × (subcommand_of grammar_of words ≡ So
 -- a command of this name is none of those that have more than one file, or none
 abbrev pub IsOtherCommand : Text → Type 0
 IsOtherCommand name = (name ≢ codes "script") × (name ≢ codes "serve") × (name ≢ codes "call")
-    × (name ≢ codes "migrate") × (name ≢ codes "init")
+    × (name ≢ codes "migrate") × (name ≢ codes "init") × (name ≢ codes "doctor")
+    × (name ≢ codes "dump") × (name ≢ codes "load")
 
 -- the words are those of this order: its command, and its file
 abbrev pub IsFileAskedBy : List Text → FileOrder → Type 0
@@ -42,27 +47,34 @@ IsFileAskedBy words (Put file index count) =
     IsCommand (subcommand_of grammar_of words) (codes "put") file.now
 IsFileAskedBy words (Get file index count) =
     IsCommand (subcommand_of grammar_of words) (codes "get") file.now
-IsFileAskedBy words (Check file) =
+IsFileAskedBy words (Check file is_json) =
     IsCommand (subcommand_of grammar_of words) (codes "check") file.now
+    × (IsTrue is_json ↔ IsGiven (word_of words (codes "json")))
 
 -- the words are those of the making of this folder
 pub record IsFoundingOf (words : List Text) (f : Founding) : Type 0 where
   pub command : IsNamed words (codes "init")
   pub folder : word_of words (codes "folder") ≡ Some f.folder.now
 
+-- the words are those of a look at this folder
+pub record IsExaminationOf (words : List Text) (e : Examination) : Type 0 where
+  pub command : IsNamed words (codes "doctor")
+  pub folder : word_of words (codes "folder") ≡ Some e.folder.now
+  pub measured : IsTrue e.is_measured ↔ IsGiven (word_of words (codes "measure"))
+
 -- the words are those of this server, with these files and no folder
 pub record IsServerOf (words : List Text) (s : Serving) : Type 0 where
   pub command : IsNamed words (codes "serve")
   pub files : words_of words (codes "files") ≡ map (λ f. f.now) s.files.items
   pub no_folder : word_of words (codes "dir") ≡ None
-  pub service : IsServiceOf (word_of words) s
+  pub service : IsServiceOf (word_of words) (words_of words) s
 
 -- the words are those of this server, with this folder and no files
 pub record IsFolderServerOf (words : List Text) (path : Text) (s : Serving) : Type 0 where
   pub command : IsNamed words (codes "serve")
   pub folder : word_of words (codes "dir") ≡ Some path
   pub no_files : words_of words (codes "files") ≡ []
-  pub service : IsServiceOf (word_of words) s
+  pub service : IsServiceOf (word_of words) (words_of words) s
 
 -- the words are those of a call of the server at this address, with this question and this layout
 pub record IsCallOf (words : List Text) (c : Calling) : Type 0 where
@@ -72,13 +84,27 @@ pub record IsCallOf (words : List Text) (c : Calling) : Type 0 where
       (word_of words (codes "after")) c.question
   pub layout : IsLayoutOf (word_of words (codes "text")) (word_of words (codes "json")) c.layout
 
+-- the words are those of this dump
+pub record IsDumpOf (words : List Text) (d : Dumping) : Type 0 where
+  pub command : IsNamed words (codes "dump")
+  pub holder : IsHolderOf (word_of words (codes "holder")) d.holder
+
+-- the words are those of the making of this folder, of this dump
+pub record IsLoadOf (words : List Text) (l : Loading) : Type 0 where
+  pub command : IsNamed words (codes "load")
+  pub folder : word_of words (codes "folder") ≡ Some l.folder.now
+  pub dump : word_of words (codes "dump") ≡ Some l.dump.now
+
 abbrev pub IsAskedBy : List Text → Order → Type 0
 IsAskedBy words (order.File o) = IsFileAskedBy words o
 IsAskedBy words (order.Migrate m) =
     IsPair (subcommand_of grammar_of words) (codes "migrate") m.old.now m.new.now
 IsAskedBy words (order.Init f) = IsFoundingOf words f
+IsAskedBy words (order.Doctor e) = IsExaminationOf words e
 IsAskedBy words (order.Serve s) = IsServerOf words s
 IsAskedBy words (order.ServeFolder folder s) = IsFolderServerOf words folder.now s
 IsAskedBy words (order.Call c) = IsCallOf words c
+IsAskedBy words (order.Dump d) = IsDumpOf words d
+IsAskedBy words (order.Load l) = IsLoadOf words l
 IsAskedBy words order.Script = IsNamed words (codes "script")
 IsAskedBy words (order.Explain e) = IsExplanationOf words e

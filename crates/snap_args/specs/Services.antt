@@ -1,12 +1,20 @@
 -- Which server goes with which words, but for its files.
-use Rattle.std.specs.Prelude.{◌≡◌, Option, Some, codes}
+use Rattle.std.specs.Prelude.{◌≡◌, List, ◌∷◌, Option, Some, None, codes, map}
 use Rattle.clap.specs.Words.{Text}
 use Rattle.snap_order.specs.declared.order.Serving.{Serving}
-use Rattle.snap_args.specs.Numbers.{IsLargeNumberOf, IsLevelOf, IsNumberOf}
+use Rattle.snap_args.specs.Numbers.{IsLargeNumberOf, IsLevelOf, IsModeOf, IsNumberOf}
 
--- the server's address, its numbers and the level of its log are those of these words
-pub record IsServiceOf (of : Text → Option Text) (s : Serving) : Type 0 where
-  pub address : of (codes "address") ≡ Some s.address.now
+-- these are the first address and the further ones, in order
+abbrev pub AreAddressesOf : (first : Option Text) (further : List Text) → List Text → Type 0
+AreAddressesOf None further addresses = ⊥
+AreAddressesOf (Some first) further addresses = addresses ≡ first ∷ further
+
+-- the server's addresses, its numbers and the level of its log are those of these words
+pub record IsServiceOf (of : Text → Option Text) (all : Text → List Text) (s : Serving)
+    : Type 0 where
+  pub addresses : AreAddressesOf (of (codes "address")) (all (codes "listen"))
+      (map (λ a. a.now) s.addresses.items)
+  pub mode : IsModeOf (of (codes "socket-mode")) s.socket_mode
   pub scanners : IsNumberOf (of (codes "scanners")) s.scanners
   pub connections : IsLargeNumberOf (of (codes "connections")) s.connections
   pub clients : IsLargeNumberOf (of (codes "clients-max")) s.clients

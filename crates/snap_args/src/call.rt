@@ -69,7 +69,7 @@ fn layout_of(matches: &ArgMatches<'_>) -> Result<Layout, WordFault>
 }
 
 /// The flag is given.
-fn is_given(matches: &ArgMatches<'_>, name: &'static str) -> bool
+pub(crate) fn is_given(matches: &ArgMatches<'_>, name: &'static str) -> bool
     ensures { IsTrue result ↔ IsGiven (first_value (found_of matches.now) name.now) }
 {
     match matches.get_str(name) {

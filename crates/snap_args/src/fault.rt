@@ -10,7 +10,7 @@ const MORE: &str = "\n\nFor more information, try '--help'.";
 #[derive(Clone, Copy, Debug, PartialEq, Eq, Error)]
 pub enum RequestFault {
     /// They are of no request's form.
-    #[error("the request is not `update I NUMBER HEX`, `scan`, `part MASK`, `status` or `health`")]
+    #[error("the request is not `put I`, `get I`, `update I NUMBER HEX`, `scan`, `part MASK`, `status` or `health`")]
     Form,
     /// The mask of a scan of some segments is not four hexadecimal digits.
     #[error("the part's mask is not four hexadecimal digits")]
@@ -84,6 +84,12 @@ pub enum WordFault {
     /// The word for how long a connection may be idle is no number that a server may have.
     #[error("error: the idle seconds are not from 1 to {max}{more}", max = MAX_IDLE, more = MORE)]
     Idle,
+    /// A server's addresses are more than it may have.
+    #[error("error: the number of addresses {count} is not from 1 to 16{more}", more = MORE)]
+    Addresses { count: usize },
+    /// The word for the mode of a socket's file is none.
+    #[error("error: the socket's mode is not an octal number from 0 to 777{more}", more = MORE)]
+    Mode,
     /// The word for the log is none of its levels.
     #[error("error: the log is not `error`, `warn`, `info` or `debug`{more}", more = MORE)]
     Level,

@@ -3,15 +3,17 @@ ghost use Rattle.std.specs.Prelude.{◌≡◌, IfOk, codes, false};
 ghost use Rattle.clap.specs.Words.{App, Rule, app_of, new_app, rule_of, with_rule};
 ghost use Rattle.clap.specs.Words.{with_subcommand};
 ghost use Rattle.clap.specs.declared.builder.Command.TheViews.{out-Command};
-ghost use Rattle.snap_args.specs.Grammar.{IsCommandOf, addressed, called, choice_rule, filed};
-ghost use Rattle.snap_args.specs.Grammar.{flag_rule, founded, free_words_rule, grammar_of};
-ghost use Rattle.snap_args.specs.Grammar.{large_number_rule, limited, number_rule, paired, placed};
-ghost use Rattle.snap_args.specs.Grammar.{printed, program_of, served, stored, supplied, text_rule};
-ghost use Rattle.snap_args.specs.Grammar.{tried, versioned, word_rule, words_rule};
+ghost use Rattle.snap_args.specs.Grammar.{IsCommandOf, addressed, called, checked, choice_rule};
+ghost use Rattle.snap_args.specs.Grammar.{dumped, examined, filed, flag_rule, founded};
+ghost use Rattle.snap_args.specs.Grammar.{free_number_rule, free_words_rule, grammar_of};
+ghost use Rattle.snap_args.specs.Grammar.{large_number_rule, limited, loaded, number_rule, paired};
+ghost use Rattle.snap_args.specs.Grammar.{placed, printed, program_of, reached, served, stored};
+ghost use Rattle.snap_args.specs.Grammar.{supplied, text_rule, texts_rule, tried, versioned};
+ghost use Rattle.snap_args.specs.Grammar.{word_rule, words_rule};
 
 use crate::help::{
-    CALL_HELP, CHECK_HELP, FORMAT_HELP, GET_HELP, INIT_HELP, MIGRATE_HELP, PROGRAM_HELP, PUT_HELP,
-    SCRIPT_HELP, SERVE_HELP,
+    CALL_HELP, CHECK_HELP, DOCTOR_HELP, DUMP_HELP, FORMAT_HELP, GET_HELP, INIT_HELP, LOAD_HELP,
+    MIGRATE_HELP, PROGRAM_HELP, PUT_HELP, SCRIPT_HELP, SERVE_HELP,
 };
 use clap::{Arg, ArgAction, Command, value_parser};
 use std::alloc::{AllocError, Global};
@@ -24,8 +26,11 @@ pub(crate) fn grammar<'a>(alloc: Global) -> Result<Command<'a>, AllocError>
 {
     let commands = with_command(segment_commands(alloc), migrate_command(alloc));
     let commands = with_command(commands, init_command(alloc));
+    let commands = with_command(commands, doctor_command(alloc));
     let commands = with_command(commands, serve_command(alloc));
     let commands = with_command(commands, call_command(alloc));
+    let commands = with_command(commands, dump_command(alloc));
+    let commands = with_command(commands, load_command(alloc));
     with_command(commands, Ok(script_command(alloc)))
 }
 
@@ -36,7 +41,7 @@ fn segment_commands<'a>(alloc: Global) -> Result<Command<'a>, AllocError>
         (placed (filed (new_app (codes "format")))).top)
         (placed (filed (new_app (codes "put")))).top)
         (placed (filed (new_app (codes "get")))).top)
-        (filed (new_app (codes "check"))).top) }
+        (checked (new_app (codes "check"))).top) }
 {
     let commands = with_command(Ok(program(alloc)), format_command(alloc));
     let commands = with_command(commands, put_command(alloc));
@@ -90,11 +95,13 @@ fn get_command<'a>(alloc: Global) -> Result<Command<'a>, AllocError>
 }
 
 fn check_command<'a>(alloc: Global) -> Result<Command<'a>, AllocError>
-    ensures { IfOk result (IsCommandOf (filed (new_app (codes "check")))) }
+    ensures { IfOk result (IsCommandOf (checked (new_app (codes "check")))) }
 {
     let about = "Show what a file holds, slot by slot, and change nothing";
     let file = required_word(alloc, "file", "FILE", "The path of the segment's file");
-    described_command(alloc, "check", about, CHECK_HELP).arg(file)
+    let command = described_command(alloc, "check", about, CHECK_HELP);
+    let made = with_arg(Ok(command), file);
+    with_arg(made, flag(alloc, "json", "Print it as JSON, on one line"))
 }
 
 fn migrate_command<'a>(alloc: Global) -> Result<Command<'a>, AllocError>
@@ -120,12 +127,24 @@ fn init_command<'a>(alloc: Global) -> Result<Command<'a>, AllocError>
     with_arg(made, number_option(alloc, "count", "1", "N", help))
 }
 
+fn doctor_command<'a>(alloc: Global) -> Result<Command<'a>, AllocError>
+    ensures { IfOk result (IsCommandOf (examined (new_app (codes "doctor")))) }
+{
+    let about = "Say how the files of a folder and its disk are, and what helps";
+    let folder = required_word(alloc, "folder", "DIR", "The path of the folder");
+    let command = described_command(alloc, "doctor", about, DOCTOR_HELP);
+    let made = with_arg(Ok(command), folder);
+    let help = "Store values in a file of its own there, and say how long that takes";
+    with_arg(made, flag(alloc, "measure", help))
+}
+
 fn serve_command<'a>(alloc: Global) -> Result<Command<'a>, AllocError>
     ensures { IfOk result (IsCommandOf (served (new_app (codes "serve")))) }
 {
     let about = "Serve segments to clients, safe from crashes";
     let command = addressed_command(alloc, "serve", about, SERVE_HELP);
-    with_limits(alloc, with_service(alloc, with_supply(alloc, command)))
+    let supplied = with_supply(alloc, command);
+    with_limits(alloc, with_service(alloc, with_reach(alloc, supplied)))
 }
 
 fn call_command<'a>(alloc: Global) -> Result<Command<'a>, AllocError>
@@ -136,6 +155,30 @@ fn call_command<'a>(alloc: Global) -> Result<Command<'a>, AllocError>
     let help = "The request: put I, get I, update I NUMBER HEX, scan, part MASK, status or health";
     let command = with_arg(command, required_words(alloc, "request", "WORD", help));
     with_layouts(alloc, with_storing(alloc, with_patience(alloc, command)))
+}
+
+fn dump_command<'a>(alloc: Global) -> Result<Command<'a>, AllocError>
+    ensures { IfOk result (IsCommandOf (dumped (new_app (codes "dump")))) }
+{
+    let about = "Print all that a server or a folder of files holds, as one document";
+    let help = "Where the server listens, or the folder of the files";
+    let holder = required_word(alloc, "holder", "ADDR|DIR", help);
+    let command = described_command(alloc, "dump", about, DUMP_HELP);
+    with_patience(alloc, with_arg(Ok(command), holder))
+}
+
+fn load_command<'a>(alloc: Global) -> Result<Command<'a>, AllocError>
+    ensures { IfOk result (IsCommandOf (loaded (new_app (codes "load")))) }
+{
+    let about = "Make a folder with the file of each segment of a dump";
+    let help = "The path of the folder, which isn't there or is empty";
+    let folder = required_word(alloc, "folder", "DIR", help);
+    let help = "The path of the dump, or `-` for standard input";
+    let dump = required_word(alloc, "dump", "DUMP", help);
+    let command = described_command(alloc, "load", about, LOAD_HELP);
+    let made = with_arg(with_arg(Ok(command), folder), dump);
+    let help = "How many segments there are to be, 1 to 16, and as many as the dump has at least";
+    with_arg(made, free_number_option(alloc, "count", "M", help))
 }
 
 fn script_command<'a>(alloc: Global) -> Command<'a>
@@ -193,7 +236,7 @@ fn addressed_command<'a>(
 ) -> Result<Command<'a>, AllocError>
     ensures { IfOk result (IsCommandOf (addressed (new_app name.entry.now))) }
 {
-    let help = "Where the server listens, as 127.0.0.1:7070";
+    let help = "Where the server listens: HOST:PORT, as 127.0.0.1:7070, or unix:PATH";
     let address = required_word(alloc, "address", "ADDR", help);
     described_command(alloc, name, about, more).arg(address)
 }
@@ -210,6 +253,23 @@ fn with_supply<'a>(
     let command = with_arg(made, free_words(alloc, "files", "FILE", help));
     let help = "The folder of the files, in place of these";
     with_arg(command, text_option(alloc, "dir", "DIR", help))
+}
+
+/// The command with a server's further addresses, where it was made.
+fn with_reach<'a>(
+    alloc: Global,
+    made: Result<Command<'a>, AllocError>,
+) -> Result<Command<'a>, AllocError>
+    ensures { (words : App) → IfOk made.entry (IsCommandOf words)
+        → IfOk result (IsCommandOf (reached words)) }
+{
+    let help = "One more address to listen at; again and again for further ones, 16 in all";
+    let command = with_arg(made, text_options(alloc, "listen", "ADDR", help));
+    let help = "The mode of the file of a unix:PATH: who may write it may connect";
+    with_arg(
+        command,
+        choice_option(alloc, "socket-mode", "0600", "MODE", help),
+    )
 }
 
 /// The command with the numbers of a server, where it was made.
@@ -356,6 +416,14 @@ fn large_number_option<'a>(alloc: Global, name: &'a str, shown: &'a str, help: &
         .help(help)
 }
 
+/// An option for a number, which may be left out.
+fn free_number_option<'a>(alloc: Global, name: &'a str, shown: &'a str, help: &'a str) -> Arg<'a>
+    ensures rule { rule_of result ≡ free_number_rule name.entry.now }
+    ensures local { result.global ≡ false }
+{
+    text_option(alloc, name, shown, help).value_parser(value_parser!(u8))
+}
+
 /// An option for a word, which may be left out.
 fn text_option<'a>(alloc: Global, name: &'a str, shown: &'a str, help: &'a str) -> Arg<'a>
     ensures rule { rule_of result ≡ text_rule name.entry.now }
@@ -365,6 +433,14 @@ fn text_option<'a>(alloc: Global, name: &'a str, shown: &'a str, help: &'a str) 
         .long(name)
         .value_name(shown)
         .help(help)
+}
+
+/// An option for a word, which may be given again and again, or left out.
+fn text_options<'a>(alloc: Global, name: &'a str, shown: &'a str, help: &'a str) -> Arg<'a>
+    ensures rule { rule_of result ≡ texts_rule name.entry.now }
+    ensures local { result.global ≡ false }
+{
+    text_option(alloc, name, shown, help).action(ArgAction::Append)
 }
 
 /// An option for one of some words, with its default.

@@ -36,10 +36,11 @@ Example:
 
 pub(crate) const CHECK_HELP: &str = "\
 Prints the header, the three slots, and `answer number K` or `answer none`. Ends with status 3
-where there is no answer.
+where there is no answer. With --json it prints the same as one JSON object.
 
 Example:
-  snapd check manifest.seg";
+  snapd check manifest.seg
+  snapd check manifest.seg --json";
 
 pub(crate) const MIGRATE_HELP: &str = "\
 OLD is a file of the old format, 20,480 bytes that begin `SNAPSEG1`; it is only read. NEW is made
@@ -56,12 +57,29 @@ DIR gets the files segment-00.seg, segment-01.seg and so on, each formatted as o
 is made where it isn't there; the folder above it has to be. Prints `formatted I of N` for each.
 
 It may be run again, above all where it was cut off: a file that is whole is left as it is, which
-prints `kept I of N number K`, and what is missing is made. A file that is neither is refused, and
-keeps its bytes.
+prints `kept I of N number K`, and what is missing is made, empty: where a file was lost, bring it
+back before (`snapd doctor DIR` says which). A file that is neither is refused, and keeps its bytes.
+Nothing is made in a folder of another count: a folder of more segments is made by `snapd load`.
 
 Example:
   snapd init board --count 4
   snapd serve 127.0.0.1:7070 --dir board";
+
+pub(crate) const DOCTOR_HELP: &str = "\
+Reads the header and slots of each file of DIR whose name ends in .seg, and changes nothing. Prints a
+line for each with its segment and number, or with what is wrong and the command that helps; then
+whether they are all the segments of one server, and whether the file system there keeps locks. A
+file that a server has is left alone.
+
+With --measure it makes a file of its own there, stores 200 values of 1,000 bytes in it, removes it,
+and prints how long a store took. Where that is too short for a disk to have been waited for, it says
+so: then what was acknowledged may be gone after a power cut. How much room is left says df DIR.
+
+Ends with status 3 where something has to be mended before the folder can be served, and else with 0,
+also where a server has a file.
+
+Example:
+  snapd doctor board --measure";
 
 pub(crate) const SERVE_HELP: &str = "\
 DIR is a folder made by `snapd init DIR --count N`. All that ends in .seg there is a file of a
@@ -72,8 +90,8 @@ from 0 in the order of the files and N is how many there are. All files are lock
 so there is one server on its files, and `put` on one of them says that it is in use.
 
 It recovers all files, prints `segment I number K length L spare closed` (or `open`) for each and
-`segments N`, binds ADDR, and prints `listening ADDRESS`, with the port that it got where ADDR has
-port 0. From then on it answers `snapd call` and other clients, and logs on standard error what
+`segments N`, binds each ADDR, and prints `listening ADDRESS` for each in order, with the port that
+it got where ADDR has port 0. From then on it answers `snapd call` and other clients, and logs on standard error what
 an operator should know, with `--log debug` also how each connection ended. It runs until it is
 killed, or until K connections have ended; then it prints `served K`.
 
@@ -81,9 +99,13 @@ As many clients may be connected as the process may open files, less some fifty,
 then callers wait. A scanner answers one request after the other, so as many requests are answered
 at the same moment as there are scanners. A store that waits for its disk holds up no scanner.
 
-There is no login: who reaches ADDR may read and write all segments. Use 127.0.0.1 or ::1, and a
-tunnel from elsewhere. An ADDR that stands for all of the machine's, as 0.0.0.0:7070, is served with
-a warning.
+There is no login: who reaches ADDR may read and write all segments. Use unix:PATH, 127.0.0.1 or
+::1, and a tunnel from elsewhere. An ADDR that stands for all of the machine's, as 0.0.0.0:7070, is
+served with a warning.
+
+A unix:PATH is a socket of this machine. Its file gets MODE, and who may write it may connect, and
+nobody else. The file of a server that was killed is replaced. Where a process listens at PATH, or
+what is there is no socket, the server doesn't start. At its own end it removes the file.
 
 Killing it is a proper stop, with any signal and at any time: what was acknowledged or shown is in
 the files, and the next start gives it back.
@@ -100,7 +122,9 @@ Examples:
 
   snapd format s0.seg --index 0 --count 2
   snapd format s1.seg --index 1 --count 2
-  snapd serve 127.0.0.1:7070 s0.seg s1.seg";
+  snapd serve 127.0.0.1:7070 s0.seg s1.seg
+
+  snapd serve unix:snapd.sock --dir board --socket-mode 0660 --listen 127.0.0.1:7070";
 
 pub(crate) const CALL_HELP: &str = "\
 Requests:
@@ -149,6 +173,42 @@ Examples:
   snapd call 127.0.0.1:7070 scan --tries 3 --timeout 5
   snapd call 127.0.0.1:7070 part 0009
   snapd call 127.0.0.1:7070 health";
+
+pub(crate) const DUMP_HELP: &str = "\
+What begins with unix:, and what has no slash and ends in a colon and digits, is the ADDR of a server;
+all else is the DIR of a folder made by `snapd init` or `snapd load`. A folder whose name looks like an
+address is given as ./NAME.
+
+A server is asked for all values at one moment, by one scan, while others read and write. The files of
+a folder are only read, and locked meanwhile: a server that has them keeps a dump out, so ask that one.
+
+Prints one JSON document: its format and version, the time at which it was begun, how many segments
+there are, a line with the number and the value of each, and the SHA-256 of all lines but the last. So
+whoever carries it can check it: the last line of DUMP has what `head -n -1 DUMP | sha256sum` prints.
+Nothing is printed of a dump that fails; but a shell has emptied the file behind `>` by then.
+
+T and SECONDS are for a server, as in `snapd call`.
+
+Examples:
+  snapd dump 127.0.0.1:7070 > new.dump && mv new.dump board.dump
+  snapd dump board > new.dump && mv new.dump board.dump";
+
+pub(crate) const LOAD_HELP: &str = "\
+DUMP is what `snapd dump` printed. All of it is read and judged before anything is made: one that was cut
+off, or changed in one byte, is refused.
+
+DIR gets a file for each segment, as `snapd init` makes them, with the number and value that the dump
+has; the folder above DIR has to be there. With M there are M segments, and those behind the dump's are
+new ones. The files are made in
+DIR.loading, which becomes DIR once all are on the disk for good: so DIR is there whole, or not at all.
+Cut off before, it can be run again, and replaces what was left in DIR.loading.
+
+Prints `loaded I of M number K` for each file, and `ready DIR` at the end.
+
+Example:
+  snapd dump 127.0.0.1:7070 > board.dump
+  snapd load copy board.dump
+  snapd serve 127.0.0.1:7071 --dir copy";
 
 pub(crate) const SCRIPT_HELP: &str = "\
 A script is lines of words, which single spaces part. Empty lines are skipped. The first other

@@ -8,6 +8,7 @@
 
 mod address;
 mod call;
+mod dump;
 mod explanation;
 mod fault;
 mod grammar;

@@ -1,8 +1,8 @@
 //! What explains the program, made of the grammar that its words are read by.
 use crate::grammar::grammar;
 use crate::help::{
-    CALL_HELP, CHECK_HELP, FORMAT_HELP, GET_HELP, HELP_HELP, INIT_HELP, MIGRATE_HELP, PROGRAM_HELP,
-    PUT_HELP, SCRIPT_HELP, SERVE_HELP,
+    CALL_HELP, CHECK_HELP, DOCTOR_HELP, DUMP_HELP, FORMAT_HELP, GET_HELP, HELP_HELP, INIT_HELP,
+    LOAD_HELP, MIGRATE_HELP, PROGRAM_HELP, PUT_HELP, SCRIPT_HELP, SERVE_HELP,
 };
 use clap::{Arg, ArgAction, Command};
 use snap_manual::{
@@ -15,7 +15,7 @@ use std::alloc::{AllocError, Global};
 const STATUSES: &str = "\nExit status:\n";
 
 /// The long text of each command's help.
-const TEXTS: [LongText<'static>; 10] = [
+const TEXTS: [LongText<'static>; 13] = [
     LongText {
         command: "format",
         text: FORMAT_HELP,
@@ -41,12 +41,24 @@ const TEXTS: [LongText<'static>; 10] = [
         text: INIT_HELP,
     },
     LongText {
+        command: "doctor",
+        text: DOCTOR_HELP,
+    },
+    LongText {
         command: "serve",
         text: SERVE_HELP,
     },
     LongText {
         command: "call",
         text: CALL_HELP,
+    },
+    LongText {
+        command: "dump",
+        text: DUMP_HELP,
+    },
+    LongText {
+        command: "load",
+        text: LOAD_HELP,
     },
     LongText {
         command: "script",
@@ -79,7 +91,8 @@ const LISTS: [WordList<'static>; 4] = [
         command: "help",
         argument: "command",
         words: &[
-            "format", "put", "get", "check", "migrate", "init", "serve", "call", "script",
+            "format", "put", "get", "check", "migrate", "init", "doctor", "serve", "call", "dump",
+            "load", "script",
         ],
     },
 ];

@@ -5,13 +5,14 @@ ghost use Rattle.clap.specs.Words.{first_value, found_of};
 ghost use Rattle.snap_order.specs.Limits.{MAX_COUNT, MAX_SCANNERS, MAX_TRIES};
 ghost use Rattle.snap_order.specs.Order.{IsOneTo, IsPlace};
 ghost use Rattle.snap_args.specs.Numbers.{IsAfterFault, IsConnectionsFault, IsCountFault};
-ghost use Rattle.snap_args.specs.Numbers.{IsLargeNumberOf, IsMask, IsNoNumberTo, IsNumberFault};
+ghost use Rattle.snap_args.specs.Numbers.{IsLargeNumberOf, IsMask, IsMode, IsModeFault, IsModeOf};
+ghost use Rattle.snap_args.specs.Numbers.{IsNoNumberTo, IsNumberFault};
 ghost use Rattle.snap_args.specs.Numbers.{IsNumberOf, IsPlaceFault, IsScannersFault};
 ghost use Rattle.snap_args.specs.Numbers.{IsTriesFault};
 
 use crate::{RequestFault, WordFault};
 use clap::ArgMatches;
-use snap_order::{MAX_COUNT, MAX_SCANNERS, MAX_TRIES};
+use snap_order::{MAX_COUNT, MAX_SCANNERS, MAX_TRIES, MODE_BITS};
 
 /// The place of a file's segment, within the limits.
 pub(crate) fn place(matches: &ArgMatches<'_>) -> Result<(u8, u8), WordFault>
@@ -155,6 +156,33 @@ fn number_to(word: &str, most: u32) -> Option<u32>
 {
     match word.parse::<u32>() {
         Ok(number) if 1 <= number && number <= most => Some(number),
+        _ => None,
+    }
+}
+
+/// The mode of the file of a socket.
+pub(crate) fn mode_of(matches: &ArgMatches<'_>) -> Result<u16, WordFault>
+    ensures limits { IfOk result (λ mode. mode ≤ MODE_BITS) }
+    ensures number { IfOk result
+        (IsModeOf (first_value (found_of matches.now) (codes "socket-mode"))) }
+    ensures fault { IfErr result
+        (IsModeFault (first_value (found_of matches.now) (codes "socket-mode"))) }
+{
+    let Some(word) = matches.get_str("socket-mode") else {
+        return Err(WordFault::Mode);
+    };
+    match mode_in(word) {
+        Some(mode) => Ok(mode),
+        None => Err(WordFault::Mode),
+    }
+}
+
+/// The mode that octal digits write.
+fn mode_in(word: &str) -> Option<u16>
+    ensures { MatchOption result ((mode : ℕ) → IsMode word.now mode → ⊥) (IsMode word.now) }
+{
+    match u16::from_str_radix(word, 8) {
+        Ok(mode) if mode <= MODE_BITS => Some(mode),
         _ => None,
     }
 }

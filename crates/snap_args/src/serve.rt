@@ -1,25 +1,27 @@
 //! The words of `serve`.
-ghost use Rattle.std.specs.Prelude.{◌≡◌, [], IfErr, IfOk, codes, length, map};
+ghost use Rattle.std.specs.Prelude.{◌≡◌, ◌⊎◌, [], ◌∷◌, IfErr, IfOk, codes, length, map};
 ghost use Rattle.clap.specs.Words.{first_value, found_of};
-ghost use Rattle.snap_order.specs.Order.{IsServable, KeepsLimits};
-ghost use Rattle.snap_args.specs.Faults.{IsFolderFault, IsServiceFault, IsServingFault};
+ghost use Rattle.snap_order.specs.Order.{IsOneTo, IsServable, KeepsLimits};
+ghost use Rattle.snap_args.specs.Faults.{IsAddressesFault, IsFolderFault, IsPathFault};
+ghost use Rattle.snap_args.specs.Faults.{IsServiceFault, IsServingFault};
 ghost use Rattle.snap_args.specs.Numbers.{IsLevelFault, IsLevelOf};
-ghost use Rattle.snap_args.specs.Services.{IsServiceOf};
+ghost use Rattle.snap_args.specs.Services.{AreAddressesOf, IsServiceOf};
 ghost use Rattle.snap_args.specs.Words.{all_values};
 
 use crate::WordFault;
-use crate::numbers::{connections_of, limit_of, scanners_of};
+use crate::numbers::{connections_of, limit_of, mode_of, scanners_of};
 use crate::words::is;
 use clap::ArgMatches;
-use snap_order::{Level, MAX_CLIENTS, MAX_COUNT, MAX_IDLE, Serving};
-use std::alloc::Global;
+use snap_order::{Level, MAX_ADDRESSES, MAX_CLIENTS, MAX_COUNT, MAX_IDLE, Serving};
+use std::alloc::{AllocError, Global};
 
 /// A server with the files that the words name, in order of segment.
 pub(crate) fn serving<'a>(alloc: Global, matches: &ArgMatches<'a>) -> Result<Serving<'a>, WordFault>
     ensures limits { IfOk result IsServable }
     ensures files { IfOk result (λ s. map (λ f. f.now) s.files.items
         ≡ all_values (found_of matches.now) (codes "files")) }
-    ensures service { IfOk result (IsServiceOf (first_value (found_of matches.now))) }
+    ensures service { IfOk result (IsServiceOf (first_value (found_of matches.now))
+        (all_values (found_of matches.now))) }
     ensures fault { IfErr result (IsServingFault (first_value (found_of matches.now))
         (all_values (found_of matches.now))) }
 {
@@ -34,7 +36,7 @@ pub(crate) fn serving<'a>(alloc: Global, matches: &ArgMatches<'a>) -> Result<Ser
         return Err(WordFault::Files { count });
     }
     let files = Vec::from_slice(alloc, files)?;
-    service_of(matches, files)
+    service_of(alloc, matches, files)
 }
 
 /// A server with the files of a folder, and so none that the words name.
@@ -45,7 +47,8 @@ pub(crate) fn folder_serving<'a>(
     ensures limits { IfOk result KeepsLimits }
     ensures none { IfOk result (λ s. length s.files.items ≡ 0) }
     ensures unnamed { IfOk result (λ s. all_values (found_of matches.now) (codes "files") ≡ []) }
-    ensures service { IfOk result (IsServiceOf (first_value (found_of matches.now))) }
+    ensures service { IfOk result (IsServiceOf (first_value (found_of matches.now))
+        (all_values (found_of matches.now))) }
     ensures fault { IfErr result (IsFolderFault (first_value (found_of matches.now))
         (all_values (found_of matches.now))) }
 {
@@ -55,26 +58,32 @@ pub(crate) fn folder_serving<'a>(
     {
         return Err(WordFault::FilesAndFolder);
     }
-    service_of(matches, Vec::new(alloc))
+    service_of(alloc, matches, Vec::new(alloc))
 }
 
-/// A server with these files: its address, its numbers and the level of its log.
-fn service_of<'a>(matches: &ArgMatches<'a>, files: Vec<&'a str>) -> Result<Serving<'a>, WordFault>
+/// A server with these files: its addresses, its numbers and the level of its log.
+fn service_of<'a>(
+    alloc: Global,
+    matches: &ArgMatches<'a>,
+    files: Vec<&'a str>,
+) -> Result<Serving<'a>, WordFault>
     ensures limits { IfOk result KeepsLimits }
     ensures files { IfOk result (λ s. s.files.items ≡ files.entry.items) }
-    ensures service { IfOk result (IsServiceOf (first_value (found_of matches.now))) }
-    ensures fault { IfErr result (IsServiceFault (first_value (found_of matches.now))) }
+    ensures service { IfOk result (IsServiceOf (first_value (found_of matches.now))
+        (all_values (found_of matches.now))) }
+    ensures fault { IfErr result (IsServiceFault (first_value (found_of matches.now))
+        (all_values (found_of matches.now))) }
 {
-    let Some(address) = matches.get_str("address") else {
-        return Err(WordFault::Missing { what: "address" });
-    };
+    let addresses = addresses_of(alloc, matches)?;
+    let socket_mode = mode_of(matches)?;
     let scanners = scanners_of(matches)?;
     let connections = connections_of(matches)?;
     let clients = limit_of(matches, "clients-max", MAX_CLIENTS, WordFault::Clients)?;
     let idle = limit_of(matches, "idle", MAX_IDLE, WordFault::Idle)?;
     let log = level_of(matches)?;
     Ok(Serving {
-        address,
+        addresses,
+        socket_mode,
         files,
         scanners,
         connections,
@@ -82,6 +91,37 @@ fn service_of<'a>(matches: &ArgMatches<'a>, files: Vec<&'a str>) -> Result<Servi
         idle,
         log,
     })
+}
+
+/// Where a server listens, in order.
+fn addresses_of<'a>(alloc: Global, matches: &ArgMatches<'a>) -> Result<Vec<&'a str>, WordFault>
+    ensures limits { IfOk result (λ all. IsOneTo MAX_ADDRESSES (length all.items)) }
+    ensures addresses { IfOk result (λ all.
+        AreAddressesOf (first_value (found_of matches.now) (codes "address"))
+        (all_values (found_of matches.now) (codes "listen")) (map (λ a. a.now) all.items)) }
+    ensures fault { IfErr result (λ why.
+        IsPathFault (first_value (found_of matches.now) (codes "address")) (codes "address") why
+        ⊎ IsAddressesFault (all_values (found_of matches.now) (codes "listen")) why) }
+{
+    let Some(address) = matches.get_str("address") else {
+        return Err(WordFault::Missing { what: "address" });
+    };
+    let further = matches.get_strs("listen").unwrap_or(&[]);
+    if further.len() >= MAX_ADDRESSES {
+        let count = further.len().saturating_add(1);
+        return Err(WordFault::Addresses { count });
+    }
+    Ok(behind(alloc, address, further)?)
+}
+
+/// One text, and others behind it.
+fn behind<'a>(alloc: Global, first: &'a str, others: &[&'a str]) -> Result<Vec<&'a str>, AllocError>
+    ensures { IfOk result (λ all. all.items ≡ first.entry ∷ others.entry.now) }
+{
+    let mut all = Vec::new(alloc);
+    all.push(first)?;
+    all.extend_from_slice(others)?;
+    Ok(all)
 }
 
 /// The level of a server's log.

@@ -8,23 +8,24 @@ ghost use Rattle.snap_order.specs.declared.order.Explanation.{Explanation};
 ghost use Rattle.snap_order.specs.declared.order.Order.TheVariants as order;
 ghost use Rattle.snap_args.specs.Explanations.{IsExplanationOf, IsShellUnknown};
 ghost use Rattle.snap_args.specs.Faults.{AreFileNumbersOf, AreNumbersOf, IsFaultOf};
-ghost use Rattle.snap_args.specs.Faults.{IsFoundingFault, IsLaterFault, IsMigrationFault};
+ghost use Rattle.snap_args.specs.Faults.{IsExaminationFault, IsFoundingFault, IsLaterFault, IsMigrationFault};
 ghost use Rattle.snap_args.specs.Faults.{IsParseFault};
-ghost use Rattle.snap_args.specs.Numbers.{IsNumberOf};
+ghost use Rattle.snap_args.specs.Numbers.{IsGiven, IsNumberOf};
 ghost use Rattle.snap_args.specs.Grammar.{grammar_of};
 ghost use Rattle.snap_args.specs.Orders.{IsAskedBy, IsFileAskedBy, IsOtherCommand};
 ghost use Rattle.snap_args.specs.Words.{OfCommand};
 ghost use Rattle.snap_args.specs.declared.fault.WordFault.TheVariants as fault;
 
 use crate::WordFault;
-use crate::call::calling;
+use crate::call::{calling, is_given};
+use crate::dump::{dumping, loading};
 use crate::explanation::explanation_of;
 use crate::grammar::grammar;
 use crate::numbers::{count_of, place};
 use crate::serve::{folder_serving, serving};
 use clap::ArgMatches;
 use clap::error::ErrorKind;
-use snap_order::{FileOrder, Founding, Migration, Order};
+use snap_order::{Examination, FileOrder, Founding, Migration, Order};
 use std::alloc::Global;
 use std::convert::AsStr;
 
@@ -104,6 +105,15 @@ fn order_of<'a>(
     if is(command, "init") {
         return Ok(Order::Init(founding(matches)?));
     }
+    if is(command, "doctor") {
+        return Ok(Order::Doctor(examination(matches)?));
+    }
+    if is(command, "dump") {
+        return Ok(Order::Dump(dumping(matches)?));
+    }
+    if is(command, "load") {
+        return Ok(Order::Load(loading(matches)?));
+    }
     Ok(Order::File(file_order(command, matches)?))
 }
 
@@ -146,7 +156,8 @@ fn file_order<'a>(command: &str, matches: &ArgMatches<'a>) -> Result<FileOrder<'
         return Err(WordFault::Missing { what: "file" });
     };
     if is(command, "check") {
-        return Ok(FileOrder::Check { file });
+        let is_json = is_given(matches, "json");
+        return Ok(FileOrder::Check { file, is_json });
     }
     let (index, count) = place(matches)?;
     let order = match command {
@@ -179,6 +190,24 @@ fn founding<'a>(matches: &ArgMatches<'a>) -> Result<Founding<'a>, WordFault>
     };
     let count = count_of(matches)?;
     Ok(Founding { folder, count })
+}
+
+/// The folder that is to be looked at, and whether its disk is measured.
+fn examination<'a>(matches: &ArgMatches<'a>) -> Result<Examination<'a>, WordFault>
+    ensures folder { IfOk result
+        (λ e. Some e.folder.now ≡ first_value (found_of matches.now) (codes "folder")) }
+    ensures measured { IfOk result (λ e. IsTrue e.is_measured
+        ↔ IsGiven (first_value (found_of matches.now) (codes "measure"))) }
+    ensures fault { IfErr result (IsExaminationFault (first_value (found_of matches.now))) }
+{
+    let Some(folder) = matches.get_str("folder") else {
+        return Err(WordFault::Missing { what: "folder" });
+    };
+    let is_measured = is_given(matches, "measure");
+    Ok(Examination {
+        folder,
+        is_measured,
+    })
 }
 
 /// The files of a migration, and the place of their segment.

@@ -2,3 +2,4 @@ pub mod Text
 pub mod Ends
 pub mod Puts
 pub mod Lacks
+pub mod Fetch

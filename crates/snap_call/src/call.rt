@@ -347,7 +347,12 @@ pub(crate) fn refuse_here<E: Write>(why: Refusal, errors: &mut E) -> Exit
 }
 
 /// Says that there is no answer, and what to do.
-fn give_up<E: Write>(alloc: Global, address: &str, fault: ClientFault, errors: &mut E) -> Exit
+pub(crate) fn give_up<E: Write>(
+    alloc: Global,
+    address: &str,
+    fault: ClientFault,
+    errors: &mut E,
+) -> Exit
     ensures { GivesUp result (E.contents errors.old) (E.contents errors.new) }
 {
     let remedy = remedy_of(fault);

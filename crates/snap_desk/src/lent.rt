@@ -70,7 +70,7 @@ impl<R: Wait + Copy, M: Memory, D: Disk + Drop> Outcome<R, M, D> {
     }
 
     /// Where the writer stands, in one word: twice its number, and one more where it is fenced.
-    pub fn standing(&self) -> u64
+    pub fn standing_word(&self) -> u64
         ensures fenced { IsSome self.now.writer.segment.begun
             → result ≡ number_of self.now.writer * 2 + 1 }
         ensures open { self.now.writer.segment.begun ≡ None

@@ -141,7 +141,8 @@ impl<R: Wait + Copy, M: Memory, D: Disk + Drop> Storer<R, M, D> {
         let (worker, key) = (job.worker, job.key);
         let outcome = store_one(self.rt, home, writer, job);
         self.stands = outcome.stands();
-        self.standing.store(outcome.standing(), Ordering::SeqCst);
+        self.standing
+            .store(outcome.standing_word(), Ordering::SeqCst);
         Done {
             worker,
             key,

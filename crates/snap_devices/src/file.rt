@@ -263,7 +263,7 @@ fn try_lock(file: &fs::File, lock: Lock) -> Result<bool, FileFault>
 
 /// Makes the names in the folder of this path last, where the system allows that: a folder that
 /// may be written and not read can't be opened, and some file systems sync no folder.
-fn sync_folder_of<R: Files<File = fs::File>>(rt: &R, path: &str) -> io::Result<()> {
+pub fn sync_folder_of<R: Files<File = fs::File>>(rt: &R, path: &str) -> io::Result<()> {
     match sync_folder(rt, folder_of(path)) {
         Err(reason) if !is_not_allowed(reason.kind()) => Err(reason),
         _ => Ok(()),
@@ -278,7 +278,10 @@ fn sync_folder<R: Files<File = fs::File>>(rt: &R, folder: &str) -> io::Result<()
 fn is_not_allowed(kind: ErrorKind) -> bool {
     matches!(
         kind,
-        ErrorKind::PermissionDenied | ErrorKind::InvalidInput | ErrorKind::Unsupported
+        ErrorKind::PermissionDenied
+            | ErrorKind::InvalidInput
+            | ErrorKind::Unsupported
+            | ErrorKind::ReadOnlyFilesystem
     )
 }
 

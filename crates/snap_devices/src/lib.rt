@@ -17,7 +17,7 @@ mod noise;
 
 pub(crate) use call::Call;
 pub use fault_plan::FaultPlan;
-pub use file::{CallFault, CallKind, FileDisk, FileFault, Lock};
+pub use file::{CallFault, CallKind, FileDisk, FileFault, Lock, sync_folder_of};
 pub use held::{Held, Waited};
 pub(crate) use log::Log;
 pub use memory::MemDisk;

@@ -29,7 +29,7 @@ abbrev pub CountsOrder : FileOrder → End → (before after : ℕ) → Type 0
 CountsOrder (Format file i n) end before after = CountsCallsOf 7 end before after
 CountsOrder (Put file i n) end before after = CountsPut end before after
 CountsOrder (Get file i n) end before after = CountsCallsOf 2 end before after
-CountsOrder (Check file) end before after = CountsCallsOf 1 end before after
+CountsOrder (Check file is_json) end before after = CountsCallsOf 1 end before after
 
 -- the same of a migration, which makes so many of one of its devices
 abbrev pub CountsPair : (calls : ℕ) → MigrationEnd → (before after : ℕ) → Type 0

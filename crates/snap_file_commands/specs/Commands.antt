@@ -12,6 +12,7 @@ use Rattle.snap_slot.specs.Layout.{fresh_file, Head, Holds, IsUnformatted, IsFor
 use Rattle.snap_slot.specs.States.{IsAtRest, IsEither}
 use Rattle.snap_slot.specs.Findings.{AreFindings, IsNoOpening}
 use Rattle.snap_slot.specs.Text.{findings_text}
+use Rattle.snap_json.specs.Findings.{findings_document}
 use Rattle.snap_slot.specs.declared.findings.Findings.{Findings}
 use Rattle.snap_segment.specs.Creation.{IsFresh}
 use Rattle.snap_file_commands.specs.Failure.{status_of, SaysOf}
@@ -150,15 +151,20 @@ IsNoCheck b refusal.DeviceFailed = Unit {0}
 IsNoCheck b refusal.NoMemory = Unit {0}
 IsNoCheck b why = ⊥
 
-abbrev pub EndsCheck : (honest : Type 0) (old : Device) (out out' : Option (List ℕ)) → End → Type 0
-EndsCheck honest old out out' (Ok s) =
+-- how findings are printed: in lines, or as a JSON document
+abbrev pub check_text : (is_json : Bool) → Findings → List ℕ
+check_text true f = findings_document f
+check_text false f = findings_text f
+
+abbrev pub EndsCheck : (is_json : Bool) (honest : Type 0) (old : Device) (out out' : Option (List ℕ)) → End → Type 0
+EndsCheck is_json honest old out out' (Ok s) =
     (findings : Findings) × (s ≡ (if is_some findings.answer then status.Done else status.Refused))
-    × (honest → AreFindings old.bytes findings) × Appends out out' (findings_text findings)
-EndsCheck honest old out out' (Err (Output error)) =
+    × (honest → AreFindings old.bytes findings) × Appends out out' (check_text is_json findings)
+EndsCheck is_json honest old out out' (Err (Output error)) =
     (findings : Findings) × (honest → AreFindings old.bytes findings)
-    × AppendsBeginning out out' (findings_text findings)
-EndsCheck honest old out out' (Err (Refused why)) = IsNoCheck old.bytes why × Keeps out out'
-EndsCheck honest old out out' end = ⊥
+    × AppendsBeginning out out' (check_text is_json findings)
+EndsCheck is_json honest old out out' (Err (Refused why)) = IsNoCheck old.bytes why × Keeps out out'
+EndsCheck is_json honest old out out' end = ⊥
 
 -- ---- any order
 
@@ -171,11 +177,12 @@ EndsOrder (Format file i n) honest known old new out out' end =
 EndsOrder (Put file i n) honest known old new out out' end =
     EndsPut honest i n known old new out out' end
 EndsOrder (Get file i n) honest known old new out out' end = EndsGet honest i n old out out' end
-EndsOrder (Check file) honest known old new out out' end = EndsCheck honest old out out' end
+EndsOrder (Check file is_json) honest known old new out out' end =
+    EndsCheck is_json honest old out out' end
 
 -- what a crash during the order may leave
 abbrev pub OrderLeaves : FileOrder → (known : Option (List ℕ)) (old : Device) → List ℕ → Type 0
 OrderLeaves (Format file i n) known old b = IsFresh i n old b
 OrderLeaves (Put file i n) known old b = PutLeaves i n known old b
 OrderLeaves (Get file i n) known old b = MayLeave old b
-OrderLeaves (Check file) known old b = MayLeave old b
+OrderLeaves (Check file is_json) known old b = MayLeave old b

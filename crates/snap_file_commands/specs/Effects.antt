@@ -44,4 +44,4 @@ abbrev pub OrderKeeps : FileOrder → (same kept : Type 0) → End → Type 0
 OrderKeeps (Format file i n) same kept end = FormatKeeps same kept end
 OrderKeeps (Put file i n) same kept end = PutKeeps same kept end
 OrderKeeps (Get file i n) same kept end = kept
-OrderKeeps (Check file) same kept end = kept
+OrderKeeps (Check file is_json) same kept end = kept

@@ -6,3 +6,5 @@ pub mod Migration
 pub mod Calls
 pub mod Acts
 pub mod Foundation
+pub mod Loads
+pub mod Contents

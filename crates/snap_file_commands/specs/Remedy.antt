@@ -18,7 +18,7 @@ abbrev pub format_command_of : FileOrder → List ℕ
 format_command_of (Format file i n) = format_command file.now (decimal i) (decimal n)
 format_command_of (Put file i n) = format_command file.now (decimal i) (decimal n)
 format_command_of (Get file i n) = format_command file.now (decimal i) (decimal n)
-format_command_of (Check file) = format_command file.now (codes "I") (codes "N")
+format_command_of (Check file is_json) = format_command file.now (codes "I") (codes "N")
 
 -- ---- any file
 

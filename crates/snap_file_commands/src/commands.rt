@@ -4,7 +4,7 @@
 //! an act does in all, `specs/Commands.antt` what each end means for the device's bytes and for what
 //! was read and printed, and `specs/Effects.antt` which ends leave the device as it was. `act` alone
 //! turns an end into a status and a line on standard error.
-ghost use Rattle.std.specs.Prelude.{◌≡◌, ◌≢◌, ◌⊎◌, ◌<◌, ◌≤◌, ◌-◌, ◌^◌, length};
+ghost use Rattle.std.specs.Prelude.{◌≡◌, ◌≢◌, ◌⊎◌, ◌<◌, ◌≤◌, ◌-◌, ◌^◌, IfOk, length};
 ghost use Rattle.snap_disk.specs.Device.{Device};
 ghost use Rattle.snap_slot.specs.declared.layout.TheConstants.{FILE_LEN};
 ghost use Rattle.snap_history.specs.declared.limits.TheConstants.{MAX_COUNT};
@@ -16,6 +16,7 @@ ghost use Rattle.snap_file_commands.specs.Acts.{HasActed, IsCarriedOut};
 ghost use Rattle.snap_file_commands.specs.Calls.{CountsCallsOf, CountsPut, CountsStore};
 ghost use Rattle.snap_file_commands.specs.Commands.{CountsEnd, EndsCheck, EndsFormat, EndsGet};
 ghost use Rattle.snap_file_commands.specs.Commands.{EndsPut, EndsStore, OrderLeaves, PutLeaves};
+ghost use Rattle.snap_file_commands.specs.Commands.{check_text};
 ghost use Rattle.snap_file_commands.specs.Effects.{AnyCrashLeaves, FormatKeeps, LeavesNoMore};
 ghost use Rattle.snap_file_commands.specs.Effects.{PutKeeps, StoreKeeps};
 ghost use Rattle.snap_order.specs.Order.{IsFileWithinLimits};
@@ -23,10 +24,11 @@ ghost use Rattle.snap_order.specs.Order.{IsFileWithinLimits};
 use crate::CommandFailure;
 use snap_disk::{Disk, Refusal};
 use snap_history::MAX_VALUE_LEN;
+use snap_json::findings_document;
 use snap_order::{Exit, FileOrder, Status};
-use snap_segment::{Segment, check, format};
+use snap_segment::{Findings, Segment, check, format};
 use snap_stream::{Cause, read_up_to, write_whole};
-use std::alloc::Global;
+use std::alloc::{AllocError, Global};
 use std::io::{Read, Write};
 
 /// Does the order on its device, and says how the program ends. What the command prints goes to
@@ -99,8 +101,8 @@ fn carry_out<D: Disk, R: Read, W: Write>(
         }
         FileOrder::Put { index, count, .. } => put(alloc, disk, index, count, reader, writer),
         FileOrder::Get { index, count, .. } => get(alloc, disk, index, count, writer),
-        FileOrder::Check { .. } => {
-            let end = check_file(alloc, &mut disk, writer);
+        FileOrder::Check { is_json, .. } => {
+            let end = check_file(alloc, &mut disk, is_json, writer);
             (disk, end)
         }
     }
@@ -248,26 +250,38 @@ fn get<D: Disk, W: Write>(
 fn check_file<D: Disk, W: Write>(
     alloc: Global,
     disk: &mut D,
+    is_json: bool,
     writer: &mut W,
 ) -> Result<Status, CommandFailure>
     requires headroom { D.failure_count disk.old < 2 ^ 64 - 1 }
     ensures honest { D.is_honest disk.new → D.is_honest disk.old }
     ensures count { CountsEnd result (D.failure_count disk.old) (D.failure_count disk.new) }
     ensures calls { CountsCallsOf 1 result (D.clock disk.old) (D.clock disk.new) }
-    ensures ends { EndsCheck (D.is_honest disk.new) (D.device disk.old) (W.contents writer.old)
-        (W.contents writer.new) result }
+    ensures ends { EndsCheck is_json (D.is_honest disk.new) (D.device disk.old)
+        (W.contents writer.old) (W.contents writer.new) result }
     ensures wrong_length { length (D.device disk.old).bytes ≢ FILE_LEN → disk.new ≡ disk.old }
     ensures any_time { LeavesNoMore D.Disk disk.old disk.new }
 {
     let findings = check(disk)?;
-    let text = findings.to_string(alloc)?;
+    let text = text_of(alloc, &findings, is_json)?;
     let status = if findings.answer.is_some() {
         Status::Done
     } else {
         Status::Refused
     };
-    match write_whole(writer, text.as_bytes()) {
+    match write_whole(writer, &text) {
         Ok(()) => Ok(status),
         Err(error) => Err(CommandFailure::Output(error)),
+    }
+}
+
+/// The findings as they are printed: in lines, or as a JSON document.
+fn text_of(alloc: Global, findings: &Findings, is_json: bool) -> Result<Vec<u8>, AllocError>
+    ensures { IfOk result (λ text. text.items ≡ check_text is_json findings.now) }
+{
+    if is_json {
+        findings_document(alloc, findings)
+    } else {
+        Ok(findings.to_string(alloc)?.into_bytes())
     }
 }

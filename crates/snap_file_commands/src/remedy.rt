@@ -130,7 +130,7 @@ fn words_of_format(alloc: Global, order: &FileOrder<'_>) -> Result<String, Alloc
         | FileOrder::Get { file, index, count } => {
             format_command(alloc, file, index.into(), count.into())
         }
-        FileOrder::Check { file } => {
+        FileOrder::Check { file, .. } => {
             format!(in alloc; "snapd format {file} --index I --count N")
         }
     }

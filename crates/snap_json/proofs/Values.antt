@@ -5,7 +5,7 @@ use Rattle.std.proofs.lemmas.Bool.{false_from_ne_true}
 use Rattle.std.proofs.lemmas.Str.{IsUtf8-from_is_utf8, is_utf8-from_IsUtf8}
 use Rattle.base64.specs.Engines.{standard}
 use Rattle.base64.specs.GeneralPurpose.{encode_of}
-use Rattle.json.specs.Token.{Token, key, string}
+use Rattle.json.specs.Token.{key, string}
 use Rattle.snap_json.specs.Documents.{bytes_tokens}
 
 pub text_tokens : (bytes : List ℕ) → IsUtf8 bytes

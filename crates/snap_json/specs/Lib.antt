@@ -1,3 +1,4 @@
 pub mod Each
 pub mod Documents
+pub mod Findings
 pub mod Quotation

@@ -174,7 +174,7 @@ fn end_list(mut writer: Writer) -> Result<Vec<u8>, AllocError>
 }
 
 /// The document as a line.
-fn line_of(writer: Writer) -> Result<Vec<u8>, AllocError>
+pub(crate) fn line_of(writer: Writer) -> Result<Vec<u8>, AllocError>
     ensures { IfOk result (λ text. text.items ≡ writer.before ++ line_of writer.tokens) }
 {
     let mut text = writer.into_inner();

@@ -1,13 +1,16 @@
 //! What a server holds, as JSON documents (docs/FORMATS.md, "JSON"), and a value as quoted text.
 //!
 //! Each document is one object on one line. A value stands as text where its bytes are UTF-8, and
-//! else in base64; the name of its member says which. `specs/Documents.antt` has the tokens of each
-//! document.
+//! else in base64; the name of its member says which. What a check finds in a file is one too.
+//! `specs/Documents.antt` and `specs/Findings.antt` have the tokens of each document.
 #![tactic(auto)]
 
 mod document;
+mod findings;
 mod member;
 mod quotation;
 
 pub use document::{health_document, part_document, scan_document, status_document};
+pub use findings::findings_document;
+pub use member::append_value;
 pub use quotation::quote;

@@ -1,5 +1,6 @@
 //! What a document says of one segment.
-ghost use Rattle.std.specs.Prelude.{◌≡◌, ◌++◌, ◌∷◌, [], OnOk};
+ghost use Rattle.std.specs.Prelude.{◌≡◌, ◌++◌, ◌∷◌, [], IfOk, OnOk};
+ghost use Rattle.json.specs.Print.{print};
 ghost use Rattle.json.specs.Token.{end_object};
 ghost use Rattle.snap_json.specs.Documents.{bytes_tokens, entry_tokens, fence_tokens};
 ghost use Rattle.snap_json.specs.Documents.{head_tokens, status_tokens};
@@ -8,6 +9,23 @@ use base64::engine::general_purpose::STANDARD;
 use json::Writer;
 use snap_frame::SegmentStatus;
 use std::alloc::{AllocError, Global};
+
+/// Appends the object of one segment to the text: what [`scan_document`](crate::scan_document) says of it, and
+/// no line feed.
+pub fn append_value(
+    alloc: Global,
+    text: Vec<u8>,
+    index: usize,
+    number: u64,
+    value: &[u8],
+) -> Result<Vec<u8>, AllocError>
+    ensures { IfOk result (λ whole. whole.items
+        ≡ text.items ++ print (entry_tokens index number value.now)) }
+{
+    let mut writer = Writer::new(text);
+    put_value(alloc, &mut writer, index, number, value)?;
+    Ok(writer.into_inner())
+}
 
 /// Writes one segment's number and value.
 pub(crate) fn put_value(

@@ -9,12 +9,14 @@ use Rattle.snap_order.specs.declared.order.Order.TheVariants as order
 use Rattle.snap_order.specs.declared.order.FileOrder.{FileOrder}
 use Rattle.snap_order.specs.declared.order.Serving.{Serving}
 use Rattle.snap_order.specs.declared.order.Calling.{Calling}
+use Rattle.snap_order.specs.declared.order.Dumping.{Dumping}
+use Rattle.snap_order.specs.declared.order.Loading.{Loading}
 use Rattle.snap_order.specs.declared.order.Layout.TheVariants.{Lines}
 use Rattle.snap_order.specs.declared.order.Question.{Question}
 use Rattle.snap_order.specs.declared.order.Question.TheVariants as question
 use Rattle.snap_order.specs.declared.order.Source.{Source}
 use Rattle.snap_order.specs.declared.order.Source.TheVariants as source
-use Rattle.snap_order.specs.declared.order.TheConstants.{MAX_CLIENTS, MAX_IDLE, MAX_TIMEOUT}
+use Rattle.snap_order.specs.declared.order.TheConstants.{MAX_ADDRESSES, MAX_CLIENTS, MAX_IDLE, MAX_TIMEOUT, MODE_BITS}
 use Rattle.snap_order.specs.declared.order.FileOrder.TheVariants.{Format, Put, Get, Check}
 
 -- there are 1 to 16 segments, and this is one of them
@@ -26,14 +28,17 @@ abbrev pub IsFileWithinLimits : FileOrder → Type 0
 IsFileWithinLimits (Format file index count) = IsPlace index count
 IsFileWithinLimits (Put file index count) = IsPlace index count
 IsFileWithinLimits (Get file index count) = IsPlace index count
-IsFileWithinLimits (Check file) = Unit {0}
+IsFileWithinLimits (Check file is_json) = Unit {0}
 
 -- it is 1 to this many
 abbrev pub IsOneTo : ℕ → ℕ → Type 0
 IsOneTo most n = (1 ≤ n) × (n ≤ most)
 
--- there are scanners, and no more than a server may have; the limits that are given are within theirs
+-- there are addresses and scanners, and no more than a server may have; the limits that are given are
+-- within theirs
 pub record KeepsLimits (s : Serving) : Type 0 where
+  pub addresses : IsOneTo MAX_ADDRESSES (length s.addresses.items)
+  pub mode : s.socket_mode ≤ MODE_BITS
   pub scanners : 1 ≤ s.scanners
   pub few_scanners : s.scanners ≤ MAX_SCANNERS
   pub clients : IfSome s.clients (IsOneTo MAX_CLIENTS)
@@ -82,13 +87,26 @@ pub record IsCallable (c : Calling) : Type 0 where
   pub timeout : IfSome c.timeout (IsOneTo MAX_TIMEOUT)
   pub layout : (c.layout ≡ Lines) ⊎ (lists_segments c.question ≡ true)
 
+-- a server is tried once or more, within a time that may be given
+pub record IsDumpable (d : Dumping) : Type 0 where
+  pub tries : 1 ≤ d.tries
+  pub few_tries : d.tries ≤ MAX_TRIES
+  pub timeout : IfSome d.timeout (IsOneTo MAX_TIMEOUT)
+
+-- a count that is given is one of segments
+abbrev pub IsLoadable : Loading → Type 0
+IsLoadable l = IfSome l.count (IsOneTo MAX_COUNT)
+
 abbrev pub IsWithinLimits : Order → Type 0
 IsWithinLimits (order.File o) = IsFileWithinLimits o
 IsWithinLimits (order.Migrate m) = IsPlace m.index m.count
 IsWithinLimits (order.Init f) = IsOneTo MAX_COUNT f.count
+IsWithinLimits (order.Doctor e) = Unit {0}
 IsWithinLimits (order.Serve s) = IsServable s
 IsWithinLimits (order.ServeFolder folder s) = (length s.files.items ≡ 0) × KeepsLimits s
 IsWithinLimits (order.Call c) = IsCallable c
+IsWithinLimits (order.Dump d) = IsDumpable d
+IsWithinLimits (order.Load l) = IsLoadable l
 IsWithinLimits order.Script = Unit {0}
 IsWithinLimits (order.Explain e) = Unit {0}
 
@@ -97,4 +115,4 @@ abbrev pub file_of : FileOrder → List ℕ
 file_of (Format file index count) = file.now
 file_of (Put file index count) = file.now
 file_of (Get file index count) = file.now
-file_of (Check file) = file.now
+file_of (Check file is_json) = file.now

@@ -4,13 +4,16 @@
 //! It hands on what an order speaks of: the requests to a server, and the limits of all layers.
 #![tactic(auto)]
 
+mod address;
 mod order;
 mod remedy;
 mod status;
 
+pub use address::socket_path;
 pub use order::{
-    Calling, Explanation, FileOrder, Founding, Layout, Level, MAX_CLIENTS, MAX_IDLE, MAX_TIMEOUT,
-    Migration, Order, Putting, Question, Serving, Shell, Source,
+    Calling, Dumping, Examination, Explanation, FileOrder, Founding, Holder, Layout, Level,
+    Loading, MAX_ADDRESSES, MAX_CLIENTS, MAX_IDLE, MAX_TIMEOUT, MODE_BITS, Migration, Order,
+    Putting, Question, Serving, Shell, Source,
 };
 pub use remedy::{empty_remedy, format_command, old_format_remedy, unformatted_remedy};
 pub use snap_client::MAX_TRIES;

@@ -10,6 +10,12 @@ pub const MAX_CLIENTS: u32 = 1_000_000;
 /// days.
 pub const MAX_IDLE: u32 = 31_536_000;
 
+/// The most addresses that a server listens at.
+pub const MAX_ADDRESSES: usize = 16;
+
+/// The bits of a mode that say who may read, write and run a file.
+pub const MODE_BITS: u16 = 0o777;
+
 /// What the words of the program ask for.
 #[derive(Debug, PartialEq, Eq, Drop)]
 pub enum Order<'a> {
@@ -19,6 +25,8 @@ pub enum Order<'a> {
     Migrate(Migration<'a>),
     /// Make the files of a folder.
     Init(Founding<'a>),
+    /// Say how the files of a folder are.
+    Doctor(Examination<'a>),
     /// Serve segments to clients.
     Serve(Serving<'a>),
     /// Serve the segments of a folder to clients: `serving` has no files of its own.
@@ -28,6 +36,10 @@ pub enum Order<'a> {
     },
     /// Ask a server.
     Call(Calling<'a>),
+    /// Print all that a server or a folder holds, as a dump.
+    Dump(Dumping<'a>),
+    /// Make a folder of what a dump holds.
+    Load(Loading<'a>),
     /// Run the script on standard input.
     Script,
     /// Print what explains the program.
@@ -61,8 +73,8 @@ pub enum FileOrder<'a> {
     Put { file: &'a str, index: u8, count: u8 },
     /// Print the segment's value.
     Get { file: &'a str, index: u8, count: u8 },
-    /// Show what the file holds, slot by slot.
-    Check { file: &'a str },
+    /// Show what the file holds, slot by slot: in lines, or as one JSON document.
+    Check { file: &'a str, is_json: bool },
 }
 
 /// Carries the number and value of one file over to another: `old` is the path of a file of the old
@@ -85,11 +97,23 @@ pub struct Founding<'a> {
     pub count: u8,
 }
 
+/// Says of a folder how its files and its file system are.
+#[derive(Clone, Copy, Debug, PartialEq, Eq)]
+pub struct Examination<'a> {
+    /// The path of the folder.
+    pub folder: &'a str,
+    /// Whether it stores some values in a file of its own there, and says how long that took.
+    pub is_measured: bool,
+}
+
 /// Serves the segments of some files to clients that connect.
 #[derive(Debug, PartialEq, Eq, Drop)]
 pub struct Serving<'a> {
-    /// Where it listens, as text for the system, which may not take it.
-    pub address: &'a str,
+    /// Where it listens, in order, as texts for the system, which may not take them: 1 to
+    /// [`MAX_ADDRESSES`].
+    pub addresses: Vec<&'a str>,
+    /// The mode of each Unix socket's file, which is that of who may connect: of [`MODE_BITS`].
+    pub socket_mode: u16,
     /// The path of each segment's file, in order of segment: 1 to 16.
     pub files: Vec<&'a str>,
     /// How many requests are answered at the same moment: 1 to 16.
@@ -148,6 +172,38 @@ pub struct Calling<'a> {
     pub timeout: Option<u32>,
     /// How the answer to a read is printed.
     pub layout: Layout,
+}
+
+/// Prints a dump of what a server or a folder holds.
+#[derive(Clone, Copy, Debug, PartialEq, Eq)]
+pub struct Dumping<'a> {
+    /// Who holds it.
+    pub holder: Holder<'a>,
+    /// The most connections that are made to a server: 1 to [`snap_client::MAX_TRIES`].
+    pub tries: u8,
+    /// After how many seconds without an answer of a server it ends, all tries together: 1 to [`MAX_TIMEOUT`].
+    /// `None` where it doesn't.
+    pub timeout: Option<u32>,
+}
+
+/// Who holds what is dumped.
+#[derive(Clone, Copy, Debug, PartialEq, Eq)]
+pub enum Holder<'a> {
+    /// The server that listens here. The system may not take the text.
+    Server { address: &'a str },
+    /// The files in the folder at this path.
+    Folder { folder: &'a str },
+}
+
+/// Makes a folder with the files of a dump's segments.
+#[derive(Clone, Copy, Debug, PartialEq, Eq)]
+pub struct Loading<'a> {
+    /// The path of the folder, which isn't there or is empty.
+    pub folder: &'a str,
+    /// The path of the dump; `-` is standard input.
+    pub dump: &'a str,
+    /// How many segments there are to be: 1 to 16. `None` where there are as many as the dump has.
+    pub count: Option<u8>,
 }
 
 /// What a call asks of its server, and so how the answer is told.
@@ -214,7 +270,7 @@ impl<'a> FileOrder<'a> {
             FileOrder::Format { file, .. }
             | FileOrder::Put { file, .. }
             | FileOrder::Get { file, .. }
-            | FileOrder::Check { file } => file,
+            | FileOrder::Check { file, .. } => file,
         }
     }
 }

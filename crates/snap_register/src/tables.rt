@@ -43,10 +43,9 @@ struct Sizes {
 fn append_zeros(words: &mut Vec<u64>, count: usize) -> Result<(), AllocError>
     ensures { OnOk result (words.new.items ≡ words.old.items ++ replicate count 0) }
 {
-    for _ in 0..count {
-        words.push(0)?;
-    }
-    Ok(())
+    // There is no memory for a list whose length no `usize` holds.
+    let all = words.len().checked_add(count).ok_or(AllocError)?;
+    words.resize(all, 0)
 }
 
 fn append(words: &mut Vec<u64>, x: &Opening, rest: usize) -> Result<(), AllocError>

@@ -2,15 +2,15 @@
 ghost use Rattle.std.specs.Prelude.{◌≡◌, ◌≢◌, ◌-◌, ◌^◌, ◌<◌, ◌≤◌, [], false, length, OnOk, IfErr, IsErrOf, ◌↔◌};
 ghost use Rattle.snap_disk.specs.Device.{Device};
 ghost use Rattle.snap_history.specs.declared.limits.TheConstants.{MAX_COUNT};
+ghost use Rattle.snap_slot.specs.declared.layout.TheConstants.{FILE_LEN};
 ghost use Rattle.snap_slot.specs.Layout.{fresh_file, IsFormatted};
 ghost use Rattle.snap_slot.specs.States.{IsAtRest};
 ghost use Rattle.snap_segment.specs.Refusals.{IsFormatRefusal};
 ghost use Rattle.snap_segment.specs.Calls.{Counts, Leaves, LeavesAsBefore};
 ghost use Rattle.snap_segment.specs.Creation.{IsFresh, TellsGate};
 
-use crate::creation::make_file;
+use crate::creation::create;
 use snap_disk::{Disk, Refusal};
-use snap_slot::FILE_LEN;
 
 /// Makes the file of segment `index` of `count`: it holds number 0 and the empty value, and no byte
 /// of what was there before. It makes seven device calls.
@@ -48,8 +48,5 @@ pub fn format<D: Disk>(device: &mut D, index: u8, count: u8) -> Result<(), Refus
     ensures bytes { D.is_honest device.new
         → OnOk result ((D.device device.new).bytes ≡ fresh_file index count) }
 {
-    if device.len() != FILE_LEN {
-        return Err(Refusal::WrongFile);
-    }
-    make_file(device, index, count, 0, &[])
+    create(device, index, count, 0, &[])
 }

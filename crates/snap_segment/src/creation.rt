@@ -1,29 +1,30 @@
-//! Makes the file of a segment: the calls that formatting and migration share.
-ghost use Rattle.std.specs.Prelude.{◌≡◌, ◌-◌, ◌^◌, ◌<◌, ◌≤◌, false, length, OnOk, IfOk, IfErr, IsTrue, ◌↔◌};
+//! Makes the file of a segment with its number and value: what formatting and migration share.
+ghost use Rattle.std.specs.Prelude.{◌≡◌, ◌≢◌, ◌-◌, ◌^◌, ◌<◌, ◌≤◌, false, length, OnOk, IfOk, IfErr, IsErrOf, IsTrue, ◌↔◌};
 ghost use Rattle.snap_slot.specs.declared.layout.TheConstants.{FILE_LEN};
 ghost use Rattle.snap_disk.specs.Device.{Device, IsSettled, IsSynced, CountsFailure, CountsCalls};
 ghost use Rattle.snap_history.specs.declared.limits.TheConstants.{MAX_COUNT};
 ghost use Rattle.snap_history.specs.Limits.{IsNumber, IsShort};
 ghost use Rattle.snap_slot.specs.Layout.{IsUnformatted, IsFormatted};
 ghost use Rattle.snap_slot.specs.States.{IsAtRest, IsPrepared};
-ghost use Rattle.snap_segment.specs.Refusals.{IsMakeRefusal};
+ghost use Rattle.snap_segment.specs.Refusals.{IsFormatRefusal};
 ghost use Rattle.snap_segment.specs.Calls.{Counts, Leaves, LeavesAsBefore};
 ghost use Rattle.snap_segment.specs.Creation.{IsMadeOrLeft, TellsGate, new_file};
 
 use snap_disk::{DeviceFault, Disk, Refusal, write_synced};
 use snap_slot::{
-    BLOCK_LEN, HEADER_GATE_AT, HEADER_LEN, OPEN_GATE, SLOTS_LEN, encode_header, encode_slots,
-    gate_at,
+    BLOCK_LEN, FILE_LEN, HEADER_GATE_AT, HEADER_LEN, OPEN_GATE, SLOTS_LEN, encode_header,
+    encode_slots, gate_at,
 };
 
-/// Makes the file of segment `index` of `count` on a device of a file's length: it holds `number`
-/// and `value`, and its other slots are closed and hold zeros. It makes seven device calls.
+/// Makes the file of segment `index` of `count`: it holds `number` and `value`, and its other slots
+/// are closed and hold zeros. It makes seven device calls.
 ///
-/// Refused as `AlreadyFormatted` where the header's gate is open, after a sync and a read, and
-/// nothing is written; `DeviceFailed` where a device call failed. The header's gate is opened last,
-/// behind a sync, so a crash at any time leaves what was there, an unformatted file or the whole
-/// new one; and of a formatted file only what was there.
-pub(crate) fn make_file<D: Disk>(
+/// Refused as `WrongFile` where the device has another length than a segment file, with no device
+/// call; `AlreadyFormatted` where the header's gate is open, after a sync and a read, and nothing
+/// is written; `DeviceFailed` where a device call failed. The header's gate is opened last, behind
+/// a sync, so a crash at any time leaves what was there, an unformatted file or the whole new one;
+/// and of a formatted file only what was there.
+pub fn create<D: Disk>(
     device: &mut D,
     index: u8,
     count: u8,
@@ -34,20 +35,33 @@ pub(crate) fn make_file<D: Disk>(
     requires few { count ≤ MAX_COUNT }
     requires number { IsNumber number }
     requires fits { IsShort value.now }
-    requires length { length (D.device device.old).bytes ≡ FILE_LEN }
     requires headroom { D.failure_count device.old < 2 ^ 64 - 1 }
     ensures counts { Counts D.Disk result 7 device.old device.new }
-    ensures refusals { IfErr result IsMakeRefusal }
+    ensures refusals { IfErr result IsFormatRefusal }
+    ensures wrong_file { IsErrOf result Refusal.WrongFile
+        ↔ (length (D.device device.old).bytes ≢ FILE_LEN) }
+    ensures wrong_file_same { IsErrOf result Refusal.WrongFile → device.new ≡ device.old }
     ensures gate { TellsGate D.Disk result device.old device.new }
+
+    // Of a formatted file, whatever is answered, a crash leaves what one before could leave.
     ensures kept { D.is_honest device.new → IsFormatted (D.device device.old).bytes
         → LeavesAsBefore D.Disk device.old device.new }
+
+    // Of any file it leaves that, an unformatted file or the whole new one.
     ensures leaves { D.is_honest device.new → Leaves D.Disk device.old device.new
         (IsMadeOrLeft index count number value.now (D.device device.old)) }
+
+    // Once it has answered Ok, a crash leaves the new file.
     ensures last { D.is_honest device.new
         → OnOk result (IsAtRest index count number value.now false (D.device device.new)) }
+
+    // Then these are all its bytes, whatever it held before.
     ensures bytes { D.is_honest device.new
         → OnOk result ((D.device device.new).bytes ≡ new_file index count number value.now) }
 {
+    if device.len() != FILE_LEN {
+        return Err(Refusal::WrongFile);
+    }
     match is_unformatted(device) {
         Err(_) => return Err(Refusal::DeviceFailed),
         Ok(false) => return Err(Refusal::AlreadyFormatted),

@@ -15,7 +15,7 @@ ghost use Rattle.snap_segment.specs.Creation.{IsMadeOrLeft, new_file};
 ghost use Rattle.snap_segment.specs.Migration.{CountsFault, IsRead, OfHeld};
 
 use crate::contents::read_all;
-use crate::creation::make_file;
+use crate::creation::create;
 use snap_disk::{Disk, Refusal};
 use snap_old_slot::{OLD_FILE_LEN, OldFound, recover_old};
 use snap_slot::FILE_LEN;
@@ -134,7 +134,7 @@ pub fn migrate<O: Disk, N: Disk>(
         Err(why) => return Err((Which::Old, why)),
     };
     let value = found.value(&file);
-    match make_file(new, index, count, found.number, value) {
+    match create(new, index, count, found.number, value) {
         Ok(()) => Ok(found.number),
         Err(why) => Err((Which::New, why)),
     }

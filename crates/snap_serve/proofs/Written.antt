@@ -1,13 +1,13 @@
 -- What a server has written, step by step.
 use Rattle.std.proofs.Common.{◌≡◌, ℕ, List, Option, Some, Ok, Err, inl, inr, ap}
 use Rattle.std.specs.Io.KnownBytes.{Appends}
-use Rattle.std.specs.declared.net.socket_addr.SocketAddr.{SocketAddr}
 use Rattle.std.proofs.KnownBytes.{Appends-trans, Appends-kept}
 use Rattle.snap_stream.specs.Streams.{AppendsBeginning}
 use Rattle.snap_stream.proofs.Lines.{beginning_behind}
 use Rattle.snap_restart.specs.Report.{report_text}
 use Rattle.snap_restart.specs.declared.report.Report.{Report}
 use Rattle.snap_server.specs.Announced.{Announced}
+use Rattle.snap_server.specs.declared.endpoint.Endpoint.{Endpoint}
 use Rattle.snap_server.specs.declared.fault.RunFault.{RunFault}
 use Rattle.snap_server.specs.declared.fault.RunFault.TheVariants as run
 use Rattle.snap_server.specs.declared.fault.ServerFault.{ServerFault}
@@ -15,14 +15,14 @@ use Rattle.snap_server.specs.declared.fault.ServerFault.TheVariants as faults
 use Rattle.snap_serve.specs.declared.failure.HostFailure.{HostFailure}
 use Rattle.snap_serve.specs.declared.failure.HostFailure.TheVariants.{Address, NoMemory, Output}
 use Rattle.snap_serve.specs.Serve.{EndsServing, HasFailed, IsFaulted, IsNamed, ListenFails, PrintFails, Site}
-use Rattle.snap_serve.specs.Serve.{failure_of, listening_line, opening_text, served_line}
+use Rattle.snap_serve.specs.Serve.{failure_of, listening_text, opening_text, served_line}
 
 -- the report and the address were printed
 pub record IsListening {L : Type 0} (site : Site L) (l : L) (r : Report) (o n : Option (List ℕ))
     : Type 0 where
-  pub address : SocketAddr
-  pub is_there : site.listens_at l address
-  pub text : Appends o n (opening_text r address)
+  pub places : List Endpoint
+  pub is_there : site.listens_at l places
+  pub text : Appends o n (opening_text r places)
 
 module _ {L : Type 0} (site : Site L) (connections : Option ℕ) (r : Report) (o n : Option (List ℕ)) where
   pub report_failed : (failure : HostFailure) → PrintFails o n (report_text r) failure
@@ -33,8 +33,9 @@ module _ {L : Type 0} (site : Site L) (connections : Option ℕ) (r : Report) (o
 
   pub listen_failed : (failure : HostFailure) → Appends o n (report_text r)
       → ListenFails site failure → EndsServing site connections r o n (Err failure)
-  listen_failed (Address error) came fails = (fails, came)
-  listen_failed NoMemory came fails = inr (fails.0, fails.1, fails.2, inl came)
+  listen_failed (Address unbound) came fails = (fails, came)
+  listen_failed NoMemory came (inl starved) = inr (inl (starved, came))
+  listen_failed NoMemory came (inr fails) = inr (inr (fails.0, fails.1, fails.2, inl came))
   listen_failed failure came fails = absurd fails
 
   -- behind what was printed when it began to listen
@@ -44,31 +45,31 @@ module _ {L : Type 0} (site : Site L) (connections : Option ℕ) (r : Report) (o
         → EndsServing site connections r o n (Err failure)
     served_failed (Output error) fails = inr (
       l,
-      is.address,
+      is.places,
       is.is_there,
       inr (
         k,
         asked,
         came,
-        beginning_behind o m n (opening_text r is.address) (served_line k) is.text fails,
+        beginning_behind o m n (opening_text r is.places) (served_line k) is.text fails,
       ),
     )
-    served_failed NoMemory fails = inr (
+    served_failed NoMemory fails = inr (inr (
       l,
-      is.address,
+      is.places,
       is.is_there,
-      inr (Appends-kept o m n (opening_text r is.address) is.text fails),
-    )
+      inr (Appends-kept o m n (opening_text r is.places) is.text fails),
+    ))
     served_failed failure fails = absurd fails
 
     pub served : Appends m n (served_line k) → EndsServing site connections r o n (Ok k)
     served said = record {
       listener = l;
-      address = is.address;
+      places = is.places;
       is_there = is.is_there;
       asked = asked;
       came = came;
-      text = Appends-trans o m n (opening_text r is.address) (served_line k) is.text said;
+      text = Appends-trans o m n (opening_text r is.places) (served_line k) is.text said;
     }
 
 -- the listener's line, behind the report
@@ -76,10 +77,10 @@ module _ {L : Type 0} (site : Site L) (l : L) (line : List ℕ) (r : Report) (o 
     (came : Appends o m (report_text r)) (named : IsNamed site l line) where
   opened : Appends m n line → Appends o n (opening_text r named.0)
   opened said =
-      Appends-trans o m n (report_text r) (listening_line named.0) came (rw named.2 at said)
+      Appends-trans o m n (report_text r) (listening_text named.0) came (rw named.2 at said)
 
   pub listening : Appends m n line → IsListening site l r o n
-  listening said = record { address = named.0; is_there = named.1; text = opened said }
+  listening said = record { places = named.0; is_there = named.1; text = opened said }
 
 -- the threads were not started, or ended early, for this reason; `contents` is what a writer holds
 module _ {W L : Type 0} (contents : W → Option (List ℕ)) (site : Site L) (connections : Option ℕ)
@@ -89,7 +90,7 @@ module _ {W L : Type 0} (contents : W → Option (List ℕ)) (site : Site L) (co
       → IsFaulted r named.0 o (contents new) fault → HasFailed site r o (contents new) fault
   failed fault is_deaf text = record {
     listener = l;
-    address = named.0;
+    places = named.0;
     is_there = named.1;
     deaf = λ same. is_deaf (ap run.Server same);
     text = text;
@@ -104,11 +105,11 @@ module _ {W L : Type 0} (contents : W → Option (List ℕ)) (site : Site L) (co
     l,
     named.0,
     named.1,
-    inl (beginning_behind o (contents old) (contents new) (report_text r) (listening_line named.0)
+    inl (beginning_behind o (contents old) (contents new) (report_text r) (listening_text named.0)
         came (rw named.2 at has)),
   )
   ended_early (run.Server faults.NoMemory) has is_deaf =
-      inr (l, named.0, named.1, inl (rw has at came))
+      inr (inr (l, named.0, named.1, inl (rw has at came)))
   ended_early (run.Server faults.NoPoll) has is_deaf = failed faults.NoPoll is_deaf (rw has at came)
   ended_early (run.Server faults.NoThread) has is_deaf =
       failed faults.NoThread is_deaf (rw has at came)

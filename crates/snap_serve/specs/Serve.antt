@@ -1,11 +1,8 @@
 -- How a server ends, and what it has written by then.
-use Rattle.std.specs.Prelude.{◌≡◌, ◌≢◌, ◌⊎◌, ◌==◌, if◌then◌else◌, ℕ, Bool, true, List, ◌++◌, length, map, slice_get, Option, Some, None, Result, Ok, Err}
+use Rattle.std.specs.Prelude.{◌≡◌, ◌≢◌, ◌⊎◌, ◌==◌, if◌then◌else◌, ℕ, Bool, true, List, ◌++◌, flat_map, length, map, slice_get, Option, Some, None, Result, Ok, Err}
 use Rattle.std.specs.Prelude.{codes}
 use Rattle.std.specs.Fmt.{decimal}
 use Rattle.std.specs.Io.KnownBytes.{Appends, Keeps}
-use Rattle.std.specs.Net.Text.{socket_text}
-use Rattle.std.specs.declared.io.Error.{Error}
-use Rattle.std.specs.declared.net.socket_addr.SocketAddr.{SocketAddr}
 use Rattle.snap_disk.specs.declared.disk.Disk as Disk
 use Rattle.snap_disk.specs.declared.refusal.Refusal.{Refusal}
 use Rattle.snap_disk.specs.declared.refusal.Refusal.TheVariants as refusal
@@ -24,6 +21,8 @@ use Rattle.snap_restart.specs.Crash.{AreOpened, StayKept}
 use Rattle.snap_restart.specs.Report.{report_text}
 use Rattle.snap_restart.specs.declared.report.Report.{Report}
 use Rattle.snap_server.specs.Deals.{GivesSoMany}
+use Rattle.snap_server.specs.Endpoints.{endpoint_text}
+use Rattle.snap_server.specs.declared.endpoint.Endpoint.{Endpoint}
 use Rattle.snap_server.specs.declared.listen.Arrival.{Arrival}
 use Rattle.snap_server.specs.declared.listen.Listen as Listen
 use Rattle.snap_server.specs.declared.listen.Locate as Locate
@@ -32,7 +31,10 @@ use Rattle.snap_server.specs.declared.fault.RunFault.{RunFault}
 use Rattle.snap_server.specs.declared.fault.RunFault.TheVariants as run
 use Rattle.snap_server.specs.declared.fault.ServerFault.{ServerFault}
 use Rattle.snap_server.specs.declared.fault.ServerFault.TheVariants as faults
+use Rattle.snap_server.specs.declared.unix.BindFault.{BindFault}
+use Rattle.snap_server.specs.declared.unix.BindFault.TheVariants as fault_of_bind
 use Rattle.snap_serve.specs.declared.bind.Bind as Bind
+use Rattle.snap_serve.specs.declared.bind.Unbound.{Unbound}
 use Rattle.snap_serve.specs.declared.failure.HostFailure.{HostFailure}
 use Rattle.snap_serve.specs.declared.failure.HostFailure.TheVariants.{Refused, NoMemory, Address, Output, Server}
 
@@ -43,7 +45,7 @@ End = Result ℕ HostFailure
 abbrev pub status_of : HostFailure → Status
 status_of (Refused segment why len) = status.Refused
 status_of NoMemory = status.Refused
-status_of (Address error) = status.Failed
+status_of (Address unbound) = status.Failed
 status_of (Output error) = status.Failed
 status_of (Server fault) = status.Failed
 
@@ -52,18 +54,22 @@ status_at (Ok k) = status.Done
 status_at (Err failure) = status_of failure
 
 -- what is printed
-abbrev pub listening_line : SocketAddr → List ℕ
-listening_line a = codes "listening " ++ (socket_text a ++ codes "\n")
+abbrev pub listening_line : Endpoint → List ℕ
+listening_line endpoint = codes "listening " ++ (endpoint_text endpoint ++ codes "\n")
+
+-- a line for each place at which it listens
+abbrev pub listening_text : List Endpoint → List ℕ
+listening_text places = flat_map listening_line places
 
 abbrev pub served_line : ℕ → List ℕ
 served_line k = codes "served " ++ (decimal k ++ codes "\n")
 
 -- up to the moment at which it serves
-abbrev pub opening_text : Report → SocketAddr → List ℕ
-opening_text report a = report_text report ++ listening_line a
+abbrev pub opening_text : Report → List Endpoint → List ℕ
+opening_text report places = report_text report ++ listening_text places
 
-abbrev pub whole_text : Report → SocketAddr → ℕ → List ℕ
-whole_text report a k = opening_text report a ++ served_line k
+abbrev pub whole_text : Report → List Endpoint → ℕ → List ℕ
+whole_text report places k = opening_text report places ++ served_line k
 
 -- ---- its devices (`Disk.Ghosts D` is what `Disk` lets one say of a device of type D)
 
@@ -96,16 +102,14 @@ pub record IsStopOf {D : Type 0} (disk : Disk.Ghosts D) (devices : List D) (segm
 
 -- ---- where it listens
 
--- a listener that was bound, at the address that it tells itself
-abbrev pub ListensAt : {L : Type 0} (bound : L → Type 0) (is_at : L → SocketAddr → Type 0) → L
-    → SocketAddr → Type 0
-ListensAt bound is_at l a = bound l × is_at l a
+-- where it is to listen, in order
+abbrev pub addresses_of : Serving → List (List ℕ)
+addresses_of order = map (λ address. address.now) order.addresses.items
 
--- none was bound, for this reason, or one that was didn't tell where
-abbrev pub IsRefused : {L : Type 0} (bound : L → Type 0) (refuses : Error → Type 0)
-    (is_untold : L → Error → Type 0) → Error → Type 0
-IsRefused {L} bound refuses is_untold error =
-    refuses error ⊎ ((l : L) × bound l × is_untold l error)
+-- a listener that was bound, at the places that it tells itself
+abbrev pub ListensAt : {L : Type 0} (bound : L → Type 0) (is_at : L → List Endpoint → Type 0) → L
+    → List Endpoint → Type 0
+ListensAt bound is_at l places = bound l × is_at l places
 
 -- so many connections were accepted from this listener, one after another
 abbrev pub HaveCome : {L : Type 0} → (accepts : L → Result Arrival Unaccepted → L → Type 0) → L
@@ -114,53 +118,58 @@ HaveCome {L} accepts l k = (last : L) × GivesSoMany accepts k l last
 
 -- What is known of where a server is to listen.
 pub record Site (L : Type 0) : Type 1 where
-  -- this listener may be the server's own, at this address
-  pub listens_at : L → SocketAddr → Type 0
-  -- why it may have none, or one that can't tell where it is
-  pub refuses : Error → Type 0
+  -- this listener may be the server's own, at these places
+  pub listens_at : L → List Endpoint → Type 0
+  -- why it may have none
+  pub refuses : Unbound → Type 0
   -- this listener may refuse connections
   pub may_fail : L → Type 0
   -- so many connections came from this listener
   pub gave : L → ℕ → Type 0
 
--- the site of this address, where `binder` binds it
+-- the site of these addresses, where `binder` binds them
 abbrev pub site_at : {B L : Type 0} → Bind.Ghosts B L → Locate.Ghosts L → Listen.Ghosts L
-    → (binder : B) (address : List ℕ) → Site L
-site_at bind locate listen binder address = record {
-  listens_at = ListensAt (bind.binds binder address) locate.is_at;
-  refuses = IsRefused (bind.binds binder address) (bind.refuses binder address) locate.is_untold;
+    → (binder : B) (addresses : List (List ℕ)) → Site L
+site_at bind locate listen binder addresses = record {
+  listens_at = ListensAt (bind.binds binder addresses) locate.is_at;
+  refuses = bind.refuses binder addresses;
   may_fail = listen.refuses;
   gave = HaveCome listen.accepts;
 }
 
 -- ---- what it has written
 
--- Of the text no more than a beginning was written: no address but that of the server's listener,
+-- Of the text no more than a beginning was written: no place but those of the server's listener,
 -- and no number but the one that was asked for and has come from it.
 abbrev pub IsCutShort : {L : Type 0} (site : Site L) (connections : Option ℕ) → Report
     → (out out' : Option (List ℕ)) → Type 0
 IsCutShort {L} site connections report out out' =
     AppendsBeginning out out' (report_text report)
-    ⊎ ((l : L) × (a : SocketAddr) × site.listens_at l a
-    × (AppendsBeginning out out' (opening_text report a)
+    ⊎ ((l : L) × (places : List Endpoint) × site.listens_at l places
+    × (AppendsBeginning out out' (opening_text report places)
     ⊎ ((k : ℕ) × (connections ≡ Some k) × site.gave l k
-    × AppendsBeginning out out' (whole_text report a k))))
+    × AppendsBeginning out out' (whole_text report places k))))
+
+-- want of memory kept it from a listener
+abbrev pub IsWithoutMemory : {L : Type 0} (site : Site L) → Type 0
+IsWithoutMemory site = (unbound : Unbound) × (unbound.why ≡ fault_of_bind.NoMemory) × site.refuses unbound
 
 -- want of memory cuts no line short, and comes before the last one
 abbrev pub IsStarved : {L : Type 0} (site : Site L) → Report → (out out' : Option (List ℕ))
     → Type 0
 IsStarved {L} site report out out' = Keeps out out'
-    ⊎ ((l : L) × (a : SocketAddr) × site.listens_at l a × (Appends out out' (report_text report)
-    ⊎ Appends out out' (opening_text report a)))
+    ⊎ ((IsWithoutMemory site × Appends out out' (report_text report))
+    ⊎ ((l : L) × (places : List Endpoint) × site.listens_at l places
+    × (Appends out out' (report_text report) ⊎ Appends out out' (opening_text report places))))
 
 -- What was written of a server whose threads or sockets failed: it said that it listens once it had
 -- all that it serves by, and not before.
-abbrev pub IsFaulted : Report → SocketAddr → (out out' : Option (List ℕ)) → ServerFault → Type 0
-IsFaulted report a out out' faults.AcceptFailed = Appends out out' (opening_text report a)
-IsFaulted report a out out' faults.PollFailed = Appends out out' (opening_text report a)
-IsFaulted report a out out' faults.NoPoll = Appends out out' (report_text report)
-IsFaulted report a out out' faults.NoThread = Appends out out' (report_text report)
-IsFaulted report a out out' faults.NoMemory = ⊥
+abbrev pub IsFaulted : Report → List Endpoint → (out out' : Option (List ℕ)) → ServerFault → Type 0
+IsFaulted report places out out' faults.AcceptFailed = Appends out out' (opening_text report places)
+IsFaulted report places out out' faults.PollFailed = Appends out out' (opening_text report places)
+IsFaulted report places out out' faults.NoPoll = Appends out out' (report_text report)
+IsFaulted report places out out' faults.NoThread = Appends out out' (report_text report)
+IsFaulted report places out out' faults.NoMemory = ⊥
 
 -- ---- how it ends
 
@@ -168,27 +177,27 @@ IsFaulted report a out out' faults.NoMemory = ⊥
 pub record HasServed {L : Type 0} (site : Site L) (connections : Option ℕ) (report : Report)
     (out out' : Option (List ℕ)) (k : ℕ) : Type 0 where
   pub listener : L
-  pub address : SocketAddr
-  -- the listener is its own, at this address
-  pub is_there : site.listens_at listener address
+  pub places : List Endpoint
+  -- the listener is its own, at these places
+  pub is_there : site.listens_at listener places
   -- so many connections were asked for
   pub asked : connections ≡ Some k
   -- and so many have come from it
   pub came : site.gave listener k
   -- all of the text was written
-  pub text : Appends out out' (whole_text report address k)
+  pub text : Appends out out' (whole_text report places k)
 
 -- a server whose threads or sockets failed
 pub record HasFailed {L : Type 0} (site : Site L) (report : Report) (out out' : Option (List ℕ))
     (fault : ServerFault) : Type 0 where
   pub listener : L
-  pub address : SocketAddr
-  -- the listener is its own, at this address
-  pub is_there : site.listens_at listener address
+  pub places : List Endpoint
+  -- the listener is its own, at these places
+  pub is_there : site.listens_at listener places
   -- accepting failed only where the listener may fail
   pub deaf : fault ≡ faults.AcceptFailed → site.may_fail listener
   -- what was written is what is written before such a fault
-  pub text : IsFaulted report address out out' fault
+  pub text : IsFaulted report places out out' fault
 
 -- The server opened its files and then ended so; `out` and `out'` are what the writer held before
 -- and after.
@@ -198,8 +207,8 @@ EndsServing site connections report out out' (Ok k) =
     HasServed site connections report out out' k
 EndsServing site connections report out out' (Err (Refused segment why len)) = ⊥
 EndsServing site connections report out out' (Err NoMemory) = IsStarved site report out out'
-EndsServing site connections report out out' (Err (Address error)) =
-    site.refuses error × Appends out out' (report_text report)
+EndsServing site connections report out out' (Err (Address unbound)) =
+    site.refuses unbound × Appends out out' (report_text report)
 EndsServing site connections report out out' (Err (Output error)) =
     IsCutShort site connections report out out'
 EndsServing site connections report out out' (Err (Server fault)) =
@@ -216,9 +225,9 @@ EndsHost disk devices site connections out out' end =
 
 -- ---- the steps
 
--- this line names the address at which the listener is
-abbrev pub IsNamed : {L : Type 0} (site : Site L) → L → (line : List ℕ) → Type 0
-IsNamed site l line = (a : SocketAddr) × site.listens_at l a × (line ≡ listening_line a)
+-- these lines name the places at which the listener is
+abbrev pub IsNamed : {L : Type 0} (site : Site L) → L → (lines : List ℕ) → Type 0
+IsNamed site l lines = (places : List Endpoint) × site.listens_at l places × (lines ≡ listening_text places)
 
 -- a text was not written whole
 abbrev pub PrintFails : (out out' : Option (List ℕ)) (text : List ℕ) → HostFailure → Type 0
@@ -226,11 +235,20 @@ PrintFails out out' text (Output error) = AppendsBeginning out out' text
 PrintFails out out' text NoMemory = Keeps out out'
 PrintFails out out' text failure = ⊥
 
--- the address was not bound or not told, or there was no memory for the line that names it
+-- an address was not bound, or there was no memory for that or for the lines that name them
 abbrev pub ListenFails : {L : Type 0} (site : Site L) → HostFailure → Type 0
-ListenFails site (Address error) = site.refuses error
-ListenFails {L} site NoMemory = (l : L) × (a : SocketAddr) × site.listens_at l a
+ListenFails site (Address unbound) = site.refuses unbound
+ListenFails {L} site NoMemory = IsWithoutMemory site
+    ⊎ ((l : L) × (places : List Endpoint) × site.listens_at l places)
 ListenFails site failure = ⊥
+
+abbrev failure_by : BindFault → Unbound → HostFailure
+failure_by fault_of_bind.NoMemory unbound = NoMemory
+failure_by why unbound = Address unbound
+
+-- what the program ends with where this was not bound
+abbrev pub unbound_failure : Unbound → HostFailure
+unbound_failure unbound = failure_by unbound.why unbound
 
 -- what the program ends with where its server ended so
 abbrev pub failure_of : RunFault → HostFailure

@@ -1,26 +1,47 @@
 //! What a server says once it is ready.
-ghost use Rattle.std.specs.Prelude.{string_bytes};
+ghost use Rattle.std.specs.Prelude.{◌≡◌, IfOk, string_bytes};
 ghost use Rattle.std.specs.Io.KnownBytes.{Appends};
+ghost use Rattle.snap_serve.specs.Serve.{listening_line, listening_text};
 ghost use Rattle.snap_stream.specs.Streams.{AppendsBeginning};
 
 use crate::report::print_line;
-use snap_server::Announce;
+use snap_server::{Announce, Endpoint};
+use std::alloc::{AllocError, Global};
 use std::io::{self, Write};
 
-/// Writes a line that was made before, so that no want of memory keeps it back.
+/// Writes lines that were made before, so that no want of memory keeps them back.
 #[derive(Drop)]
 pub(crate) struct Announcement {
-    pub(crate) line: String,
+    pub(crate) lines: String,
+}
+
+/// A line for each place at which a listener is.
+pub(crate) fn lines_of(alloc: Global, endpoints: &[Endpoint]) -> Result<String, AllocError>
+    ensures { IfOk result (λ lines. string_bytes lines ≡ listening_text endpoints.now) }
+{
+    let mut lines = String::new(alloc);
+    'places: for endpoint in endpoints {
+        let line = line_of(alloc, endpoint)?;
+        lines.push_str(&line)?;
+    }
+    Ok(lines)
+}
+
+/// The line of one place.
+fn line_of(alloc: Global, endpoint: &Endpoint) -> Result<String, AllocError>
+    ensures { IfOk result (λ line. string_bytes line ≡ listening_line endpoint.now) }
+{
+    format!(in alloc; "listening {endpoint}\n")
 }
 
 impl<W: Write> Announce<W> for Announcement {
     ghost announces = { λ announcement old new.
-        Appends (W.contents old) (W.contents new) (string_bytes announcement.line) };
+        Appends (W.contents old) (W.contents new) (string_bytes announcement.lines) };
 
     ghost fails = { λ announcement old new.
-        AppendsBeginning (W.contents old) (W.contents new) (string_bytes announcement.line) };
+        AppendsBeginning (W.contents old) (W.contents new) (string_bytes announcement.lines) };
 
     fn announce(&self, to: &mut W) -> io::Result<()> {
-        print_line(&self.line, to)
+        print_line(&self.lines, to)
     }
 }

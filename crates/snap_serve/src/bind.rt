@@ -1,46 +1,75 @@
 //! Where a server listens.
-ghost use Rattle.std.specs.Prelude.{ℕ, List, IfOk, IfErr};
-ghost use Rattle.std.specs.declared.io.Error.{Error};
+ghost use Rattle.std.specs.Prelude.{ℕ, List, IfOk, IfErr, map};
+ghost use Rattle.snap_serve.specs.declared.bind.Unbound.{Unbound};
 
-use snap_server::{Listen, Locate, Tcp};
+use snap_order::socket_path;
+use snap_server::{BindFault, Listen, Listeners, Locate, Tcp, UnixSocket};
+use std::alloc::Global;
+use std::fs::File;
 use std::io::{self, ErrorKind};
 use std::net::{Net, ToSocketAddrs};
+use std::rt::{Clock, Files};
 
-/// Binds an address.
+/// Which of some addresses could not be bound, and why.
+#[derive(Debug, Drop)]
+pub struct Unbound {
+    /// Its place among them.
+    pub place: usize,
+    /// Why.
+    pub why: BindFault,
+}
+
+/// Binds addresses.
 pub trait Bind {
-    /// What gives the connections that come to the address, and tells which one is bound.
+    /// What gives the connections that come to the addresses, and tells which ones are bound.
     type Listener: Listen + Locate;
 
-    // Which listeners may be bound to a text.
-    ghost binds: { Self → List ℕ → Self.Listener → Type 0 } = { λ _ _ _. Unit {0} };
+    // Which listeners may be bound to some texts.
+    ghost binds: { Self → List (List ℕ) → Self.Listener → Type 0 } = { λ _ _ _. Unit {0} };
 
-    // Why a text may be refused.
-    ghost refuses: { Self → List ℕ → Error → Type 0 } = { λ _ _ _. Unit {0} };
+    // Why some texts may be refused.
+    ghost refuses: { Self → List (List ℕ) → Unbound → Type 0 } = { λ _ _ _. Unit {0} };
 
-    /// Binds an address, which is text for the system.
-    fn bind(&self, address: &str) -> io::Result<Self::Listener>
-        ensures bound { IfOk result (λ listener. binds self.now address.now listener) }
-        ensures refused { IfErr result (λ error. refuses self.now address.now error) };
+    /// Binds these addresses, which are texts for the system: all, or none.
+    fn bind(&self, alloc: Global, addresses: &Vec<&str>) -> Result<Self::Listener, Unbound>
+        ensures bound { IfOk result (λ listener.
+            binds self.now (map (λ a. a.now) addresses.now.items) listener) }
+        ensures refused { IfErr result (λ unbound.
+            refuses self.now (map (λ a. a.now) addresses.now.items) unbound) };
 }
 
-/// Binds addresses over TCP.
+/// Binds addresses over TCP, and paths of Unix sockets.
 #[derive(Drop)]
-pub struct Network<'a, X: Net> {
+pub struct Network<'a, X: Net + Files<File = File> + Clock> {
     net: &'a X,
+    socket_mode: u32,
 }
 
-impl<'a, X: Net> Network<'a, X> {
-    /// Binds by this handle.
-    pub fn new(net: &'a X) -> Network<'a, X> {
-        Network { net }
+impl<'a, X: Net + Files<File = File> + Clock> Network<'a, X> {
+    /// Binds by this handle. The file of a Unix socket gets this mode.
+    pub fn new(net: &'a X, socket_mode: u32) -> Network<'a, X> {
+        Network { net, socket_mode }
     }
-}
 
-impl<X: Net> Bind for Network<'_, X> {
-    type Listener = Tcp;
+    /// Binds this address, and adds its listener.
+    fn add(
+        &self,
+        alloc: Global,
+        listeners: &mut Listeners<'a, X>,
+        address: &str,
+    ) -> Result<(), BindFault> {
+        match socket_path(address) {
+            Some(path) => {
+                let socket = UnixSocket::bind(self.net, alloc, path, self.socket_mode)?;
+                listeners.add_unix(alloc, socket)?;
+            }
+            None => listeners.add_tcp(self.bind_tcp(address)?)?,
+        }
+        Ok(())
+    }
 
     /// A name is looked up, and its addresses are tried in order. The error is the last one's.
-    fn bind(&self, address: &str) -> io::Result<Tcp> {
+    fn bind_tcp(&self, address: &str) -> io::Result<Tcp> {
         let mut why = io::Error::from(ErrorKind::InvalidInput);
         for candidate in address.to_socket_addrs(self.net)? {
             match Tcp::bind(self.net, candidate) {
@@ -49,5 +78,23 @@ impl<X: Net> Bind for Network<'_, X> {
             }
         }
         Err(why)
+    }
+}
+
+impl<'a, X: Net + Files<File = File> + Clock> Bind for Network<'a, X> {
+    type Listener = Listeners<'a, X>;
+
+    /// A text that begins with `unix:` names a path, and any other one a host and a port.
+    fn bind(&self, alloc: Global, addresses: &Vec<&str>) -> Result<Listeners<'a, X>, Unbound> {
+        let mut listeners = match Listeners::new(self.net, alloc) {
+            Ok(listeners) => listeners,
+            Err(why) => return Err(Unbound { place: 0, why }),
+        };
+        for (place, address) in addresses.iter().enumerate() {
+            if let Err(why) = self.add(alloc, &mut listeners, *address) {
+                return Err(Unbound { place, why });
+            }
+        }
+        Ok(listeners)
     }
 }

@@ -4,12 +4,13 @@ ghost use Rattle.snap_order.specs.Remedy.{empty_text, unformatted_text};
 ghost use Rattle.snap_serve.specs.Serve.{IsAdvice, IsRemedy, SaysFailure, another_text, format_command_of, status_of, wrong_text};
 ghost use Rattle.snap_stream.specs.Streams.{file_line};
 
+use crate::bind::Unbound;
 use snap_disk::Refusal;
 use snap_order::{
     Exit, OLD_FILE_LEN, Serving, Status, empty_remedy, format_command, old_format_remedy,
-    unformatted_remedy,
+    socket_path, unformatted_remedy,
 };
-use snap_server::ServerFault;
+use snap_server::{BindFault, ServerFault};
 use snap_stream::{Cause, complain, complain_of_refusal, complain_twice};
 use std::alloc::{AllocError, Global};
 use std::io::{self, Write};
@@ -25,8 +26,8 @@ pub enum HostFailure {
     },
     /// No memory.
     NoMemory,
-    /// The address couldn't be bound.
-    Address(io::Error),
+    /// An address couldn't be bound.
+    Address(Unbound),
     /// The writer failed.
     Output(io::Error),
     /// No more connections could be accepted or watched.
@@ -48,7 +49,6 @@ impl HostFailure {
         ensures says { SaysFailure (λ file. file.now) order.now.files.items self.now
             result.is_told (E.contents errors.old) (E.contents errors.new) }
     {
-        let address = order.address;
         match self {
             HostFailure::Refused { segment, why, len } => {
                 let more = remedy_line(alloc, &order.files, causes, *segment, *why, *len);
@@ -61,9 +61,10 @@ impl HostFailure {
                 status: Status::Refused,
                 is_told: complain_of_refusal(errors, Refusal::NoMemory),
             },
-            HostFailure::Address(error) => {
-                let advice = "give an address of this machine whose port is free";
-                let text = format_args!("{address}: can't listen there: {error}: {advice}");
+            HostFailure::Address(Unbound { place, why }) => {
+                let address = address_at(order, *place);
+                let advice = advice_on(address, why);
+                let text = format_args!("{address}: can't listen there: {why}: {advice}");
                 failed(complain(alloc, errors, &text))
             }
             HostFailure::Output(error) => {
@@ -71,10 +72,33 @@ impl HostFailure {
                 failed(complain(alloc, errors, &text))
             }
             HostFailure::Server(fault) => {
+                let address = address_at(order, 0);
                 let text = format_args!("{address}: {fault}");
                 failed(complain(alloc, errors, &text))
             }
         }
+    }
+}
+
+/// The address of this place, as it was given.
+fn address_at<'a>(order: &Serving<'a>, place: usize) -> &'a str {
+    match order.addresses.get(place) {
+        Some(address) => *address,
+        None => "",
+    }
+}
+
+/// What to do where an address couldn't be bound.
+fn advice_on(address: &str, why: &BindFault) -> &'static str {
+    match why {
+        BindFault::System(_) if socket_path(address).is_none() => {
+            "give an address of this machine whose port is free"
+        }
+        BindFault::System(_) => "give a path in a folder where this user may make files",
+        BindFault::Taken => "end it, or give another path",
+        BindFault::NoSocket => "move it away, or give another path",
+        BindFault::Locked => "give a path in a folder of this server's own",
+        BindFault::NoMemory => "give this process more memory",
     }
 }
 

@@ -15,7 +15,7 @@ mod server;
 mod stores;
 mod watch;
 
-pub use bind::{Bind, Network};
+pub use bind::{Bind, Network, Unbound};
 pub use failure::HostFailure;
 pub use notes::log_note;
 pub use server::{Edge, host};

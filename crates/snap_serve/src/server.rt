@@ -1,12 +1,12 @@
 //! A server from its files to its end.
-ghost use Rattle.std.specs.Prelude.{◌≡◌, ◌-◌, ◌^◌, ◌<◌, length, All, IfOk, IfErr, string_bytes};
+ghost use Rattle.std.specs.Prelude.{◌≡◌, ◌-◌, ◌^◌, ◌<◌, length, All, IfOk, IfErr, map, string_bytes};
 ghost use Rattle.snap_order.specs.Order.{IsServable};
 ghost use Rattle.snap_restart.specs.Closed.{AreBack};
 ghost use Rattle.snap_serve.specs.Serve.{EndsHost, EndsServing, IsLengthAt, IsNamed, ListenFails};
-ghost use Rattle.snap_serve.specs.Serve.{TellsItsEnd, failure_of, site_at};
+ghost use Rattle.snap_serve.specs.Serve.{TellsItsEnd, addresses_of, failure_of, site_at, unbound_failure};
 
-use crate::announcement::Announcement;
-use crate::bind::Bind;
+use crate::announcement::{Announcement, lines_of};
+use crate::bind::{Bind, Unbound};
 use crate::failure::HostFailure;
 use crate::report::{print_report, print_served};
 use crate::stores::serve_store;
@@ -14,7 +14,7 @@ use crate::watch::Watch;
 use snap_disk::Disk;
 use snap_order::{Exit, Serving, Status};
 use snap_restart::{Report, Store, open_all};
-use snap_server::{Gate, Limits, Locate, Note, RunFault, ServerFault};
+use snap_server::{BindFault, Gate, Limits, Locate, Note, RunFault, ServerFault};
 use snap_stream::Cause;
 use std::alloc::Global;
 use std::io::Write;
@@ -31,7 +31,7 @@ const FAULT_REST: u64 = 20;
 /// What a server meets at its edge.
 #[derive(Clone, Copy)]
 pub struct Edge<'a, B, G, N, H, C> {
-    /// Binds the address.
+    /// Binds the addresses.
     pub bind: &'a B,
     /// Is told of each request before it is answered and after.
     pub gate: &'a G,
@@ -86,7 +86,7 @@ where
     // The status, `errors` and the writer tell of one end, to which these devices and this site led.
     ensures ends { TellsItsEnd D.Disk devices.items
         (site_at B.Bind B.Listener.Locate B.Listener.Listen edge.entry.bind.now
-        order.now.address.now) order.now result (E.contents errors.old) (E.contents errors.new)
+        (addresses_of order.now)) order.now result (E.contents errors.old) (E.contents errors.new)
         (W.contents writer.old) (W.contents writer.new) }
 {
     let causes = edge.causes;
@@ -124,7 +124,7 @@ where
     requires note { N.IsAlwaysCallable edge.note.now }
     ensures ends { EndsHost D.Disk devices.items
         (site_at B.Bind B.Listener.Locate B.Listener.Listen edge.entry.bind.now
-        order.now.address.now) order.now.connections
+        (addresses_of order.now)) order.now.connections
         (W.contents writer.old) (W.contents writer.new) result }
 {
     match open_all(alloc, devices, usize::from(order.scanners)) {
@@ -172,14 +172,14 @@ where
     requires note { N.IsAlwaysCallable edge.note.now }
     ensures ends { EndsServing
         (site_at B.Bind B.Listener.Locate B.Listener.Listen edge.entry.bind.now
-        order.now.address.now) order.now.connections report.now
+        (addresses_of order.now)) order.now.connections report.now
         (W.contents writer.old) (W.contents writer.new) result }
 {
     match print_report(alloc, report, writer) {
         Ok(()) => {}
         Err(failure) => return Err(failure),
     }
-    let (listener, announcement) = match listen(alloc, order.address, edge.bind) {
+    let (listener, announcement) = match listen(alloc, &order.addresses, edge.bind) {
         Ok(listening) => listening,
         Err(failure) => return Err(failure),
     };
@@ -229,30 +229,38 @@ fn failure_of(fault: RunFault) -> HostFailure
     }
 }
 
-/// Binds the address, and makes the line that says where the listener really is.
+/// What the program ends with where an address was not bound.
+fn unbound_failure(unbound: Unbound) -> HostFailure
+    ensures { result ≡ unbound_failure unbound }
+{
+    match unbound.why {
+        BindFault::NoMemory => HostFailure::NoMemory,
+        _ => HostFailure::Address(unbound),
+    }
+}
+
+/// Binds the addresses, and makes the lines that say where the listener really is.
 fn listen<B: Bind>(
     alloc: Global,
-    address: &str,
+    addresses: &Vec<&str>,
     bind: &B,
 ) -> Result<(B::Listener, Announcement), HostFailure>
 where
     B::Listener: Drop,
     ensures bound { IfOk result (λ made. IsNamed
-        (site_at B.Bind B.Listener.Locate B.Listener.Listen bind.now address.now)
-        made.0 (string_bytes made.1.line)) }
+        (site_at B.Bind B.Listener.Locate B.Listener.Listen bind.now
+        (map (λ a. a.now) addresses.now.items))
+        made.0 (string_bytes made.1.lines)) }
     ensures failed { IfErr result (ListenFails
-        (site_at B.Bind B.Listener.Locate B.Listener.Listen bind.now address.now)) }
+        (site_at B.Bind B.Listener.Locate B.Listener.Listen bind.now
+        (map (λ a. a.now) addresses.now.items))) }
 {
-    let listener = match bind.bind(address) {
+    let listener = match bind.bind(alloc, addresses) {
         Ok(listener) => listener,
-        Err(error) => return Err(HostFailure::Address(error)),
+        Err(unbound) => return Err(unbound_failure(unbound)),
     };
-    let bound = match listener.address() {
-        Ok(bound) => bound,
-        Err(error) => return Err(HostFailure::Address(error)),
-    };
-    match format!(in alloc; "listening {bound}\n") {
-        Ok(line) => Ok((listener, Announcement { line })),
+    match lines_of(alloc, listener.endpoints()) {
+        Ok(lines) => Ok((listener, Announcement { lines })),
         Err(_) => Err(HostFailure::NoMemory),
     }
 }

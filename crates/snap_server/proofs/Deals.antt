@@ -1,6 +1,6 @@
 -- How the calls of a listener follow one another.
-use Rattle.std.proofs.Common.{◌≡◌, ◌⊎◌, ℕ, zero, suc, nat_lt, if◌then◌else◌, Bool, true, false, List, [], ◌∷◌, length, Result, Ok, Err}
-use Rattle.std.proofs.Common.{IfOk, inl, inr, refl, sym, subst}
+use Rattle.std.proofs.Common.{◌≡◌, ◌⊎◌, ℕ, zero, suc, nat_lt, if◌then◌else◌, Bool, true, false, List, [], ◌∷◌, length, slice_get, ◌+◌, Some, Result, Ok, Err}
+use Rattle.std.proofs.Common.{IfOk, arith, inl, inr, refl, sym, subst}
 use Rattle.snap_server.specs.declared.listen.Arrival.{Arrival}
 use Rattle.snap_server.specs.declared.listen.Unaccepted.{Unaccepted}
 use Rattle.snap_server.specs.Deals.{AsksInVain, CallsInVain, Deals, Gives, GivesSoMany, turn_after, turn_of}
@@ -23,6 +23,35 @@ pub record HasDealt {L H : Type 0} (accepts : L → Result Arrival Unaccepted �
   pub turn : turn_of next (length doors) ≡ turn_after (length doors) k
   pub counted : dealt ≡ k
   pub theirs : held ≡ doors
+
+one_more : (k : ℕ) → k + 1 ≡ suc k
+one_more = grind arith
+
+-- one more was given, and handed to the door whose turn it was
+pub dealt_more : {L H : Type 0} (accepts : L → Result Arrival Unaccepted → L → Type 0)
+    (refuses : L → Type 0) (takes : H → Arrival → Type 0) (doors : List H) (k : ℕ) (a b c : L)
+    (held held' : List H) (next next' dealt dealt' : ℕ)
+    → HasDealt accepts refuses takes doors k a b held next dealt
+    → (arrival : Arrival) × (door : H) × Gives accepts b arrival c
+    × (slice_get held (turn_of next (length held)) ≡ Some door) × takes door arrival
+    → (refuses c → refuses b) → next' ≡ turn_of next (length held) + 1 → dealt' ≡ dealt + 1
+    → held' ≡ held → HasDealt accepts refuses takes doors (k + 1) a c held' next' dealt'
+dealt_more accepts refuses takes doors k a b c held held' next next' dealt dealt' before given
+    is_same in_turn counted kept = rw (one_more k) record {
+      deals = (
+        b,
+        given.0,
+        given.1,
+        before.deals,
+        given.2,
+        rw before.turn at (rw before.theirs at given.3),
+        given.4,
+      );
+      same = λ fails. before.same (is_same fails);
+      turn = rw in_turn (rw before.theirs (rw before.turn refl));
+      counted = rw counted (rw before.counted (one_more k));
+      theirs = rw kept before.theirs;
+    }
 
 module _ {L : Type 0} (accepts : L → Result Arrival Unaccepted → L → Type 0) where
   -- it was asked once more, or not at all

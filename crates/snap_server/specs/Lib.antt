@@ -1,3 +1,4 @@
+pub mod Endpoints
 pub mod Deals
 pub mod Scene
 pub mod SharedService

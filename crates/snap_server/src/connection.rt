@@ -5,6 +5,7 @@ ghost use Rattle.snap_session.specs.Turns.{StandsAt, TakesRounds};
 ghost use Rattle.snap_server.specs.Scene.{scene};
 ghost use Rattle.snap_server.specs.declared.connection.TheConstants.{PIECE};
 
+use crate::endpoint::Peer;
 use crate::listen::Arrival;
 use crate::silence::{Look, Silence};
 use crate::socket::Socket;
@@ -12,7 +13,6 @@ use mio::{Interest, Registry, Token};
 use snap_session::{End, Service, Session, Turn, proceed};
 use std::alloc::Global;
 use std::io;
-use std::net::SocketAddr;
 
 /// How many bytes one read takes at most.
 pub const PIECE: usize = 4096;
@@ -33,8 +33,8 @@ pub enum Ending {
 /// A connection that has ended.
 #[derive(Clone, Copy, Debug, PartialEq, Eq, Drop)]
 pub struct Ended {
-    /// The address at its other end.
-    pub peer: SocketAddr,
+    /// Who was at its other end.
+    pub peer: Peer,
     /// How it ended.
     pub how: Ending,
 }
@@ -55,7 +55,7 @@ pub enum Stage {
 #[derive(Drop)]
 pub struct Connection {
     socket: Socket,
-    peer: SocketAddr,
+    peer: Peer,
     session: Session,
     stage: Stage,
     /// How many looks in a row have found it silent.

@@ -1,6 +1,6 @@
 //! The socket of a connection.
 
-use mio::net::TcpStream;
+use crate::stream::Stream;
 use mio::{Interest, Registry, Token};
 use std::io::{self, ErrorKind, Read, Write};
 use std::net::Shutdown;
@@ -8,12 +8,12 @@ use std::net::Shutdown;
 /// A socket that doesn't wait, until it is closed. From then on reads and writes fail.
 #[derive(Drop)]
 pub struct Socket {
-    stream: Option<TcpStream>,
+    stream: Option<Stream>,
 }
 
 impl Socket {
     /// An open one.
-    pub fn new(stream: TcpStream) -> Socket {
+    pub fn new(stream: Stream) -> Socket {
         Socket {
             stream: Some(stream),
         }
@@ -27,7 +27,7 @@ impl Socket {
         interest: Interest,
     ) -> io::Result<()> {
         match &mut self.stream {
-            Some(stream) => registry.register(stream, token, interest),
+            Some(stream) => stream.register(registry, token, interest),
             None => Err(io::Error::from(ErrorKind::NotConnected)),
         }
     }
@@ -45,7 +45,7 @@ impl Read for &Socket {
     fn read(&mut self, buf: &mut [u8]) -> io::Result<usize> {
         match &self.stream {
             Some(stream) => {
-                let mut stream: &TcpStream = stream;
+                let mut stream: &Stream = stream;
                 stream.read(buf)
             }
             None => Err(io::Error::from(ErrorKind::NotConnected)),
@@ -57,7 +57,7 @@ impl Write for &Socket {
     fn write(&mut self, buf: &[u8]) -> io::Result<usize> {
         match &self.stream {
             Some(stream) => {
-                let mut stream: &TcpStream = stream;
+                let mut stream: &Stream = stream;
                 stream.write(buf)
             }
             None => Err(io::Error::from(ErrorKind::NotConnected)),

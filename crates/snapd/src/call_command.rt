@@ -1,15 +1,21 @@
-//! Calls of a server over TCP.
+//! Calls of a server over TCP or a Unix socket.
+ghost use Rattle.std.specs.Prelude.{◌≤◌};
+ghost use Rattle.snap_order.specs.Limits.{MAX_TRIES};
 ghost use Rattle.snap_order.specs.Order.{IsCallable};
 
+use crate::link::Link;
 use crate::time_limit::{LimitedStream, TimeLimit};
 use snap_call::ask;
-use snap_order::{Calling, Status};
+use snap_frame::SegmentValue;
+use snap_order::{Calling, Status, socket_path};
 use snap_stream::complain;
 use std::alloc::Global;
 use std::io::{self, ErrorKind, Read, Write};
 use std::net::{Net, OpenStream, TcpStream, ToSocketAddrs};
+use std::os::unix::net::UnixStream;
 use std::rt::Clock;
 use std::sync::atomic::{AtomicBool, Ordering};
+use std::thread;
 use std::time::{Duration, Instant};
 
 /// Asks the server at the order's address, and says how the program ends. An address that the
@@ -26,7 +32,7 @@ pub fn call<N: Net + Clock, R: Read, W: Write, E: Write>(
     requires { IsCallable order.now }
 {
     let address = order.address;
-    if let Err(error) = address.to_socket_addrs(net) {
+    if let Err(error) = look_up(net, address) {
         let _ = complain(alloc, errors, &format_args!("{address}: {error}"));
         return Status::Failed;
     }
@@ -40,6 +46,46 @@ pub fn call<N: Net + Clock, R: Read, W: Write, E: Write>(
         let _ = complain(alloc, errors, &line);
     }
     status
+}
+
+/// The values of the server at this address, by one scan, or how the program ends without them: as a call
+/// of so many tries and seconds does.
+pub fn fetch<N: Net + Clock, E: Write>(
+    net: &N,
+    alloc: Global,
+    address: &str,
+    tries: u8,
+    timeout: Option<u32>,
+    errors: &mut E,
+) -> Result<Vec<SegmentValue>, Status>
+    requires some { 1 ≤ tries }
+    requires few { tries ≤ MAX_TRIES }
+{
+    if let Err(error) = look_up(net, address) {
+        let _ = complain(alloc, errors, &format_args!("{address}: {error}"));
+        return Err(Status::Failed);
+    }
+    let seconds = timeout.map_or(0, u64::from);
+    let is_over = AtomicBool::new(false);
+    let mut end = None;
+    let mut connect = || limited_connection(net, address, timeout, &mut end, &is_over);
+    let ended = match snap_call::fetch(alloc, address, tries, &mut connect, errors) {
+        Ok(values) => return Ok(values),
+        Err(ended) => ended,
+    };
+    if ended.status == Status::Failed && is_over.load(Ordering::Relaxed) {
+        let line = format_args!("{address}: there was no answer within {seconds} s (--timeout)");
+        let _ = complain(alloc, errors, &line);
+    }
+    Err(ended.status)
+}
+
+/// The system takes the address. That of a Unix socket it takes as it is.
+fn look_up<N: Net>(net: &N, address: &str) -> io::Result<()> {
+    if socket_path(address).is_none() {
+        let _ = address.to_socket_addrs(net)?;
+    }
+    Ok(())
 }
 
 /// Until when a call may wait that has so many seconds: from the first time that this is asked, which `end`
@@ -89,10 +135,45 @@ fn connection<'c, 'o, N: Net + Clock>(
         LimitedStream<'c, 'o, N, N::Stream>,
     ),
 > {
-    let writer = connect_within(net, address, limit).ok()?;
-    writer.set_nodelay(true).ok()?;
+    let writer = match socket_path(address) {
+        Some(path) => Link::Unix(connect_unix_within(net, path, limit).ok()?),
+        None => {
+            let stream = connect_within(net, address, limit).ok()?;
+            stream.set_nodelay(true).ok()?;
+            Link::Tcp(stream)
+        }
+    };
     let reader = writer.try_clone().ok()?;
     Some((limit.on(reader), limit.on(writer)))
+}
+
+/// The rest before another try where a server's queue is full, in milliseconds.
+const QUEUE_REST: u64 = 10;
+
+/// A connection to the Unix socket at this path, before the time is over. Without a limit the system
+/// waits where the queue is full.
+fn connect_unix_within<N: Net + Clock>(
+    net: &N,
+    path: &str,
+    limit: &TimeLimit<'_, '_, N>,
+) -> io::Result<UnixStream> {
+    if limit.left()?.is_none() {
+        return UnixStream::connect(net, path);
+    }
+    for _ in 0..u64::MAX {
+        match mio::net::UnixStream::connect(net, path) {
+            Ok(stream) => {
+                let stream = UnixStream::from(stream);
+                stream.set_nonblocking(false)?;
+                return Ok(stream);
+            }
+            Err(error) if error.kind() == ErrorKind::WouldBlock => {}
+            Err(error) => return Err(error),
+        }
+        thread::sleep(net, Duration::from_millis(QUEUE_REST));
+        limit.left()?;
+    }
+    Err(io::Error::from(ErrorKind::TimedOut))
 }
 
 /// A connection to the first of the address's that takes one before the time is over.

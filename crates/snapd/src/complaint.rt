@@ -18,6 +18,18 @@ pub fn fail_at(rt: &HostRuntime, file: &str, fault: &FileFault) -> Status {
     Status::Failed
 }
 
+/// Says the same of a server's file, and what to give where it is a folder.
+pub fn fail_at_file(rt: &HostRuntime, file: &str, fault: &FileFault) -> Status {
+    let status = fail_at(rt, file, fault);
+    if let FileFault::System(reason) = fault {
+        if reason.kind() == ErrorKind::IsADirectory {
+            let line = format_args!("{file}: it is a folder: give it as --dir {file}");
+            let _ = complain(rt.alloc(), &mut rt.stderr(), &line);
+        }
+    }
+    status
+}
+
 /// Says that two paths of one command name one file.
 pub fn fail_twice(rt: &HostRuntime, first: &str, second: &str) -> Status {
     let _ = complain(

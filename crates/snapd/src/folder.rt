@@ -7,7 +7,7 @@ ghost use Rattle.snap_folder.specs.Order.{IsFaultOf};
 ghost use Rattle.snap_order.specs.Limits.{MAX_COUNT};
 
 use crate::files::FirstFault;
-use snap_devices::{FileDisk, FileFault, Lock};
+use snap_devices::{FileDisk, FileFault, Lock, sync_folder_of};
 use snap_disk::{Disk, Refusal};
 use snap_folder::{FolderFault, SegmentPlace, file_name, is_further, is_segment_name, order_files};
 use snap_order::OLD_FILE_LEN;
@@ -33,6 +33,12 @@ pub enum FolderRefusal<'f> {
         file: &'f str,
         count: u8,
     },
+    #[error("{file}: it is of {count} segments, and --count is {wanted}: give --count {count}; a folder of more is made of a dump, by snapd load")]
+    AnotherCount {
+        file: String,
+        count: u8,
+        wanted: u8,
+    },
     #[error("{file}: it was never formatted, or its header is gone: go on with the init or format that was cut off, or move it out of {folder}")]
     Unformatted {
         folder: &'f str,
@@ -43,7 +49,7 @@ pub enum FolderRefusal<'f> {
         folder: &'f str,
         file: &'f str,
     },
-    #[error("{file}: it is no segment file: move it out of {folder}, or give it a name that doesn't end in .seg")]
+    #[error("{file}: it is no segment file: bring a copy back if it was one, else move it out of {folder}, or give it a name that doesn't end in .seg")]
     NoSegment {
         folder: &'f str,
         file: &'f str,
@@ -64,7 +70,7 @@ pub enum FolderRefusal<'f> {
         index: u8,
         count: u8,
     },
-    #[error("{folder}: segment {index} of {count} is missing: bring its file back, or make a new one with snapd format {file} --index {index} --count {count}")]
+    #[error("{folder}: segment {index} of {count} is missing: bring its file back, or make a new and empty one with snapd format {file} --index {index} --count {count}")]
     Missing {
         folder: &'f str,
         file: String,
@@ -102,29 +108,7 @@ pub fn make_folder(rt: &HostRuntime, folder: &str) -> io::Result<()> {
         Err(reason) if reason.kind() != ErrorKind::AlreadyExists => return Err(reason),
         _ => {}
     }
-    let above = match Path::new(folder).parent() {
-        Some(above) if !above.as_str().is_empty() => above.as_str(),
-        _ => ".",
-    };
-    match sync_folder(rt, above) {
-        Err(reason) if !is_not_allowed(reason.kind()) => Err(reason),
-        _ => Ok(()),
-    }
-}
-
-fn sync_folder(rt: &HostRuntime, folder: &str) -> io::Result<()> {
-    fs::File::open(rt, folder)?.sync_all()
-}
-
-/// The system won't do this for anybody, or not for this user. Nothing has failed.
-fn is_not_allowed(kind: ErrorKind) -> bool {
-    matches!(
-        kind,
-        ErrorKind::PermissionDenied
-            | ErrorKind::InvalidInput
-            | ErrorKind::Unsupported
-            | ErrorKind::ReadOnlyFilesystem
-    )
+    sync_folder_of(rt, folder)
 }
 
 /// The paths of the folder's files whose names end in `.seg`, in order of name. A name that is no text is
@@ -195,14 +179,28 @@ pub fn files_in_order<'f>(
 {
     let mut places = Vec::with_capacity(alloc, files.len())?;
     for file in files {
-        let place = place_of(rt, alloc, folder, file.as_str())?;
-        if places.push(place).is_err() {
+        let found = contents_of(rt, alloc, folder, file.as_str())?;
+        if places.push(found.place).is_err() {
             return Err(FolderTrouble::NoMemory);
         }
     }
-    match order_files(alloc, &places) {
+    order_of(alloc, folder, files, &places)
+}
+
+/// The folder's files in order of segment, where their headers say these places.
+pub fn order_of<'f>(
+    alloc: Global,
+    folder: &'f str,
+    files: &'f [String],
+    places: &[SegmentPlace],
+) -> Result<Vec<&'f str>, FolderTrouble<'f>>
+    requires { length places.now ≡ length files.now }
+    ensures some { IfOk result (λ paths. 0 < length paths.items) }
+    ensures few { IfOk result (λ paths. length paths.items ≤ MAX_COUNT) }
+{
+    match order_files(alloc, places) {
         Ok(order) => Ok(taken(alloc, files, &order)?),
-        Err(fault) => Err(trouble_of(alloc, folder, files, &places, fault)),
+        Err(fault) => Err(trouble_of(alloc, folder, files, places, fault)),
     }
 }
 
@@ -222,13 +220,22 @@ fn taken<'f>(
     Ok(paths)
 }
 
-/// What the header of the file at this path says. Others may read it meanwhile.
-fn place_of<'f>(
+/// What a segment's file holds.
+#[derive(Clone, Copy, Debug)]
+pub struct SegmentContents {
+    /// Whose it is, as its header says.
+    pub place: SegmentPlace,
+    /// The number that its slots answer, where they do.
+    pub number: Option<u64>,
+}
+
+/// What the file at this path holds. Others may read it meanwhile.
+pub fn contents_of<'f>(
     rt: &HostRuntime,
     alloc: Global,
     folder: &'f str,
     file: &'f str,
-) -> Result<SegmentPlace, FolderTrouble<'f>> {
+) -> Result<SegmentContents, FolderTrouble<'f>> {
     let told = FirstFault::new();
     let mut disk = match FileDisk::open(rt, file, Lock::Shared) {
         Ok(disk) => disk.telling(told.place()),
@@ -236,7 +243,12 @@ fn place_of<'f>(
     };
     let refusal = match check(&mut disk) {
         Ok(findings) => match findings.header {
-            Header::Open { index, count } => return Ok(SegmentPlace { index, count }),
+            Header::Open { index, count } => {
+                return Ok(SegmentContents {
+                    place: SegmentPlace { index, count },
+                    number: findings.answer.map(|found| found.number),
+                });
+            }
             Header::Closed => FolderRefusal::Unformatted { folder, file },
             Header::Wrong => FolderRefusal::NoSegment { folder, file },
         },

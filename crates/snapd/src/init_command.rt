@@ -5,11 +5,15 @@ ghost use Rattle.snap_order.specs.Order.{IsOneTo};
 
 use crate::complaint::{fail_at, fail_at_folder, fail_in, stop_without_memory};
 use crate::files::FirstFault;
-use crate::folder::{check_names, make_folder, segment_files, segment_path};
+use crate::folder::{
+    FolderRefusal, FolderTrouble, check_names, contents_of, make_folder, segment_files,
+    segment_path,
+};
 use snap_devices::{FileDisk, FileFault};
 use snap_disk::Refusal;
 use snap_file_commands::{CommandFailure, found};
 use snap_order::{FileOrder, Founding, Status};
+use std::alloc::Global;
 
 /// Makes the folder, and in it the file of each segment in order, or leaves those that are whole already.
 /// It ends at the first that can't be made or left, with its status; a file of a further segment ends it
@@ -33,7 +37,7 @@ pub fn init(rt: &HostRuntime, order: &Founding<'_>) -> Status
     Status::Done
 }
 
-/// Makes the folder, and looks whether it is one of so many segments by the names in it.
+/// Makes the folder, and looks whether it is one of so many segments, by the names in it and by their files.
 fn prepare(rt: &HostRuntime, order: &Founding<'_>) -> Status
     requires { order.now.count ≤ MAX_COUNT }
 {
@@ -45,10 +49,47 @@ fn prepare(rt: &HostRuntime, order: &Founding<'_>) -> Status
         Ok(files) => files,
         Err(reason) => return fail_at_folder(rt, folder, reason),
     };
-    match check_names(rt.alloc(), folder, &files, order.count) {
+    if let Err(trouble) = check_names(rt.alloc(), folder, &files, order.count) {
+        return fail_in(rt, &trouble);
+    }
+    match check_counts(rt, rt.alloc(), folder, order.count) {
         Ok(()) => Status::Done,
         Err(trouble) => fail_in(rt, &trouble),
     }
+}
+
+/// None of the files that are to be kept says that it is one of another count. What can't be read is left to who
+/// makes it or leaves it.
+fn check_counts<'f>(
+    rt: &HostRuntime,
+    alloc: Global,
+    folder: &'f str,
+    wanted: u8,
+) -> Result<(), FolderTrouble<'f>>
+    requires { wanted ≤ MAX_COUNT }
+{
+    for index in 0..wanted {
+        let file = segment_path(alloc, folder, index)?;
+        let count = match contents_of(rt, alloc, folder, file.as_str()) {
+            Ok(found) => found.place.count,
+            // It has been waited for.
+            Err(
+                FolderTrouble::Path {
+                    fault: FileFault::InUse(_),
+                    ..
+                },
+            ) => return Ok(()),
+            Err(_) => wanted,
+        };
+        if count != wanted {
+            return Err(FolderTrouble::Refused(FolderRefusal::AnotherCount {
+                file,
+                count,
+                wanted,
+            }));
+        }
+    }
+    Ok(())
 }
 
 /// Makes the file of a segment, or leaves it where it is whole, and says so.

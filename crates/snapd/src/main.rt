@@ -6,44 +6,63 @@
 //! sockets, threads and standard streams, of which the last gets a server's log too (`snap_log`).
 #![tactic(auto)]
 
-ghost use Rattle.std.specs.Prelude.{◌<◌, ◌≤◌, length};
+ghost use Rattle.std.specs.Prelude.{◌<◌, ◌≤◌, IfOk, length};
 ghost use Rattle.snap_order.specs.Limits.{MAX_COUNT};
-ghost use Rattle.snap_order.specs.Order.{IsCallable, IsFileWithinLimits, IsOneTo, IsPlace};
-ghost use Rattle.snap_order.specs.Order.{IsServable, IsWithinLimits, KeepsLimits};
+ghost use Rattle.snap_order.specs.Order.{IsCallable, IsDumpable, IsFileWithinLimits, IsLoadable};
+ghost use Rattle.snap_order.specs.Order.{IsOneTo, IsPlace, IsServable, IsWithinLimits, KeepsLimits};
 
 mod call_command;
 mod complaint;
+mod doctor_command;
+mod dump_command;
+mod file_system;
 mod files;
 mod folder;
 mod init_command;
+mod link;
+mod load_command;
+mod loading_folder;
+mod right_order;
 mod serve_command;
 mod store_log;
+mod store_times;
 mod time_limit;
 
 use call_command::call;
-use complaint::{fail_at, fail_at_folder, fail_in, fail_twice, stop, stop_without_memory};
+use complaint::{
+    fail_at, fail_at_file, fail_at_folder, fail_in, fail_twice, stop, stop_without_memory,
+};
+use doctor_command::examine;
+use dump_command::dump;
 use files::{
     FirstFault, PairFault, check_streams, first_faults, open_file, open_pair, too_short_files,
     writes,
 };
 use folder::{files_in_order, segment_files};
 use init_command::init;
+use load_command::load;
+use right_order::say_right_order;
 use serve_command::{FilesFault, open_files, serve};
 use snap_args::{WordFault, lack_of, order, text_of};
 use snap_devices::FileFault;
 use snap_disk::Refusal;
 use snap_file_commands::{Causes, CommandFailure, MigrationFailure, act, act_pair};
 use snap_log::Destination;
-use snap_order::{Calling, Explanation, FileOrder, Founding, Migration, Order, Serving, Status};
+use snap_order::{
+    Calling, Dumping, Examination, Explanation, FileOrder, Founding, Holder, Loading, Migration,
+    Order, Serving, Status,
+};
 use snap_script::play;
 use snap_server::ServerFault;
 use snap_slot::FILE_LEN;
 use snap_stream::complain;
+use std::alloc::AllocError;
 use std::env;
+use std::fs::File;
 use std::io::{BufWriter, ErrorKind};
 use std::net::Net;
 use std::process::ExitCode;
-use std::rt::Clock;
+use std::rt::{Clock, Files};
 use std::sync::Wait;
 use std::thread::Threads;
 
@@ -69,7 +88,7 @@ fn words_of(rt: &HostRuntime) -> Result<Vec<String>, WordFault> {
 
 /// Does what the words ask for. `threads` is the runtime as what may wait, start threads and open
 /// sockets.
-fn do_order<X: Threads + Wait + Clock + Net + Sync + Send + Copy>(
+fn do_order<X: Threads + Wait + Clock + Net + Files<File = File> + Sync + Send + Copy>(
     threads: &X,
     rt: &HostRuntime,
     order: &Order<'_>,
@@ -80,9 +99,12 @@ fn do_order<X: Threads + Wait + Clock + Net + Sync + Send + Copy>(
         Order::File(order) => run(rt, order),
         Order::Migrate(order) => run_migration(rt, order),
         Order::Init(order) => run_init(rt, order),
+        Order::Doctor(order) => run_doctor(rt, order),
         Order::Serve(order) => run_server(threads, rt, order),
         Order::ServeFolder { folder, serving } => run_folder_server(threads, rt, folder, serving),
         Order::Call(order) => run_call(rt, order),
+        Order::Dump(order) => run_dump(rt, order),
+        Order::Load(order) => run_load(rt, order),
         Order::Script => play_script(threads, rt),
         Order::Explain(explanation) => print_explanation(rt, *explanation),
     }
@@ -200,23 +222,35 @@ fn run_init(rt: &HostRuntime, order: &Founding<'_>) -> Status
     init(rt, order)
 }
 
+/// Says how the files of a folder are.
+fn run_doctor(rt: &HostRuntime, order: &Examination<'_>) -> Status {
+    if !are_streams_open(rt) || (order.is_measured && !may_write(rt)) {
+        return Status::Failed;
+    }
+    examine(rt, order)
+}
+
 /// Opens the order's files, and serves them: `threads` is the runtime as what may wait, start
 /// threads and open sockets.
-fn run_server<X: Threads + Wait + Clock + Net + Sync + Send + Copy>(
+fn run_server<X: Threads + Wait + Clock + Net + Files<File = File> + Sync + Send + Copy>(
     threads: &X,
     rt: &HostRuntime,
     order: &Serving<'_>,
 ) -> Status
     requires { IsServable order.now }
 {
-    if !may_serve(rt, order.address) {
+    if !may_serve(rt, &order.addresses) {
         return Status::Failed;
     }
-    serve_files(threads, rt, order)
+    let status = serve_files(threads, rt, order);
+    if status == Status::Refused {
+        say_right_order(rt, order);
+    }
+    status
 }
 
 /// Finds the files of a folder, and serves them. `serving` has none.
-fn run_folder_server<X: Threads + Wait + Clock + Net + Sync + Send + Copy>(
+fn run_folder_server<X: Threads + Wait + Clock + Net + Files<File = File> + Sync + Send + Copy>(
     threads: &X,
     rt: &HostRuntime,
     folder: &str,
@@ -224,7 +258,7 @@ fn run_folder_server<X: Threads + Wait + Clock + Net + Sync + Send + Copy>(
 ) -> Status
     requires { KeepsLimits serving.now }
 {
-    if !may_serve(rt, serving.address) {
+    if !may_serve(rt, &serving.addresses) {
         return Status::Failed;
     }
     let files = match segment_files(rt, rt.alloc(), folder) {
@@ -232,36 +266,40 @@ fn run_folder_server<X: Threads + Wait + Clock + Net + Sync + Send + Copy>(
         Err(reason) => return fail_at_folder(rt, folder, reason),
     };
     match files_in_order(rt, rt.alloc(), folder, &files) {
-        Ok(files) => serve_files(threads, rt, &with_files(serving, files)),
+        Ok(files) => match with_files(serving, files) {
+            Ok(order) => serve_files(threads, rt, &order),
+            Err(_) => stop_without_memory(rt),
+        },
         Err(trouble) => fail_in(rt, &trouble),
     }
 }
 
 /// The same order for these files.
-fn with_files<'a>(serving: &Serving<'a>, files: Vec<&'a str>) -> Serving<'a>
+fn with_files<'a>(serving: &Serving<'a>, files: Vec<&'a str>) -> Result<Serving<'a>, AllocError>
     requires limits { KeepsLimits serving.now }
     requires some { 0 < length files.items }
     requires few { length files.items ≤ MAX_COUNT }
-    ensures { IsServable result }
+    ensures { IfOk result IsServable }
 {
-    Serving {
-        address: serving.address,
+    Ok(Serving {
+        addresses: serving.addresses.clone()?,
+        socket_mode: serving.socket_mode,
         files,
         scanners: serving.scanners,
         connections: serving.connections,
         clients: serving.clients,
         idle: serving.idle,
         log: serving.log,
-    }
+    })
 }
 
 /// What a server needs of the system before a file is opened is there. Says what isn't.
-fn may_serve(rt: &HostRuntime, address: &str) -> bool {
-    are_streams_open(rt) && is_address(rt, address) && may_write(rt)
+fn may_serve(rt: &HostRuntime, addresses: &[&str]) -> bool {
+    are_streams_open(rt) && addresses.iter().all(|it| is_address(rt, *it)) && may_write(rt)
 }
 
 /// Opens the files, and serves them.
-fn serve_files<X: Threads + Wait + Clock + Net + Sync + Send + Copy>(
+fn serve_files<X: Threads + Wait + Clock + Net + Files<File = File> + Sync + Send + Copy>(
     threads: &X,
     rt: &HostRuntime,
     order: &Serving<'_>,
@@ -273,7 +311,7 @@ fn serve_files<X: Threads + Wait + Clock + Net + Sync + Send + Copy>(
     };
     let devices = match open_files(rt, rt.alloc(), &order.files, &told) {
         Ok(devices) => devices,
-        Err(FilesFault::Path { file, fault }) => return fail_at(rt, file, &fault),
+        Err(FilesFault::Path { file, fault }) => return fail_at_file(rt, file, &fault),
         Err(FilesFault::SameFile { first, second }) => return fail_twice(rt, first, second),
         Err(FilesFault::NoMemory) => return stop_without_memory(rt),
     };
@@ -315,6 +353,29 @@ fn run_call(rt: &HostRuntime, order: &Calling<'_>) -> Status
     )
 }
 
+/// Prints a dump.
+fn run_dump(rt: &HostRuntime, order: &Dumping<'_>) -> Status
+    requires { IsDumpable order.now }
+{
+    if !are_streams_open(rt) {
+        return Status::Failed;
+    }
+    match order.holder {
+        Holder::Server { address } if !is_address(rt, address) => Status::Failed,
+        _ => dump(rt, order),
+    }
+}
+
+/// Makes a folder of a dump.
+fn run_load(rt: &HostRuntime, order: &Loading<'_>) -> Status
+    requires { IsLoadable order.now }
+{
+    if !are_streams_open(rt) || !may_write(rt) {
+        return Status::Failed;
+    }
+    load(rt, order)
+}
+
 /// The standard streams are open. Says which one isn't.
 fn are_streams_open(rt: &HostRuntime) -> bool {
     match check_streams(&rt.stdin(), &rt.stdout(), &rt.stderr()) {
@@ -340,7 +401,7 @@ fn may_write(rt: &HostRuntime) -> bool {
     }
 }
 
-/// The address has a host and a port. Says which one is missing.
+/// The address has a host and a port, or a path. Says what is missing.
 fn is_address(rt: &HostRuntime, address: &str) -> bool {
     match lack_of(address) {
         None => true,

@@ -123,7 +123,7 @@ pub fn serve<X, W, E>(
     mut logged: E,
 ) -> Result<Exit, ServerFault>
 where
-    X: Threads + Wait + Clock + Net + Sync + Send + Copy,
+    X: Threads + Wait + Clock + Net + Files<File = File> + Sync + Send + Copy,
     W: Write,
     E: Write + Send + Drop,
     requires order { IsServable order.now }
@@ -158,8 +158,9 @@ where
     )
 }
 
-/// How many descriptors a server has beside its files, two for each worker and its connections: the
-/// standard streams, its listener, and what libraries open for a moment.
+/// How many descriptors a server has beside its files, its listeners behind the first, two for each worker
+/// and its connections: the standard streams, its first listener, what it waits for them by, and what is
+/// open for a moment.
 const OTHERS: u64 = 16;
 
 /// How many connections may be open at once: what the process may open, less what it needs itself, and
@@ -176,6 +177,7 @@ fn most_clients(order: &Serving<'_>) -> usize {
     }
     let needed = OTHERS
         .saturating_add(order.files.len() as u64)
+        .saturating_add((order.addresses.len() as u64).saturating_sub(1))
         .saturating_add(u64::from(order.scanners).saturating_mul(2));
     let left = limit.rlim_cur.saturating_sub(needed).max(1);
     usize::try_from(left).unwrap_or(usize::MAX).min(asked)
@@ -194,21 +196,23 @@ fn host_logged<X, W, E>(
     errors: &mut E,
 ) -> Exit
 where
-    X: Threads + Wait + Clock + Net + Sync + Send + Copy,
+    X: Threads + Wait + Clock + Net + Files<File = File> + Sync + Send + Copy,
     W: Write,
     E: Write,
     requires order { IsServable order.now }
     requires devices { length devices.items ≡ length order.now.files.items }
     requires uncalled { All IsUncalled devices.items }
 {
-    if is_everywhere(order.address) {
-        warn!(log; target: "accept",
-            "{}: whoever reaches this machine may read and update each segment", order.address
-        );
+    'addresses: for address in &order.addresses {
+        if is_everywhere(*address) {
+            warn!(log; target: "accept",
+                "{address}: whoever reaches this machine may read and update each segment"
+            );
+        }
     }
     let note = |told: &Note| log_note(log, told);
     let edge = Edge {
-        bind: &Network::new(rt),
+        bind: &Network::new(rt, u32::from(order.socket_mode)),
         gate: &NoGate,
         note: &note,
         watch: StoreLog::new(log, &order.files, told),

@@ -37,10 +37,10 @@ impl<X: Wait + Clock> Watch for StoreLog<'_, X> {
         };
         match told.place().get() {
             Some(fault) => error!(self.log; target: "store",
-                "{file}: segment {segment}: update {number} isn't stored, and the segment is fenced until a restart: {fault}"
+                "{file}: segment {segment}: update {number} failed: a restart shows whether it is stored, and the segment is fenced until then: {fault}"
             ),
             None => error!(self.log; target: "store",
-                "{file}: segment {segment}: update {number} isn't stored, and the segment is fenced until a restart: a call of its device failed"
+                "{file}: segment {segment}: update {number} failed: a restart shows whether it is stored, and the segment is fenced until then: a call of its device failed"
             ),
         }
     }

@@ -1,5 +1,6 @@
 //! Connections that end with the time of their call.
 
+use crate::link::Link;
 use std::io::{self, ErrorKind, Read, Write};
 use std::net::OpenStream;
 use std::rt::Clock;
@@ -18,7 +19,7 @@ pub struct TimeLimit<'c, 'o, C> {
 
 impl<'c, 'o, C: Clock> TimeLimit<'c, 'o, C> {
     /// The stream as one that ends then.
-    pub fn on<S>(&self, stream: S) -> LimitedStream<'c, 'o, C, S> {
+    pub fn on<S>(&self, stream: Link<S>) -> LimitedStream<'c, 'o, C, S> {
         let limit = TimeLimit {
             clock: self.clock,
             end: self.end,
@@ -57,14 +58,14 @@ impl<'c, 'o, C: Clock> TimeLimit<'c, 'o, C> {
 /// A connection, each read and write of which ends with the time.
 #[derive(Drop)]
 pub struct LimitedStream<'c, 'o, C, S> {
-    stream: S,
+    stream: Link<S>,
     limit: TimeLimit<'c, 'o, C>,
 }
 
 impl<'c, 'o, C: Clock, S: Read + OpenStream> Read for LimitedStream<'c, 'o, C, S> {
     fn read(&mut self, buf: &mut [u8]) -> io::Result<usize> {
         if let Some(left) = self.limit.left()? {
-            self.stream.set_read_timeout(Some(left))?;
+            self.stream.set_read_timeout(left)?;
         }
         match self.stream.read(buf) {
             Ok(len) => Ok(len),
@@ -76,7 +77,7 @@ impl<'c, 'o, C: Clock, S: Read + OpenStream> Read for LimitedStream<'c, 'o, C, S
 impl<'c, 'o, C: Clock, S: Write + OpenStream> Write for LimitedStream<'c, 'o, C, S> {
     fn write(&mut self, buf: &[u8]) -> io::Result<usize> {
         if let Some(left) = self.limit.left()? {
-            self.stream.set_write_timeout(Some(left))?;
+            self.stream.set_write_timeout(left)?;
         }
         match self.stream.write(buf) {
             Ok(len) => Ok(len),

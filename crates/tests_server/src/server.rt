@@ -11,9 +11,7 @@ mod talks;
 
 use course::Course;
 use shop::{Shop, Store};
-use snap_server::{
-    Gate, Limits, Listen, Locate, NoAnnouncement, Note, RunFault, ServerFault, Tcp, run,
-};
+use snap_server::{Gate, Limits, Listen, NoAnnouncement, Note, RunFault, ServerFault, Tcp, run};
 use std::alloc::{AllocError, Global};
 use std::io;
 use std::io::{Read, Write};

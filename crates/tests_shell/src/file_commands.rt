@@ -58,6 +58,7 @@ pub(crate) enum Command {
     Put,
     Get,
     Check,
+    CheckAsJson,
     /// `get` as if the file were that of segment 1 of 2.
     GetOther,
 }
@@ -70,7 +71,14 @@ fn order_of(command: Command) -> FileOrder<'static>
         Command::Format => FileOrder::Format { file, index, count },
         Command::Put => FileOrder::Put { file, index, count },
         Command::Get => FileOrder::Get { file, index, count },
-        Command::Check => FileOrder::Check { file },
+        Command::Check => FileOrder::Check {
+            file,
+            is_json: false,
+        },
+        Command::CheckAsJson => FileOrder::Check {
+            file,
+            is_json: true,
+        },
         Command::GetOther => FileOrder::Get {
             file,
             index: 1,
@@ -231,6 +239,23 @@ answer number 1
         why: "",
     };
     does(&rt, Command::Check, blank(&rt)?, b"", end)?;
+    let document: &[u8] = b"{\"header\":\"open\",\"index\":0,\"count\":1,\"slots\":[\
+        {\"slot\":0,\"state\":\"open\",\"number\":0,\"length\":0},\
+        {\"slot\":1,\"state\":\"open\",\"number\":1,\"length\":2},\
+        {\"slot\":2,\"state\":\"closed\"}],\"answer\":1}\n";
+    does(
+        &rt,
+        Command::CheckAsJson,
+        with_hi(&rt)?,
+        b"",
+        done(document),
+    )?;
+    let end = End {
+        status: Status::Refused,
+        output: b"{\"header\":\"unformatted\"}\n",
+        why: "",
+    };
+    does(&rt, Command::CheckAsJson, blank(&rt)?, b"", end)?;
     Ok(())
 }
 

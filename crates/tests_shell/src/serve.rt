@@ -7,7 +7,7 @@ mod talks;
 use gates::Holding;
 use rooms::{Barred, Plan, Ready, Seen, held_files, host_over, host_printing, new_files};
 use snap_order::Status;
-use snap_server::{Locate, NoGate, Tcp};
+use snap_server::{NoGate, Tcp};
 use std::net::{Ipv4Addr, SocketAddr};
 use std::sync::Arc;
 use std::sync::atomic::{AtomicU64, Ordering};

@@ -1,10 +1,12 @@
 //! What no clause says: defaults, and the texts of faults and of help.
 mod address;
 mod answers;
+mod dump;
 mod explanation;
 mod folder;
 mod part;
 mod puts;
+mod reach;
 mod server;
 
 use snap_args::{WordFault, order};
@@ -21,7 +23,7 @@ fn is_order(alloc: Global, words: &[&str], wanted: &Order<'_>) -> bool {
 }
 
 /// Words of commands on one file.
-const FILE_ORDERS: [(&[&str], FileOrder<'static>); 5] = [
+const FILE_ORDERS: [(&[&str], FileOrder<'static>); 6] = [
     (
         &["snapd", "format", "F"],
         FileOrder::Format {
@@ -46,7 +48,20 @@ const FILE_ORDERS: [(&[&str], FileOrder<'static>); 5] = [
             count: 1,
         },
     ),
-    (&["snapd", "check", "F"], FileOrder::Check { file: "F" }),
+    (
+        &["snapd", "check", "F"],
+        FileOrder::Check {
+            file: "F",
+            is_json: false,
+        },
+    ),
+    (
+        &["snapd", "check", "--json", "F"],
+        FileOrder::Check {
+            file: "F",
+            is_json: true,
+        },
+    ),
     (
         &["snapd", "put", "--count=16", "G", "--index", "15"],
         FileOrder::Put {
@@ -128,6 +143,7 @@ fn help_is_no_fault(rt: HostRuntime) -> Result<(), Fail> {
         ("check", file),
         ("migrate", "<OLD>  The path of the file of the old format"),
         ("init", "<DIR>  The path of the folder"),
+        ("doctor", "<DIR>  The path of the folder"),
     ] {
         assert!(rt; is_helped(rt.alloc(), command, says)?, "{command}");
     }

@@ -11,7 +11,7 @@ mod tally;
 
 use crossbeam_channel::{Receiver, Sender};
 use desk::open;
-use snap_server::{Ended, Ending, Limits, Locate, NoAnnouncement, Note, RunFault, Tcp, run};
+use snap_server::{Ended, Ending, Limits, NoAnnouncement, Note, RunFault, Tcp, run};
 use std::alloc::Global;
 use std::io;
 use std::net::{Ipv4Addr, Net, SocketAddr};

@@ -1,6 +1,6 @@
 //! What a server does, as its gate, its service and its notes tell it.
 
-use snap_server::{Ended, Ending, Gate, Note};
+use snap_server::{Ended, Ending, Gate, Note, Peer};
 use snap_session::End;
 use std::sync::atomic::{AtomicU64, Ordering};
 
@@ -116,8 +116,9 @@ impl Course {
             Ending::Stopped => &self.stopped,
         };
         count.fetch_add(1, Ordering::SeqCst);
-        self.port
-            .store(u64::from(ended.peer.port()), Ordering::SeqCst);
+        if let Peer::Tcp(peer) = ended.peer {
+            self.port.store(u64::from(peer.port()), Ordering::SeqCst);
+        }
     }
 
     /// How many connections were let go of that were silent, and how many since the server stopped.

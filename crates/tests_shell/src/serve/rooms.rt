@@ -5,8 +5,8 @@ use snap_devices::{Held, MemDisk};
 use snap_disk::Disk;
 use snap_order::{Level, Serving, Status};
 use snap_segment::format;
-use snap_serve::{Bind, Edge, NoWatch, host};
-use snap_server::{Arrival, Gate, Listen, Locate, Note, Tcp, Unaccepted};
+use snap_serve::{Bind, Edge, NoWatch, Unbound, host};
+use snap_server::{Arrival, BindFault, Endpoint, Gate, Listen, Locate, Note, Tcp, Unaccepted};
 use snap_slot::FILE_LEN;
 use snap_stream::Unknown;
 use std::alloc::{AllocError, Global};
@@ -25,11 +25,11 @@ pub(crate) struct Ready<'a> {
     address: SocketAddr,
 }
 
-/// The connections of another listener, which is at this address.
+/// The connections of another listener, which is at these places.
 #[derive(Drop)]
 pub(crate) struct Shared<'a> {
     tcp: &'a Tcp,
-    address: SocketAddr,
+    endpoints: Vec<Endpoint>,
 }
 
 impl<'a> Ready<'a> {
@@ -51,21 +51,27 @@ impl Listen for Shared<'_> {
 }
 
 impl Locate for Shared<'_> {
-    ghost is_at = { λ shared address. address ≡ shared.address };
+    ghost is_at = { λ shared endpoints. endpoints ≡ shared.endpoints.items };
 
-    fn address(&self) -> io::Result<SocketAddr> {
-        Ok(self.address)
+    fn endpoints(&self) -> &[Endpoint] {
+        self.endpoints.as_slice()
     }
 }
 
 impl<'a> Bind for Ready<'a> {
     type Listener = Shared<'a>;
 
-    fn bind(&self, _address: &str) -> io::Result<Shared<'a>> {
-        Ok(Shared {
-            tcp: self.tcp,
-            address: self.address,
-        })
+    fn bind(&self, alloc: Global, _addresses: &Vec<&str>) -> Result<Shared<'a>, Unbound> {
+        match vec![in alloc; Endpoint::Tcp(self.address)] {
+            Ok(endpoints) => Ok(Shared {
+                tcp: self.tcp,
+                endpoints,
+            }),
+            Err(_) => Err(Unbound {
+                place: 0,
+                why: BindFault::NoMemory,
+            }),
+        }
     }
 }
 
@@ -180,7 +186,8 @@ where
         errors: Vec::new(alloc),
     };
     let order = Serving {
-        address: "loopback",
+        addresses: vec![in alloc; "loopback"]?,
+        socket_mode: 0o600,
         files: vec![in alloc; "first", "second"]?,
         scanners: plan.scanners.clamp(1, 16),
         connections: plan.connections,

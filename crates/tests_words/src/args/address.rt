@@ -2,7 +2,7 @@
 use snap_args::{Lack, is_everywhere, lack_of};
 use std::alloc::Global;
 
-const ADDRESSES: [(&str, Option<Lack>); 24] = [
+const ADDRESSES: [(&str, Option<Lack>); 28] = [
     ("", Some(Lack::Both)),
     (":", Some(Lack::Both)),
     (":0", Some(Lack::Host)),
@@ -28,6 +28,11 @@ const ADDRESSES: [(&str, Option<Lack>); 24] = [
     ("a:b:c", None),
     ("a:70707", None),
     ("0:0", None),
+    // A path may be anything.
+    ("unix:", Some(Lack::Path)),
+    ("unix:7070", None),
+    ("unix:/run/a:b", None),
+    ("unix", Some(Lack::Port)),
 ];
 
 #[test]
@@ -52,7 +57,7 @@ fn lacks_say_what_to_give(rt: HostRuntime) {
 fn says(alloc: Global, lack: Lack, missing: &str) -> bool {
     let says = lack.to_string(alloc);
     let wanted = format!(in alloc;
-        "an address is HOST:PORT, and {missing} missing: give for example 127.0.0.1:7070"
+        "an address is HOST:PORT or unix:PATH, and {missing} missing: give for example 127.0.0.1:7070"
     );
     match (says, wanted) {
         (Ok(says), Ok(wanted)) => says.as_str() == wanted.as_str(),

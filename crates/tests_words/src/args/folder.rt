@@ -1,7 +1,8 @@
 //! The words of a folder.
 use super::is_wrong;
+use super::reach::ONE;
 use snap_args::order;
-use snap_order::{Founding, Level, Order};
+use snap_order::{Examination, Founding, Level, Order};
 use std::alloc::Global;
 use std::test::Fail;
 
@@ -24,12 +25,34 @@ fn folders_have_a_count(rt: HostRuntime) {
     }
 }
 
+/// Whether these words look at the folder D, and measure its disk or not.
+fn is_examined(alloc: Global, words: &[&str], is_measured: bool) -> bool {
+    let wanted = Examination {
+        folder: "D",
+        is_measured,
+    };
+    match order(alloc, words) {
+        Ok(Order::Doctor(examination)) => examination == wanted,
+        _ => false,
+    }
+}
+
+#[test]
+fn a_doctor_measures_where_it_is_told_to(rt: HostRuntime) -> Result<(), Fail> {
+    assert!(rt; is_examined(rt.alloc(), &["snapd", "doctor", "D"], false));
+    assert!(rt; is_examined(rt.alloc(), &["snapd", "doctor", "D", "--measure"], true));
+    assert!(rt; is_examined(rt.alloc(), &["snapd", "doctor", "--measure", "D"], true));
+    let missing = "error: the following required arguments were not provided:";
+    assert!(rt; is_wrong(rt.alloc(), &["snapd", "doctor"], missing)?);
+    Ok(())
+}
+
 /// Whether these words serve the folder D, with these scanners and this level of the log.
 fn is_served(alloc: Global, words: &[&str], scanners: u8, log: Level) -> bool {
     match order(alloc, words) {
         Ok(Order::ServeFolder { folder, serving }) => {
             folder == "D"
-                && serving.address == "A"
+                && serving.addresses.as_slice() == ONE
                 && serving.files.is_empty()
                 && serving.scanners == scanners
                 && serving.log == log

@@ -1,4 +1,5 @@
 //! The words of `serve` and `call`.
+use super::reach::ONE;
 use super::{fault, is_helped, is_wrong};
 use bytes::Bytes;
 use snap_args::order;
@@ -20,7 +21,8 @@ fn is_server(alloc: Global, server: &Server) -> bool {
     let (words, files, scanners, connections) = *server;
     match order(alloc, words) {
         Ok(Order::Serve(serving)) => {
-            serving.address == "A"
+            serving.addresses.as_slice() == ONE
+                && serving.socket_mode == 0o600
                 && serving.files.as_slice() == files
                 && serving.scanners == scanners
                 && serving.connections == connections
@@ -311,7 +313,7 @@ fn faults_of_servers_say_what_is_wrong(rt: HostRuntime) -> Result<(), Fail> {
 }
 
 pub(super) const NO_FORM: &str =
-    "error: the request is not `update I NUMBER HEX`, `scan`, `part MASK`, `status` or `health`\n";
+    "error: the request is not `put I`, `get I`, `update I NUMBER HEX`, `scan`, `part MASK`, `status` or `health`\n";
 
 const NO_VALUE: &str =
     "error: the update's value is not `-` or two hexadecimal digits for each byte\n";

@@ -1,4 +1,4 @@
-use Rattle.std.proofs.Common.{◌≡◌, ◌∙◌, ap, arith, codes, inl, inr, length, map, refl, rules, sym}
+use Rattle.std.proofs.Common.{◌≡◌, ◌∙◌, ap, arith, length, map, rules, sym}
 use Rattle.std.proofs.lemmas.Bool.Decides.{nat_tests}
 use Rattle.snap_args.specs.Explanations.{IsShellUnknown}
 use Rattle.snap_args.proofs.Explained.{completions_asked, completions_length, completions_words, manual_asked, manual_length, manual_words}

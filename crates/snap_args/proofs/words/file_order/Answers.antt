@@ -1,7 +1,8 @@
-use Rattle.std.proofs.Common.{◌∙◌, arith, codes, inl, inr, refl, rules, sym}
+use Rattle.std.proofs.Common.{◌∙◌, ◌↔◌, IsTrue, arith, codes, inl, inr, refl, rules, sym}
 use Rattle.std.proofs.lemmas.Grind.{common_steps}
 use Rattle.clap.specs.Words.{found_of, rows_of}
-use Rattle.snap_args.proofs.Asked.{asked, missing, no_command, place_is, word_is}
+use Rattle.snap_args.specs.Numbers.{IsGiven}
+use Rattle.snap_args.proofs.Asked.{asked, by_words, missing, no_command, place_is, word_is}
 use Rattle.snap_args.proofs.Faulted.{placed_fault}
 use Rattle.snap_args.proofs.words.file_order.Goals as goal
 use Rattle.snap_args.proofs.words.file_order.Goals.{in-format, in-put, in-get}
@@ -10,19 +11,30 @@ pub returns-in_default-clause-faults : goal.returns-in_default-clause-faults
 returns-in_default-clause-faults c = λ words has.
     let other = c.requires.other in
     missing has (codes "file")
-    (inr (inr (inr (other.0, other.1, other.2, other.4, inl (inr (other.3, refl)))))) (codes "file")
+    (inr (inr (inr (inr (inr (
+      other.0,
+      other.1,
+      other.2,
+      other.4,
+      other.5,
+      other.6,
+      other.7,
+      inl (inr (other.3, refl)),
+    )))))) (codes "file")
     (refl, sym (c.in_default.ensures ∙ word_is has (codes "file")))
 
 pub returns-then-is-clause-asked : goal.returns-then-is-clause-asked
-returns-then-is-clause-asked c = λ words has.
-    asked has (codes "check") c.in-Some.file.now (c.is.ensures.0 c.if-is.true)
-    c.in-Some.ensures
+returns-then-is-clause-asked c = λ words has. (
+  asked has (codes "check") c.in-Some.file.now (c.is.ensures.0 c.if-is.true) c.in-Some.ensures,
+  by_words has (λ of all. IsTrue c.is_given-is_json.result ↔ IsGiven (of (codes "json")))
+      c.is_given-is_json.ensures,
+)
 
 pub returns-in_err-index-clause-faults : goal.returns-in_err-index-clause-faults
 returns-in_err-index-clause-faults c =
     let other = c.requires.other in
-    let fault = placed_fault (found_of c.args.matches.now) other.0 other.1 other.2 other.4
-    (grind (arith, common_steps)) c.in_err-index.field-0.0
+    let fault = placed_fault (found_of c.args.matches.now) other.0 other.1 other.2 other.4 other.5
+    other.6 other.7 (grind (arith, common_steps)) c.in_err-index.field-0.0
     c.in_err-index.ensures.fault in
     search rules
 

@@ -1,4 +1,4 @@
-use Rattle.std.proofs.Common.{◌≡◌, None, arith, map, rules}
+use Rattle.std.proofs.Common.{◌≡◌, None, rules}
 use Rattle.snap_args.proofs.Explained.{none_of, unknown_untaken}
 use Rattle.snap_args.proofs.words.order.Goals as goal
 

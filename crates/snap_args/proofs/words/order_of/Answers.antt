@@ -1,9 +1,10 @@
-use Rattle.std.proofs.Common.{◌∙◌, codes, rules, sym}
+use Rattle.std.proofs.Common.{◌∙◌, ◌↔◌, IsTrue, codes, rules, sym}
 use Rattle.clap.specs.Words.{found_of}
-use Rattle.snap_args.specs.Numbers.{IsLayoutOf}
+use Rattle.snap_args.specs.Dumps.{IsHolderOf}
+use Rattle.snap_args.specs.Numbers.{IsGiven, IsLayoutOf}
 use Rattle.snap_args.specs.Requests.{IsQuestionOf}
 use Rattle.snap_args.proofs.Asked.{asked_pair, by_words, large_number_is, named, place_is, number_is, word_is}
-use Rattle.snap_args.proofs.Faulted.{call_fault, init_fault, migrate_fault}
+use Rattle.snap_args.proofs.Faulted.{call_fault, doctor_fault, dump_fault, init_fault, load_fault, migrate_fault}
 use Rattle.snap_args.proofs.words.order_of.Goals as goal
 
 pub returns-then-is-clause-asked : goal.returns-then-is-clause-asked
@@ -65,3 +66,54 @@ returns-then-is-5-clause-asked c = λ words has. record {
 pub returns-then-is-5-clause-numbers : goal.returns-then-is-5-clause-numbers
 returns-then-is-5-clause-numbers c = λ words has.
     number_is has (codes "count") _ c.in_ok-founding.ensures.number
+
+pub returns-in_err-examination-clause-faults : goal.returns-in_err-examination-clause-faults
+returns-in_err-examination-clause-faults c =
+    let fault = doctor_fault (found_of c.args.matches.now) (c.is-6.ensures.0 c.if-is-6.true)
+    c.in_err-examination.field-0.0 c.in_err-examination.ensures.fault in
+    search rules
+
+pub returns-then-is-6-clause-asked : goal.returns-then-is-6-clause-asked
+returns-then-is-6-clause-asked c = λ words has. record {
+  command = named has (codes "doctor") (c.is-6.ensures.0 c.if-is-6.true);
+  folder = sym (word_is has (codes "folder")) ∙ sym c.in_ok-examination.ensures.folder;
+  measured = by_words has (λ of all. IsTrue c.in_ok-examination.field-0.is_measured
+      ↔ IsGiven (of (codes "measure"))) c.in_ok-examination.ensures.measured;
+}
+
+pub returns-in_err-dumping-clause-faults : goal.returns-in_err-dumping-clause-faults
+returns-in_err-dumping-clause-faults c =
+    let fault = dump_fault (found_of c.args.matches.now) (c.is-7.ensures.0 c.if-is-7.true)
+    c.in_err-dumping.field-0.0 c.in_err-dumping.ensures.fault in
+    search rules
+
+pub returns-then-is-7-clause-asked : goal.returns-then-is-7-clause-asked
+returns-then-is-7-clause-asked c = λ words has. record {
+  command = named has (codes "dump") (c.is-7.ensures.0 c.if-is-7.true);
+  holder = by_words has (λ of all. IsHolderOf (of (codes "holder")) c.in_ok-dumping.field-0.holder)
+      c.in_ok-dumping.ensures.holder;
+}
+
+pub returns-then-is-7-clause-numbers : goal.returns-then-is-7-clause-numbers
+returns-then-is-7-clause-numbers c = λ words has. record {
+  tries = number_is has (codes "tries") _ c.in_ok-dumping.ensures.tries;
+  timeout = large_number_is has (codes "timeout") c.in_ok-dumping.field-0.timeout
+      c.in_ok-dumping.ensures.timeout;
+}
+
+pub returns-in_err-loading-clause-faults : goal.returns-in_err-loading-clause-faults
+returns-in_err-loading-clause-faults c =
+    let fault = load_fault (found_of c.args.matches.now) (c.is-8.ensures.0 c.if-is-8.true)
+    c.in_err-loading.field-0.0 c.in_err-loading.ensures.fault in
+    search rules
+
+pub returns-then-is-8-clause-asked : goal.returns-then-is-8-clause-asked
+returns-then-is-8-clause-asked c = λ words has. record {
+  command = named has (codes "load") (c.is-8.ensures.0 c.if-is-8.true);
+  folder = sym (word_is has (codes "folder")) ∙ sym c.in_ok-loading.ensures.folder;
+  dump = sym (word_is has (codes "dump")) ∙ sym c.in_ok-loading.ensures.dump;
+}
+
+pub returns-then-is-8-clause-numbers : goal.returns-then-is-8-clause-numbers
+returns-then-is-8-clause-numbers c = λ words has.
+    large_number_is has (codes "count") c.in_ok-loading.field-0.count c.in_ok-loading.ensures.count

@@ -4,15 +4,16 @@ use Rattle.snap_order.specs.declared.order.Serving.{Serving}
 use Rattle.clap.specs.Words.{first_value}
 use Rattle.clap.specs.declared.parser.matches.Found.{Found}
 use Rattle.snap_args.specs.Services.{IsServiceOf}
-use Rattle.snap_args.specs.Words.{HasCommand, word_of}
+use Rattle.snap_args.specs.Words.{HasCommand, all_values, word_of, words_of}
 use Rattle.snap_args.proofs.Asked.{by_words, named, word_is, words_are}
 use Rattle.snap_args.proofs.Faulted.{serve_fault, serve_folder_fault}
 use Rattle.snap_args.proofs.words.server_order.Goals as goal
 
 -- a server that was found is that of the command's words
 service_is : {words : List Text} {name : Text} {found : Found} → HasCommand words name found
-    → (s : Serving) → IsServiceOf (first_value found) s → IsServiceOf (word_of words) s
-service_is its s is = by_words its (λ of all. IsServiceOf of s) is
+    → (s : Serving) → IsServiceOf (first_value found) (all_values found) s
+    → IsServiceOf (word_of words) (words_of words) s
+service_is its s is = by_words its (λ of all. IsServiceOf of all s) is
 
 -- a word that is there
 some_word : {x : Text} {o : Option Text} → Some x ≡ o → o ≡ None → ⊥

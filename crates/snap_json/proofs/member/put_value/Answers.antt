@@ -1,4 +1,3 @@
-use Rattle.std.proofs.Common.{◌∙◌, ap, append_assoc}
 use Rattle.snap_json.proofs.Growth.{wrote, wrote_last}
 use Rattle.snap_json.proofs.member.put_value.Goals as goal
 

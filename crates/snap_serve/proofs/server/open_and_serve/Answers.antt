@@ -1,11 +1,11 @@
-use Rattle.snap_serve.specs.Serve.{site_at}
+use Rattle.snap_serve.specs.Serve.{addresses_of, site_at}
 use Rattle.snap_serve.proofs.Ends.{ends_opened, reported}
 use Rattle.snap_serve.proofs.server.open_and_serve.Goals as goal
 
 pub returns-in-Ok : goal.returns-in-Ok
 returns-in-Ok g c =
     let site = site_at g.B.Bind g.B.Listener.Locate g.B.Listener.Listen c.args.edge.bind.now
-    c.args.order.now.address.now in
+    (addresses_of c.args.order.now) in
     let o = g.W.Write.contents c.args.writer.now in
     let n = g.W.Write.contents c.serve_opened.new.writer in
     let is = reported g.D.Disk c.args.devices.items c.in-Ok.store.writers.items c.in-Ok.report

@@ -1,4 +1,4 @@
-use Rattle.snap_serve.specs.Serve.{site_at}
+use Rattle.snap_serve.specs.Serve.{addresses_of, site_at}
 use Rattle.snap_serve.proofs.Written.{IsListening, ended_early, listen_failed, listening, served, served_failed}
 use Rattle.snap_serve.proofs.server.serve_opened.Goals as goal
 use Rattle.snap_serve.proofs.server.serve_opened.Goals.{After-print_served}
@@ -12,7 +12,7 @@ returns-in-Err-listen g c = record {
 -- it said that it listens, and served
 listens : (g : _) (c : After-print_served g)
     → IsListening (site_at g.B.Bind g.B.Listener.Locate g.B.Listener.Listen
-    c.args.edge.bind.now c.args.order.now.address.now) c.in-Ok-listen.listening.0
+    c.args.edge.bind.now (addresses_of c.args.order.now)) c.in-Ok-listen.listening.0
     c.args.report.now (g.W.Write.contents c.args.writer.now)
     (g.W.Write.contents c.serve_store-ended.new.to)
 listens g c = listening _ _ _ c.args.report.now _ (g.W.Write.contents c.print_report.new.writer) _

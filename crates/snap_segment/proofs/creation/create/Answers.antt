@@ -9,7 +9,7 @@ use Rattle.snap_segment.specs.Calls.{Leaves, LeavesAsBefore}
 use Rattle.snap_segment.specs.Creation.{IsMadeOrLeft}
 use Rattle.snap_segment.proofs.Leaves.{then, weaker}
 use Rattle.snap_segment.proofs.Made.{made_bytes}
-use Rattle.snap_segment.proofs.creation.make_file.Goals as goal
+use Rattle.snap_segment.proofs.creation.create.Goals as goal
 
 -- what follows where the call succeeded follows where its answer does
 on_ok_too : {T E F P Q : Type 0} (call : Result T E) (answer : Result T F)

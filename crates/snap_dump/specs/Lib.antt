@@ -1,0 +1,2 @@
+pub mod Document
+pub use Rattle.snap_history.specs.Limits

@@ -1,0 +1,48 @@
+//! Reads a dump.
+ghost use Rattle.std.specs.Prelude.{◌≡◌, ◌↔◌, IfOk, IsTrue, string_bytes};
+ghost use Rattle.snap_dump.specs.Document.{AreServable, dump_text};
+
+use crate::fault::{DumpFault, fault_of};
+use crate::parse::parse;
+use crate::text::document;
+use snap_frame::SegmentValue;
+use std::alloc::{AllocError, Global};
+
+/// What a dump says.
+#[derive(Debug, Drop)]
+pub struct Dump {
+    /// When its values were there, as whoever wrote it told.
+    pub time: String,
+    /// The number and value of each segment, in order: 1 to 16.
+    pub values: Vec<SegmentValue>,
+}
+
+/// The dump that a text is: each of its bytes is as [`document`] writes it, and its values are within the limits of a
+/// server's.
+///
+/// A text that is none is refused by what is most wrong with it: [`DumpFault::NoDump`] or
+/// [`DumpFault::OtherVersion`] by its beginning, [`DumpFault::CutOff`] by its end, [`DumpFault::Changed`] by its
+/// digest, and else [`DumpFault::Foreign`].
+pub fn read(alloc: Global, text: &[u8]) -> Result<Dump, DumpFault>
+    // It is written so, and a server can have its values.
+    ensures is { IfOk result (λ d. text.now ≡ dump_text (string_bytes d.time) d.values.items) }
+    ensures servable { IfOk result (λ d. AreServable d.values.items) }
+{
+    let Some(dump) = parse(alloc, text)? else {
+        return Err(fault_of(text));
+    };
+    if is_text_of(alloc, text, &dump)? {
+        Ok(dump)
+    } else {
+        Err(fault_of(text))
+    }
+}
+
+/// The text is that of the dump, to the byte.
+fn is_text_of(alloc: Global, text: &[u8], dump: &Dump) -> Result<bool, AllocError>
+    ensures { IfOk result (λ same. IsTrue same
+        ↔ (text.now ≡ dump_text (string_bytes dump.now.time) dump.now.values.items)) }
+{
+    let written = document(alloc, dump.time.as_str(), &dump.values)?;
+    Ok(written.as_slice() == text)
+}

@@ -1,0 +1,17 @@
+-- How both ends of a connection are written.
+use Rattle.std.specs.Prelude.{ℕ, List, ◌++◌, codes, string_bytes}
+use Rattle.std.specs.Net.Text.{socket_text}
+use Rattle.snap_server.specs.declared.endpoint.Endpoint.{Endpoint}
+use Rattle.snap_server.specs.declared.endpoint.Endpoint.TheVariants as endpoint
+use Rattle.snap_server.specs.declared.endpoint.Peer.{Peer}
+use Rattle.snap_server.specs.declared.endpoint.Peer.TheVariants as peer
+
+-- what a client is given to find a listener by
+abbrev pub endpoint_text : Endpoint → List ℕ
+endpoint_text (endpoint.Tcp address) = socket_text address
+endpoint_text (endpoint.Unix path) = codes "unix:" ++ string_bytes path
+
+-- how who has connected is named
+abbrev pub peer_text : Peer → List ℕ
+peer_text (peer.Tcp address) = socket_text address
+peer_text peer.Unix = codes "unix"

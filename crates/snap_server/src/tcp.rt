@@ -1,0 +1,136 @@
+//! A listener over TCP.
+
+use crate::endpoint::Peer;
+use crate::listen::{Arrival, Listen, Unaccepted, why_not};
+use crate::stream::Stream;
+use libc::net;
+use mio::net::TcpStream;
+use std::io::{self, ErrorKind};
+use std::net::{Net, SocketAddr, TcpListener};
+use std::os::fd::{AsRawFd, RawFd};
+
+/// Connections over TCP, with no delay of small writes. Of a peer that is silent the system finds out
+/// within two minutes whether it is still there.
+#[derive(Drop)]
+pub struct Tcp {
+    listener: TcpListener,
+}
+
+impl Tcp {
+    /// Listens at an address, with the longest queue of connections that the system allows. At
+    /// port 0 the system picks one, which [`address`](Tcp::address) tells. An error is the
+    /// system's.
+    pub fn bind(net: &impl Net, address: SocketAddr) -> io::Result<Tcp> {
+        let listener = TcpListener::from(mio::net::TcpListener::bind(net, address)?);
+        listener.set_nonblocking(false)?;
+        ask_silent_peers(&listener);
+        Ok(Tcp { listener })
+    }
+
+    /// The address at which it listens, as the system tells it.
+    pub fn address(&self) -> io::Result<SocketAddr> {
+        self.listener.local_addr()
+    }
+
+    /// From here on [`take`](Tcp::take) waits for nobody.
+    pub(crate) fn stop_waiting(&self) -> io::Result<()> {
+        self.listener.set_nonblocking(true)
+    }
+
+    /// Its descriptor.
+    pub(crate) fn descriptor(&self) -> RawFd {
+        self.listener.as_raw_fd()
+    }
+
+    /// The next connection; `None` where it waits for nobody and nobody calls.
+    pub(crate) fn take(&self) -> Result<Option<Arrival>, Unaccepted> {
+        let (stream, peer) = match self.listener.accept() {
+            Ok(accepted) => accepted,
+            Err(error) if error.kind() == ErrorKind::WouldBlock => return Ok(None),
+            Err(error) => return Err(why_not(&error)),
+        };
+        // It fails where who called is gone.
+        if stream.set_nodelay(true).is_err() || stream.set_nonblocking(true).is_err() {
+            return Err(Unaccepted::Gone);
+        }
+        let stream = Stream::Tcp(TcpStream::from_std(stream));
+        let peer = Peer::Tcp(peer);
+        Ok(Some(Arrival { stream, peer }))
+    }
+
+    /// Waits for the next connection.
+    fn wait_for_one(&self) -> Result<Arrival, Unaccepted> {
+        self.take()?.ok_or(Unaccepted::Gone)
+    }
+}
+
+impl Listen for Tcp {
+    /// The system may fail at any time.
+    ghost refuses = { λ _. Unit {0} };
+
+    fn accept(&mut self) -> Result<Arrival, Unaccepted> {
+        self.wait_for_one()
+    }
+
+    /// Its descriptor stays open, and is no listener's any more.
+    fn close(&self) {
+        net::shutdown(self.listener.as_raw_fd(), net::SHUT_RDWR);
+    }
+}
+
+impl Listen for &Tcp {
+    ghost refuses = { λ _. Unit {0} };
+
+    fn accept(&mut self) -> Result<Arrival, Unaccepted> {
+        Tcp::wait_for_one(*self)
+    }
+
+    fn close(&self) {
+        Tcp::close(*self);
+    }
+}
+
+/// How long a peer is silent before it is asked whether it is there, and the rest between two
+/// questions, in seconds; and how many go without an answer before it is given up.
+const SILENCE: u8 = 60;
+
+const QUESTION_REST: u8 = 10;
+
+const QUESTIONS: u8 = 6;
+
+/// Has the system ask silent peers whether they are there. What is accepted has that from its
+/// listener. Where the system refuses it, a peer that is gone is found at the next write.
+fn ask_silent_peers(listener: &TcpListener) {
+    let listener = listener.as_raw_fd();
+    unsafe {
+        net::setsockopt(listener, net::SOL_SOCKET, net::SO_KEEPALIVE, &option(1), 4);
+        net::setsockopt(
+            listener,
+            net::IPPROTO_TCP,
+            net::TCP_KEEPIDLE,
+            &option(SILENCE),
+            4,
+        );
+        net::setsockopt(
+            listener,
+            net::IPPROTO_TCP,
+            net::TCP_KEEPINTVL,
+            &option(QUESTION_REST),
+            4,
+        );
+        net::setsockopt(
+            listener,
+            net::IPPROTO_TCP,
+            net::TCP_KEEPCNT,
+            &option(QUESTIONS),
+            4,
+        );
+    }
+}
+
+/// A number as an option's value: the four bytes of an `int`.
+fn option(number: u8) -> [u8; 16] {
+    let mut value = [0; 16];
+    value[..4].copy_from_slice(&u32::from(number).to_ne_bytes());
+    value
+}

@@ -1,0 +1,172 @@
+//! The command `doctor`: how the files of a folder are, and the file system that they are on.
+ghost use Rattle.std.specs.Prelude.{◌≡◌, length};
+
+use crate::complaint::{fail_at_folder, stop, stop_without_memory};
+use crate::file_system::{file_system_of, keeps_locks};
+use crate::folder::{FolderTrouble, contents_of, order_of, segment_files};
+use crate::store_times::{STORED_LEN, STORES, measure};
+use snap_devices::FileFault;
+use snap_file_commands::CommandFailure;
+use snap_folder::SegmentPlace;
+use snap_order::{Examination, Status};
+use std::io::{self, ErrorKind};
+
+/// Looks at the folder's files and at its file system, and says how they are, a line for each. The status
+/// is that of a refusal where something has to be mended before the folder can be served.
+pub fn examine(rt: &HostRuntime, order: &Examination<'_>) -> Status {
+    let files = match segment_files(rt, rt.alloc(), order.folder) {
+        Ok(files) => files,
+        Err(reason) => return fail_at_folder(rt, order.folder, reason),
+    };
+    match report(rt, order, &files) {
+        Ok(true) => Status::Done,
+        Ok(false) => Status::Refused,
+        Err(reason) if reason.kind() == ErrorKind::OutOfMemory => stop_without_memory(rt),
+        Err(reason) => stop(rt, &CommandFailure::Output(reason)),
+    }
+}
+
+/// Says how the folder is, and whether it can be served.
+fn report(rt: &HostRuntime, order: &Examination<'_>, files: &[String]) -> io::Result<bool> {
+    let are_whole = report_files(rt, order.folder, files)?;
+    let are_kept = report_file_system(rt, order.folder, files)?;
+    let are_stored = !order.is_measured || report_stores(rt, order.folder)?;
+    Ok(are_whole && are_kept && are_stored)
+}
+
+/// Says how each file is, and whether they are all segments of one server. Where another process has one of
+/// them, no further one is looked at: it has been waited for.
+fn report_files(rt: &HostRuntime, folder: &str, files: &[String]) -> io::Result<bool> {
+    let mut places = Vec::with_capacity(rt.alloc(), files.len())?;
+    let mut are_whole = true;
+    for file in files {
+        let file = file.as_str();
+        match contents_of(rt, rt.alloc(), folder, file) {
+            Ok(found) => {
+                are_whole = report_segment(rt, file, found.place, found.number)? && are_whole;
+                places.push(found.place)?;
+            }
+            Err(
+                FolderTrouble::Path {
+                    fault: FileFault::InUse(_),
+                    ..
+                },
+            ) => {
+                rt.print(&format_args!(
+                    "{file}: a server or another command has it: ask it, as by snapd call ADDR status\n"
+                ))?;
+                return Ok(are_whole);
+            }
+            Err(trouble) => {
+                report_trouble(rt, &trouble)?;
+                are_whole = false;
+            }
+        }
+    }
+    // What is wrong with a file comes first. Where all are whole, each has its place.
+    if !are_whole || places.len() != files.len() {
+        return Ok(false);
+    }
+    report_order(rt, folder, files, &places)
+}
+
+/// Says what a file holds, and whether it holds anything.
+fn report_segment(
+    rt: &HostRuntime,
+    file: &str,
+    place: SegmentPlace,
+    number: Option<u64>,
+) -> io::Result<bool> {
+    let SegmentPlace { index, count } = place;
+    match number {
+        Some(number) => rt.print(&format_args!(
+            "{file}: segment {index} of {count} number {number}\n"
+        ))?,
+        None => rt.print(&format_args!(
+            "{file}: segment {index} of {count}, but its slots give no answer: see snapd check {file}, and bring a copy back\n"
+        ))?,
+    }
+    Ok(number.is_some())
+}
+
+/// Says whether the files are all segments of one server.
+fn report_order(
+    rt: &HostRuntime,
+    folder: &str,
+    files: &[String],
+    places: &[SegmentPlace],
+) -> io::Result<bool>
+    requires { length places.now ≡ length files.now }
+{
+    match order_of(rt.alloc(), folder, files, places) {
+        Ok(_order) => {
+            rt.print(&format_args!(
+                "{folder}: no segment is missing: serve it with snapd serve ADDR --dir {folder}\n"
+            ))?;
+            Ok(true)
+        }
+        Err(trouble) => {
+            report_trouble(rt, &trouble)?;
+            Ok(false)
+        }
+    }
+}
+
+/// Says what is wrong with a file or the folder.
+fn report_trouble(rt: &HostRuntime, trouble: &FolderTrouble<'_>) -> io::Result<()> {
+    match trouble {
+        FolderTrouble::Path { file, fault } => rt.print(&format_args!("{file}: {fault}\n")),
+        FolderTrouble::Refused(why) => rt.print(&format_args!("{why}\n")),
+        FolderTrouble::NoMemory => Err(io::Error::from(ErrorKind::OutOfMemory)),
+    }
+}
+
+/// Says what file system the folder is on, and whether locks keep anybody out there. They are tried on a
+/// segment's file where there is one: not each file system locks folders.
+fn report_file_system(rt: &HostRuntime, folder: &str, files: &[String]) -> io::Result<bool> {
+    let kind = match file_system_of(rt, folder) {
+        Some(kind) => kind,
+        None => String::from_str(rt.alloc(), "unknown")?,
+    };
+    let tried = files.first().map_or(folder, |file| file.as_str());
+    match keeps_locks(rt, tried) {
+        Ok(true) => {
+            rt.print(&format_args!("{folder}: its file system is {kind}, and keeps locks\n"))?;
+            Ok(true)
+        }
+        Ok(false) => {
+            rt.print(&format_args!(
+                "{folder}: its file system is {kind}, whose locks keep nobody out: two servers could have one file, so serve from another\n"
+            ))?;
+            Ok(false)
+        }
+        Err(reason) => {
+            rt.print(&format_args!(
+                "{folder}: its file system is {kind}, and {tried} can't be locked: {reason}\n"
+            ))?;
+            Ok(false)
+        }
+    }
+}
+
+/// Says how long a store takes there, and whether it can have waited for a disk.
+fn report_stores(rt: &HostRuntime, folder: &str) -> io::Result<bool> {
+    let times = match measure(rt, rt.alloc(), folder) {
+        Ok(times) => times,
+        Err(fault) => {
+            rt.print(&format_args!("{folder}: nothing could be stored: {fault}\n"))?;
+            return Ok(false);
+        }
+    };
+    let median = times.median.as_micros();
+    let late = times.late.as_micros();
+    rt.print(&format_args!(
+        "{folder}: a store takes {median} us (p50), {late} us (p99): {STORES} stores of {STORED_LEN} bytes\n"
+    ))?;
+    if times.are_too_short() {
+        rt.print(&format_args!(
+            "{folder}: no disk was waited for in that time: it is memory, or a disk that answers before it keeps, and a power cut may take what was acknowledged\n"
+        ))?;
+    }
+    Ok(true)
+}

@@ -1,0 +1,162 @@
+//! The command `dump`: all that a server or a folder of files holds, as one document.
+ghost use Rattle.std.specs.Prelude.{◌<◌, ◌≤◌, length};
+ghost use Rattle.snap_order.specs.Limits.{MAX_COUNT};
+ghost use Rattle.snap_order.specs.Order.{IsDumpable};
+
+use crate::call_command::fetch;
+use crate::complaint::{fail_at, fail_at_folder, fail_in, stop, stop_without_memory};
+use crate::files::{FirstFault, first_faults};
+use crate::folder::{FolderTrouble, files_in_order, segment_files};
+use jiff::Timestamp;
+use snap_devices::{FileDisk, FileFault, Lock};
+use snap_dump::{DumpFault, document, read};
+use snap_file_commands::{CommandFailure, held_value};
+use snap_frame::SegmentValue;
+use snap_order::{Dumping, Holder, Status};
+use snap_stream::{complain, write_whole};
+use std::alloc::Global;
+use std::fmt::InlineText;
+
+/// The room for a time.
+const ROOM: usize = 32;
+
+/// Prints the dump, and nothing where there is none. Its time is from before its values are asked for, so all
+/// that was acknowledged before that time is in it.
+pub fn dump(rt: &HostRuntime, order: &Dumping<'_>) -> Status
+    requires { IsDumpable order.now }
+{
+    let time = match Timestamp::now(rt) {
+        Ok(now) => time_text(now),
+        Err(error) => {
+            let _ = complain(
+                rt.alloc(),
+                &mut rt.stderr(),
+                &format_args!("the clock: {error}"),
+            );
+            return Status::Failed;
+        }
+    };
+    let values = match order.holder {
+        Holder::Server { address } => server_values(rt, address, order),
+        Holder::Folder { folder } => folder_values(rt, rt.alloc(), folder),
+    };
+    match values {
+        Ok(values) => print_dump(rt, time.as_str(), &values),
+        Err(status) => status,
+    }
+}
+
+/// A time by RFC 3339 in UTC, cut to seconds.
+fn time_text(now: Timestamp) -> InlineText<ROOM> {
+    InlineText::of(format_args!("{now:.0}"))
+}
+
+/// Prints the dump of these values whole, if it can be read back: so a copy that no load takes is found when it is
+/// made, and not when it is wanted.
+fn print_dump(rt: &HostRuntime, time: &str, values: &[SegmentValue]) -> Status {
+    let Ok(text) = document(rt.alloc(), time, values) else {
+        return stop_without_memory(rt);
+    };
+    match read(rt.alloc(), text.as_slice()) {
+        Ok(_) => {}
+        Err(DumpFault::NoMemory) => return stop_without_memory(rt),
+        Err(fault) => {
+            let line = format_args!("the dump can't be read back: {fault}");
+            let _ = complain(rt.alloc(), &mut rt.stderr(), &line);
+            return Status::Failed;
+        }
+    }
+    match write_whole(&mut rt.stdout(), text.as_slice()) {
+        Ok(()) => Status::Done,
+        Err(error) => stop(rt, &CommandFailure::Output(error)),
+    }
+}
+
+/// The values of a server, by one scan.
+fn server_values(
+    rt: &HostRuntime,
+    address: &str,
+    order: &Dumping<'_>,
+) -> Result<Vec<SegmentValue>, Status>
+    requires { IsDumpable order.now }
+{
+    fetch(
+        rt,
+        rt.alloc(),
+        address,
+        order.tries,
+        order.timeout,
+        &mut rt.stderr(),
+    )
+}
+
+/// The values of a folder's files, which are locked until all are read: so they are those of the moment at
+/// which the last one was.
+fn folder_values(
+    rt: &HostRuntime,
+    alloc: Global,
+    folder: &str,
+) -> Result<Vec<SegmentValue>, Status> {
+    let files = match segment_files(rt, alloc, folder) {
+        Ok(files) => files,
+        Err(reason) => return Err(fail_at_folder(rt, folder, reason)),
+    };
+    match files_in_order(rt, alloc, folder, &files) {
+        Ok(files) => read_files(rt, alloc, &files),
+        Err(FolderTrouble::Path { file, fault }) => Err(fail_at_locked(rt, file, &fault)),
+        Err(trouble) => Err(fail_in(rt, &trouble)),
+    }
+}
+
+/// The values of these files, in order of segment.
+fn read_files(rt: &HostRuntime, alloc: Global, files: &[&str]) -> Result<Vec<SegmentValue>, Status>
+    requires { length files.now ≤ MAX_COUNT }
+{
+    let Ok(told) = first_faults(alloc, files.len()) else {
+        return Err(stop_without_memory(rt));
+    };
+    let count = files.len() as u8;
+    let mut locked = Vec::new(alloc);
+    let mut values = Vec::new(alloc);
+    for index in 0..count {
+        let at = usize::from(index);
+        let (disk, value) = read_file(rt, alloc, files[at], index, count, &told[at])?;
+        if locked.push(disk).is_err() || values.push(value).is_err() {
+            return Err(stop_without_memory(rt));
+        }
+    }
+    Ok(values)
+}
+
+/// The value of this file, and the file with its lock.
+fn read_file<'f>(
+    rt: &'f HostRuntime,
+    alloc: Global,
+    file: &'f str,
+    index: u8,
+    count: u8,
+    told: &'f FirstFault,
+) -> Result<(FileDisk<'f, HostRuntime>, SegmentValue), Status>
+    requires below { index < count }
+    requires few { count ≤ MAX_COUNT }
+{
+    let disk = match FileDisk::open(rt, file, Lock::Shared) {
+        Ok(disk) => disk.telling(told.place()),
+        Err(fault) => return Err(fail_at_locked(rt, file, &fault)),
+    };
+    let mut errors = rt.stderr();
+    match held_value(alloc, file, index, count, disk, told, &mut errors) {
+        (disk, Ok(value)) => Ok((disk, value)),
+        (_, Err(ended)) => Err(ended.status),
+    }
+}
+
+/// Says why the file at this path could not be taken, and whom to ask where somebody has it.
+fn fail_at_locked(rt: &HostRuntime, file: &str, fault: &FileFault) -> Status {
+    if let FileFault::InUse(_) = fault {
+        let line = format_args!("{file}: {fault}: where that is a server, ask it: snapd dump ADDR");
+        let _ = complain(rt.alloc(), &mut rt.stderr(), &line);
+        return Status::Failed;
+    }
+    fail_at(rt, file, fault)
+}

@@ -1,0 +1,177 @@
+//! The command `load`: a folder of what a dump holds.
+//!
+//! The files are made in a folder beside it, which gets the folder's name once all are on the disk for good. So
+//! the folder is there whole, or not at all.
+ghost use Rattle.std.specs.Prelude.{◌≡◌, ◌<◌, ◌≤◌, All, IfOk, length};
+ghost use Rattle.snap_dump.specs.Limits.{IsNumber, IsShort};
+ghost use Rattle.snap_order.specs.Limits.{MAX_COUNT};
+ghost use Rattle.snap_order.specs.Order.{IsLoadable, IsOneTo};
+ghost use Rattle.snap_dump.specs.Document.{AreServable, IsKeepable};
+
+use crate::complaint::{fail_at, stop, stop_without_memory};
+use crate::files::FirstFault;
+use crate::folder::segment_path;
+use crate::loading_folder::{LoadRefusal, LoadingFolder};
+use snap_devices::{FileDisk, FileFault};
+use snap_disk::Refusal;
+use snap_dump::{Dump, DumpFault, MAX_DUMP_LEN, read};
+use snap_file_commands::{CommandFailure, LoadedFile};
+use snap_frame::SegmentValue;
+use snap_order::{FileOrder, Loading, Status};
+use snap_stream::{complain, read_up_to, write_whole};
+use std::fs::File;
+use std::io::Read;
+
+/// Reads the dump, and then makes the folder. A dump that is none is refused before anything is made.
+pub fn load(rt: &HostRuntime, order: &Loading<'_>) -> Status
+    requires { IsLoadable order.now }
+{
+    let dump = match read_dump(rt, order.dump) {
+        Ok(dump) => dump,
+        Err(status) => return status,
+    };
+    let found = dump.values.len() as u8;
+    let count = order.count.unwrap_or(found);
+    if count < found {
+        let dump = order.dump;
+        return refuse(rt, &LoadRefusal::TooFew { dump, found, count });
+    }
+    match make_folder(rt, order.folder, count, &dump.values) {
+        Ok(()) => Status::Done,
+        Err(status) => status,
+    }
+}
+
+/// The dump in the file at this path, or on standard input.
+fn read_dump(rt: &HostRuntime, path: &str) -> Result<Dump, Status>
+    ensures { IfOk result (λ dump. AreServable dump.values.items) }
+{
+    if path == "-" {
+        return read_from(rt, "standard input", &mut rt.stdin());
+    }
+    match File::open(rt, path) {
+        Ok(mut file) => read_from(rt, path, &mut file),
+        Err(reason) => Err(fail_at(rt, path, &FileFault::System(reason))),
+    }
+}
+
+/// The dump that a reader has, which has this name.
+fn read_from<R: Read>(rt: &HostRuntime, name: &str, reader: &mut R) -> Result<Dump, Status>
+    ensures { IfOk result (λ dump. AreServable dump.values.items) }
+{
+    // One byte more than a dump may have shows that it is too long.
+    let Ok(mut text) = vec![in rt.alloc(); 0u8; MAX_DUMP_LEN + 1] else {
+        return Err(stop_without_memory(rt));
+    };
+    let len = match read_up_to(reader, &mut text) {
+        Ok(len) => len,
+        Err(reason) => return Err(fail_at(rt, name, &FileFault::System(reason))),
+    };
+    if len > MAX_DUMP_LEN {
+        return Err(refuse_dump(rt, name, DumpFault::TooLong));
+    }
+    match read(rt.alloc(), &text[..len]) {
+        Ok(dump) => Ok(dump),
+        Err(fault) => Err(refuse_dump(rt, name, fault)),
+    }
+}
+
+/// Says why a text is no dump.
+fn refuse_dump(rt: &HostRuntime, name: &str, fault: DumpFault) -> Status {
+    if fault == DumpFault::NoMemory {
+        return stop_without_memory(rt);
+    }
+    let _ = complain(
+        rt.alloc(),
+        &mut rt.stderr(),
+        &format_args!("{name}: {fault}"),
+    );
+    Status::Refused
+}
+
+/// Says why nothing is made.
+fn refuse(rt: &HostRuntime, why: &LoadRefusal<'_>) -> Status {
+    let _ = complain(rt.alloc(), &mut rt.stderr(), why);
+    Status::Refused
+}
+
+/// Makes the folder with so many segments, the first of which have these values.
+fn make_folder(
+    rt: &HostRuntime,
+    folder: &str,
+    count: u8,
+    values: &[SegmentValue],
+) -> Result<(), Status>
+    requires count { IsOneTo MAX_COUNT count }
+    requires values { All IsKeepable values.now }
+{
+    let loading = LoadingFolder::take(rt, folder)?;
+    for index in 0..count {
+        let Ok(file) = segment_path(rt.alloc(), loading.path(), index) else {
+            return Err(stop_without_memory(rt));
+        };
+        let status = make_file(rt, file.as_str(), index, count, values);
+        if status != Status::Done {
+            return Err(status);
+        }
+    }
+    // The line is made first, so that want of memory leaves the folder out of its place.
+    let Ok(line) = format!(in rt.alloc(); "ready {folder}\n") else {
+        return Err(stop_without_memory(rt));
+    };
+    loading.put_in_place(rt)?;
+    match write_whole(&mut rt.stdout(), line.as_bytes()) {
+        Ok(()) => Ok(()),
+        Err(error) => Err(stop(rt, &CommandFailure::Output(error))),
+    }
+}
+
+/// Makes the file of a segment, with its value, or with none behind the last of these.
+fn make_file(rt: &HostRuntime, file: &str, index: u8, count: u8, values: &[SegmentValue]) -> Status
+    requires below { index < count }
+    requires few { count ≤ MAX_COUNT }
+    requires values { All IsKeepable values.now }
+{
+    let told = FirstFault::new();
+    let disk = match FileDisk::create(rt, file) {
+        Ok(disk) => disk.telling(told.place()),
+        Err(FileFault::WrongFile { len }) => {
+            let refused = CommandFailure::Refused(Refusal::WrongFile);
+            let order = FileOrder::Format { file, index, count };
+            let mut errors = rt.stderr();
+            return refused
+                .report_of(rt.alloc(), &order, len, &told, &mut errors)
+                .status;
+        }
+        Err(fault) => return fail_at(rt, file, &fault),
+    };
+    let (number, value) = value_at(values, index);
+    let of = LoadedFile {
+        file,
+        index,
+        count,
+        number,
+        value,
+    };
+    let (_disk, ended) = snap_file_commands::load(
+        rt.alloc(),
+        &of,
+        disk,
+        &told,
+        &mut rt.stdout(),
+        &mut rt.stderr(),
+    );
+    ended.status
+}
+
+/// The number and value of this segment: number 0 and no value, where there is none.
+fn value_at(values: &[SegmentValue], index: u8) -> (u64, &[u8])
+    requires { All IsKeepable values.now }
+    ensures number { IsNumber result.0 }
+    ensures fits { IsShort result.1.now }
+{
+    match values.get(usize::from(index)) {
+        Some(value) => (value.number, value.value.as_slice()),
+        None => (0, &[]),
+    }
+}

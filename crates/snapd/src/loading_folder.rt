@@ -1,0 +1,199 @@
+//! The folder in which `load` makes its files, until it gets the name of the one that is wanted.
+
+use crate::complaint::{fail_at, fail_at_folder, stop_without_memory};
+use crate::folder::make_folder;
+use snap_devices::{FileFault, sync_folder_of};
+use snap_folder::{MAX_COUNT, file_name};
+use snap_order::Status;
+use snap_stream::complain;
+use std::alloc::{AllocError, Global};
+use std::fs::{self, File, TryLockError};
+use std::io::{self, ErrorKind};
+use std::os::unix::fs::MetadataExt;
+use std::path::Path;
+use thiserror::Error;
+
+/// Why nothing is made of a dump. Each text names a file or a folder, and says what to do.
+#[derive(Debug, Drop, Error)]
+pub enum LoadRefusal<'f> {
+    #[error("{dump}: it has {found} segments, and --count is {count}: give {found} or more")]
+    TooFew { dump: &'f str, found: u8, count: u8 },
+    #[error("{folder}: it is not empty: give the path of a folder that isn't there yet")]
+    Taken { folder: &'f str },
+    #[error("{folder}: it has no name of its own: give the path that the new folder is to have")]
+    NoName { folder: &'f str },
+    #[error("{loading}/{name}: it is not what a load leaves: move it out of there")]
+    Foreign { loading: &'f str, name: String },
+    #[error("{loading}: it has a file whose name is no text: move it out of there")]
+    OddName { loading: &'f str },
+    #[error("{loading}: another load is at work there: wait for it, or give another folder")]
+    InUse { loading: &'f str },
+}
+
+/// A folder that is being made. Nobody else who loads is at work in it while this lives.
+#[derive(Drop)]
+pub struct LoadingFolder<'f> {
+    /// The path that it is to have.
+    folder: &'f str,
+    /// The path that it has.
+    path: String,
+    /// Its lock.
+    _lock: File,
+}
+
+impl<'f> LoadingFolder<'f> {
+    /// Makes the folder beside the one that is wanted, or takes what a load left that was cut off, and removes
+    /// the files of that. Nothing is changed where the folder that is wanted is there and not empty, and
+    /// none is removed where a file isn't what a load leaves. Says why where it fails.
+    pub fn take(rt: &HostRuntime, wanted: &'f str) -> Result<LoadingFolder<'f>, Status> {
+        let folder = wanted.trim_end_matches('/');
+        if Path::new(folder).file_name().is_none() {
+            return Err(refuse(rt, &LoadRefusal::NoName { folder: wanted }));
+        }
+        check_free(rt, folder)?;
+        let Ok(path) = format!(in rt.alloc(); "{folder}.loading") else {
+            return Err(stop_without_memory(rt));
+        };
+        if let Err(reason) = make_folder(rt, path.as_str()) {
+            return Err(fail_at_folder(rt, path.as_str(), reason));
+        }
+        let lock = lock_folder(rt, path.as_str())?;
+        // Another load may have been here before the lock was. Then what was made just now goes again.
+        if let Err(status) = check_free(rt, folder) {
+            let _ = fs::remove_dir(rt, path.as_str());
+            return Err(status);
+        }
+        clear(rt, path.as_str())?;
+        Ok(LoadingFolder {
+            folder,
+            path,
+            _lock: lock,
+        })
+    }
+
+    /// The path that it has until it is in its place.
+    pub fn path(&self) -> &str {
+        self.path.as_str()
+    }
+
+    /// Gives it the path that it is to have, and makes that last.
+    pub fn put_in_place(&self, rt: &HostRuntime) -> Result<(), Status> {
+        let (folder, path) = (self.folder, self.path.as_str());
+        if let Err(reason) = fs::rename(rt, path, folder) {
+            let line = format_args!("{folder}: {reason}: all files are made, in {path}");
+            let _ = complain(rt.alloc(), &mut rt.stderr(), &line);
+            return Err(Status::Failed);
+        }
+        match sync_folder_of(rt, folder) {
+            Ok(()) => Ok(()),
+            Err(reason) => Err(fail_at_folder(rt, folder, reason)),
+        }
+    }
+}
+
+/// Says why nothing is made.
+fn refuse(rt: &HostRuntime, why: &LoadRefusal<'_>) -> Status {
+    let _ = complain(rt.alloc(), &mut rt.stderr(), why);
+    Status::Refused
+}
+
+/// The folder isn't there, or is empty. Says so where it isn't.
+fn check_free(rt: &HostRuntime, folder: &str) -> Result<(), Status> {
+    match fs::read_dir(rt, folder) {
+        Ok(mut names) => match names.next() {
+            None => Ok(()),
+            Some(_) => Err(refuse(rt, &LoadRefusal::Taken { folder })),
+        },
+        Err(reason) if reason.kind() == ErrorKind::NotFound => Ok(()),
+        Err(reason) => Err(fail_at_folder(rt, folder, reason)),
+    }
+}
+
+/// The folder at this path, with a lock. Says why where it can't be had.
+fn lock_folder(rt: &HostRuntime, path: &str) -> Result<File, Status> {
+    match try_lock_folder(rt, path) {
+        Ok(Some(lock)) => Ok(lock),
+        Ok(None) => Err(refuse(rt, &LoadRefusal::InUse { loading: path })),
+        Err(reason) => Err(fail_at(rt, path, &FileFault::System(reason))),
+    }
+}
+
+/// The folder at this path, with a lock. `None` where another process has one, or has given the folder
+/// another name.
+fn try_lock_folder(rt: &HostRuntime, path: &str) -> io::Result<Option<File>> {
+    let folder = File::open(rt, path)?;
+    match folder.try_lock() {
+        Ok(()) => {}
+        Err(TryLockError::WouldBlock) => return Ok(None),
+        Err(TryLockError::Error(reason)) => return Err(reason),
+    }
+    let opened = folder.metadata()?;
+    let named = match fs::metadata(rt, path) {
+        Ok(named) => named,
+        Err(reason) if reason.kind() == ErrorKind::NotFound => return Ok(None),
+        Err(reason) => return Err(reason),
+    };
+    let is_same = opened.dev() == named.dev() && opened.ino() == named.ino();
+    Ok(is_same.then_some(folder))
+}
+
+/// Removes what a load left that was cut off. Says why where something else is there, and then removes none.
+fn clear(rt: &HostRuntime, loading: &str) -> Result<(), Status> {
+    for name in names_in(rt, loading)? {
+        let path = Path::new(loading);
+        let Ok(path) = path.join(rt.alloc(), name.as_str()) else {
+            return Err(stop_without_memory(rt));
+        };
+        if let Err(reason) = fs::remove_file(rt, path.as_str()) {
+            return Err(fail_at(rt, path.as_str(), &FileFault::System(reason)));
+        }
+    }
+    Ok(())
+}
+
+/// The names in the folder, each of which is one that a load gives. Says so where one isn't.
+fn names_in(rt: &HostRuntime, loading: &str) -> Result<Vec<String>, Status> {
+    let entries = match fs::read_dir(rt, loading) {
+        Ok(entries) => entries,
+        Err(reason) => return Err(fail_at_folder(rt, loading, reason)),
+    };
+    let mut names = Vec::new(rt.alloc());
+    for entry in entries {
+        let name = match entry {
+            Ok(entry) => own_name(rt, loading, entry.file_name())?,
+            Err(reason) if reason.kind() == ErrorKind::InvalidFilename => {
+                return Err(refuse(rt, &LoadRefusal::OddName { loading }));
+            }
+            Err(reason) => return Err(fail_at_folder(rt, loading, reason)),
+        };
+        if names.push(name).is_err() {
+            return Err(stop_without_memory(rt));
+        }
+    }
+    Ok(names)
+}
+
+/// The name, where it is one that a load gives. Says so where it isn't.
+fn own_name(rt: &HostRuntime, loading: &str, name: &str) -> Result<String, Status> {
+    let Ok(is_own) = is_own_name(rt.alloc(), name) else {
+        return Err(stop_without_memory(rt));
+    };
+    let Ok(name) = String::from_str(rt.alloc(), name) else {
+        return Err(stop_without_memory(rt));
+    };
+    if is_own {
+        Ok(name)
+    } else {
+        Err(refuse(rt, &LoadRefusal::Foreign { loading, name }))
+    }
+}
+
+/// The name is that of a file that a load makes.
+fn is_own_name(alloc: Global, name: &str) -> Result<bool, AllocError> {
+    for index in 0..MAX_COUNT {
+        if file_name(alloc, index)?.as_str() == name {
+            return Ok(true);
+        }
+    }
+    Ok(false)
+}
