@@ -66,6 +66,7 @@ tests: programs
 bench: programs
 	python3 bench/run.py
 	python3 bench/server.py
+	python3 bench/seen.py
 
 # Fails hosts under a server whose files have three copies, 50 times in each of four ways, for half an hour. It wants bin/snapd, root,
 # FUSE and some packages of Debian's, says so in one line where something is missing, and is no part of `make test`.

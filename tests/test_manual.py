@@ -74,7 +74,7 @@ def test_the_page_names_all_that_help_names(snapd, _):
     for section in ("NAME", "SYNOPSIS", "DESCRIPTION", "OPTIONS", "COMMANDS", "EXIT STATUS"):
         assert f"\n{section}\n" in text, section
     found = commands(snapd)
-    assert len(found) == 13, found
+    assert len(found) == 14, found
     for command, about in found.items():
         assert f"\n   {command}\n" in text, command
         if command != "help":
@@ -155,7 +155,7 @@ def test_bash_completes_files(snapd, _):
     assert completed(snapd, "serve", "127.0.0.1", ":", "7070", "a.seg", "--scanners", "=", "3", "a.") == "a.seg"
     for words in (("init",), ("serve", "ADDR", "--dir"), ("serve", "ADDR", "--dir", "=")):
         assert completed(snapd, *words, "a") == "a folder", words
-    for words in (("format", "a.seg"), ("serve",), ("call",), ("put", "--index"), ("script",)):
+    for words in (("format", "a.seg"), ("serve",), ("call",), ("watch",), ("watch", "127.0.0.1:7070"), ("serve", "ADDR", "--http"), ("put", "--index"), ("script",)):
         assert completed(snapd, *words, "a") == "", words
 
 

@@ -31,9 +31,18 @@ LISTINGS = {
 
 def test_every_listing_is_known(_, __):
     hosts = ["files.sh", "fstab", "snapd-takeover.service", "takeover.py", "volume.sh"]
-    assert sorted(LISTINGS) == sorted([*hosts, "backup.sh", "board.py", "checkpoint.py", "grow.sh", "launch.sh", "lease.py",
+    assert sorted(LISTINGS) == sorted([*hosts, "prometheus.yml", "snapd.rules.yml", "backup.sh", "board.py", "checkpoint.py", "grow.sh", "launch.sh", "lease.py",
                                 "snapd.service", "socket.conf", "start.sh"])
     assert len(re.findall(r"^```\w+$", RECIPES, re.M)) == len(LISTINGS)
+
+
+def test_prometheus_takes_its_files(snapd, _):
+    if not shutil.which("promtool"):
+        raise Skipped("promtool isn't installed")
+    written(snapd, "prometheus.yml", "snapd.rules.yml")
+    for words in (("config", "prometheus.yml"), ("rules", "snapd.rules.yml")):
+        checked = subprocess.run(["promtool", "check", *words], cwd=snapd.folder, capture_output=True, text=True, check=False)
+        assert checked.returncode == 0 and "FAILED" not in checked.stdout + checked.stderr, checked
 
 
 def written(snapd, *names):

@@ -4,13 +4,13 @@ use Rattle.std.proofs.lemmas.Grind.{common_steps}
 use Rattle.clap.specs.Words.{Text, first_value}
 use Rattle.clap.specs.declared.parser.matches.Found.{Found}
 use Rattle.snap_args.specs.Faults.{HasWord, IsCallingFault, IsDumpingFault, IsExaminationFault, IsFaultOf, IsFolderFault}
-use Rattle.snap_args.specs.Faults.{IsFoundingFault, IsLoadingFault, IsMigrationFault}
+use Rattle.snap_args.specs.Faults.{IsFoundingFault, IsLoadingFault, IsMigrationFault, IsWatchingFault}
 use Rattle.snap_args.specs.Faults.{IsAnswerFault, IsPathFault, IsServiceFault, IsServingFault}
 use Rattle.snap_args.specs.Requests.{IsRequestFault}
-use Rattle.snap_args.specs.Numbers.{IsCountFault, IsNoNumber, IsNumberFault, IsPlaceFault}
+use Rattle.snap_args.specs.Numbers.{IsCountFault, IsEveryFault, IsNoNumber, IsNumberFault, IsPlaceFault, IsSegmentsFault}
 use Rattle.snap_args.specs.Words.{HasCommand, OfCommand, all_values, word_of, words_of}
 use Rattle.snap_args.specs.declared.fault.WordFault.{WordFault}
-use Rattle.snap_args.specs.declared.fault.WordFault.TheVariants.{Count, Index, Memory, Missing, NoFiles, Number, Request, Scanners, Tries}
+use Rattle.snap_args.specs.declared.fault.WordFault.TheVariants.{Count, Index, Memory, Missing, NoFiles, Number, Request, Scanners, Segment, Tries}
 use Rattle.snap_args.proofs.Asked.{by_words, missing, named, word_is}
 
 -- a fault of a path that the command takes
@@ -113,6 +113,27 @@ loading_fault its called why (inr (inl is)) =
 loading_fault its called why (inr (inr is)) =
     count_fault its (inr (inr (inr (inr (inl (inr (called, inr (inr refl)))))))) why is
 
+-- of the words for the segments of a watch
+segments_fault : (words : List Text) (why : WordFault)
+    → IsSegmentsFault (words_of words (codes "segments")) why → IsFaultOf words why
+segments_fault words Segment is = is
+segments_fault words Memory is = tt
+segments_fault words why is = absurd is
+
+-- of its word for the time between two looks
+every_fault : (words : List Text) (why : WordFault)
+    → IsEveryFault (word_of words (codes "every")) why → IsFaultOf words why
+every_fault words why is = rw is.0 (refl, is.1)
+
+-- of the words of a watch
+watching_fault : {words : List Text} {name : Text} {found : Found} → HasCommand words name found
+    → name ≡ codes "watch" → (why : WordFault)
+    → IsWatchingFault (word_of words) (words_of words) why → IsFaultOf words why
+watching_fault its called why (inl is) =
+    path_fault its (codes "address") (inr (inr (inr (inr (inr (inl (called, refl))))))) why is
+watching_fault {words} its called why (inr (inl is)) = segments_fault words why is
+watching_fault {words} its called why (inr (inr is)) = every_fault words why is
+
 -- of a request's words
 request_fault : (words : List Text) (why : WordFault)
     → IsRequestFault (words_of words (codes "request")) (word_of words (codes "value"))
@@ -196,6 +217,12 @@ pub load_fault : {name : Text} (found : Found) → name ≡ codes "load" → (wh
 load_fault found called why is = λ words its.
     loading_fault its called why (by_words its (λ of all. IsLoadingFault of why) is)
 
+pub watch_fault : {name : Text} (found : Found) → name ≡ codes "watch" → (why : WordFault)
+    → IsWatchingFault (first_value found) (all_values found) why
+    → OfCommand name found (λ words. IsFaultOf words why)
+watch_fault found named why is = λ words its.
+    watching_fault its named why (by_words its (λ of all. IsWatchingFault of all why) is)
+
 pub call_fault : {name : Text} (found : Found) → name ≡ codes "call" → (why : WordFault)
     → IsCallingFault (first_value found) (all_values found) why
     → OfCommand name found (λ words. IsFaultOf words why)
@@ -204,11 +231,11 @@ call_fault found named why is = λ words its.
 
 pub placed_fault : {name : Text} (found : Found) → name ≢ codes "script" → name ≢ codes "serve"
     → name ≢ codes "call" → name ≢ codes "init" → name ≢ codes "doctor" → name ≢ codes "dump"
-    → name ≢ codes "load" → name ≢ codes "check" → (why : WordFault)
+    → name ≢ codes "load" → name ≢ codes "watch" → name ≢ codes "check" → (why : WordFault)
     → IsPlaceFault (first_value found (codes "index")) (first_value found (codes "count")) why
     → OfCommand name found (λ words. IsFaultOf words why)
-placed_fault found script serve call init doctor dump load check why is = λ words its.
-    place_fault its (λ what place. inr (inr (inr (inr (inr (
+placed_fault found script serve call init doctor dump load watch check why is = λ words its.
+    place_fault its (λ what place. inr (inr (inr (inr (inr (inr (
       script,
       serve,
       call,
@@ -216,8 +243,9 @@ placed_fault found script serve call init doctor dump load check why is = λ wor
       doctor,
       dump,
       load,
+      watch,
       inr (check, place),
-    )))))) why
+    ))))))) why
     (by_words its (λ of all. IsPlaceFault (of (codes "index")) (of (codes "count")) why) is)
 
 pub migrate_fault : {name : Text} (found : Found) → name ≡ codes "migrate" → (why : WordFault)

@@ -3,3 +3,4 @@ pub mod Explained
 pub mod Faulted
 pub mod Masks
 pub mod Requests
+pub mod Watched

@@ -16,9 +16,9 @@ use Rattle.snap_order.specs.declared.order.Dumping.{Dumping}
 use Rattle.snap_order.specs.declared.order.Question.{Question}
 use Rattle.snap_args.specs.Explanations.{IsShellUnknown}
 use Rattle.snap_args.specs.Grammar.{grammar_of}
-use Rattle.snap_args.specs.Numbers.{IsClientsFault, IsConnectionsFault, IsCountFault, IsGiven, IsIdleFault, IsLargeNumberOf}
+use Rattle.snap_args.specs.Numbers.{IsClientsFault, IsConnectionsFault, IsCountFault, IsEveryFault, IsGiven, IsIdleFault, IsLargeNumberOf}
 use Rattle.snap_args.specs.Numbers.{IsLayoutFault, IsLevelFault, IsModeFault, IsNoNumber, IsNumberOf, IsPlaceFault, IsScannersFault}
-use Rattle.snap_args.specs.Numbers.{IsTimeoutFault, IsTriesFault}
+use Rattle.snap_args.specs.Numbers.{IsSegmentsFault, IsTimeoutFault, IsTriesFault}
 use Rattle.snap_args.specs.Orders.{IsNamed}
 use Rattle.snap_args.specs.Requests.{IsNoRequest, IsQuestionOf, IsRequestFault}
 use Rattle.snap_args.specs.Services.{IsServiceOf}
@@ -104,6 +104,11 @@ IsCallingFault of all why = IsPathFault (of (codes "address")) (codes "address")
     ⊎ (IsRequestFault (all (codes "request")) (of (codes "value")) (of (codes "after")) why
     ⊎ IsAnswerFault of all why))
 
+-- what is wrong with the words of a watch
+abbrev pub IsWatchingFault : (of : Text → Option Text) (all : Text → List Text) → WordFault → Type 0
+IsWatchingFault of all why = IsPathFault (of (codes "address")) (codes "address") why
+    ⊎ (IsSegmentsFault (all (codes "segments")) why ⊎ IsEveryFault (of (codes "every")) why)
+
 -- what is wrong with the words of a dump
 abbrev pub IsDumpingFault : (of : Text → Option Text) → WordFault → Type 0
 IsDumpingFault of why = IsPathFault (of (codes "holder")) (codes "holder") why
@@ -131,7 +136,8 @@ IsCommandName name =
     (name ≡ codes "format") ⊎ ((name ≡ codes "put") ⊎ ((name ≡ codes "get")
     ⊎ ((name ≡ codes "check") ⊎ ((name ≡ codes "migrate") ⊎ ((name ≡ codes "init")
     ⊎ ((name ≡ codes "doctor") ⊎ ((name ≡ codes "serve") ⊎ ((name ≡ codes "call")
-    ⊎ ((name ≡ codes "dump") ⊎ ((name ≡ codes "load") ⊎ (name ≡ codes "script")))))))))))
+    ⊎ ((name ≡ codes "watch") ⊎ ((name ≡ codes "dump") ⊎ ((name ≡ codes "load")
+    ⊎ (name ≡ codes "script"))))))))))))
 
 -- the words for files that the command takes
 abbrev pub HasFile : Text → Text → Type 0
@@ -142,7 +148,8 @@ HasFile command what = ((command ≡ codes "migrate") × ((what ≡ codes "old")
 abbrev pub HasSegmentWord : Text → Text → Type 0
 HasSegmentWord command what = (command ≢ codes "script") × (command ≢ codes "serve")
     × (command ≢ codes "call") × (command ≢ codes "init") × (command ≢ codes "doctor")
-    × (command ≢ codes "dump") × (command ≢ codes "load") × (HasFile command what
+    × (command ≢ codes "dump") × (command ≢ codes "load") × (command ≢ codes "watch")
+    × (HasFile command what
     ⊎ ((command ≢ codes "check") × ((what ≡ codes "index") ⊎ (what ≡ codes "count"))))
 
 -- the command, which is about a dump, takes this word behind its name
@@ -159,7 +166,8 @@ HasWord command what =
     ⊎ (((command ≡ codes "call") × ((what ≡ codes "address") ⊎ (what ≡ codes "tries")))
     ⊎ (((command ≡ codes "init") × ((what ≡ codes "folder") ⊎ (what ≡ codes "count")))
     ⊎ (((command ≡ codes "doctor") × (what ≡ codes "folder"))
-    ⊎ (HasDumpWord command what ⊎ HasSegmentWord command what))))
+    ⊎ (HasDumpWord command what ⊎ (((command ≡ codes "watch") × (what ≡ codes "address"))
+    ⊎ HasSegmentWord command what)))))
 
 -- the command takes this word, and none was found
 abbrev pub IsMissing : List Text → Text → Type 0
@@ -193,6 +201,9 @@ IsFaultOf words (fault.Addresses n) =
     IsAddressesFault (words_of words (codes "listen")) (fault.Addresses n)
 IsFaultOf words fault.Mode = IsModeFault (word_of words (codes "socket-mode")) fault.Mode
 IsFaultOf words fault.Level = IsLevelFault (word_of words (codes "log")) fault.Level
+IsFaultOf words fault.Segment =
+    IsSegmentsFault (words_of words (codes "segments")) fault.Segment
+IsFaultOf words fault.Every = IsEveryFault (word_of words (codes "every")) fault.Every
 IsFaultOf words fault.Timeout = IsTimeoutFault (word_of words (codes "timeout")) fault.Timeout
 IsFaultOf words fault.TwoLayouts =
     IsLayoutFault (word_of words (codes "text")) (word_of words (codes "json")) fault.TwoLayouts
@@ -219,6 +230,8 @@ IsLaterFault (fault.Index index count) = Unit {0}
 IsLaterFault fault.NoFiles = Unit {0}
 IsLaterFault (fault.Files count) = Unit {0}
 IsLaterFault fault.FilesAndFolder = Unit {0}
+IsLaterFault fault.Segment = Unit {0}
+IsLaterFault fault.Every = Unit {0}
 IsLaterFault fault.Timeout = Unit {0}
 IsLaterFault fault.TwoLayouts = Unit {0}
 IsLaterFault fault.NoLayout = Unit {0}
@@ -266,6 +279,7 @@ AreNumbersOf words (order.Doctor e) = Unit {0}
 AreNumbersOf words (order.Serve s) = IsServiceOf (word_of words) (words_of words) s
 AreNumbersOf words (order.ServeFolder folder s) = IsServiceOf (word_of words) (words_of words) s
 AreNumbersOf words (order.Call c) = AreCallingNumbersOf words c
+AreNumbersOf words (order.Watch w) = IsLargeNumberOf (word_of words (codes "every")) w.every
 AreNumbersOf words (order.Dump d) = AreDumpingNumbersOf words d
 AreNumbersOf words (order.Load l) = IsLargeNumberOf (word_of words (codes "count")) l.count
 AreNumbersOf words order.Script = Unit {0}

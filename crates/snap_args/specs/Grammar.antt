@@ -102,10 +102,10 @@ limited app = with_rule
 abbrev pub supplied : App → App
 supplied app = with_rule (with_rule app (free_words_rule (codes "files"))) (text_rule (codes "dir"))
 
--- with further addresses, and the mode of the file of a socket
+-- with further addresses, the mode of the file of a socket, and where HTTP is answered
 abbrev pub reached : App → App
-reached app = with_rule (with_rule app (texts_rule (codes "listen")))
-    (choice_rule (codes "socket-mode") (codes "0600"))
+reached app = with_rule (with_rule (with_rule app (texts_rule (codes "listen")))
+    (choice_rule (codes "socket-mode") (codes "0600"))) (text_rule (codes "http"))
 
 -- with addresses, files or a folder, and the numbers of a server
 abbrev pub served : App → App
@@ -128,6 +128,12 @@ tried app = with_rule (with_rule app (number_rule (codes "tries") (codes "1")))
 -- with an address, the words of a request, the tries, a put's options, and how the answer is printed
 abbrev pub called : App → App
 called app = printed (stored (tried (with_rule (addressed app) (words_rule (codes "request")))))
+
+-- with an address, the segments that are shown, the time between two looks, and whether changes are printed
+-- as JSON
+abbrev pub watched : App → App
+watched app = with_rule (with_rule (with_rule (addressed app) (free_words_rule (codes "segments")))
+    (large_number_rule (codes "every"))) (flag_rule (codes "json"))
 
 -- with whose values are dumped, and how often and how long a server is waited for
 abbrev pub dumped : App → App
@@ -153,7 +159,7 @@ program_of = record { top = top_shape; subs = [] }
 abbrev pub grammar_of : App
 grammar_of = with_subcommand (with_subcommand (with_subcommand (with_subcommand (with_subcommand
     (with_subcommand (with_subcommand (with_subcommand (with_subcommand (with_subcommand
-    (with_subcommand (with_subcommand program_of
+    (with_subcommand (with_subcommand (with_subcommand program_of
     (placed (filed (new_app (codes "format")))).top)
     (placed (filed (new_app (codes "put")))).top)
     (placed (filed (new_app (codes "get")))).top)
@@ -163,6 +169,7 @@ grammar_of = with_subcommand (with_subcommand (with_subcommand (with_subcommand 
     (examined (new_app (codes "doctor"))).top)
     (served (new_app (codes "serve"))).top)
     (called (new_app (codes "call"))).top)
+    (watched (new_app (codes "watch"))).top)
     (dumped (new_app (codes "dump"))).top)
     (loaded (new_app (codes "load"))).top) (new_app (codes "script")).top
 

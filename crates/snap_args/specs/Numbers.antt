@@ -1,5 +1,5 @@
 -- The numbers among the words of a command, and what is wrong with them.
-use Rattle.std.specs.Prelude.{◌≡◌, ◌≢◌, ◌⊎◌, ℕ, ◌-◌, ◌<◌, ◌≤◌, ◌^◌, length, Option, Some, None, codes}
+use Rattle.std.specs.Prelude.{◌≡◌, ◌≢◌, ◌⊎◌, ℕ, ◌-◌, ◌<◌, ◌≤◌, ◌^◌, List, length, slice_get, slice_index, Option, Some, None, codes}
 use Rattle.std.specs.Str.Parse.{IsNumeral, digits_value, without_leading_plus}
 use Rattle.clap.specs.Words.{Text}
 use Rattle.snap_order.specs.Limits.{MAX_COUNT, MAX_SCANNERS, MAX_TRIES}
@@ -8,7 +8,7 @@ use Rattle.snap_order.specs.declared.order.Layout.{Layout}
 use Rattle.snap_order.specs.declared.order.Layout.TheVariants as layout
 use Rattle.snap_order.specs.declared.order.Level.{Level}
 use Rattle.snap_order.specs.declared.order.Level.TheVariants as level
-use Rattle.snap_order.specs.declared.order.TheConstants.{MAX_CLIENTS, MAX_IDLE, MAX_TIMEOUT, MODE_BITS}
+use Rattle.snap_order.specs.declared.order.TheConstants.{MAX_CLIENTS, MAX_EVERY, MAX_IDLE, MAX_TIMEOUT, MODE_BITS}
 use Rattle.snap_args.specs.declared.fault.WordFault.{WordFault}
 use Rattle.snap_args.specs.declared.fault.WordFault.TheVariants as fault
 use Rattle.snap_args.specs.declared.fault.RequestFault.TheVariants as request
@@ -112,6 +112,21 @@ IsIdleFault word why = (why ≡ fault.Idle) × IsNoNumberTo MAX_IDLE word
 -- what is wrong with this word for the seconds that an answer is waited for
 abbrev pub IsTimeoutFault : Option Text → WordFault → Type 0
 IsTimeoutFault word why = (why ≡ fault.Timeout) × IsNoNumberTo MAX_TIMEOUT word
+
+-- what is wrong with this word for the milliseconds between two looks
+abbrev pub IsEveryFault : Option Text → WordFault → Type 0
+IsEveryFault word why = (why ≡ fault.Every) × IsNoNumberTo MAX_EVERY word
+
+-- these are the words' numbers, in order
+abbrev pub AreSegmentsOf : List Text → List ℕ → Type 0
+AreSegmentsOf words segments = (length segments ≡ length words)
+    × ((k : ℕ) → k < length words → IsNumberOf (slice_get words k) (slice_index segments k))
+
+-- what is wrong with these words for segments: one of them is no number that a segment may have
+abbrev pub IsSegmentsFault : List Text → WordFault → Type 0
+IsSegmentsFault words fault.Segment = (k : ℕ) × IsNoNumberBelow MAX_COUNT (slice_get words k)
+IsSegmentsFault words fault.Memory = Unit {0}
+IsSegmentsFault words why = ⊥
 
 -- what is wrong with this word for a number that another one is stored behind
 abbrev pub IsAfterFault : Option Text → WordFault → Type 0

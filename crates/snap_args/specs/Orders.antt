@@ -11,10 +11,11 @@ use Rattle.snap_order.specs.declared.order.Serving.{Serving}
 use Rattle.snap_order.specs.declared.order.Calling.{Calling}
 use Rattle.snap_order.specs.declared.order.Dumping.{Dumping}
 use Rattle.snap_order.specs.declared.order.Loading.{Loading}
+use Rattle.snap_order.specs.declared.order.Watching.{Watching}
 use Rattle.snap_args.specs.Dumps.{IsHolderOf}
 use Rattle.snap_args.specs.Explanations.{IsExplanationOf}
 use Rattle.snap_args.specs.Grammar.{grammar_of}
-use Rattle.snap_args.specs.Numbers.{IsGiven, IsLayoutOf}
+use Rattle.snap_args.specs.Numbers.{AreSegmentsOf, IsGiven, IsLayoutOf}
 use Rattle.snap_args.specs.Requests.{IsQuestionOf}
 use Rattle.snap_args.specs.Services.{IsServiceOf}
 use Rattle.snap_args.specs.Words.{word_of, words_of}
@@ -37,7 +38,7 @@ IsNamed words name = (rows : List Row) × (subcommand_of grammar_of words ≡ So
 abbrev pub IsOtherCommand : Text → Type 0
 IsOtherCommand name = (name ≢ codes "script") × (name ≢ codes "serve") × (name ≢ codes "call")
     × (name ≢ codes "migrate") × (name ≢ codes "init") × (name ≢ codes "doctor")
-    × (name ≢ codes "dump") × (name ≢ codes "load")
+    × (name ≢ codes "dump") × (name ≢ codes "load") × (name ≢ codes "watch")
 
 -- the words are those of this order: its command, and its file
 abbrev pub IsFileAskedBy : List Text → FileOrder → Type 0
@@ -84,6 +85,13 @@ pub record IsCallOf (words : List Text) (c : Calling) : Type 0 where
       (word_of words (codes "after")) c.question
   pub layout : IsLayoutOf (word_of words (codes "text")) (word_of words (codes "json")) c.layout
 
+-- the words are those of a watch of these segments of the server at this address
+pub record IsWatchOf (words : List Text) (w : Watching) : Type 0 where
+  pub command : IsNamed words (codes "watch")
+  pub address : word_of words (codes "address") ≡ Some w.address.now
+  pub segments : AreSegmentsOf (words_of words (codes "segments")) w.segments.items
+  pub json : IsTrue w.is_json ↔ IsGiven (word_of words (codes "json"))
+
 -- the words are those of this dump
 pub record IsDumpOf (words : List Text) (d : Dumping) : Type 0 where
   pub command : IsNamed words (codes "dump")
@@ -104,6 +112,7 @@ IsAskedBy words (order.Doctor e) = IsExaminationOf words e
 IsAskedBy words (order.Serve s) = IsServerOf words s
 IsAskedBy words (order.ServeFolder folder s) = IsFolderServerOf words folder.now s
 IsAskedBy words (order.Call c) = IsCallOf words c
+IsAskedBy words (order.Watch w) = IsWatchOf words w
 IsAskedBy words (order.Dump d) = IsDumpOf words d
 IsAskedBy words (order.Load l) = IsLoadOf words l
 IsAskedBy words order.Script = IsNamed words (codes "script")

@@ -1,5 +1,5 @@
 -- Which server goes with which words, but for its files.
-use Rattle.std.specs.Prelude.{◌≡◌, List, ◌∷◌, Option, Some, None, codes, map}
+use Rattle.std.specs.Prelude.{◌≡◌, List, ◌∷◌, Option, Some, None, codes, map, option_map}
 use Rattle.clap.specs.Words.{Text}
 use Rattle.snap_order.specs.declared.order.Serving.{Serving}
 use Rattle.snap_args.specs.Numbers.{IsLargeNumberOf, IsLevelOf, IsModeOf, IsNumberOf}
@@ -9,7 +9,7 @@ abbrev pub AreAddressesOf : (first : Option Text) (further : List Text) → List
 AreAddressesOf None further addresses = ⊥
 AreAddressesOf (Some first) further addresses = addresses ≡ first ∷ further
 
--- the server's addresses, its numbers and the level of its log are those of these words
+-- the server's addresses, its numbers, the level of its log and where it answers HTTP are those of these words
 pub record IsServiceOf (of : Text → Option Text) (all : Text → List Text) (s : Serving)
     : Type 0 where
   pub addresses : AreAddressesOf (of (codes "address")) (all (codes "listen"))
@@ -20,3 +20,4 @@ pub record IsServiceOf (of : Text → Option Text) (all : Text → List Text) (s
   pub clients : IsLargeNumberOf (of (codes "clients-max")) s.clients
   pub idle : IsLargeNumberOf (of (codes "idle")) s.idle
   pub log : IsLevelOf (of (codes "log")) s.log
+  pub http : option_map (λ a. a.now) s.http ≡ of (codes "http")

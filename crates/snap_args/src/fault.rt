@@ -1,5 +1,5 @@
 //! Why words are no order.
-use snap_order::{MAX_CLIENTS, MAX_IDLE, MAX_TIMEOUT, MAX_UPDATE_VALUE};
+use snap_order::{MAX_CLIENTS, MAX_EVERY, MAX_IDLE, MAX_TIMEOUT, MAX_UPDATE_VALUE};
 use std::alloc::AllocError;
 use thiserror::Error;
 
@@ -99,6 +99,12 @@ pub enum WordFault {
     /// The word for how long an answer is waited for is no number of seconds that a call may have.
     #[error("error: the seconds of the timeout are not from 1 to {max}{more}", max = MAX_TIMEOUT, more = MORE)]
     Timeout,
+    /// A word for a segment to show is no number that a segment may have.
+    #[error("error: a segment to show is not a number from 0 to 15{more}", more = MORE)]
+    Segment,
+    /// The word for the time between two looks is no number of milliseconds that a watch may have.
+    #[error("error: the milliseconds between looks are not from 1 to {max}{more}", max = MAX_EVERY, more = MORE)]
+    Every,
     /// An answer can't be printed in both ways.
     #[error("error: --text and --json are given, and an answer is printed in one way{more}", more = MORE)]
     TwoLayouts,

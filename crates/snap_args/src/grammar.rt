@@ -9,16 +9,17 @@ ghost use Rattle.snap_args.specs.Grammar.{free_number_rule, free_words_rule, gra
 ghost use Rattle.snap_args.specs.Grammar.{large_number_rule, limited, loaded, number_rule, paired};
 ghost use Rattle.snap_args.specs.Grammar.{placed, printed, program_of, reached, served, stored};
 ghost use Rattle.snap_args.specs.Grammar.{supplied, text_rule, texts_rule, tried, versioned};
-ghost use Rattle.snap_args.specs.Grammar.{word_rule, words_rule};
+ghost use Rattle.snap_args.specs.Grammar.{watched, word_rule, words_rule};
 
 use crate::help::{
     CALL_HELP, CHECK_HELP, DOCTOR_HELP, DUMP_HELP, FORMAT_HELP, GET_HELP, INIT_HELP, LOAD_HELP,
-    MIGRATE_HELP, PROGRAM_HELP, PUT_HELP, SCRIPT_HELP, SERVE_HELP,
+    MIGRATE_HELP, PROGRAM_HELP, PUT_HELP, SCRIPT_HELP, SERVE_HELP, WATCH_HELP,
 };
 use clap::{Arg, ArgAction, Command, value_parser};
 use std::alloc::{AllocError, Global};
 
-const VERSION: &str = "0.1.0";
+/// The version of the program.
+pub const VERSION: &str = "0.1.0";
 
 /// The commands of the program with their words.
 pub(crate) fn grammar<'a>(alloc: Global) -> Result<Command<'a>, AllocError>
@@ -29,6 +30,7 @@ pub(crate) fn grammar<'a>(alloc: Global) -> Result<Command<'a>, AllocError>
     let commands = with_command(commands, doctor_command(alloc));
     let commands = with_command(commands, serve_command(alloc));
     let commands = with_command(commands, call_command(alloc));
+    let commands = with_command(commands, watch_command(alloc));
     let commands = with_command(commands, dump_command(alloc));
     let commands = with_command(commands, load_command(alloc));
     with_command(commands, Ok(script_command(alloc)))
@@ -157,6 +159,22 @@ fn call_command<'a>(alloc: Global) -> Result<Command<'a>, AllocError>
     with_layouts(alloc, with_storing(alloc, with_patience(alloc, command)))
 }
 
+fn watch_command<'a>(alloc: Global) -> Result<Command<'a>, AllocError>
+    ensures { IfOk result (IsCommandOf (watched (new_app (codes "watch")))) }
+{
+    let about = "Show what a server holds, and each change of it";
+    let command = addressed_command(alloc, "watch", about, WATCH_HELP);
+    let help = "The segments to show, 0 to 15; all where none is given";
+    let command = with_arg(command, free_words(alloc, "segments", "SEGMENT", help));
+    let help = "How long it waits between two looks, 1 to 86400000; else 1000";
+    let command = with_arg(
+        command,
+        large_number_option(alloc, "every", "MILLISECONDS", help),
+    );
+    let help = "Print each change as a JSON object, on one line";
+    with_arg(command, flag(alloc, "json", help))
+}
+
 fn dump_command<'a>(alloc: Global) -> Result<Command<'a>, AllocError>
     ensures { IfOk result (IsCommandOf (dumped (new_app (codes "dump")))) }
 {
@@ -255,7 +273,7 @@ fn with_supply<'a>(
     with_arg(command, text_option(alloc, "dir", "DIR", help))
 }
 
-/// The command with a server's further addresses, where it was made.
+/// The command with a server's further addresses, and where it answers HTTP, where it was made.
 fn with_reach<'a>(
     alloc: Global,
     made: Result<Command<'a>, AllocError>,
@@ -266,10 +284,12 @@ fn with_reach<'a>(
     let help = "One more address to listen at; again and again for further ones, 16 in all";
     let command = with_arg(made, text_options(alloc, "listen", "ADDR", help));
     let help = "The mode of the file of a unix:PATH: who may write it may connect";
-    with_arg(
+    let command = with_arg(
         command,
         choice_option(alloc, "socket-mode", "0600", "MODE", help),
-    )
+    );
+    let help = "Where browsers and monitors may look, by HTTP: HOST:PORT; else nowhere";
+    with_arg(command, text_option(alloc, "http", "ADDR", help))
 }
 
 /// The command with the numbers of a server, where it was made.

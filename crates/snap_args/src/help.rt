@@ -103,6 +103,12 @@ There is no login: who reaches ADDR may read and write all segments. Use unix:PA
 ::1, and a tunnel from elsewhere. An ADDR that stands for all of the machine's, as 0.0.0.0:7070, is
 served with a warning.
 
+With --http it answers browsers and monitors at one more ADDR, a HOST:PORT, which is in the log with
+the port that it got. There / is a page that shows all segments live, /metrics is what Prometheus
+reads, /health has status 503 where a segment is fenced, and /scan, /status and /stats are JSON.
+Whoever reaches it may look at all segments and change none. It has a scanner of its own, so that
+nobody waits for it, and --scanners is 15 at most.
+
 A unix:PATH is a socket of this machine. Its file gets MODE, and who may write it may connect, and
 nobody else. The file of a server that was killed is replaced. Where a process listens at PATH, or
 what is there is no socket, the server doesn't start. At its own end it removes the file.
@@ -173,6 +179,36 @@ Examples:
   snapd call 127.0.0.1:7070 scan --tries 3 --timeout 5
   snapd call 127.0.0.1:7070 part 0009
   snapd call 127.0.0.1:7070 health";
+
+pub(crate) const WATCH_HELP: &str = "\
+Prints a line for each SEGMENT, or for all, and from then on one more at each change: where a segment
+has another number, and where it is fenced or no longer is. In a terminal each segment has one line
+instead, drawn anew in place and cut to the width. A line says
+
+  segment I number K fenced 0 text \"..\"
+
+or `fenced 1`, and in place of the text `value HEX` where the value isn't printable, as with
+`snapd call ADDR scan --text`. With --json it is the JSON object of `snapd call ADDR scan --json`, and
+says \"fenced\" too.
+
+It keeps one connection. Each look asks for the numbers alone, which costs the server little, and for
+the values where one of them is another. So nothing is printed twice, and of the values between two
+looks the last one is.
+
+It runs until it is interrupted or its output fails. Where the server goes away it says so on standard
+error, tries again at each look, and says when the server is back. Where there is no server at its
+start it ends.
+
+Exit status:
+  1  no connection gave a first answer, or standard output failed
+  2  the words can't be read
+  3  refused, with `snapd: refused CODE NAME DETAIL` on standard error, as a SEGMENT is that the
+     server doesn't have; or memory is wanting
+
+Examples:
+  snapd watch 127.0.0.1:7070
+  snapd watch unix:snapd.sock 0 3 --every 200
+  snapd watch 127.0.0.1:7070 --json >> changes.jsonl";
 
 pub(crate) const DUMP_HELP: &str = "\
 What begins with unix:, and what has no slash and ends in a colon and digits, is the ADDR of a server;

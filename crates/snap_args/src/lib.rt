@@ -17,9 +17,11 @@ mod manual;
 mod numbers;
 mod request;
 mod serve;
+mod watch;
 mod words;
 
 pub use address::{Lack, is_everywhere, lack_of};
 pub use fault::{RequestFault, WordFault};
+pub use grammar::VERSION;
 pub use manual::text_of;
 pub use words::order;

@@ -2,7 +2,7 @@
 use crate::grammar::grammar;
 use crate::help::{
     CALL_HELP, CHECK_HELP, DOCTOR_HELP, DUMP_HELP, FORMAT_HELP, GET_HELP, HELP_HELP, INIT_HELP,
-    LOAD_HELP, MIGRATE_HELP, PROGRAM_HELP, PUT_HELP, SCRIPT_HELP, SERVE_HELP,
+    LOAD_HELP, MIGRATE_HELP, PROGRAM_HELP, PUT_HELP, SCRIPT_HELP, SERVE_HELP, WATCH_HELP,
 };
 use clap::{Arg, ArgAction, Command};
 use snap_manual::{
@@ -15,7 +15,7 @@ use std::alloc::{AllocError, Global};
 const STATUSES: &str = "\nExit status:\n";
 
 /// The long text of each command's help.
-const TEXTS: [LongText<'static>; 13] = [
+const TEXTS: [LongText<'static>; 14] = [
     LongText {
         command: "format",
         text: FORMAT_HELP,
@@ -51,6 +51,10 @@ const TEXTS: [LongText<'static>; 13] = [
     LongText {
         command: "call",
         text: CALL_HELP,
+    },
+    LongText {
+        command: "watch",
+        text: WATCH_HELP,
     },
     LongText {
         command: "dump",
@@ -91,8 +95,8 @@ const LISTS: [WordList<'static>; 4] = [
         command: "help",
         argument: "command",
         words: &[
-            "format", "put", "get", "check", "migrate", "init", "doctor", "serve", "call", "dump",
-            "load", "script",
+            "format", "put", "get", "check", "migrate", "init", "doctor", "serve", "call", "watch",
+            "dump", "load", "script",
         ],
     },
 ];

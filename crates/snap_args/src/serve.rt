@@ -81,6 +81,7 @@ fn service_of<'a>(
     let clients = limit_of(matches, "clients-max", MAX_CLIENTS, WordFault::Clients)?;
     let idle = limit_of(matches, "idle", MAX_IDLE, WordFault::Idle)?;
     let log = level_of(matches)?;
+    let http = matches.get_str("http");
     Ok(Serving {
         addresses,
         socket_mode,
@@ -90,6 +91,7 @@ fn service_of<'a>(
         clients,
         idle,
         log,
+        http,
     })
 }
 

@@ -23,6 +23,7 @@ use crate::explanation::explanation_of;
 use crate::grammar::grammar;
 use crate::numbers::{count_of, place};
 use crate::serve::{folder_serving, serving};
+use crate::watch::watching;
 use clap::ArgMatches;
 use clap::error::ErrorKind;
 use snap_order::{Examination, FileOrder, Founding, Migration, Order};
@@ -113,6 +114,9 @@ fn order_of<'a>(
     }
     if is(command, "load") {
         return Ok(Order::Load(loading(matches)?));
+    }
+    if is(command, "watch") {
+        return Ok(Order::Watch(watching(alloc, matches)?));
     }
     Ok(Order::File(file_order(command, matches)?))
 }

@@ -1,5 +1,5 @@
 //! One worker's half of the service, which waits for no store.
-ghost use Rattle.std.specs.Prelude.{◌≡◌, ℕ, ◌<◌, IfSome, IfNone, length};
+ghost use Rattle.std.specs.Prelude.{◌≡◌, ℕ, ◌<◌, IfOk, IfSome, IfNone, length};
 ghost use Rattle.snap_memory.specs.Rule.{segments};
 ghost use Rattle.snap_frame.specs.Messages.{IsInLimits};
 ghost use Rattle.snap_service.specs.Memory.{IsOf};
@@ -16,9 +16,11 @@ ghost use Rattle.snap_service.specs.Answers.{
 
 use crate::job::Asked;
 use crate::lent::Outcome;
+use crate::lookout::Lookout;
 use crate::outbox::{Handed, Outbox, Window};
 use bytes::Bytes;
 use snap_disk::{Disk, Refusal};
+use snap_figures::Looking;
 use snap_frame::{Reply, Request, SegmentSet};
 use snap_memory::Scanner;
 use snap_service::{Memory, answer_by_look, answer_part, answer_scan, refuse_place};
@@ -194,6 +196,20 @@ impl<R: Wait + Copy + Clock, M: Memory, D: Disk + Drop> Desk<R, M, D> {
         answer_part(self.alloc, &mut self.scanner, set)
     }
 
+    /// Its scanner, for who only looks. No storer waits for it any more.
+    pub fn into_lookout(self) -> Result<Lookout<M>, AllocError>
+        ensures { IfOk result (λ lookout. lookout ≡ self) }
+    {
+        let Desk {
+            alloc,
+            outbox,
+            scanner,
+            ..
+        } = self;
+        let standings = outbox.into_standings()?;
+        Ok(Lookout::new(alloc, scanner, standings))
+    }
+
     /// Its scanner, as it is: so a store can be closed once all its scanners and writers have come back.
     pub fn into_scanner(self) -> Scanner
         ensures scanner { result ≡ self }
@@ -241,5 +257,14 @@ impl<R: Wait + Copy + Clock, M: Memory, D: Disk + Drop> Service for Desk<R, M, D
             Request::Status => self.status(),
             Request::Part(set) => self.part(*set),
         }
+    }
+}
+
+impl<R: Wait + Copy + Clock, M: Memory, D: Disk + Drop> Looking for Desk<R, M, D> {
+    /// The looks of its scanner.
+    ghost looks = { λ d. d.left };
+
+    fn looks_left(&self) -> u64 {
+        self.scanner.looks_left()
     }
 }

@@ -150,6 +150,17 @@ impl<R: Wait + Copy> Outbox<R> {
         Ok(statuses)
     }
 
+    /// Where each segment's storer says that it stands: these outlive it, and keep no storer at work.
+    pub(crate) fn into_standings(self) -> Result<Vec<Arc<AtomicU64, Global>>, AllocError>
+        ensures { IfOk result (λ s. length s.items ≡ length self.windows) }
+    {
+        let mut standings = Vec::with_capacity(self.alloc, self.windows.len())?;
+        for window in &self.windows {
+            standings.push(Arc::try_clone(&window.standing)?)?;
+        }
+        Ok(standings)
+    }
+
     /// The job of this worker's request with this key: an update to this number and value.
     fn job(&self, number: u64, value: &Bytes, key: usize) -> Result<Job, AllocError>
         requires { IsShort value.now }

@@ -1,5 +1,5 @@
 -- What holds of an order.
-use Rattle.std.specs.Prelude.{◌≡◌, ◌⊎◌, Bool, false, true, ℕ, ◌+◌, ◌^◌, ◌<◌, ◌≤◌, List, length, IfSome}
+use Rattle.std.specs.Prelude.{◌≡◌, ◌⊎◌, Bool, false, true, ℕ, ◌+◌, ◌^◌, ◌<◌, ◌≤◌, List, length, All, IfSome}
 use Rattle.snap_frame.specs.Messages.{max_payload, payload, IsAskable}
 use Rattle.snap_frame.specs.declared.request.Request.{Request}
 use Rattle.snap_frame.specs.declared.request.Request.TheVariants as request
@@ -11,12 +11,13 @@ use Rattle.snap_order.specs.declared.order.Serving.{Serving}
 use Rattle.snap_order.specs.declared.order.Calling.{Calling}
 use Rattle.snap_order.specs.declared.order.Dumping.{Dumping}
 use Rattle.snap_order.specs.declared.order.Loading.{Loading}
+use Rattle.snap_order.specs.declared.order.Watching.{Watching}
 use Rattle.snap_order.specs.declared.order.Layout.TheVariants.{Lines}
 use Rattle.snap_order.specs.declared.order.Question.{Question}
 use Rattle.snap_order.specs.declared.order.Question.TheVariants as question
 use Rattle.snap_order.specs.declared.order.Source.{Source}
 use Rattle.snap_order.specs.declared.order.Source.TheVariants as source
-use Rattle.snap_order.specs.declared.order.TheConstants.{MAX_ADDRESSES, MAX_CLIENTS, MAX_IDLE, MAX_TIMEOUT, MODE_BITS}
+use Rattle.snap_order.specs.declared.order.TheConstants.{MAX_ADDRESSES, MAX_CLIENTS, MAX_EVERY, MAX_IDLE, MAX_TIMEOUT, MODE_BITS}
 use Rattle.snap_order.specs.declared.order.FileOrder.TheVariants.{Format, Put, Get, Check}
 
 -- there are 1 to 16 segments, and this is one of them
@@ -93,6 +94,11 @@ pub record IsDumpable (d : Dumping) : Type 0 where
   pub few_tries : d.tries ≤ MAX_TRIES
   pub timeout : IfSome d.timeout (IsOneTo MAX_TIMEOUT)
 
+-- each segment that is named may be one of a server's, and the time between two looks is one that may be given
+pub record IsWatchable (w : Watching) : Type 0 where
+  pub segments : All (λ s. s < MAX_COUNT) w.segments.items
+  pub every : IfSome w.every (IsOneTo MAX_EVERY)
+
 -- a count that is given is one of segments
 abbrev pub IsLoadable : Loading → Type 0
 IsLoadable l = IfSome l.count (IsOneTo MAX_COUNT)
@@ -105,6 +111,7 @@ IsWithinLimits (order.Doctor e) = Unit {0}
 IsWithinLimits (order.Serve s) = IsServable s
 IsWithinLimits (order.ServeFolder folder s) = (length s.files.items ≡ 0) × KeepsLimits s
 IsWithinLimits (order.Call c) = IsCallable c
+IsWithinLimits (order.Watch w) = IsWatchable w
 IsWithinLimits (order.Dump d) = IsDumpable d
 IsWithinLimits (order.Load l) = IsLoadable l
 IsWithinLimits order.Script = Unit {0}

@@ -36,6 +36,8 @@ pub enum Order<'a> {
     },
     /// Ask a server.
     Call(Calling<'a>),
+    /// Show what a server holds, anew at each change.
+    Watch(Watching<'a>),
     /// Print all that a server or a folder holds, as a dump.
     Dump(Dumping<'a>),
     /// Make a folder of what a dump holds.
@@ -128,6 +130,9 @@ pub struct Serving<'a> {
     pub idle: Option<u32>,
     /// Which lines are written on standard error.
     pub log: Level,
+    /// Where it answers HTTP, to browsers and monitors, as text for the system, which may not take it. `None`
+    /// where it doesn't.
+    pub http: Option<&'a str>,
 }
 
 /// How much a line of the log matters. A log at one of these levels has the lines of that level and
@@ -172,6 +177,23 @@ pub struct Calling<'a> {
     pub timeout: Option<u32>,
     /// How the answer to a read is printed.
     pub layout: Layout,
+}
+
+/// The longest that a watch can be told to let pass between two looks, in milliseconds: a day.
+pub const MAX_EVERY: u32 = 86_400_000;
+
+/// Shows the segments of a server, and each change of them.
+#[derive(Debug, PartialEq, Eq, Drop)]
+pub struct Watching<'a> {
+    /// Where the server listens, as text for the system, which may not take it.
+    pub address: &'a str,
+    /// The segments that are shown, each below [`snap_history::MAX_COUNT`], as they were named. All are where
+    /// none is named.
+    pub segments: Vec<u8>,
+    /// How many milliseconds pass between two looks: 1 to [`MAX_EVERY`]. `None` where nobody said.
+    pub every: Option<u32>,
+    /// Whether each change is printed as a JSON object.
+    pub is_json: bool,
 }
 
 /// Prints a dump of what a server or a folder holds.

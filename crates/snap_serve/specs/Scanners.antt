@@ -1,5 +1,5 @@
 -- The scanners of one memory.
-use Rattle.std.specs.Prelude.{◌≡◌, ℕ, List, [], ◌∷◌, slice_get, Some}
+use Rattle.std.specs.Prelude.{◌≡◌, ◌+◌, ◌≤◌, ℕ, List, [], ◌∷◌, slice_get, Option, Some, None}
 use Rattle.snap_memory.specs.Registers.{RegistersId, no_registers}
 use Rattle.snap_memory.specs.plan.Plan.{Plan}
 use Rattle.snap_memory.specs.Seat.{Known}
@@ -18,3 +18,7 @@ table_of (b ∷ rest) = b.table
 abbrev pub plan_of : List Known → Plan
 plan_of [] = no_plan
 plan_of (b ∷ rest) = b.plan
+
+-- there are figures for each worker: for each scanner, but the one of an onlooker
+abbrev pub HasFigures : {O : Type 0} (onlooker : Option O) (scanners workers : ℕ) → Type 0
+HasFigures onlooker scanners workers = (onlooker ≡ None → scanners ≤ workers) × (scanners ≤ workers + 1)

@@ -1,17 +1,22 @@
 //! A server from its files to its end.
-ghost use Rattle.std.specs.Prelude.{◌≡◌, ◌-◌, ◌^◌, ◌<◌, length, All, IfOk, IfErr, map, string_bytes};
+ghost use Rattle.std.specs.Prelude.{◌≡◌, ◌+◌, ◌-◌, ◌^◌, ◌<◌, ◌≤◌, length, min, All, IfOk, IfErr, map, string_bytes, if◌then◌else◌};
 ghost use Rattle.snap_order.specs.Order.{IsServable};
+ghost use Rattle.snap_history.specs.declared.limits.TheConstants.{MAX_SCANNERS};
 ghost use Rattle.snap_restart.specs.Closed.{AreBack};
+ghost use Rattle.snap_serve.specs.Scanners.{HasFigures};
 ghost use Rattle.snap_serve.specs.Serve.{EndsHost, EndsServing, IsLengthAt, IsNamed, ListenFails};
 ghost use Rattle.snap_serve.specs.Serve.{TellsItsEnd, addresses_of, failure_of, site_at, unbound_failure};
 
 use crate::announcement::{Announcement, lines_of};
 use crate::bind::{Bind, Unbound};
 use crate::failure::HostFailure;
+use crate::onlooker::Onlook;
 use crate::report::{print_report, print_served};
 use crate::stores::serve_store;
 use crate::watch::Watch;
 use snap_disk::Disk;
+use snap_figures::Figures;
+use snap_history::MAX_SCANNERS;
 use snap_order::{Exit, Serving, Status};
 use snap_restart::{Report, Store, open_all};
 use snap_server::{BindFault, Gate, Limits, Locate, Note, RunFault, ServerFault};
@@ -30,15 +35,19 @@ const FAULT_REST: u64 = 20;
 
 /// What a server meets at its edge.
 #[derive(Clone, Copy)]
-pub struct Edge<'a, B, G, N, H, C> {
+pub struct Edge<'a, B, G, N, H, C, O> {
     /// Binds the addresses.
     pub bind: &'a B,
     /// Is told of each request before it is answered and after.
     pub gate: &'a G,
     /// Is told of each connection that has ended, and of the accepting.
     pub note: &'a N,
-    /// Is told of updates that weren't stored.
+    /// Is told of each update.
     pub watch: H,
+    /// What the workers count, each for itself: as many as there are scanners.
+    pub figures: &'a Figures,
+    /// Who looks at the server from outside, by one scanner more, where somebody does.
+    pub onlooker: Option<&'a O>,
     /// What the system said of each segment's device when a call of it failed.
     pub causes: &'a [C],
     /// How many connections may be open at once.
@@ -58,12 +67,12 @@ pub struct Edge<'a, B, G, N, H, C> {
 ///
 /// Why it ended early goes to `errors`, as one line that begins `snapd: `; behind the line of a
 /// file's refusal one more names the file and says what to do.
-pub fn host<X, D, B, G, N, H, C, W, E>(
+pub fn host<X, D, B, G, N, H, C, O, W, E>(
     rt: &X,
     alloc: Global,
     order: &Serving<'_>,
     devices: Vec<D>,
-    edge: Edge<'_, B, G, N, H, C>,
+    edge: Edge<'_, B, G, N, H, C, O>,
     writer: &mut W,
     errors: &mut E,
 ) -> Exit
@@ -76,11 +85,13 @@ where
     N: Fn(&Note) + Sync,
     H: Watch + Copy + Send + Drop,
     C: Cause,
+    O: Onlook + Sync,
     W: Write,
     E: Write,
     requires order { IsServable order.now }
     requires devices { length devices.items ≡ length order.now.files.items }
     requires headroom { All (λ d. D.failure_count d < 2 ^ 64 - 1) devices.items }
+    requires figures { order.now.scanners ≤ edge.figures.now.workers }
     requires note { N.IsAlwaysCallable edge.note.now }
 
     // The status, `errors` and the writer tell of one end, to which these devices and this site led.
@@ -100,12 +111,12 @@ where
 }
 
 /// Opens, reports, listens, serves, and says how many connections were served.
-fn open_and_serve<X, D, B, G, N, H, C, W>(
+fn open_and_serve<X, D, B, G, N, H, C, O, W>(
     rt: &X,
     alloc: Global,
     order: &Serving<'_>,
     devices: Vec<D>,
-    edge: Edge<'_, B, G, N, H, C>,
+    edge: Edge<'_, B, G, N, H, C, O>,
     writer: &mut W,
 ) -> Result<u64, HostFailure>
 where
@@ -117,23 +128,42 @@ where
     N: Fn(&Note) + Sync,
     H: Watch + Copy + Send + Drop,
     C: Cause,
+    O: Onlook + Sync,
     W: Write,
     requires order { IsServable order.now }
     requires devices { length devices.items ≡ length order.now.files.items }
     requires headroom { All (λ d. D.failure_count d < 2 ^ 64 - 1) devices.items }
+    requires figures { order.now.scanners ≤ edge.figures.now.workers }
     requires note { N.IsAlwaysCallable edge.note.now }
     ensures ends { EndsHost D.Disk devices.items
         (site_at B.Bind B.Listener.Locate B.Listener.Listen edge.entry.bind.now
         (addresses_of order.now)) order.now.connections
         (W.contents writer.old) (W.contents writer.new) result }
 {
-    match open_all(alloc, devices, usize::from(order.scanners)) {
+    match open_all(alloc, devices, seats_of(order, edge.onlooker.is_some())) {
         Ok((store, report)) => serve_opened(rt, alloc, order, store, &report, edge, writer),
         Err(stopped) => Err(HostFailure::Refused {
             segment: stopped.segment,
             why: stopped.refusal,
             len: length_at(&stopped.devices, stopped.segment),
         }),
+    }
+}
+
+/// How many scanners there are: one for each worker, and one more where somebody looks from outside. That one
+/// is a worker's less where there can be no more.
+fn seats_of(order: &Serving<'_>, is_seen: bool) -> usize
+    requires { IsServable order.now }
+    ensures some { 0 < result }
+    ensures most { result ≤ MAX_SCANNERS }
+    ensures workers { result ≡ (if is_seen then min (order.now.scanners + 1) MAX_SCANNERS
+        else order.now.scanners) }
+{
+    let workers = usize::from(order.scanners);
+    if is_seen {
+        MAX_SCANNERS.min(workers + 1)
+    } else {
+        workers
     }
 }
 
@@ -149,13 +179,13 @@ fn length_at<D: Disk>(devices: &Vec<D>, segment: usize) -> u64
 
 /// Reports, listens, serves, and says how many connections were served.
 #[tactic(auto, using(crate::proofs::Written::report_failed))]
-fn serve_opened<X, D, B, G, N, H, C, W>(
+fn serve_opened<X, D, B, G, N, H, C, O, W>(
     rt: &X,
     alloc: Global,
     order: &Serving<'_>,
     store: Store<D>,
     report: &Report,
-    edge: Edge<'_, B, G, N, H, C>,
+    edge: Edge<'_, B, G, N, H, C, O>,
     writer: &mut W,
 ) -> Result<u64, HostFailure>
 where
@@ -167,8 +197,10 @@ where
     N: Fn(&Note) + Sync,
     H: Watch + Copy + Send + Drop,
     C: Cause,
+    O: Onlook + Sync,
     W: Write,
     requires back { AreBack store.writers.items store.scanners.items }
+    requires figures { HasFigures edge.onlooker (length store.scanners.items) edge.figures.now.workers }
     requires note { N.IsAlwaysCallable edge.note.now }
     ensures ends { EndsServing
         (site_at B.Bind B.Listener.Locate B.Listener.Listen edge.entry.bind.now
@@ -187,6 +219,8 @@ where
         gate,
         note,
         watch,
+        figures,
+        onlooker,
         clients,
         idle,
         ..
@@ -206,6 +240,8 @@ where
         gate,
         note,
         watch,
+        figures,
+        onlooker,
         &announcement,
         writer,
     );

@@ -1,15 +1,19 @@
 //! The threads that store, and the workers' desks.
-ghost use Rattle.std.specs.Prelude.{◌≡◌, ◌+◌, length, Some, IfOk, IfErr, OnOk};
+ghost use Rattle.std.specs.Prelude.{◌≡◌, ◌+◌, ◌≤◌, length, Some, IfOk, IfErr, OnOk};
 ghost use Rattle.snap_memory.specs.Rule.{segments};
 ghost use Rattle.snap_service.specs.Memory.{AreWriters, IsOf};
 ghost use Rattle.snap_restart.specs.Closed.{AreBack};
-ghost use Rattle.snap_serve.specs.Scanners.{AreScanners};
+ghost use Rattle.snap_serve.specs.Scanners.{AreScanners, HasFigures};
 ghost use Rattle.snap_server.specs.Announced.{Announced};
 ghost use Rattle.snap_server.specs.Deals.{GivesSoMany};
 
+use crate::counted::CountedListener;
+use crate::onlooker::Onlook;
+use crate::seen::{View, run_seen, take_view};
 use crate::watch::Watch;
 use snap_desk::{Desk, Outcome, Storer, Window};
-use snap_disk::{Disk, Refusal};
+use snap_disk::Disk;
+use snap_figures::{Counted, Figures};
 use snap_memory::Scanner;
 use snap_restart::Store;
 use snap_server::{Announce, Gate, Limits, Listen, Note, RunFault, ServerFault, run};
@@ -37,9 +41,9 @@ impl<R: Wait + Copy, M: Memory, D: Disk + Drop, H: Watch + Drop> Background
 
     fn next_done(&mut self) -> Option<Done<Outcome<R, M, D>>> {
         let done = self.store.next()?;
-        if done.outcome.told() == Err(Refusal::DeviceFailed) {
-            self.watch.unstored(self.segment, done.outcome.number());
-        }
+        let outcome = &done.outcome;
+        self.watch
+            .told(self.segment, outcome.number(), outcome.told());
         Some(done)
     }
 }
@@ -96,6 +100,7 @@ fn open_desks<R: Wait + Copy + Clock, M: Memory, D: Disk + Drop>(
 ) -> Result<Vec<Desk<R, M, D>>, AllocError>
     requires windows { length windows.items ≡ segments M.plan }
     requires scanners { AreScanners M.table M.plan scanners.items }
+    ensures { IfOk result (λ desks. length desks.items ≡ length scanners.items) }
 {
     let mut desks = Vec::new(alloc);
     'scanners: for scanner in scanners {
@@ -133,7 +138,8 @@ where
     H: Watch + Copy + Drop,
     requires writers { AreWriters M.table M.plan writers.items }
     requires scanners { AreScanners M.table M.plan scanners.items }
-    ensures { IfErr result (λ fault. fault ≡ ServerFault.NoMemory) }
+    ensures desks { IfOk result (λ parts. length parts.0.items ≡ length scanners.items) }
+    ensures faults { IfErr result (λ fault. fault ≡ ServerFault.NoMemory) }
 {
     let Ok((stores, windows)) = open_stores::<X, M, D, H>(rt, alloc, writers, watch) else {
         return Err(ServerFault::NoMemory);
@@ -144,8 +150,25 @@ where
     Ok((desks, stores))
 }
 
-/// Serves the memory of these writers and scanners, as [`run`] does.
-fn serve_memory<M, X, D, L, G, N, H, A, T>(
+/// Each desk, which from now on counts what it answers, in the figures of its worker.
+fn count_all<'f, S: Drop>(
+    alloc: Global,
+    desks: Vec<S>,
+    figures: &'f Figures,
+) -> Result<Vec<Counted<'f, S>>, AllocError>
+    requires { length desks.items ≤ figures.now.workers }
+{
+    let mut services = Vec::with_capacity(alloc, desks.len())?;
+    'desks: for desk in desks {
+        let worker = figures.worker(services.len());
+        services.push(Counted::new(desk, worker))?;
+    }
+    Ok(services)
+}
+
+/// Serves the memory of these writers and scanners, as [`run`] does. Where somebody looks from outside, the
+/// last scanner is theirs.
+fn serve_memory<M, X, D, L, G, N, H, O, A, T>(
     rt: &X,
     alloc: Global,
     writers: Vec<Writer<D>>,
@@ -155,6 +178,8 @@ fn serve_memory<M, X, D, L, G, N, H, A, T>(
     gate: &G,
     note: &N,
     watch: H,
+    figures: &Figures,
+    onlooker: Option<&O>,
     announce: &A,
     to: &mut T,
 ) -> Result<u64, RunFault>
@@ -166,9 +191,11 @@ where
     G: Gate + Sync,
     N: Fn(&Note) + Sync,
     H: Watch + Copy + Send + Drop,
+    O: Onlook + Sync,
     A: Announce<T>,
     requires writers { AreWriters M.table M.plan writers.items }
     requires scanners { AreScanners M.table M.plan scanners.items }
+    requires figures { HasFigures onlooker (length scanners.items) figures.now.workers }
     requires note { N.IsAlwaysCallable note.now }
     ensures asked { IfOk result (λ k. limits.connections ≡ Some k) }
     ensures accepted { IfOk result (λ k. (left : L) × GivesSoMany L.accepts k listener left) }
@@ -177,17 +204,33 @@ where
     ensures announced { Announced (A.announces announce.now) (A.fails announce.now)
         to.old result to.new }
 {
-    match open_parts::<M, X, D, H>(*rt, alloc, writers, scanners, watch) {
-        Ok((desks, stores)) => run(
-            rt, alloc, listener, desks, stores, limits, gate, note, announce, to,
+    let (mut desks, stores) = match open_parts::<M, X, D, H>(*rt, alloc, writers, scanners, watch) {
+        Ok(parts) => parts,
+        Err(fault) => return Err(RunFault::Server(fault)),
+    };
+    let view = match onlooker {
+        Some(onlooker) => match take_view(&mut desks, onlooker) {
+            Ok(view) => view,
+            Err(fault) => return Err(RunFault::Server(fault)),
+        },
+        None => None,
+    };
+    let Ok(services) = count_all(alloc, desks, figures) else {
+        return Err(RunFault::Server(ServerFault::NoMemory));
+    };
+    match view {
+        Some(view) => run_seen(
+            rt, alloc, listener, services, stores, view, limits, gate, note, announce, to,
         ),
-        Err(fault) => Err(RunFault::Server(fault)),
+        None => run(
+            rt, alloc, listener, services, stores, limits, gate, note, announce, to,
+        ),
     }
 }
 
 /// Serves this store, as [`run`] does: a worker for each scanner, and a thread that stores for each
-/// writer.
-pub(crate) fn serve_store<X, D, L, G, N, H, A, T>(
+/// writer. Where somebody looks from outside, the last scanner is theirs.
+pub(crate) fn serve_store<X, D, L, G, N, H, O, A, T>(
     rt: &X,
     alloc: Global,
     store: Store<D>,
@@ -196,6 +239,8 @@ pub(crate) fn serve_store<X, D, L, G, N, H, A, T>(
     gate: &G,
     note: &N,
     watch: H,
+    figures: &Figures,
+    onlooker: Option<&O>,
     announce: &A,
     to: &mut T,
 ) -> Result<u64, RunFault>
@@ -206,8 +251,10 @@ where
     G: Gate + Sync,
     N: Fn(&Note) + Sync,
     H: Watch + Copy + Send + Drop,
+    O: Onlook + Sync,
     A: Announce<T>,
     requires back { AreBack store.writers.items store.scanners.items }
+    requires figures { HasFigures onlooker (length store.scanners.items) figures.now.workers }
     requires note { N.IsAlwaysCallable note.now }
     ensures asked { IfOk result (λ k. limits.connections ≡ Some k) }
     ensures accepted { IfOk result (λ k. (left : L) × GivesSoMany L.accepts k listener left) }
@@ -217,7 +264,9 @@ where
         to.old result to.new }
 {
     let (writers, scanners) = store.into_parts();
-    serve_memory::<Brand, X, D, L, G, N, H, A, T>(
-        rt, alloc, writers, scanners, listener, limits, gate, note, watch, announce, to,
+    let listener = CountedListener::new(listener, figures);
+    serve_memory::<Brand, X, D, CountedListener<'_, L>, G, N, H, O, A, T>(
+        rt, alloc, writers, scanners, listener, limits, gate, note, watch, figures, onlooker,
+        announce, to,
     )
 }

@@ -1,10 +1,13 @@
-//! Who is told of updates that could not be stored.
+//! Who is told of updates.
 
-/// Is told of what goes wrong with a segment, on the thread that stores it.
+use snap_disk::Refusal;
+
+/// Is told of each update of a segment once it is done, on the thread that stores for it.
 pub trait Watch {
-    /// The device of this segment failed while the update of this number was stored. The update was
-    /// refused, and the segment takes no other one until a restart.
-    fn unstored(&self, segment: usize, number: u64);
+    /// The update of this number was answered so: with the segment's number where it holds the value, or
+    /// refused. At [`DeviceFailed`](Refusal::DeviceFailed) the segment takes no other one until a
+    /// restart.
+    fn told(&self, segment: usize, number: u64, told: Result<u64, Refusal>);
 }
 
 /// Watches nothing.
@@ -12,5 +15,5 @@ pub trait Watch {
 pub struct NoWatch;
 
 impl Watch for NoWatch {
-    fn unstored(&self, _segment: usize, _number: u64) {}
+    fn told(&self, _segment: usize, _number: u64, _told: Result<u64, Refusal>) {}
 }

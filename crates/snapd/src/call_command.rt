@@ -81,7 +81,7 @@ pub fn fetch<N: Net + Clock, E: Write>(
 }
 
 /// The system takes the address. That of a Unix socket it takes as it is.
-fn look_up<N: Net>(net: &N, address: &str) -> io::Result<()> {
+pub fn look_up<N: Net>(net: &N, address: &str) -> io::Result<()> {
     if socket_path(address).is_none() {
         let _ = address.to_socket_addrs(net)?;
     }
@@ -135,16 +135,23 @@ fn connection<'c, 'o, N: Net + Clock>(
         LimitedStream<'c, 'o, N, N::Stream>,
     ),
 > {
-    let writer = match socket_path(address) {
-        Some(path) => Link::Unix(connect_unix_within(net, path, limit).ok()?),
-        None => {
-            let stream = connect_within(net, address, limit).ok()?;
-            stream.set_nodelay(true).ok()?;
-            Link::Tcp(stream)
-        }
-    };
+    let writer = link_within(net, address, limit)?;
     let reader = writer.try_clone().ok()?;
     Some((limit.on(reader), limit.on(writer)))
+}
+
+/// A connection that was made before the time was over. What is written goes out without delay.
+pub fn link_within<N: Net + Clock>(
+    net: &N,
+    address: &str,
+    limit: &TimeLimit<'_, '_, N>,
+) -> Option<Link<N::Stream>> {
+    if let Some(path) = socket_path(address) {
+        return Some(Link::Unix(connect_unix_within(net, path, limit).ok()?));
+    }
+    let stream = connect_within(net, address, limit).ok()?;
+    stream.set_nodelay(true).ok()?;
+    Some(Link::Tcp(stream))
 }
 
 /// The rest before another try where a server's queue is full, in milliseconds.

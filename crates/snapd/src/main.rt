@@ -9,7 +9,8 @@
 ghost use Rattle.std.specs.Prelude.{◌<◌, ◌≤◌, IfOk, length};
 ghost use Rattle.snap_order.specs.Limits.{MAX_COUNT};
 ghost use Rattle.snap_order.specs.Order.{IsCallable, IsDumpable, IsFileWithinLimits, IsLoadable};
-ghost use Rattle.snap_order.specs.Order.{IsOneTo, IsPlace, IsServable, IsWithinLimits, KeepsLimits};
+ghost use Rattle.snap_order.specs.Order.{IsOneTo, IsPlace, IsServable, IsWatchable, IsWithinLimits};
+ghost use Rattle.snap_order.specs.Order.{KeepsLimits};
 
 mod call_command;
 mod complaint;
@@ -18,6 +19,8 @@ mod dump_command;
 mod file_system;
 mod files;
 mod folder;
+mod http_place;
+mod http_view;
 mod init_command;
 mod link;
 mod load_command;
@@ -26,7 +29,10 @@ mod right_order;
 mod serve_command;
 mod store_log;
 mod store_times;
+mod surroundings;
 mod time_limit;
+mod update_watch;
+mod watch_command;
 
 use call_command::call;
 use complaint::{
@@ -39,6 +45,7 @@ use files::{
     writes,
 };
 use folder::{files_in_order, segment_files};
+use http_place::open_http;
 use init_command::init;
 use load_command::load;
 use right_order::say_right_order;
@@ -47,10 +54,9 @@ use snap_args::{WordFault, lack_of, order, text_of};
 use snap_devices::FileFault;
 use snap_disk::Refusal;
 use snap_file_commands::{Causes, CommandFailure, MigrationFailure, act, act_pair};
-use snap_log::Destination;
 use snap_order::{
     Calling, Dumping, Examination, Explanation, FileOrder, Founding, Holder, Loading, Migration,
-    Order, Serving, Status,
+    Order, Serving, Status, Watching,
 };
 use snap_script::play;
 use snap_server::ServerFault;
@@ -62,9 +68,11 @@ use std::fs::File;
 use std::io::{BufWriter, ErrorKind};
 use std::net::Net;
 use std::process::ExitCode;
+use std::random::RandomSource;
 use std::rt::{Clock, Files};
 use std::sync::Wait;
 use std::thread::Threads;
+use watch_command::watch;
 
 fn main(rt: HostRuntime) -> ExitCode {
     let status = match words_of(&rt) {
@@ -88,11 +96,9 @@ fn words_of(rt: &HostRuntime) -> Result<Vec<String>, WordFault> {
 
 /// Does what the words ask for. `threads` is the runtime as what may wait, start threads and open
 /// sockets.
-fn do_order<X: Threads + Wait + Clock + Net + Files<File = File> + Sync + Send + Copy>(
-    threads: &X,
-    rt: &HostRuntime,
-    order: &Order<'_>,
-) -> Status
+fn do_order<
+    X: Threads + Wait + Clock + Net + Files<File = File> + RandomSource + Sync + Send + Copy,
+>(threads: &X, rt: &HostRuntime, order: &Order<'_>) -> Status
     requires { IsWithinLimits order.now }
 {
     match order {
@@ -103,6 +109,7 @@ fn do_order<X: Threads + Wait + Clock + Net + Files<File = File> + Sync + Send +
         Order::Serve(order) => run_server(threads, rt, order),
         Order::ServeFolder { folder, serving } => run_folder_server(threads, rt, folder, serving),
         Order::Call(order) => run_call(rt, order),
+        Order::Watch(order) => run_watch(threads, rt, order),
         Order::Dump(order) => run_dump(rt, order),
         Order::Load(order) => run_load(rt, order),
         Order::Script => play_script(threads, rt),
@@ -232,14 +239,12 @@ fn run_doctor(rt: &HostRuntime, order: &Examination<'_>) -> Status {
 
 /// Opens the order's files, and serves them: `threads` is the runtime as what may wait, start
 /// threads and open sockets.
-fn run_server<X: Threads + Wait + Clock + Net + Files<File = File> + Sync + Send + Copy>(
-    threads: &X,
-    rt: &HostRuntime,
-    order: &Serving<'_>,
-) -> Status
+fn run_server<
+    X: Threads + Wait + Clock + Net + Files<File = File> + RandomSource + Sync + Send + Copy,
+>(threads: &X, rt: &HostRuntime, order: &Serving<'_>) -> Status
     requires { IsServable order.now }
 {
-    if !may_serve(rt, &order.addresses) {
+    if !may_serve(rt, order) {
         return Status::Failed;
     }
     let status = serve_files(threads, rt, order);
@@ -250,15 +255,12 @@ fn run_server<X: Threads + Wait + Clock + Net + Files<File = File> + Sync + Send
 }
 
 /// Finds the files of a folder, and serves them. `serving` has none.
-fn run_folder_server<X: Threads + Wait + Clock + Net + Files<File = File> + Sync + Send + Copy>(
-    threads: &X,
-    rt: &HostRuntime,
-    folder: &str,
-    serving: &Serving<'_>,
-) -> Status
+fn run_folder_server<
+    X: Threads + Wait + Clock + Net + Files<File = File> + RandomSource + Sync + Send + Copy,
+>(threads: &X, rt: &HostRuntime, folder: &str, serving: &Serving<'_>) -> Status
     requires { KeepsLimits serving.now }
 {
-    if !may_serve(rt, &serving.addresses) {
+    if !may_serve(rt, serving) {
         return Status::Failed;
     }
     let files = match segment_files(rt, rt.alloc(), folder) {
@@ -290,22 +292,32 @@ fn with_files<'a>(serving: &Serving<'a>, files: Vec<&'a str>) -> Result<Serving<
         clients: serving.clients,
         idle: serving.idle,
         log: serving.log,
+        http: serving.http,
     })
 }
 
 /// What a server needs of the system before a file is opened is there. Says what isn't.
-fn may_serve(rt: &HostRuntime, addresses: &[&str]) -> bool {
-    are_streams_open(rt) && addresses.iter().all(|it| is_address(rt, *it)) && may_write(rt)
+fn may_serve(rt: &HostRuntime, order: &Serving<'_>) -> bool {
+    let is_http_address = match order.http {
+        Some(address) => is_address(rt, address),
+        None => true,
+    };
+    are_streams_open(rt)
+        && order.addresses.iter().all(|it| is_address(rt, *it))
+        && is_http_address
+        && may_write(rt)
 }
 
 /// Opens the files, and serves them.
-fn serve_files<X: Threads + Wait + Clock + Net + Files<File = File> + Sync + Send + Copy>(
-    threads: &X,
-    rt: &HostRuntime,
-    order: &Serving<'_>,
-) -> Status
+fn serve_files<
+    X: Threads + Wait + Clock + Net + Files<File = File> + RandomSource + Sync + Send + Copy,
+>(threads: &X, rt: &HostRuntime, order: &Serving<'_>) -> Status
     requires { IsServable order.now }
 {
+    let place = match open_http(threads, rt, order) {
+        Ok(place) => place,
+        Err(status) => return status,
+    };
     let Ok(told) = first_faults(rt.alloc(), order.files.len()) else {
         return stop_without_memory(rt);
     };
@@ -317,11 +329,11 @@ fn serve_files<X: Threads + Wait + Clock + Net + Files<File = File> + Sync + Sen
     };
     let served = serve(
         threads,
-        rt.alloc(),
+        rt,
         order,
         devices,
         &told,
-        Destination::of_standard_error(rt, rt.alloc()),
+        place,
         &mut rt.stdout(),
         &mut rt.stderr(),
         rt.stderr(),
@@ -351,6 +363,16 @@ fn run_call(rt: &HostRuntime, order: &Calling<'_>) -> Status
         &mut rt.stdout(),
         &mut rt.stderr(),
     )
+}
+
+/// Shows what a server holds, and each change of it: `waiting` is the runtime as what may wait and open sockets.
+fn run_watch<X: Wait + Clock + Net>(waiting: &X, rt: &HostRuntime, order: &Watching<'_>) -> Status
+    requires { IsWatchable order.now }
+{
+    if !are_streams_open(rt) || !is_address(rt, order.address) {
+        return Status::Failed;
+    }
+    watch(waiting, rt, order)
 }
 
 /// Prints a dump.

@@ -3,7 +3,6 @@
 use crate::files::FirstFault;
 use log::error;
 use snap_log::Lines;
-use snap_serve::Watch;
 use std::rt::Clock;
 use std::sync::Wait;
 
@@ -28,10 +27,9 @@ impl<'a, X: Wait + Clock> StoreLog<'a, X> {
     ) -> StoreLog<'a, X> {
         StoreLog { log, files, told }
     }
-}
 
-impl<X: Wait + Clock> Watch for StoreLog<'_, X> {
-    fn unstored(&self, segment: usize, number: u64) {
+    /// The device of this segment failed while the update of this number was stored.
+    pub fn unstored(&self, segment: usize, number: u64) {
         let (Some(file), Some(told)) = (self.files.get(segment), self.told.get(segment)) else {
             return;
         };

@@ -10,6 +10,7 @@ use crate::stores::{failing, new_files, open};
 use course::Course;
 use seats::{Seen, run_store};
 use snap_devices::Held;
+use snap_figures::Tally;
 use std::alloc::Global;
 use std::process::Abort;
 use std::rt::Clock;
@@ -84,6 +85,32 @@ const IN_ORDER: [Pair<'static>; 7] = [
 #[test]
 fn vectors_in_order(rt: HostRuntime) -> Result<(), Fail> {
     assert!(rt; is_talk(&rt, &IN_ORDER, false, [1, 0])?);
+    Ok(())
+}
+
+/// What is counted of these requests and replies, but for their looks.
+fn tally_in_order(asked: &[u8], replies: &[u8]) -> Tally {
+    let mut tally = Tally::new();
+    tally.updates = 5;
+    tally.scans = 1;
+    tally.statuses = 1;
+    // no segment, a conflict, and out of step
+    for place in [1, 3, 4] {
+        tally.refusals[place] = 1;
+    }
+    tally.bytes_in = asked.len() as u64;
+    tally.bytes_out = replies.len() as u64;
+    tally
+}
+
+#[test]
+fn answers_of_a_desk_are_counted(rt: HostRuntime) -> Result<(), Fail> {
+    let (asked, replies) = halves(rt.alloc(), &IN_ORDER)?;
+    let seen = run(&rt, Course::Talk, asked.as_slice(), false, 1)?;
+    let mut wanted = tally_in_order(asked.as_slice(), replies.as_slice());
+    // the scan looks at both segments twice
+    wanted.looks = 4;
+    assert!(rt; seen.tally == wanted, "{:?}", seen.tally);
     Ok(())
 }
 

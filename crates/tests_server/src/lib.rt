@@ -1,10 +1,12 @@
-//! The tests of what serves: of `snap_service`, `snap_desk`, `snap_server` and `snap_spin`, by
-//! their public items alone. The tests of a room of the building stand in one crate of their own: a
+//! The tests of what serves: of `snap_service`, `snap_desk`, `snap_server`, `snap_spin` and
+//! `snap_figures`, by their public items alone. The tests of a room of the building stand in one crate of their own: a
 //! crate with tests is proved twice, and each crate of tests pays a start-up of its own.
 #![tactic(auto)]
 
 #[cfg(test)]
 mod desk;
+#[cfg(test)]
+mod figures;
 #[cfg(test)]
 mod frames;
 #[cfg(test)]

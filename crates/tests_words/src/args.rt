@@ -8,6 +8,7 @@ mod part;
 mod puts;
 mod reach;
 mod server;
+mod watch;
 
 use snap_args::{WordFault, order};
 use snap_order::{FileOrder, Migration, Order};

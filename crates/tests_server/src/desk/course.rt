@@ -3,6 +3,7 @@ use crate::frames::SCAN;
 use crossbeam_channel::Receiver;
 use snap_desk::{Desk, Outcome};
 use snap_devices::Held;
+use snap_figures::{Counted, Tally};
 use snap_service::Memory;
 use snap_session::{Done, Session, Wants};
 use std::alloc::{AllocError, Global};
@@ -27,17 +28,21 @@ pub(crate) enum Course {
     Alone,
 }
 
-/// What comes to the worker, and what its peers were sent.
+/// A desk whose answers are counted.
+pub(crate) type CountedDesk<'f, R, M> = Counted<'f, Desk<R, M, Held>>;
+
+/// What comes to the worker, what its peers were sent, and what was counted of that at the end.
 #[derive(Drop)]
 pub(crate) struct Worker<R: Wait + Copy, M: Memory> {
     pub alloc: Global,
     pub inbox: Option<Receiver<Done<Outcome<R, M, Held>>>>,
     pub written: Vec<u8>,
+    pub tally: Tally,
 }
 
 /// Answers what the session holds, until it waits.
 fn answer<R: Wait + Copy + Clock, M: Memory>(
-    desk: &mut Desk<R, M, Held>,
+    desk: &mut CountedDesk<'_, R, M>,
     session: &mut Session,
     key: usize,
 ) {
@@ -50,7 +55,7 @@ fn answer<R: Wait + Copy + Clock, M: Memory>(
 
 /// These bytes come to the session.
 fn ask<R: Wait + Copy + Clock, M: Memory>(
-    desk: &mut Desk<R, M, Held>,
+    desk: &mut CountedDesk<'_, R, M>,
     session: &mut Session,
     bytes: &[u8],
     key: usize,
@@ -71,7 +76,7 @@ impl<R: Wait + Copy + Clock, M: Memory> Worker<R, M> {
     }
 
     /// Finishes what the session waits for, until it waits for nothing.
-    fn finish(&self, rt: &R, desk: &mut Desk<R, M, Held>, session: &mut Session, key: usize) {
+    fn finish(&self, rt: &R, desk: &mut CountedDesk<'_, R, M>, session: &mut Session, key: usize) {
         for _ in 0..100u64 {
             if session.over().is_some() || session.is_free() {
                 return;
@@ -88,7 +93,7 @@ impl<R: Wait + Copy + Clock, M: Memory> Worker<R, M> {
     fn talk(
         &mut self,
         rt: &R,
-        desk: &mut Desk<R, M, Held>,
+        desk: &mut CountedDesk<'_, R, M>,
         bytes: &[u8],
     ) -> Result<(), AllocError> {
         let mut session = Session::new(self.alloc);
@@ -101,7 +106,7 @@ impl<R: Wait + Copy + Clock, M: Memory> Worker<R, M> {
     fn pass(
         &mut self,
         rt: &R,
-        desk: &mut Desk<R, M, Held>,
+        desk: &mut CountedDesk<'_, R, M>,
         update: &[u8],
         released: &AtomicU64,
     ) -> Result<(), AllocError> {
@@ -121,7 +126,7 @@ impl<R: Wait + Copy + Clock, M: Memory> Worker<R, M> {
     fn forget(
         &mut self,
         rt: &R,
-        desk: &mut Desk<R, M, Held>,
+        desk: &mut CountedDesk<'_, R, M>,
         update: &[u8],
     ) -> Result<(), AllocError> {
         let mut gone = Session::new(self.alloc);
@@ -133,7 +138,11 @@ impl<R: Wait + Copy + Clock, M: Memory> Worker<R, M> {
     }
 
     /// What a session of one peer is owed with no outcome.
-    fn talk_alone(&mut self, desk: &mut Desk<R, M, Held>, bytes: &[u8]) -> Result<(), AllocError> {
+    fn talk_alone(
+        &mut self,
+        desk: &mut CountedDesk<'_, R, M>,
+        bytes: &[u8],
+    ) -> Result<(), AllocError> {
         let mut session = Session::new(self.alloc);
         ask(desk, &mut session, bytes, 0);
         self.written.extend_from_slice(session.owed())
@@ -143,7 +152,7 @@ impl<R: Wait + Copy + Clock, M: Memory> Worker<R, M> {
     pub(crate) fn run(
         &mut self,
         rt: &R,
-        desk: &mut Desk<R, M, Held>,
+        desk: &mut CountedDesk<'_, R, M>,
         course: Course,
         bytes: &[u8],
         released: &AtomicU64,
@@ -160,6 +169,7 @@ impl<R: Wait + Copy + Clock, M: Memory> Worker<R, M> {
             Course::Alone => self.talk_alone(desk, bytes),
         };
         self.inbox = None;
+        self.tally = desk.tally();
         done
     }
 }

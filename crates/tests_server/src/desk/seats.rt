@@ -8,6 +8,7 @@ use crossbeam_channel::{Sender, bounded};
 use snap_desk::{Desk, Outcome, Storer, Window};
 use snap_devices::{Held, Waited};
 use snap_disk::Disk;
+use snap_figures::{Counted, Tally, WorkerFigures};
 use snap_memory::Scanner;
 use snap_restart::Store;
 use snap_service::{Memory, WriterOf};
@@ -29,6 +30,8 @@ pub(crate) struct Seen {
     pub numbers: Vec<u64>,
     /// What let the first store go on; 0 where nothing had to.
     pub flag: u64,
+    /// What was counted of the desk's answers.
+    pub tally: Tally,
 }
 
 /// How many storers there are.
@@ -91,10 +94,12 @@ fn tell<R: Wait + Copy, M: Memory>(
 fn work_desk<R: Wait + Copy + Clock, M: Memory>(
     rt: &R,
     worker: &mut Worker<R, M>,
-    mut desk: Desk<R, M, Held>,
+    desk: Desk<R, M, Held>,
     work: (Course, &[u8], &AtomicU64),
 ) -> Result<(), AllocError> {
     let (course, bytes, released) = work;
+    let figures = WorkerFigures::new();
+    let mut desk = Counted::new(desk, &figures);
     worker.run(rt, &mut desk, course, bytes, released)
 }
 
@@ -123,13 +128,15 @@ fn run_threads<R: Threads + Wait + Clock + Sync + Send + Copy, M: Memory + Send>
 /// What the storers and the worker have at the end.
 fn seen_by<R: Wait + Copy, M: Memory>(
     alloc: Global,
-    written: Vec<u8>,
+    work: (Vec<u8>, Tally),
     storers: Vec<Storer<R, M, Held>>,
 ) -> Result<Seen, AllocError> {
+    let (written, tally) = work;
     let mut seen = Seen {
         written,
         numbers: Vec::new(alloc),
         flag: 0,
+        tally,
     };
     for storer in storers {
         tell(storer, &mut seen)?;
@@ -137,14 +144,14 @@ fn seen_by<R: Wait + Copy, M: Memory>(
     Ok(seen)
 }
 
-/// A run of this desk beside these storers. What its peers were sent.
+/// A run of this desk beside these storers. What its peers were sent, and what was counted of that.
 fn run_desk<R: Threads + Wait + Clock + Sync + Send + Copy, M: Memory + Send>(
     rt: &R,
     alloc: Global,
     storers: &mut [Storer<R, M, Held>],
     desk: Desk<R, M, Held>,
     work: (Course, &[u8], &AtomicU64),
-) -> Result<Vec<u8>, AllocError> {
+) -> Result<(Vec<u8>, Tally), AllocError> {
     let (to, inbox) = bounded(alloc, 4)?;
     let mut desks = Vec::new(alloc);
     desks.push(to)?;
@@ -152,10 +159,11 @@ fn run_desk<R: Threads + Wait + Clock + Sync + Send + Copy, M: Memory + Send>(
         alloc,
         inbox: Some(inbox),
         written: Vec::new(alloc),
+        tally: Tally::new(),
     };
     run_threads(rt, storers, &mut worker, desk, &desks, work)?;
-    let Worker { written, .. } = worker;
-    Ok(written)
+    let Worker { written, tally, .. } = worker;
+    Ok((written, tally))
 }
 
 /// The storers of these writers, and the windows on them, in order.
@@ -208,8 +216,8 @@ fn run_writers<R: Threads + Wait + Clock + Sync + Send + Copy, M: Memory + Send>
     if matches!(work.0, Course::Alone) {
         threads.clear();
     }
-    let written = run_desk(rt, alloc, threads.as_mut_slice(), desk, work)?;
-    seen_by(alloc, written, threads)
+    let done = run_desk(rt, alloc, threads.as_mut_slice(), desk, work)?;
+    seen_by(alloc, done, threads)
 }
 
 /// The writers of all segments, in order, each with the memory told by its type. Where memory runs

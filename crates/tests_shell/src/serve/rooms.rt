@@ -3,9 +3,10 @@ ghost use Rattle.std.specs.Prelude.{◌≡◌};
 
 use snap_devices::{Held, MemDisk};
 use snap_disk::Disk;
+use snap_figures::Figures;
 use snap_order::{Level, Serving, Status};
 use snap_segment::format;
-use snap_serve::{Bind, Edge, NoWatch, Unbound, host};
+use snap_serve::{Bind, Edge, NoOnlooker, NoWatch, Unbound, host};
 use snap_server::{Arrival, BindFault, Endpoint, Gate, Listen, Locate, Note, Tcp, Unaccepted};
 use snap_slot::FILE_LEN;
 use snap_stream::Unknown;
@@ -160,13 +161,13 @@ where
 }
 
 /// The same, with this writer for what it prints.
-pub(crate) fn host_printing<X, D, B, G, W>(
+pub(crate) fn host_printing<'x, X, D, B, G, W>(
     rt: &X,
     alloc: Global,
     devices: Vec<D>,
-    bind: &B,
+    bind: &'x B,
     plan: Plan,
-    gate: &G,
+    gate: &'x G,
     out: W,
 ) -> Result<Seen<W>, AllocError>
 where
@@ -193,14 +194,20 @@ where
         connections: plan.connections,
         clients: None,
         idle: None,
+        http: None,
         log: Level::Info,
     };
+    let figures = Figures::new(alloc, usize::from(order.scanners), order.files.len())?;
+    let nobody: Option<NoOnlooker> = None;
+    let onlooker = nobody.as_ref();
     let note = |_note: &Note| {};
     let edge = Edge {
         bind,
         gate,
         note: &note,
         watch: NoWatch,
+        figures: &figures,
+        onlooker,
         causes: &[Unknown, Unknown],
         clients: 1_000,
         idle: None,

@@ -8,6 +8,7 @@ returns c =
     let three = c.with_command-commands-3.ensures _ _ two c.doctor_command.ensures in
     let four = c.with_command-commands-4.ensures _ _ three c.serve_command.ensures in
     let five = c.with_command-commands-5.ensures _ _ four c.call_command.ensures in
-    let six = c.with_command-commands-6.ensures _ _ five c.dump_command.ensures in
-    let seven = c.with_command-commands-7.ensures _ _ six c.load_command.ensures in
-    c.with_command.ensures _ _ seven c.script_command.ensures
+    let six = c.with_command-commands-6.ensures _ _ five c.watch_command.ensures in
+    let seven = c.with_command-commands-7.ensures _ _ six c.dump_command.ensures in
+    let eight = c.with_command-commands-8.ensures _ _ seven c.load_command.ensures in
+    c.with_command.ensures _ _ eight c.script_command.ensures

@@ -11,7 +11,7 @@ pub returns-in_default-clause-faults : goal.returns-in_default-clause-faults
 returns-in_default-clause-faults c = λ words has.
     let other = c.requires.other in
     missing has (codes "file")
-    (inr (inr (inr (inr (inr (
+    (inr (inr (inr (inr (inr (inr (
       other.0,
       other.1,
       other.2,
@@ -19,8 +19,9 @@ returns-in_default-clause-faults c = λ words has.
       other.5,
       other.6,
       other.7,
+      other.8,
       inl (inr (other.3, refl)),
-    )))))) (codes "file")
+    ))))))) (codes "file")
     (refl, sym (c.in_default.ensures ∙ word_is has (codes "file")))
 
 pub returns-then-is-clause-asked : goal.returns-then-is-clause-asked
@@ -34,7 +35,7 @@ pub returns-in_err-index-clause-faults : goal.returns-in_err-index-clause-faults
 returns-in_err-index-clause-faults c =
     let other = c.requires.other in
     let fault = placed_fault (found_of c.args.matches.now) other.0 other.1 other.2 other.4 other.5
-    other.6 other.7 (grind (arith, common_steps)) c.in_err-index.field-0.0
+    other.6 other.7 other.8 (grind (arith, common_steps)) c.in_err-index.field-0.0
     c.in_err-index.ensures.fault in
     search rules
 

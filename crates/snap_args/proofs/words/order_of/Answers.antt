@@ -1,10 +1,11 @@
 use Rattle.std.proofs.Common.{◌∙◌, ◌↔◌, IsTrue, codes, rules, sym}
 use Rattle.clap.specs.Words.{found_of}
 use Rattle.snap_args.specs.Dumps.{IsHolderOf}
-use Rattle.snap_args.specs.Numbers.{IsGiven, IsLayoutOf}
+use Rattle.snap_args.specs.Numbers.{AreSegmentsOf, IsGiven, IsLayoutOf}
 use Rattle.snap_args.specs.Requests.{IsQuestionOf}
 use Rattle.snap_args.proofs.Asked.{asked_pair, by_words, large_number_is, named, place_is, number_is, word_is}
 use Rattle.snap_args.proofs.Faulted.{call_fault, doctor_fault, dump_fault, init_fault, load_fault, migrate_fault}
+use Rattle.snap_args.proofs.Faulted.{watch_fault}
 use Rattle.snap_args.proofs.words.order_of.Goals as goal
 
 pub returns-then-is-clause-asked : goal.returns-then-is-clause-asked
@@ -117,3 +118,24 @@ returns-then-is-8-clause-asked c = λ words has. record {
 pub returns-then-is-8-clause-numbers : goal.returns-then-is-8-clause-numbers
 returns-then-is-8-clause-numbers c = λ words has.
     large_number_is has (codes "count") c.in_ok-loading.field-0.count c.in_ok-loading.ensures.count
+
+pub returns-in_err-watching-clause-faults : goal.returns-in_err-watching-clause-faults
+returns-in_err-watching-clause-faults c =
+    let fault = watch_fault (found_of c.args.matches.now) (c.is-9.ensures.0 c.if-is-9.true)
+    c.in_err-watching.field-0.0 c.in_err-watching.ensures.fault in
+    search rules
+
+pub returns-then-is-9-clause-asked : goal.returns-then-is-9-clause-asked
+returns-then-is-9-clause-asked c = λ words has.
+    let watching = c.in_ok-watching.ensures in record {
+      command = named has (codes "watch") (c.is-9.ensures.0 c.if-is-9.true);
+      address = sym (word_is has (codes "address")) ∙ sym watching.address;
+      segments = by_words has (λ of all. AreSegmentsOf (all (codes "segments"))
+          c.in_ok-watching.field-0.segments.items) watching.segments;
+      json = by_words has (λ of all. IsTrue c.in_ok-watching.field-0.is_json
+          ↔ IsGiven (of (codes "json"))) watching.json;
+    }
+
+pub returns-then-is-9-clause-numbers : goal.returns-then-is-9-clause-numbers
+returns-then-is-9-clause-numbers c = λ words has.
+    large_number_is has (codes "every") c.in_ok-watching.field-0.every c.in_ok-watching.ensures.every

@@ -1,4 +1,6 @@
-use Rattle.std.proofs.Common.{ℕ, length, ap, arith}
+use Rattle.std.proofs.Common.{ℕ, length, ap, arith, ◌∙◌}
+use Rattle.std.proofs.lemmas.Iterator.Adapters.{YieldsList-from_vec}
+use Rattle.std.proofs.lemmas.Iterator.Consumers.{YieldsList-end}
 use Rattle.std.proofs.lemmas.List.{length_push}
 use Rattle.snap_history.proofs.Removals.{taken}
 use Rattle.snap_serve.proofs.stores.open_desks.Goals as goal
@@ -23,4 +25,15 @@ scanners-preserved g c =
       long = (let was = inv.long in let gone = c.in-Some.ensures.steps.1 in
           let short = ap length c.in-Some.ensures.steps.0 in omega arith);
       within = omega arith;
+      desks = (let was = inv.desks in let long = ap length c.in_ok-push.ensures.items in
+          let more = length_push c.scanners.desks.items c.in_ok-open_desk.field-0 in omega arith);
     }
+
+pub returns : goal.returns
+returns g c =
+    let gives = c.into_iter-scanner-iterator.ensures.into_iter_gives in
+    let all = YieldsList-from_vec {s = c.into_iter-scanner-iterator.result} c.args.scanners.items
+    gives.0 (gives.1 ∙ c.args.scanners.ok.0) in
+    let end = YieldsList-end all c.scanners.yielded c.scanners.scanner-iterator c.scanners.yielded_by
+    c.next.result c.next.new.self c.in-None.is c.next.ensures.steps in
+    c.scanners.invariant.desks ∙ end.1

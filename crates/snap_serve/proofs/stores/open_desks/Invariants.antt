@@ -7,4 +7,5 @@ invariant-scanners g l = record {
   rest : into_iter_items l.scanner-iterator ≡ drop (length l.yielded) l.fn.scanners.items;
   long : into_iter_len l.scanner-iterator ≡ length (into_iter_items l.scanner-iterator);
   within : length l.yielded ≤ length l.fn.scanners.items;
+  desks : length l.desks.items ≡ length l.yielded;
 }

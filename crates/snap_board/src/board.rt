@@ -1,0 +1,377 @@
+//! The answers to HTTP requests.
+ghost use Rattle.std.specs.Prelude.{◌≡◌, OnOk, OnErr, if◌then◌else◌};
+ghost use Rattle.std.specs.List.{list_any};
+ghost use Rattle.http_server.specs.Response.{IsBlank};
+ghost use Rattle.snap_board.specs.Pages as pages;
+ghost use Rattle.snap_json.specs.Each.{each_from};
+ghost use Rattle.snap_json.specs.Documents.{health_text, list_text, status_tokens};
+
+use crate::facts::Facts;
+use crate::figures::figures_document;
+use crate::home::HOME;
+use crate::metrics::metrics_text;
+use crate::page::Page;
+use crate::reply::{Kind, fill, fill_with, give_up};
+use crate::script::SCRIPT;
+use crate::style::STYLE;
+use crate::surroundings::Surroundings;
+use bytes::Bytes;
+use http::{HeaderName, HeaderValue, Request, StatusCode, header};
+use http_server::Response;
+use snap_figures::Reading;
+use snap_frame::{Reply, SegmentStatus};
+use snap_json::{health_document, scan_document, status_document};
+use snap_session::Service;
+use std::alloc::{AllocError, Global};
+
+/// What is said where no page is.
+const PATHS: &[u8] = b"Nothing is here. There is: / /metrics /health /scan /status /stats\n";
+
+/// What is said of a method that might change something.
+const METHODS: &[u8] = b"Only GET and HEAD are answered.\n";
+
+/// What is said where the service gave no answer.
+const NO_ANSWER: &[u8] = b"no answer\n";
+
+/// What a page may load and do: its own style and script, and ask its own server.
+const POLICY: &str =
+    "default-src 'none'; style-src 'self'; script-src 'self'; connect-src 'self'; img-src data:; base-uri 'none'; form-action 'none'; frame-ancestors 'none'";
+
+/// Answers HTTP requests of what a service tells, and of what is told of it. It asks the service for scans and statuses
+/// alone, under the key 0, and one for a request at most. Where it has no memory for an answer, the answer is 503 with no
+/// content, which takes none.
+#[derive(Drop)]
+pub struct Board<S: Service + Drop, X: Surroundings + Drop> {
+    pub alloc: Global,
+    pub service: S,
+    pub surroundings: X,
+}
+
+impl<S: Service + Drop, X: Surroundings + Drop> Board<S, X> {
+    /// A board of this service and what is around it.
+    pub fn new(alloc: Global, service: S, surroundings: X) -> Board<S, X>
+        ensures service { result.service ≡ service }
+        ensures surroundings { result.surroundings ≡ surroundings }
+    {
+        Board {
+            alloc,
+            service,
+            surroundings,
+        }
+    }
+
+    /// Answers a request.
+    fn answer(
+        &mut self,
+        request: &Request<Bytes>,
+        response: &mut Response,
+    ) -> Result<(), AllocError>
+        requires { IsBlank response.old }
+        ensures answers { OnOk result (pages.Answers S.gives (X.reads self.old.surroundings)
+            (X.version_of self.old.surroundings) self.old.service request.now response.new self.new.service) }
+        ensures asks { OnErr result (pages.MayAskFor S.gives self.old.service request.now self.new.service) }
+        ensures same { self.new.surroundings ≡ self.old.surroundings }
+    {
+        let method = request.method().as_str();
+        if method != "GET" && method != "HEAD" {
+            return refuse_method(response);
+        }
+        match Page::of(request.uri().path()) {
+            Some(page) => self.show(page, response),
+            None => refuse_path(response),
+        }
+    }
+
+    /// Shows a page.
+    fn show(&mut self, page: Page, response: &mut Response) -> Result<(), AllocError>
+        requires { IsBlank response.old }
+        ensures answers { OnOk result (pages.AnswersPage S.gives (X.reads self.old.surroundings)
+            (X.version_of self.old.surroundings) page self.old.service response.new self.new.service) }
+        ensures asks { OnErr result (pages.MayAsk S.gives (pages.asked_of page) self.old.service self.new.service) }
+        ensures same { self.new.surroundings ≡ self.old.surroundings }
+    {
+        match page {
+            Page::Home => show_home(response),
+            Page::Style => show_file(response, Kind::Css, STYLE),
+            Page::Script => show_file(response, Kind::Script, SCRIPT),
+            Page::Scan => self.show_scan(response),
+            Page::Metrics => self.show_metrics(response),
+            Page::Health => self.show_health(response),
+            Page::Status => self.show_status(response),
+            Page::Stats => self.show_stats(response),
+        }
+    }
+
+    /// Shows a scan.
+    fn show_scan(&mut self, response: &mut Response) -> Result<(), AllocError>
+        requires { IsBlank response.old }
+        ensures answers { OnOk result (pages.AnswersPage S.gives (X.reads self.old.surroundings)
+            (X.version_of self.old.surroundings) Page.Scan self.old.service response.new self.new.service) }
+        ensures asks { OnErr result (pages.MayAsk S.gives (pages.asked_of Page.Scan)
+            self.old.service self.new.service) }
+        ensures same { self.new.surroundings ≡ self.old.surroundings }
+    {
+        match self.service.answer(&snap_frame::Request::Scan, 0) {
+            Some(Reply::Snapshot(values)) => {
+                let text = scan_document(self.alloc, &values)?;
+                fill_with(response, StatusCode::OK, Kind::Json, text)
+            }
+            reply => refuse(self.alloc, response, &reply),
+        }
+    }
+
+    /// Shows what was counted, for Prometheus.
+    fn show_metrics(&mut self, response: &mut Response) -> Result<(), AllocError>
+        requires { IsBlank response.old }
+        ensures answers { OnOk result (pages.AnswersPage S.gives (X.reads self.old.surroundings)
+            (X.version_of self.old.surroundings) Page.Metrics self.old.service response.new self.new.service) }
+        ensures asks { OnErr result (pages.MayAsk S.gives (pages.asked_of Page.Metrics)
+            self.old.service self.new.service) }
+        ensures same { self.new.surroundings ≡ self.old.surroundings }
+    {
+        match self.service.answer(&snap_frame::Request::Status, 0) {
+            Some(Reply::Status(statuses)) => {
+                metrics_page(self.alloc, &self.surroundings, &statuses, response)
+            }
+            reply => refuse(self.alloc, response, &reply),
+        }
+    }
+
+    /// Shows whether no segment is fenced.
+    fn show_health(&mut self, response: &mut Response) -> Result<(), AllocError>
+        requires { IsBlank response.old }
+        ensures answers { OnOk result (pages.AnswersPage S.gives (X.reads self.old.surroundings)
+            (X.version_of self.old.surroundings) Page.Health self.old.service response.new self.new.service) }
+        ensures asks { OnErr result (pages.MayAsk S.gives (pages.asked_of Page.Health)
+            self.old.service self.new.service) }
+        ensures same { self.new.surroundings ≡ self.old.surroundings }
+    {
+        match self.service.answer(&snap_frame::Request::Status, 0) {
+            Some(Reply::Status(statuses)) => { health_page(self.alloc, &statuses, response) }
+            reply => refuse(self.alloc, response, &reply),
+        }
+    }
+
+    /// Shows the number and the fence of each segment.
+    fn show_status(&mut self, response: &mut Response) -> Result<(), AllocError>
+        requires { IsBlank response.old }
+        ensures answers { OnOk result (pages.AnswersPage S.gives (X.reads self.old.surroundings)
+            (X.version_of self.old.surroundings) Page.Status self.old.service response.new self.new.service) }
+        ensures asks { OnErr result (pages.MayAsk S.gives (pages.asked_of Page.Status)
+            self.old.service self.new.service) }
+        ensures same { self.new.surroundings ≡ self.old.surroundings }
+    {
+        match self.service.answer(&snap_frame::Request::Status, 0) {
+            Some(Reply::Status(statuses)) => { status_page(self.alloc, &statuses, response) }
+            reply => refuse(self.alloc, response, &reply),
+        }
+    }
+
+    /// Shows what was counted, as a document.
+    fn show_stats(&mut self, response: &mut Response) -> Result<(), AllocError>
+        requires { IsBlank response.old }
+        ensures answers { OnOk result (pages.AnswersPage S.gives (X.reads self.old.surroundings)
+            (X.version_of self.old.surroundings) Page.Stats self.old.service response.new self.new.service) }
+        ensures asks { OnErr result (pages.MayAsk S.gives (pages.asked_of Page.Stats)
+            self.old.service self.new.service) }
+        ensures same { self.new.surroundings ≡ self.old.surroundings }
+    {
+        match self.service.answer(&snap_frame::Request::Status, 0) {
+            Some(Reply::Status(statuses)) => {
+                stats_page(self.alloc, &self.surroundings, &statuses, response)
+            }
+            reply => refuse(self.alloc, response, &reply),
+        }
+    }
+}
+
+/// What is known of a server, with these statuses.
+fn facts_of<'a, X: Surroundings>(
+    reading: &'a Reading,
+    surroundings: &'a X,
+    statuses: &'a [SegmentStatus],
+) -> Facts<'a>
+    ensures reading { result.reading.now ≡ reading.now }
+    ensures statuses { result.statuses.now ≡ statuses.now }
+    ensures version { result.version.now ≡ X.version_of surroundings.now }
+{
+    Facts {
+        reading,
+        statuses,
+        version: surroundings.version(),
+        uptime: surroundings.uptime(),
+        time: surroundings.now_millis(),
+        resident: surroundings.resident_bytes(),
+    }
+}
+
+/// Tells what was counted, for Prometheus.
+fn metrics_page<X: Surroundings>(
+    alloc: Global,
+    surroundings: &X,
+    statuses: &[SegmentStatus],
+    response: &mut Response,
+) -> Result<(), AllocError>
+    requires { IsBlank response.old }
+    ensures { OnOk result (pages.ShowsStatuses (X.reads surroundings.now) (X.version_of surroundings.now)
+        Page.Metrics statuses.now response.new) }
+{
+    let reading = surroundings.reading(alloc)?;
+    let facts = facts_of(&reading, surroundings, statuses);
+    let text = metrics_text(alloc, &facts)?;
+    fill_with(response, StatusCode::OK, Kind::Metrics, text)
+}
+
+/// Tells what was counted, as a document.
+fn stats_page<X: Surroundings>(
+    alloc: Global,
+    surroundings: &X,
+    statuses: &[SegmentStatus],
+    response: &mut Response,
+) -> Result<(), AllocError>
+    requires { IsBlank response.old }
+    ensures { OnOk result (pages.ShowsStatuses (X.reads surroundings.now) (X.version_of surroundings.now)
+        Page.Stats statuses.now response.new) }
+{
+    let reading = surroundings.reading(alloc)?;
+    let facts = facts_of(&reading, surroundings, statuses);
+    let text = figures_document(
+        alloc,
+        &facts,
+        surroundings.addresses(),
+        surroundings.files(),
+    )?;
+    fill_with(response, StatusCode::OK, Kind::Json, text)
+}
+
+/// Tells the number and the fence of each segment.
+fn status_page(
+    alloc: Global,
+    statuses: &[SegmentStatus],
+    response: &mut Response,
+) -> Result<(), AllocError>
+    requires { IsBlank response.old }
+    ensures { OnOk result (pages.HasContent 200 (list_text (each_from status_tokens 0 statuses.now)) response.new) }
+{
+    let text = status_document(alloc, statuses)?;
+    fill_with(response, StatusCode::OK, Kind::Json, text)
+}
+
+/// Tells whether no segment is fenced, by the status too: 503 where one is.
+fn health_page(
+    alloc: Global,
+    statuses: &[SegmentStatus],
+    response: &mut Response,
+) -> Result<(), AllocError>
+    requires { IsBlank response.old }
+    ensures { OnOk result (pages.HasContent
+        (if list_any (λ s. s.is_fenced) statuses.now then 503 else 200) (health_text statuses.now) response.new) }
+{
+    let status = health_status(statuses);
+    let text = health_document(alloc, statuses)?;
+    fill_with(response, status, Kind::Json, text)
+}
+
+fn health_status(statuses: &[SegmentStatus]) -> StatusCode
+    ensures { result ≡ (if list_any (λ s. s.is_fenced) statuses.now then 503 else 200) }
+{
+    if is_any_fenced(statuses) {
+        StatusCode::SERVICE_UNAVAILABLE
+    } else {
+        StatusCode::OK
+    }
+}
+
+/// Whether one of the segments is fenced.
+fn is_any_fenced(statuses: &[SegmentStatus]) -> bool
+    ensures { result ≡ list_any (λ s. s.is_fenced) statuses.now }
+{
+    statuses.iter().any(|status| status.is_fenced)
+}
+
+/// Shows the page for people.
+fn show_home(response: &mut Response) -> Result<(), AllocError>
+    requires { IsBlank response.old }
+    ensures { OnOk result (response.new.status ≡ 200) }
+{
+    show_file(response, Kind::Html, HOME)?;
+    response.add_header(
+        header::CONTENT_SECURITY_POLICY,
+        HeaderValue::from_static(POLICY),
+    )?;
+    response.add_header(
+        HeaderName::from_static("referrer-policy"),
+        HeaderValue::from_static("no-referrer"),
+    )
+}
+
+/// Shows what is the same each time.
+fn show_file(response: &mut Response, kind: Kind, content: &'static [u8]) -> Result<(), AllocError>
+    requires { IsBlank response.old }
+    ensures { OnOk result (response.new.status ≡ 200) }
+{
+    fill(response, StatusCode::OK, kind, Bytes::from_static(content))
+}
+
+/// Says which refusal the service answered, or that it gave no answer.
+fn refuse(alloc: Global, response: &mut Response, reply: &Option<Reply>) -> Result<(), AllocError>
+    requires { IsBlank response.old }
+    ensures { OnOk result (response.new.status ≡ 503) }
+{
+    let text = match reply {
+        Some(Reply::Refused { why, .. }) => {
+            let line = format!(in alloc; "{why}\n")?;
+            Bytes::from_string(line)?
+        }
+        _ => Bytes::from_static(NO_ANSWER),
+    };
+    fill(response, StatusCode::SERVICE_UNAVAILABLE, Kind::Text, text)
+}
+
+/// Refuses a method that might change something.
+fn refuse_method(response: &mut Response) -> Result<(), AllocError>
+    requires { IsBlank response.old }
+    ensures { OnOk result (response.new.status ≡ 405) }
+{
+    fill(
+        response,
+        StatusCode::METHOD_NOT_ALLOWED,
+        Kind::Text,
+        Bytes::from_static(METHODS),
+    )?;
+    response.add_header(header::ALLOW, HeaderValue::from_static("GET, HEAD"))
+}
+
+/// Says which paths there are.
+fn refuse_path(response: &mut Response) -> Result<(), AllocError>
+    requires { IsBlank response.old }
+    ensures { OnOk result (response.new.status ≡ 404) }
+{
+    fill(
+        response,
+        StatusCode::NOT_FOUND,
+        Kind::Text,
+        Bytes::from_static(PATHS),
+    )
+}
+
+impl<S: Service + Drop, X: Surroundings + Drop> http_server::Service for Board<S, X> {
+    ghost use Rattle.std.specs.Prelude.{◌≡◌};
+    ghost use Rattle.snap_board.specs.Pages.{Answers};
+
+    /// A query is ignored, and so is a body.
+    ghost answers = { λ old request response new.
+        Answers S.gives (X.reads old.surroundings) (X.version_of old.surroundings)
+        old.service request response new.service × (new.surroundings ≡ old.surroundings) };
+
+    fn call(
+        &mut self,
+        request: &Request<Bytes>,
+        response: &mut Response,
+    ) -> Result<(), AllocError> {
+        if self.answer(request, response).is_err() {
+            give_up(response);
+        }
+        Ok(())
+    }
+}

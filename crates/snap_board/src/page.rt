@@ -1,0 +1,43 @@
+//! The paths.
+ghost use Rattle.std.specs.Prelude.{◌≡◌};
+ghost use Rattle.snap_board.specs.Paths.{page_of};
+
+/// What stands at a path.
+#[derive(Clone, Copy, Debug, PartialEq, Eq)]
+pub enum Page {
+    /// `/`: the page for people.
+    Home,
+    /// `/board.css`: its style.
+    Style,
+    /// `/board.js`: its script.
+    Script,
+    /// `/metrics`: what was counted, for Prometheus.
+    Metrics,
+    /// `/health`: whether a segment is fenced.
+    Health,
+    /// `/scan`: the number and the value of each segment at one moment.
+    Scan,
+    /// `/status`: the number and the fence of each segment.
+    Status,
+    /// `/stats`: what was counted, as a document.
+    Stats,
+}
+
+impl Page {
+    /// The page at this path, or `None` where there is none.
+    pub fn of(path: &str) -> Option<Page>
+        ensures { result ≡ page_of path.now }
+    {
+        match path {
+            "/" => Some(Page::Home),
+            "/board.css" => Some(Page::Style),
+            "/board.js" => Some(Page::Script),
+            "/metrics" => Some(Page::Metrics),
+            "/health" => Some(Page::Health),
+            "/scan" => Some(Page::Scan),
+            "/status" => Some(Page::Status),
+            "/stats" => Some(Page::Stats),
+            _ => None,
+        }
+    }
+}

@@ -1,0 +1,13 @@
+-- The bounds that times are sorted by, in nanoseconds.
+use Rattle.std.specs.Prelude.{ℕ, ◌*◌, ◌^◌, ◌<◌, ◌≤◌}
+use Rattle.snap_figures.specs.declared.reading.TheConstants.{BOUNDS, FIRST_BOUND}
+
+-- the bound of a place: the first one, in microseconds, and at each further place twice the one before
+abbrev pub bound_at : ℕ → ℕ
+bound_at place = FIRST_BOUND * 1000 * 2 ^ place
+
+-- the place of a time: the first whose bound is no less, or the last place where each bound is less
+pub record IsPlaceOf (nanoseconds place : ℕ) : Type 0 where
+  pub there : place ≤ BOUNDS
+  pub no_less : place < BOUNDS → nanoseconds ≤ bound_at place
+  pub above_those_before : (k : ℕ) → k < place → bound_at k < nanoseconds

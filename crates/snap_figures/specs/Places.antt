@@ -1,0 +1,12 @@
+-- For whom figures are, and what was read of them.
+use Rattle.std.specs.Prelude.{ℕ, ◌≤◌}
+use Rattle.snap_figures.specs.declared.reading.Reading.{Reading}
+
+-- how many workers and how many segments
+pub record Places : Type 0 where
+  pub workers : ℕ
+  pub segments : ℕ
+
+-- no more connections are open than were accepted
+abbrev pub IsWithinAccepted : Reading → Type 0
+IsWithinAccepted r = r.open ≤ r.accepted

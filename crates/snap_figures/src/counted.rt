@@ -1,0 +1,137 @@
+//! A service that counts what it answers.
+ghost use Rattle.std.specs.Prelude.{◌≡◌, ◌-◌, [], ◌∷◌, ◌++◌, IfSome, IfNone};
+ghost use Rattle.snap_frame.specs.Messages.{IsAskable, IsInLimits};
+
+use crate::log::Log;
+use crate::looks::Looking;
+use crate::reading::Tally;
+use crate::worker::WorkerFigures;
+use snap_frame::{Reply, Request};
+use snap_session::Service;
+use std::marker::Model;
+
+/// What a request was answered.
+#[derive(Debug, Drop)]
+pub struct CountedAnswer {
+    pub reply: Reply,
+    /// The looks at registers that the service took for it.
+    pub looks: u64,
+}
+
+/// A service that counts what it answers, and shows that. Its replies are the service's.
+///
+/// A clause sees the service, and all requests that it answered, in order, each with its reply and its looks. Its tally is always
+/// what counting that whole list gives, from nothing on: so no request is missed, none is counted twice, and no number falls. A
+/// request that was handed over stands in the list once it was answered.
+#[derive(Drop)]
+pub struct Counted<'a, S: Drop> {
+    service: S,
+    answered: Log<Request, CountedAnswer>,
+    tally: Tally,
+    figures: &'a WorkerFigures,
+}
+
+impl<'a, S: Drop> Model for Counted<'a, S> {
+    ghost use Rattle.std.specs.Prelude.{◌≡◌};
+    ghost use Rattle.snap_figures.specs.Answered.{CountedState, tally_of};
+
+    ghost Value = { CountedState S };
+
+    ghost view = { λ c. record { service = c.service; answered = c.answered.items } };
+
+    ghost invariant = { λ c. c.tally ≡ tally_of c.answered.items };
+}
+
+impl<'a, S: Drop> Counted<'a, S> {
+    ghost use Rattle.snap_figures.specs.Answered.{tally_of, IsTallyOf};
+
+    /// This service, which has answered nothing yet. What it answers is shown here, where nobody else shows anything.
+    pub fn new(service: S, figures: &'a WorkerFigures) -> Counted<'a, S>
+        ensures service { result.service ≡ service }
+        ensures answered { result.answered ≡ [] }
+    {
+        Counted {
+            service,
+            answered: Log::new(),
+            tally: Tally::new(),
+            figures,
+        }
+    }
+
+    /// What it has counted: the tally of all that it answered.
+    #[tactic(auto, using(crate::proofs::TallyLaws::is_tally_of))]
+    pub fn tally(&self) -> Tally
+        ensures one_by_one { result ≡ tally_of self.now.answered }
+        ensures together { IsTallyOf self.now.answered result }
+    {
+        self.tally
+    }
+
+    /// The service, as it is.
+    pub fn into_service(self) -> S
+        ensures { result ≡ self.entry.service }
+    {
+        self.service
+    }
+}
+
+impl<S: Service + Looking + Drop> Counted<'_, S> {
+    /// Counts a request that the service answered, which had so many looks before it.
+    fn count(&mut self, request: &Request, reply: Reply, looks_before: u64) -> Reply
+        requires limits { IsInLimits reply }
+        ensures reply { result ≡ reply }
+        ensures service { self.new.service ≡ self.old.service }
+        ensures answered { self.new.answered ≡ self.old.answered
+            ++ (request.now, record { reply = reply; looks = looks_before - S.looks self.old.service }) ∷ [] }
+    {
+        let answer = CountedAnswer {
+            reply,
+            looks: looks_before.saturating_sub(self.service.looks_left()),
+        };
+        let before = self.tally;
+        self.tally.count(request, &answer.reply, answer.looks);
+        self.answered = self.answered.and(request, &answer);
+        self.figures.follow(&before, &self.tally);
+        answer.reply
+    }
+}
+
+impl<S: Service + Looking + Drop> Service for Counted<'_, S> {
+    ghost use Rattle.snap_figures.specs.Answered.{HasAnswered};
+
+    type Outcome = S::Outcome;
+
+    ghost gives = { λ old q r new. S.gives old.service q r new.service };
+
+    ghost hands_over = { S.hands_over };
+
+    ghost hands_over_under = { S.hands_over_under };
+
+    ghost tells = { S.tells };
+
+    fn answer(&mut self, request: &Request, key: usize) -> Option<Reply>
+        requires askable { IsAskable request.now }
+        ensures gives { IfSome result (λ r. S.gives self.old.service request.now r self.new.service) }
+        ensures limits { IfSome result (λ r. IsInLimits r) }
+        ensures later { IfNone result (self.new ≡ self.old) }
+        ensures may { IfNone result S.hands_over }
+        ensures under { IfNone result (S.hands_over_under key) }
+        ensures counts { IfSome result (λ r. HasAnswered S.looks S.gives self.old request.now r self.new) }
+    {
+        let looks = self.service.looks_left();
+        let reply = self.service.answer(request, key)?;
+        Some(self.count(request, reply, looks))
+    }
+
+    fn finish(&mut self, request: &Request, outcome: S::Outcome) -> Reply
+        requires askable { IsAskable request.now }
+        ensures gives { S.gives self.old.service request.now result self.new.service }
+        ensures limits { IsInLimits result }
+        ensures tells { S.tells outcome request.now result }
+        ensures counts { HasAnswered S.looks S.gives self.old request.now result self.new }
+    {
+        let looks = self.service.looks_left();
+        let reply = self.service.finish(request, outcome);
+        self.count(request, reply, looks)
+    }
+}

@@ -1,0 +1,26 @@
+//! All devices of a server, timed.
+ghost use Rattle.std.specs.Prelude.{◌≡◌, ◌≤◌, IfOk, length};
+
+use crate::figures::Figures;
+use crate::timed::Timed;
+use snap_disk::Disk;
+use std::alloc::{AllocError, Global};
+use std::rt::Clock;
+
+/// Each device of a server, in order of segment, which from now on counts in the figures of its segment how long stores on it take.
+pub fn time_all<'f, D: Disk + Drop, R: Clock + Copy>(
+    alloc: Global,
+    devices: Vec<D>,
+    clock: R,
+    figures: &'f Figures,
+) -> Result<Vec<Timed<'f, D, R>>, AllocError>
+    requires { length devices.items ≤ figures.now.segments }
+    ensures { IfOk result (λ timed. timed.items ≡ devices.items) }
+{
+    let mut timed = Vec::with_capacity(alloc, devices.len())?;
+    'devices: for device in devices {
+        let segment = figures.segment(timed.len());
+        timed.push(Timed::new(device, clock, segment))?;
+    }
+    Ok(timed)
+}

@@ -1,0 +1,142 @@
+//! All that a server counts.
+ghost use Rattle.std.specs.Prelude.{◌≡◌, ◌<◌, IfOk, length};
+ghost use Rattle.snap_figures.specs.Places.{IsWithinAccepted};
+
+use crate::reading::{Reading, SegmentReading, Tally};
+use crate::segment::SegmentFigures;
+use crate::worker::WorkerFigures;
+use std::alloc::{AllocError, Global};
+use std::marker::Model;
+use std::sync::atomic::{AtomicU64, Ordering};
+
+/// What a server counts. Each worker and each thread that stores has its own part, and any thread reads all of it, at any time and
+/// without a lock. A clause sees how many workers and how many segments there are.
+#[derive(Drop)]
+pub struct Figures {
+    workers: Vec<WorkerFigures>,
+    segments: Vec<SegmentFigures>,
+    accepted: AtomicU64,
+    ended: AtomicU64,
+}
+
+impl Model for Figures {
+    ghost use Rattle.std.specs.Prelude.{length};
+    ghost use Rattle.snap_figures.specs.Places.{Places};
+
+    ghost Value = { Places };
+
+    ghost view = { λ f. record { workers = length f.workers.items; segments = length f.segments.items } };
+}
+
+impl Figures {
+    /// Figures for so many workers and segments, of which nothing was counted yet.
+    pub fn new(alloc: Global, workers: usize, segments: usize) -> Result<Figures, AllocError>
+        ensures workers { IfOk result (λ f. f.workers ≡ workers) }
+        ensures segments { IfOk result (λ f. f.segments ≡ segments) }
+    {
+        Ok(Figures {
+            workers: new_workers(alloc, workers)?,
+            segments: new_segments(alloc, segments)?,
+            accepted: AtomicU64::new(0),
+            ended: AtomicU64::new(0),
+        })
+    }
+
+    /// How many workers there are.
+    pub fn worker_count(&self) -> usize
+        ensures { result ≡ self.now.workers }
+    {
+        self.workers.len()
+    }
+
+    /// How many segments there are.
+    pub fn segment_count(&self) -> usize
+        ensures { result ≡ self.now.segments }
+    {
+        self.segments.len()
+    }
+
+    /// What this worker shows.
+    pub fn worker(&self, worker: usize) -> &WorkerFigures
+        requires { worker < self.now.workers }
+    {
+        &self.workers[worker]
+    }
+
+    /// What is counted of this segment.
+    pub fn segment(&self, segment: usize) -> &SegmentFigures
+        requires { segment < self.now.segments }
+    {
+        &self.segments[segment]
+    }
+
+    /// A connection was accepted. Any thread may call this.
+    pub fn accept(&self) {
+        self.accepted.fetch_add(1, Ordering::SeqCst);
+    }
+
+    /// A connection that was accepted is closed. Any thread may call this.
+    pub fn end(&self) {
+        self.ended.fetch_add(1, Ordering::SeqCst);
+    }
+
+    /// All that was counted, each number as it was at some moment of this call. It waits for nobody, and nobody waits for it.
+    pub fn read(&self, alloc: Global) -> Result<Reading, AllocError>
+        ensures segments { IfOk result (λ r. length r.segments.items ≡ self.now.segments) }
+        ensures connections { IfOk result IsWithinAccepted }
+    {
+        let requests = read_workers(&self.workers);
+        let segments = read_segments(alloc, &self.segments)?;
+        // so that no connection has ended that wasn't accepted
+        let ended = self.ended.load(Ordering::SeqCst);
+        let accepted = self.accepted.load(Ordering::SeqCst);
+        Ok(Reading {
+            requests,
+            segments,
+            accepted,
+            open: accepted.saturating_sub(ended),
+        })
+    }
+}
+
+fn new_workers(alloc: Global, count: usize) -> Result<Vec<WorkerFigures>, AllocError>
+    ensures { IfOk result (λ v. length v.items ≡ count) }
+{
+    let mut workers = Vec::with_capacity(alloc, count)?;
+    for i in 0..count {
+        workers.push(WorkerFigures::new())?;
+    }
+    Ok(workers)
+}
+
+fn new_segments(alloc: Global, count: usize) -> Result<Vec<SegmentFigures>, AllocError>
+    ensures { IfOk result (λ v. length v.items ≡ count) }
+{
+    let mut segments = Vec::with_capacity(alloc, count)?;
+    for i in 0..count {
+        segments.push(SegmentFigures::new())?;
+    }
+    Ok(segments)
+}
+
+/// What all workers have counted together.
+fn read_workers(workers: &[WorkerFigures]) -> Tally {
+    let mut together = Tally::new();
+    for worker in workers {
+        together.merge(&worker.read());
+    }
+    together
+}
+
+fn read_segments(
+    alloc: Global,
+    segments: &[SegmentFigures],
+) -> Result<Vec<SegmentReading>, AllocError>
+    ensures { IfOk result (λ v. length v.items ≡ length segments.now) }
+{
+    let mut readings = Vec::with_capacity(alloc, segments.len())?;
+    for segment in segments {
+        readings.push(segment.read())?;
+    }
+    Ok(readings)
+}

@@ -1,0 +1,36 @@
+//! How many bytes frames have.
+ghost use Rattle.std.specs.Prelude.{◌≡◌, length};
+ghost use Rattle.snap_frame.specs.Messages.{frame, payload, says, IsInLimits};
+
+use crate::list::entries_len;
+use snap_frame::{Reply, Request};
+
+/// The bytes of the length that stands before a payload.
+const LENGTH_LEN: u64 = 4;
+
+/// How many bytes the frame of a request has, with its length.
+pub fn request_frame_len(request: &Request) -> u64
+    ensures { result ≡ length (frame (payload request.now)) }
+{
+    let payload_len = match request {
+        Request::Update { value, .. } => 10 + value.len() as u64,
+        Request::Scan | Request::Status => 1,
+        Request::Part(_) => 3,
+    };
+    LENGTH_LEN + payload_len
+}
+
+/// How many bytes the frame of a reply has, with its length.
+pub fn reply_frame_len(reply: &Reply) -> u64
+    requires { IsInLimits reply.now }
+    ensures { result ≡ length (frame (says reply.now)) }
+{
+    let payload_len = match reply {
+        Reply::Stored(_) => 9,
+        Reply::Snapshot(values) => 2 + entries_len(values),
+        Reply::Status(statuses) => 2 + entries_len(statuses),
+        Reply::Part(values) => 2 + entries_len(values),
+        Reply::Refused { .. } => 10,
+    };
+    LENGTH_LEN + payload_len as u64
+}

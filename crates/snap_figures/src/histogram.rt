@@ -1,0 +1,69 @@
+//! How long something takes, sorted by bounds.
+ghost use Rattle.std.specs.Prelude.{◌≡◌, ◌-◌, ◌^◌, min};
+ghost use Rattle.std.specs.Duration.{as_nanos};
+ghost use Rattle.snap_figures.specs.Bounds.{IsPlaceOf, bound_at};
+
+use crate::counter::{Counter, read_each};
+use crate::reading::{BOUNDS, Distribution, FIRST_BOUND};
+use std::array;
+use std::time::Duration;
+
+/// The first bound in nanoseconds.
+const FIRST_BOUND_NANOS: u64 = FIRST_BOUND * 1_000;
+
+/// A time in nanoseconds; 2^64 - 1 where it is more, which is above 584 years.
+pub fn nanoseconds_of(took: Duration) -> u64
+    ensures { result ≡ min (as_nanos took) (2 ^ 64 - 1) }
+{
+    took.as_secs()
+        .saturating_mul(1_000_000_000)
+        .saturating_add(u64::from(took.subsec_nanos()))
+}
+
+/// The place of a [`Distribution`] that counts a time of so many nanoseconds: that of the first bound that is no less, or
+/// [`BOUNDS`] where each bound is less.
+pub fn place_of(nanoseconds: u64) -> usize
+    ensures { IsPlaceOf nanoseconds result }
+{
+    let mut bound = FIRST_BOUND_NANOS;
+    for place in 0..BOUNDS {
+        if nanoseconds <= bound {
+            return place;
+        }
+        bound *= 2;
+    }
+    BOUNDS
+}
+
+/// How long something took, each time that it was done: what one thread counts and any thread reads, at any time and without a
+/// lock. As at a [`Counter`], one thread alone may write it.
+#[derive(Drop)]
+pub struct Histogram {
+    counts: [Counter; BOUNDS + 1],
+    total: Counter,
+}
+
+impl Histogram {
+    /// Nothing was done yet.
+    pub fn new() -> Histogram {
+        Histogram {
+            counts: array::from_fn(|_| Counter::new()),
+            total: Counter::new(),
+        }
+    }
+
+    /// It was done once, and took so long.
+    pub fn observe(&self, took: Duration) {
+        let nanoseconds = nanoseconds_of(took);
+        self.counts[place_of(nanoseconds)].add(1);
+        self.total.add(nanoseconds);
+    }
+
+    /// All that was counted, each number as it was at some moment of this call.
+    pub fn read(&self) -> Distribution {
+        Distribution {
+            counts: read_each(&self.counts),
+            total: self.total.get(),
+        }
+    }
+}

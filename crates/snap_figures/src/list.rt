@@ -1,0 +1,70 @@
+//! The bytes of the entries that a reply lists.
+ghost use Rattle.std.specs.Prelude.{◌≡◌, ◌+◌, ◌*◌, ◌≤◌, ℕ, List, length, flat_map, All};
+ghost use Rattle.snap_frame.specs.Messages.{max_payload, longest_entry};
+
+use snap_frame::{NamedValue, SegmentStatus, SegmentValue};
+
+/// An entry of a list.
+pub(crate) trait Entry {
+    /// Its bytes.
+    ghost bytes: { Self → List ℕ };
+
+    /// Whether it may stand in a reply.
+    ghost may_stand: { Self → Type 0 };
+
+    /// How many bytes it has.
+    fn bytes_len(&self) -> usize
+        requires { Self.may_stand self.now }
+        ensures len { result ≡ length (Self.bytes self.now) }
+        ensures fits { result ≤ longest_entry };
+}
+
+impl Entry for SegmentValue {
+    ghost use Rattle.snap_frame.specs.Messages.{value_bytes, IsValue};
+
+    ghost bytes = { value_bytes };
+
+    ghost may_stand = { IsValue };
+
+    fn bytes_len(&self) -> usize {
+        12 + self.value.len()
+    }
+}
+
+impl Entry for SegmentStatus {
+    ghost use Rattle.snap_frame.specs.Messages.{status_bytes, IsStatus};
+
+    ghost bytes = { status_bytes };
+
+    ghost may_stand = { IsStatus };
+
+    fn bytes_len(&self) -> usize {
+        9
+    }
+}
+
+impl Entry for NamedValue {
+    ghost use Rattle.snap_frame.specs.Messages.{named_bytes, IsNamedValue};
+
+    ghost bytes = { named_bytes };
+
+    ghost may_stand = { IsNamedValue };
+
+    fn bytes_len(&self) -> usize {
+        13 + self.value.len()
+    }
+}
+
+/// How many bytes the entries have together.
+pub(crate) fn entries_len<E: Entry>(entries: &[E]) -> usize
+    requires few { longest_entry * length entries.now + 2 ≤ max_payload }
+    requires each { All E.may_stand entries.now }
+    ensures len { result ≡ length (flat_map E.bytes entries.now) }
+    ensures fits { 2 + result ≤ max_payload }
+{
+    let mut len = 0;
+    for entry in entries {
+        len += entry.bytes_len();
+    }
+    len
+}

@@ -1,0 +1,12 @@
+//! Services that take looks.
+ghost use Rattle.std.specs.Prelude.{◌≡◌, ℕ};
+
+/// What takes looks at registers, of which it has so many.
+pub trait Looking {
+    /// How many looks it may still take.
+    ghost looks: { Self → ℕ };
+
+    /// How many looks it may still take.
+    fn looks_left(&self) -> u64
+        ensures { result ≡ looks self.now };
+}

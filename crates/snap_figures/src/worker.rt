@@ -1,0 +1,70 @@
+//! What one worker shows of its tally.
+use crate::counter::{Counter, read_each};
+use crate::reading::{REFUSALS, Tally};
+use std::array;
+
+/// Fills a line of a processor's cache, which has 64 bytes.
+#[derive(Clone, Copy)]
+struct CacheLine {
+    _words: [u64; 8],
+}
+
+/// What one worker answered, as any thread reads it at any time and without a lock. The worker alone writes it.
+#[derive(Drop)]
+pub struct WorkerFigures {
+    updates: Counter,
+    scans: Counter,
+    parts: Counter,
+    statuses: Counter,
+    refusals: [Counter; REFUSALS],
+    looks: Counter,
+    bytes_in: Counter,
+    bytes_out: Counter,
+    // so that no two workers, whose figures lie side by side, write to one line of the cache
+    _gap: CacheLine,
+}
+
+impl WorkerFigures {
+    /// Nothing was answered yet.
+    pub fn new() -> WorkerFigures {
+        WorkerFigures {
+            updates: Counter::new(),
+            scans: Counter::new(),
+            parts: Counter::new(),
+            statuses: Counter::new(),
+            refusals: array::from_fn(|_| Counter::new()),
+            looks: Counter::new(),
+            bytes_in: Counter::new(),
+            bytes_out: Counter::new(),
+            _gap: CacheLine { _words: [0; 8] },
+        }
+    }
+
+    /// Shows a tally that was `before` when it was shown last, and is `now`. Only the numbers that differ are written.
+    pub fn follow(&self, before: &Tally, now: &Tally) {
+        self.updates.follow(before.updates, now.updates);
+        self.scans.follow(before.scans, now.scans);
+        self.parts.follow(before.parts, now.parts);
+        self.statuses.follow(before.statuses, now.statuses);
+        for (place, refusals) in self.refusals.iter().enumerate() {
+            refusals.follow(before.refusals[place], now.refusals[place]);
+        }
+        self.looks.follow(before.looks, now.looks);
+        self.bytes_in.follow(before.bytes_in, now.bytes_in);
+        self.bytes_out.follow(before.bytes_out, now.bytes_out);
+    }
+
+    /// The tally that was shown, each number as it was at some moment of this call.
+    pub fn read(&self) -> Tally {
+        Tally {
+            updates: self.updates.get(),
+            scans: self.scans.get(),
+            parts: self.parts.get(),
+            statuses: self.statuses.get(),
+            refusals: read_each(&self.refusals),
+            looks: self.looks.get(),
+            bytes_in: self.bytes_in.get(),
+            bytes_out: self.bytes_out.get(),
+        }
+    }
+}

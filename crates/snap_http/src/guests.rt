@@ -1,0 +1,129 @@
+//! The connections of a site.
+ghost use Rattle.std.specs.Prelude.{◌≡◌, ◌≤◌, ◌<◌, ◌↔◌, true};
+ghost use Rattle.slab.specs.Slab.{slab_len};
+ghost use Rattle.snap_http.specs.Answered.{Answered};
+ghost use Rattle.snap_http.specs.declared.guests.TheConstants.{MAX_GUESTS};
+
+use crate::guest::{Guest, Step};
+use http_server::Service;
+use mio::net::TcpStream;
+use mio::{Registry, Token};
+use slab::Slab;
+use std::alloc::Global;
+use std::hash::RandomState;
+use std::time::{Duration, Instant};
+
+/// So many connections are open at most. One more takes the place of the one that hasn't got on for longest.
+pub const MAX_GUESTS: usize = 64;
+
+/// One that hasn't got on for so long is closed, in seconds.
+const MAX_REST: u64 = 10;
+
+/// Connections under keys, which are the tokens of their events.
+#[derive(Drop)]
+pub(crate) struct Guests {
+    alloc: Global,
+    keys: RandomState,
+    guests: Slab<Guest>,
+    ghost few: { slab_len guests ≤ MAX_GUESTS },
+}
+
+impl Guests {
+    /// With none yet. The peers choose the names of headers, so these are kept under secret keys.
+    pub(crate) fn new(alloc: Global, keys: RandomState) -> Guests {
+        Guests {
+            alloc,
+            keys,
+            guests: Slab::new(alloc),
+        }
+    }
+
+    pub(crate) fn is_empty(&self) -> bool
+        ensures { result ≡ true ↔ slab_len self.now.guests ≡ 0 }
+    {
+        self.guests.is_empty()
+    }
+
+    /// Takes a connection in. Where no memory is left for it, or the system refuses to watch it, it is closed, and the
+    /// others go on.
+    pub(crate) fn welcome(&mut self, registry: &Registry, stream: TcpStream, now: Instant) {
+        self.make_room(now);
+        if self.guests.len() >= MAX_GUESTS || self.guests.reserve(1).is_err() {
+            return;
+        }
+        let mut guest = Guest::new(self.alloc, self.keys, stream, now);
+        let key = self.guests.vacant_key();
+        if guest.register(registry, Token(key)).is_ok() {
+            self.guests.insert_reserved(guest);
+        }
+    }
+
+    /// Lets the one go that hasn't got on for longest, where all places are taken.
+    fn make_room(&mut self, now: Instant)
+        ensures { slab_len self.new.guests ≤ slab_len self.old.guests }
+    {
+        if self.guests.len() < MAX_GUESTS {
+            return;
+        }
+        if let Some(key) = self.slowest(now) {
+            self.guests.try_remove(key);
+        }
+    }
+
+    /// The key of the one that hasn't got on for longest.
+    fn slowest(&self, now: Instant) -> Option<usize> {
+        let mut slowest = None;
+        let mut longest = Duration::ZERO;
+        for key in 0..self.guests.capacity() {
+            if let Some(guest) = self.guests.get(key) {
+                let rest = guest.rest(now);
+                if slowest.is_none() || rest > longest {
+                    slowest = Some(key);
+                    longest = rest;
+                }
+            }
+        }
+        slowest
+    }
+
+    /// Gives one its steps, and lets it go at its end.
+    pub(crate) fn go_on<S: Service>(
+        &mut self,
+        registry: &Registry,
+        key: usize,
+        service: &mut S,
+        now: Instant,
+    )
+        ensures { Answered S.answers service.old service.new }
+    {
+        let Some(guest) = self.guests.get_mut(key) else {
+            return;
+        };
+        let is_over = match guest.go_on(service, now) {
+            Step::Again => guest.report_again(registry, Token(key)).is_err(),
+            Step::Waits => false,
+            Step::Over => true,
+        };
+        if is_over {
+            self.guests.try_remove(key);
+        }
+    }
+
+    /// Lets those go that haven't got on for too long.
+    pub(crate) fn let_slow_go(&mut self, now: Instant)
+        ensures { slab_len self.new.guests ≤ slab_len self.old.guests }
+    {
+        for key in 0..self.guests.capacity() {
+            if self.is_slow(key, now) {
+                self.guests.try_remove(key);
+            }
+        }
+    }
+
+    fn is_slow(&self, key: usize, now: Instant) -> bool {
+        match self.guests.get(key) {
+            Some(guest) => guest.rest(now) >= Duration::from_secs(MAX_REST),
+            None => false,
+        }
+    }
+}

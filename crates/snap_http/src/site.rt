@@ -1,0 +1,151 @@
+//! A listener and its connections, served on one thread.
+ghost use Rattle.std.specs.Prelude.{◌≡◌, ◌↔◌, IsNone};
+ghost use Rattle.slab.specs.Slab.{slab_len};
+ghost use Rattle.snap_http.specs.Answered.{Answered};
+
+use crate::bell::{Rope, Stop, hang};
+use crate::callers::{Callers, Queue};
+use crate::guests::Guests;
+use http_server::Service;
+use mio::net::TcpListener;
+use mio::{Events, Poll, Token};
+use std::alloc::Global;
+use std::hash::RandomState;
+use std::io;
+use std::net::Net;
+use std::random::RandomSource;
+use std::rt::Clock;
+use std::sync::Wait;
+use std::time::{Duration, Instant};
+
+/// The tokens of the bell and of the listener. Connections have their keys as tokens.
+const BELL: Token = Token(usize::MAX);
+
+const CALLERS: Token = Token(usize::MAX - 1);
+
+/// How many events one wait tells at most.
+const MAX_EVENTS: usize = 64;
+
+/// How many callers are taken in between two waits at most.
+const MAX_CALLERS: u32 = 16;
+
+/// The longest wait while some connections are there, which may have been slow for too long, in seconds.
+const LOOK_REST: u64 = 1;
+
+/// What answers HTTP at one address.
+#[derive(Drop)]
+pub struct Site {
+    poll: Poll,
+    /// What the last wait told. Taken at the beginning, so that a wait needs no memory.
+    events: Events,
+    callers: Callers,
+    guests: Guests,
+    rope: Rope,
+    /// The time at the last wait.
+    time: Instant,
+}
+
+/// Gives each connection its steps that was reported.
+fn take_events<S: Service>(
+    events: &Events,
+    poll: &Poll,
+    callers: &mut Callers,
+    guests: &mut Guests,
+    service: &mut S,
+    now: Instant,
+)
+    ensures { Answered S.answers service.old service.new }
+{
+    for event in events {
+        match event.token() {
+            BELL => {}
+            CALLERS => callers.ring(),
+            Token(key) => guests.go_on(poll.registry(), key, service, now),
+        }
+    }
+}
+
+impl Site {
+    /// A site at this listener, which waits for nobody, and what stops it. It allocates its lists here. An error is the
+    /// system's, or want of memory.
+    pub fn new(
+        rt: &(impl Net + RandomSource + Clock),
+        alloc: Global,
+        listener: TcpListener,
+    ) -> io::Result<(Site, Stop)> {
+        let poll = Poll::new(rt)?;
+        let events = Events::with_capacity(alloc, MAX_EVENTS)?;
+        let (rope, stop) = hang(poll.registry(), alloc, BELL)?;
+        let callers = Callers::new(poll.registry(), CALLERS, listener)?;
+        let keys = RandomState::new(rt)?;
+        let site = Site {
+            poll,
+            events,
+            callers,
+            guests: Guests::new(alloc, keys),
+            rope,
+            time: Instant::now(rt)?,
+        };
+        Ok((site, stop))
+    }
+
+    /// Answers requests by this service until it is stopped: then `Ok`, and what wasn't written is lost. Nothing that
+    /// a peer does ends it, and no want of memory. An error is that the system lets it wait no longer.
+    pub fn serve<X: Wait + Clock, S: Service>(&mut self, rt: &X, service: &mut S) -> io::Result<()>
+        ensures { Answered S.answers service.old service.new }
+    {
+        for _ in rt.forever() {
+            if self.rope.was_pulled() {
+                return Ok(());
+            }
+            self.wait()?;
+            self.look_at_clock(rt);
+            take_events(
+                &self.events,
+                &self.poll,
+                &mut self.callers,
+                &mut self.guests,
+                service,
+                self.time,
+            );
+            self.take_callers();
+            self.guests.let_slow_go(self.time);
+        }
+        unreachable!()
+    }
+
+    /// Waits until something is to be done.
+    fn wait(&mut self) -> io::Result<()> {
+        let most = self.longest_wait();
+        self.poll.poll(&mut self.events, most)
+    }
+
+    /// It waits without end only where nobody may wait in the queue and no connection is there.
+    fn longest_wait(&self) -> Option<Duration>
+        ensures { IsNone result ↔ ((self.now.callers.queue ≡ Queue.Empty)
+            × (slab_len self.now.guests.guests ≡ 0)) }
+    {
+        match self.callers.rest() {
+            Some(rest) => Some(rest),
+            None if self.guests.is_empty() => None,
+            None => Some(Duration::from_secs(LOOK_REST)),
+        }
+    }
+
+    /// Where the clock fails, no time has passed.
+    fn look_at_clock<X: Clock>(&mut self, rt: &X) {
+        if let Ok(now) = Instant::now(rt) {
+            self.time = now;
+        }
+    }
+
+    /// Takes in those that wait to be accepted, some at most: the next wait is short then.
+    fn take_callers(&mut self) {
+        for _ in 0..MAX_CALLERS {
+            let Some(stream) = self.callers.next() else {
+                return;
+            };
+            self.guests.welcome(self.poll.registry(), stream, self.time);
+        }
+    }
+}

@@ -1,0 +1,120 @@
+//! A server that somebody looks at from outside.
+ghost use Rattle.std.specs.Prelude.{◌≡◌, ◌-◌, ◌≤◌, Some, IfOk, IfErr, length};
+ghost use Rattle.std.specs.Thread.{IsSync, IsSend};
+ghost use Rattle.snap_server.specs.Announced.{Announced};
+ghost use Rattle.snap_server.specs.Deals.{GivesSoMany};
+
+use crate::onlooker::Onlook;
+use snap_desk::{Desk, Lookout};
+use snap_disk::Disk;
+use snap_server::{Announce, Gate, Limits, Listen, Note, RunFault, ServerFault, run};
+use snap_service::Memory;
+use snap_session::{Background, Service};
+use std::alloc::Global;
+use std::net::Net;
+use std::rt::Clock;
+use std::sync::Wait;
+use std::thread;
+use std::thread::Threads;
+
+/// Who looks, and by which scanner.
+#[derive(Drop)]
+pub(crate) struct View<'a, M: Memory, O> {
+    lookout: Lookout<M>,
+    onlooker: &'a O,
+}
+
+/// Takes the last desk for who looks; the others are the workers'. None where there is no desk.
+pub(crate) fn take_view<'a, R: Wait + Copy + Clock, M: Memory, D: Disk + Drop, O>(
+    desks: &mut Vec<Desk<R, M, D>>,
+    onlooker: &'a O,
+) -> Result<Option<View<'a, M, O>>, ServerFault>
+    ensures fewer { length desks.new.items ≤ length desks.old.items - 1 }
+    ensures faults { IfErr result (λ fault. fault ≡ ServerFault.NoMemory) }
+{
+    let Some(desk) = desks.pop() else {
+        return Ok(None);
+    };
+    match desk.into_lookout() {
+        Ok(lookout) => Ok(Some(View { lookout, onlooker })),
+        Err(_) => Err(ServerFault::NoMemory),
+    }
+}
+
+/// Serves as [`run`] does, while somebody looks from a thread of its own. That ends once the server has.
+pub(crate) fn run_seen<X, L, S, B, M, O, G, N, T, A>(
+    rt: &X,
+    alloc: Global,
+    listener: L,
+    services: Vec<S>,
+    backgrounds: Vec<B>,
+    view: View<'_, M, O>,
+    limits: Limits,
+    gate: &G,
+    note: &N,
+    announce: &A,
+    to: &mut T,
+) -> Result<u64, RunFault>
+where
+    X: Threads + Wait + Clock + Net + Sync,
+    L: Listen + Drop,
+    S: Service + Send + Drop,
+    S::Outcome: Send + Drop,
+    B: Background<Outcome = S::Outcome> + Send + Drop,
+    M: Memory + Send,
+    O: Onlook + Sync,
+    G: Gate + Sync,
+    N: Fn(&Note) + Sync,
+    A: Announce<T>,
+    requires { N.IsAlwaysCallable note.now }
+    ensures asked { IfOk result (λ k. limits.connections ≡ Some k) }
+    ensures accepted { IfOk result (λ k.
+        (left : L) × GivesSoMany L.accepts k listener left) }
+    ensures deaf { IfErr result (λ why.
+        why ≡ RunFault.Server ServerFault.AcceptFailed → L.refuses listener) }
+    ensures announced { Announced (A.announces announce.now) (A.fails announce.now)
+        to.old result to.new }
+{
+    let View { lookout, onlooker } = view;
+    let (ended, _to) = thread::scope(
+        thread::scope_env(),
+        rt,
+        move |scope| -> (Result<u64, RunFault>, &mut T)
+            requires { IsSync X.row × IsSync O.row × IsSync N.row × IsSync G.row × IsSend S.row
+                × IsSend S.Outcome.row × IsSend B.row × IsSend M.row
+                × N.IsAlwaysCallable note.now }
+            ensures asked { IfOk result.0 (λ k. limits.connections ≡ Some k) }
+            ensures accepted { IfOk result.0 (λ k.
+                (left : L) × GivesSoMany L.accepts k listener left) }
+            ensures deaf { IfErr result.0 (λ why.
+                why ≡ RunFault.Server ServerFault.AcceptFailed → L.refuses listener) }
+            ensures announced { Announced (A.announces announce.entry.now)
+                (A.fails announce.entry.now) to.entry.now result.0 result.1.now }
+            ensures same { result.1.ghost_name ≡ to.entry.ghost_name }
+        {
+            let looking = move ||
+                requires { IsSync X.row × IsSync O.row × IsSend M.row }
+            {
+                onlooker.look(rt, lookout);
+            };
+            if scope.spawn(looking).is_err() {
+                return (Err(RunFault::Server(ServerFault::NoThread)), to);
+            }
+            let ended = run(
+                rt,
+                alloc,
+                listener,
+                services,
+                backgrounds,
+                limits,
+                gate,
+                note,
+                announce,
+                to,
+            );
+            onlooker.stop();
+            (ended, to)
+        },
+    );
+    ended
+}

@@ -1,0 +1,68 @@
+-- What is printed of a board's rows (docs/FORMATS.md).
+use Rattle.std.specs.Prelude.{ℕ, Bool, true, false, List, [], ◌∷◌, ◌++◌, codes, flat_map, nat_lt, if◌then◌else◌}
+use Rattle.std.specs.Option.{option_map_or}
+use Rattle.std.specs.Fmt.{decimal}
+use Rattle.json.specs.Token.{Token, boolean, end_object, key}
+use Rattle.snap_hex.specs.Text.{hex_text}
+use Rattle.snap_json.specs.Documents.{bytes_tokens, head_tokens, line_of}
+use Rattle.snap_json.specs.Quotation.{quote_of}
+use Rattle.snap_watch.specs.Board.{is_shown}
+use Rattle.snap_watch.specs.declared.form.Form.{Form}
+use Rattle.snap_watch.specs.declared.form.Form.TheVariants.{Lines, Objects}
+use Rattle.snap_watch.specs.declared.row.Row.{Row}
+
+abbrev pub fence_text : Bool → List ℕ
+fence_text true = codes "1"
+fence_text false = codes "0"
+
+-- what a line says of a value: quoted text where it is printable, or else hexadecimal digits
+abbrev pub value_text : List ℕ → List ℕ
+value_text bytes = option_map_or (λ (text : List ℕ). codes " text " ++ text) (quote_of bytes)
+    (codes " value " ++ hex_text bytes)
+
+-- the segment's index and number, and whether it is fenced
+abbrev pub state_text : Row → List ℕ
+state_text row = codes "segment " ++ (decimal row.segment
+    ++ (codes " number " ++ (decimal row.number ++ (codes " fenced " ++ fence_text row.is_fenced))))
+
+-- the row as a line
+abbrev pub row_line : Row → List ℕ
+row_line row = state_text row ++ (value_text row.value ++ 10 ∷ [])
+
+-- the object of the row's segment
+abbrev pub row_tokens : Row → List Token
+row_tokens row = head_tokens row.segment row.number
+    ++ (key (codes "fenced") ∷ boolean row.is_fenced ∷ (bytes_tokens row.value ++ end_object ∷ []))
+
+abbrev pub row_text : Form → Row → List ℕ
+row_text Lines row = row_line row
+row_text Objects row = line_of (row_tokens row)
+
+-- what is printed of the row where these were shown: nothing where it is the same
+abbrev pub change_text : Form → List Row → Row → List ℕ
+change_text form shown row = if is_shown shown row then [] else row_text form row
+
+-- what is printed of these rows: each that is another one than was shown, in order
+abbrev pub changes_text : Form → (shown rows : List Row) → List ℕ
+changes_text form shown rows = flat_map (change_text form shown) rows
+
+-- ---- a board in a terminal
+
+-- what a terminal does, and doesn't show
+abbrev pub escape : List ℕ → List ℕ
+escape text = 27 ∷ (91 ∷ text)
+
+-- the cursor goes up so many lines
+abbrev pub up : ℕ → List ℕ
+up n = if nat_lt 0 n then escape (decimal n ++ codes "A") else []
+
+-- the row on a line that was emptied
+abbrev pub drawn_row : Row → List ℕ
+drawn_row row = escape (codes "2K") ++ row_line row
+
+-- The board in the place of the lines above the cursor, of which there are so many. Nobody sees the cursor
+-- meanwhile, a line that is too long is cut off, and what was below is gone.
+abbrev pub drawing_text : (above : ℕ) → List Row → List ℕ
+drawing_text above rows = (escape (codes "?25l") ++ (escape (codes "?7l") ++ (codes "\r" ++ up above)))
+    ++ (flat_map drawn_row rows
+    ++ (escape (codes "J") ++ (escape (codes "?7h") ++ escape (codes "?25h"))))

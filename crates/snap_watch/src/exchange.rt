@@ -1,0 +1,124 @@
+//! One look at a server.
+ghost use Rattle.std.specs.Prelude.{◌≡◌, ◌<◌, IfSome};
+ghost use Rattle.std.specs.List.{list_all};
+ghost use Rattle.snap_client.specs.Calls.{Calls};
+ghost use Rattle.snap_watch.specs.Looks.{GivesAnswered, GoesOn, Looks, is_as_told, is_settled};
+ghost use Rattle.snap_watch.specs.Looks.{values_request, wanted};
+
+use crate::row::Row;
+use crate::rows::{refenced, rows_of_all, rows_of_some};
+use crate::trouble::Trouble;
+use snap_client::{Client, ClientFault};
+use snap_frame::{Reply, SegmentStatus};
+use snap_scan::SegmentSet;
+use std::alloc::Global;
+use std::io::{Read, Write};
+
+/// Looks at a server on its connection, and gives the rows of the segments that are watched, in order: all where
+/// `watched` is `None`. `shown` are the rows that the last look gave, or none.
+///
+/// It asks for the numbers and fences, and for the values only where a number isn't the one that is shown: so
+/// the values are those of one moment. The fences are those of the moment before. After
+/// [`Trouble::Lost`] the client has failed, but for want of memory behind its answer.
+pub fn look<R: Read, W: Write>(
+    alloc: Global,
+    client: &mut Client<R, W>,
+    watched: Option<SegmentSet>,
+    shown: &[Row],
+) -> Result<Vec<Row>, Trouble>
+    requires some { IfSome watched (λ set. 0 < set.bits) }
+    ensures { Looks R.remaining W.contents watched shown.now client.old result client.new }
+{
+    let told = client.status();
+    go_on(alloc, client, watched, shown, told)
+}
+
+/// Goes on by the answer to a request for the numbers.
+fn go_on<R: Read, W: Write>(
+    alloc: Global,
+    client: &mut Client<R, W>,
+    watched: Option<SegmentSet>,
+    shown: &[Row],
+    told: Result<Reply, ClientFault>,
+) -> Result<Vec<Row>, Trouble>
+    requires some { IfSome watched (λ set. 0 < set.bits) }
+    ensures { GoesOn R.remaining W.contents watched shown.now told client.old result client.new }
+{
+    match told {
+        Ok(Reply::Status(statuses)) => {
+            if is_settled(watched, shown, &statuses) {
+                return Ok(refenced(alloc, shown, &statuses)?);
+            }
+            let answer = ask_values(client, watched);
+            rows_by(alloc, &statuses, answer)
+        }
+        Ok(Reply::Refused { why, detail }) => Err(Trouble::Refused { why, detail }),
+        Ok(_) => Err(Trouble::Lost(ClientFault::BadReply)),
+        Err(fault) => Err(Trouble::Lost(fault)),
+    }
+}
+
+/// No number has moved.
+fn is_settled(watched: Option<SegmentSet>, shown: &[Row], statuses: &[SegmentStatus]) -> bool
+    ensures { result ≡ is_settled watched shown.now statuses.now }
+{
+    shown.len() == wanted(watched, statuses) && are_as_told(statuses, shown)
+}
+
+/// Each row has the number that was told of its segment.
+fn are_as_told(statuses: &[SegmentStatus], rows: &[Row]) -> bool
+    ensures { result ≡ list_all (is_as_told statuses.now) rows.now }
+{
+    rows.iter().all(|row| is_as_told(statuses, row))
+}
+
+/// How many segments are watched.
+fn wanted(watched: Option<SegmentSet>, statuses: &[SegmentStatus]) -> usize
+    ensures { result ≡ wanted watched statuses.now }
+{
+    match watched {
+        Some(set) => set.len(),
+        None => statuses.len(),
+    }
+}
+
+/// The row has the number that was told of its segment.
+fn is_as_told(statuses: &[SegmentStatus], row: &Row) -> bool
+    ensures { result ≡ is_as_told statuses.now row.now }
+{
+    match statuses.get(row.segment) {
+        Some(status) => status.number == row.number,
+        None => false,
+    }
+}
+
+/// Asks for the values that are watched.
+fn ask_values<R: Read, W: Write>(
+    client: &mut Client<R, W>,
+    watched: Option<SegmentSet>,
+) -> Result<Reply, ClientFault>
+    requires some { IfSome watched (λ set. 0 < set.bits) }
+    ensures { Calls R.remaining W.contents (values_request watched) client.old result client.new }
+{
+    match watched {
+        Some(set) => client.scan_some(set),
+        None => client.scan(),
+    }
+}
+
+/// The rows by the answer to a request for the values.
+fn rows_by(
+    alloc: Global,
+    statuses: &[SegmentStatus],
+    answer: Result<Reply, ClientFault>,
+) -> Result<Vec<Row>, Trouble>
+    ensures { GivesAnswered statuses.now answer result }
+{
+    match answer {
+        Ok(Reply::Snapshot(values)) => Ok(rows_of_all(alloc, &values, statuses)?),
+        Ok(Reply::Part(values)) => Ok(rows_of_some(alloc, &values, statuses)?),
+        Ok(Reply::Refused { why, detail }) => Err(Trouble::Refused { why, detail }),
+        Ok(_) => Err(Trouble::Lost(ClientFault::BadReply)),
+        Err(fault) => Err(Trouble::Lost(fault)),
+    }
+}

@@ -1,0 +1,26 @@
+//! A board: what a running server holds, and each change of it.
+//!
+//! [`look`] asks a server over any connection: for the numbers and fences of its segments, and for their values
+//! only where a number has moved. [`changes`] is what is printed of the rows that are other ones than those
+//! that were shown, and [`drawing`] draws all rows in a terminal. When to look, and where it is printed, is for
+//! the caller. `specs/Looks.antt` says what is asked and what the board is then, `specs/Board.antt` which rows
+//! are the same, and `specs/Text.antt` has the texts (docs/FORMATS.md).
+#![tactic(auto)]
+
+mod exchange;
+mod form;
+mod member;
+mod print;
+mod row;
+mod rows;
+mod segments;
+mod terminal;
+mod trouble;
+
+pub use exchange::look;
+pub use form::Form;
+pub use print::changes;
+pub use row::Row;
+pub use segments::set_of;
+pub use terminal::drawing;
+pub use trouble::Trouble;

@@ -1,0 +1,69 @@
+//! Who looks at a server for browsers and monitors.
+
+use crate::http_place::HttpPlace;
+use crate::surroundings::Process;
+use log::{info, warn};
+use snap_args::is_everywhere;
+use snap_board::Board;
+use snap_http::{Site, Stop};
+use snap_log::Lines;
+use snap_serve::Onlook;
+use snap_session::Service;
+use std::alloc::Global;
+use std::net::SocketAddr;
+use std::rt::Clock;
+use std::sync::{Mutex, Wait};
+
+/// Answers browsers and monitors of a server, from a thread of its own.
+#[derive(Drop)]
+pub struct HttpView<'a, X: Wait + Clock> {
+    alloc: Global,
+    log: &'a Lines<'a, X>,
+    process: Process<'a>,
+    address: SocketAddr,
+    /// Taken by who looks.
+    site: Mutex<Option<Site>>,
+    stop: Stop,
+}
+
+impl<'a, X: Wait + Clock> HttpView<'a, X> {
+    /// Answers at this place of this process, and logs here.
+    pub fn new(
+        alloc: Global,
+        log: &'a Lines<'a, X>,
+        process: Process<'a>,
+        place: HttpPlace,
+    ) -> HttpView<'a, X> {
+        let HttpPlace {
+            address,
+            site,
+            stop,
+        } = place;
+        HttpView {
+            alloc,
+            log,
+            process,
+            address,
+            site: Mutex::new(Some(site)),
+            stop,
+        }
+    }
+}
+
+impl<X: Wait + Clock> Onlook for HttpView<'_, X> {
+    fn look<Y: Wait + Clock, S: Service + Drop>(&self, rt: &Y, service: S) {
+        let Some(mut site) = self.site.lock(rt).take() else {
+            return;
+        };
+        let address = self.address;
+        info!(self.log; target: "http", "browsers and monitors are answered at http://{address}/");
+        let mut board = Board::new(self.alloc, service, self.process);
+        if let Err(error) = site.serve(rt, &mut board) {
+            warn!(self.log; target: "http", "no browser and no monitor is answered any more: {error}");
+        }
+    }
+
+    fn stop(&self) {
+        self.stop.stop();
+    }
+}

@@ -1,0 +1,34 @@
+//! Who is told of each update of a server.
+
+use crate::store_log::StoreLog;
+use snap_disk::Refusal;
+use snap_figures::Figures;
+use snap_serve::Watch;
+use std::rt::Clock;
+use std::sync::Wait;
+
+/// Counts each update of a segment, and has those logged that could not be stored.
+#[derive_where(Clone, Copy)]
+#[derive(Drop)]
+pub struct UpdateWatch<'a, X: Wait + Clock> {
+    log: StoreLog<'a, X>,
+    figures: &'a Figures,
+}
+
+impl<'a, X: Wait + Clock> UpdateWatch<'a, X> {
+    /// Counts here, and logs there.
+    pub fn new(log: StoreLog<'a, X>, figures: &'a Figures) -> UpdateWatch<'a, X> {
+        UpdateWatch { log, figures }
+    }
+}
+
+impl<X: Wait + Clock> Watch for UpdateWatch<'_, X> {
+    fn told(&self, segment: usize, number: u64, told: Result<u64, Refusal>) {
+        if segment < self.figures.segment_count() {
+            self.figures.segment(segment).settle(told);
+        }
+        if told == Err(Refusal::DeviceFailed) {
+            self.log.unstored(segment, number);
+        }
+    }
+}

@@ -1,0 +1,154 @@
+//! Counters and histograms, and all figures of a server.
+use snap_figures::{
+    BOUNDS, Counter, FIRST_BOUND, Figures, Histogram, REFUSALS, Tally, nanoseconds_of, place_of,
+};
+use std::process::Abort;
+use std::test::Fail;
+use std::thread;
+use std::thread::Threads;
+use std::time::Duration;
+
+#[test]
+fn counter_stays_at_the_largest(rt: HostRuntime) {
+    let counter = Counter::new();
+    assert!(rt; counter.get() == 0);
+    counter.add(3);
+    counter.add(4);
+    assert!(rt; counter.get() == 7);
+    counter.set(u64::MAX - 1);
+    counter.add(5);
+    assert!(rt; counter.get() == u64::MAX);
+}
+
+#[test]
+fn bounds_double_from_16_microseconds(rt: HostRuntime) {
+    assert!(rt; FIRST_BOUND == 16 && BOUNDS == 21);
+    for (nanoseconds, place) in [
+        (0, 0),
+        (16_000, 0),
+        (16_001, 1),
+        (32_000, 1),
+        (32_001, 2),
+        (1_024_000, 6),
+        (16_777_216_000, 20),
+        (16_777_216_001, 21),
+        (u64::MAX, 21),
+    ] {
+        assert!(rt; place_of(nanoseconds) == place, "{nanoseconds}");
+    }
+}
+
+#[test]
+fn nanoseconds_stay_at_the_largest(rt: HostRuntime) {
+    assert!(rt; nanoseconds_of(Duration::from_millis(1_500)) == 1_500_000_000);
+    assert!(rt; nanoseconds_of(Duration::from_secs(18_446_744_073)) == 18_446_744_073_000_000_000);
+    assert!(rt; nanoseconds_of(Duration::from_secs(18_446_744_074)) == u64::MAX);
+}
+
+#[test]
+fn histogram_sorts_times(rt: HostRuntime) {
+    let histogram = Histogram::new();
+    for micros in [16, 17, 20, 40, 20_000_000] {
+        histogram.observe(Duration::from_micros(micros));
+    }
+    let times = histogram.read();
+    let mut counts = [0; BOUNDS + 1];
+    counts[0] = 1;
+    counts[1] = 2;
+    counts[2] = 1;
+    counts[BOUNDS] = 1;
+    assert!(rt; times.counts == counts);
+    assert!(rt; times.total == 20_000_093_000);
+}
+
+/// A tally of so many updates and refusals of the last number.
+fn tally_of(updates: u64, refused: u64) -> Tally {
+    let mut tally = Tally::new();
+    tally.updates = updates;
+    tally.refusals[REFUSALS - 1] = refused;
+    tally
+}
+
+#[test]
+fn all_workers_are_read_together(rt: HostRuntime) -> Result<(), Fail> {
+    let figures = Figures::new(rt.alloc(), 2, 1)?;
+    assert!(rt; figures.worker_count() == 2 && figures.segment_count() == 1);
+    figures.worker(0).follow(&Tally::new(), &tally_of(3, 1));
+    figures.worker(0).follow(&tally_of(3, 1), &tally_of(4, 1));
+    figures.worker(1).follow(&Tally::new(), &tally_of(6, 5));
+    figures.accept();
+    figures.accept();
+    figures.end();
+    let reading = figures.read(rt.alloc())?;
+    assert!(rt; reading.requests == tally_of(10, 6));
+    assert!(rt; reading.segments.len() == 1 && reading.accepted == 2 && reading.open == 1);
+    Ok(())
+}
+
+#[test]
+fn segments_are_read_in_order(rt: HostRuntime) -> Result<(), Fail> {
+    let figures = Figures::new(rt.alloc(), 0, 3)?;
+    assert!(rt; figures.segment_count() == 3);
+    figures.segment(1).settle(Ok(0));
+    let reading = figures.read(rt.alloc())?;
+    let repeats = |segment: usize| reading.segments.get(segment).map(|read| read.repeats);
+    assert!(rt; repeats(0) == Some(0) && repeats(1) == Some(1) && repeats(2) == Some(0));
+    Ok(())
+}
+
+#[test]
+fn only_what_differs_is_shown(rt: HostRuntime) -> Result<(), Fail> {
+    let figures = Figures::new(rt.alloc(), 1, 0)?;
+    assert!(rt; figures.worker_count() == 1);
+    figures.worker(0).follow(&tally_of(3, 2), &tally_of(3, 9));
+    assert!(rt; figures.worker(0).read() == tally_of(0, 9));
+    Ok(())
+}
+
+/// Counts updates up to this one.
+fn count_to(figures: &Figures, last: u64) {
+    if figures.worker_count() == 0 {
+        return;
+    }
+    for updates in 0..last {
+        figures
+            .worker(0)
+            .follow(&tally_of(updates, 0), &tally_of(updates + 1, 0));
+    }
+}
+
+/// How often the updates that were read fell, while they were counted.
+fn falls<R: AllocGlobal>(rt: &R, figures: &Figures, last: u64) -> u64 {
+    let mut before = 0;
+    let mut falls = 0u64;
+    for _ in 0..last {
+        let Ok(reading) = figures.read(rt.alloc()) else {
+            return u64::MAX;
+        };
+        if reading.requests.updates < before {
+            falls = falls.saturating_add(1);
+        }
+        before = reading.requests.updates;
+    }
+    falls
+}
+
+/// One thread counts while another one reads. How often what was read fell, and what is read at the end.
+fn count_and_read<R: Threads + AllocGlobal + Sync>(
+    rt: &R,
+    figures: &Figures,
+    last: u64,
+) -> (u64, u64) {
+    let ((), falls) = thread::join(rt, || count_to(figures, last), || falls(rt, figures, last));
+    match figures.read(rt.alloc()) {
+        Ok(reading) => (falls, reading.requests.updates),
+        Err(_) => (falls, 0),
+    }
+}
+
+#[test]
+fn one_thread_reads_what_another_counts(rt: HostRuntime) -> Result<(), Fail> {
+    let figures = Figures::new(rt.alloc(), 1, 1)?;
+    assert!(rt; count_and_read(&rt, &figures, 2_000) == (0, 2_000));
+    Ok(())
+}

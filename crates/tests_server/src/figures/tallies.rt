@@ -1,0 +1,111 @@
+//! What requests and their replies add to a tally.
+ghost use Rattle.std.specs.Prelude.{IfOk};
+ghost use Rattle.snap_frame.specs.Messages.{IsAskable, IsInLimits};
+
+use crate::frames::{
+    CONFLICT, EMPTY, FENCED, HI, REPEAT, SCAN, SNAPSHOT_HI, STATUS, STATUS_HI, STORED_1,
+};
+use snap_figures::{Tally, reply_frame_len, request_frame_len};
+use snap_frame::{Feed, Reply, ReplyFeed, Request};
+use std::alloc::Global;
+use std::process::Abort;
+use std::test::Fail;
+
+/// A scan of the first two segments, and what it is answered: the first at number 1 with `hi`.
+const PART: &[u8] = &[0, 0, 0, 3, 4, 0, 3];
+
+const PART_HI: &[u8] = &[
+    0, 0, 0, 30, 0x84, 2, 0, 0, 0, 0, 0, 0, 0, 0, 1, 0, 0, 0, 2, 0x68, 0x69, 1, 0, 0, 0, 0, 0, 0,
+    0, 0, 0, 0, 0, 0,
+];
+
+/// The request of a frame.
+pub(crate) fn request_of(alloc: Global, frame: &[u8]) -> Result<Request, Fail>
+    ensures { IfOk result IsAskable }
+{
+    let mut feed = Feed::new(alloc);
+    feed.push(frame)?;
+    match feed.next()? {
+        Some(request) => Ok(request),
+        None => Err(Fail::from("no frame")),
+    }
+}
+
+/// The reply of a frame.
+fn reply_of(alloc: Global, frame: &[u8]) -> Result<Reply, Fail>
+    ensures { IfOk result IsInLimits }
+{
+    let mut feed = ReplyFeed::new(alloc);
+    feed.push(frame)?;
+    match feed.next()? {
+        Some(reply) => Ok(reply),
+        None => Err(Fail::from("no frame")),
+    }
+}
+
+#[test]
+fn lengths_are_those_of_the_frames(rt: HostRuntime) -> Result<(), Fail> {
+    for frame in [HI, REPEAT, SCAN, STATUS, PART] {
+        let request = request_of(rt.alloc(), frame)?;
+        assert!(rt; request_frame_len(&request) == frame.len() as u64);
+    }
+    for frame in [STORED_1, EMPTY, SNAPSHOT_HI, STATUS_HI.1, PART_HI, FENCED] {
+        let reply = reply_of(rt.alloc(), frame)?;
+        assert!(rt; reply_frame_len(&reply) == frame.len() as u64);
+    }
+    Ok(())
+}
+
+/// Counts this request and reply, and so many looks.
+fn count(
+    alloc: Global,
+    tally: &mut Tally,
+    request: &[u8],
+    reply: &[u8],
+    looks: u64,
+) -> Result<(), Fail> {
+    let request = request_of(alloc, request)?;
+    let reply = reply_of(alloc, reply)?;
+    tally.count(&request, &reply, looks);
+    Ok(())
+}
+
+#[test]
+fn each_kind_is_counted(rt: HostRuntime) -> Result<(), Fail> {
+    let mut tally = Tally::new();
+    count(rt.alloc(), &mut tally, HI, STORED_1, 0)?;
+    count(rt.alloc(), &mut tally, CONFLICT.0, CONFLICT.1, 1)?;
+    count(rt.alloc(), &mut tally, HI, FENCED, 1)?;
+    count(rt.alloc(), &mut tally, SCAN, SNAPSHOT_HI, 4)?;
+    count(rt.alloc(), &mut tally, PART, PART_HI, 6)?;
+    count(rt.alloc(), &mut tally, STATUS, STATUS_HI.1, 0)?;
+    let mut wanted = Tally::new();
+    wanted.updates = 3;
+    wanted.scans = 1;
+    wanted.parts = 1;
+    wanted.statuses = 1;
+    wanted.refusals[3] = 1;
+    wanted.refusals[5] = 1;
+    wanted.looks = 12;
+    wanted.bytes_in = 16 + 15 + 16 + 5 + 7 + 5;
+    wanted.bytes_out = 13 + 14 + 14 + 32 + 34 + 24;
+    assert!(rt; tally == wanted);
+    Ok(())
+}
+
+#[test]
+fn merged_numbers_stay_at_the_largest(rt: HostRuntime) {
+    let mut tally = Tally::new();
+    tally.scans = u64::MAX;
+    tally.refusals[16] = 2;
+    let mut other = Tally::new();
+    other.scans = 2;
+    other.updates = 5;
+    other.refusals[16] = u64::MAX - 1;
+    tally.merge(&other);
+    let mut wanted = Tally::new();
+    wanted.scans = u64::MAX;
+    wanted.updates = 5;
+    wanted.refusals[16] = u64::MAX;
+    assert!(rt; tally == wanted);
+}
