@@ -3,15 +3,14 @@ ghost use Rattle.std.specs.Prelude.{◌≤◌};
 ghost use Rattle.snap_order.specs.Limits.{MAX_TRIES};
 ghost use Rattle.snap_order.specs.Order.{IsCallable};
 
+use crate::complaint::say;
 use crate::link::Link;
 use crate::time_limit::{LimitedStream, TimeLimit};
 use snap_call::ask;
 use snap_frame::SegmentValue;
 use snap_order::{Calling, Status, socket_path};
-use snap_stream::complain;
-use std::alloc::Global;
-use std::io::{self, ErrorKind, Read, Write};
-use std::net::{Net, OpenStream, TcpStream, ToSocketAddrs};
+use std::io::{self, ErrorKind};
+use std::net::{Net, OpenStream, SocketAddr, TcpStream, ToSocketAddrs};
 use std::os::unix::net::UnixStream;
 use std::rt::Clock;
 use std::sync::atomic::{AtomicBool, Ordering};
@@ -21,67 +20,86 @@ use std::time::{Duration, Instant};
 /// Asks the server at the order's address, and says how the program ends. An address that the
 /// system doesn't take has failed before any connection is made. A call whose time was over says so in a
 /// line of its own.
-pub fn call<N: Net + Clock, R: Read, W: Write, E: Write>(
-    net: &N,
-    alloc: Global,
-    order: &Calling<'_>,
-    reader: &mut R,
-    writer: &mut W,
-    errors: &mut E,
-) -> Status
+pub fn call<N: Net + Clock>(net: &N, rt: &HostRuntime, order: &Calling<'_>) -> Status
     requires { IsCallable order.now }
 {
     let address = order.address;
-    if let Err(error) = look_up(net, address) {
-        let _ = complain(alloc, errors, &format_args!("{address}: {error}"));
+    if !is_known(net, rt, address) {
         return Status::Failed;
     }
-    let seconds = order.timeout.map_or(0, u64::from);
     let is_over = AtomicBool::new(false);
     let mut end = None;
     let mut connect = || limited_connection(net, address, order.timeout, &mut end, &is_over);
-    let status = ask(alloc, order, &mut connect, reader, writer, errors).status;
-    if status == Status::Failed && is_over.load(Ordering::Relaxed) {
-        let line = format_args!("{address}: there was no answer within {seconds} s (--timeout)");
-        let _ = complain(alloc, errors, &line);
-    }
+    let status = ask(
+        rt.alloc(),
+        order,
+        &mut connect,
+        &mut rt.stdin(),
+        &mut rt.stdout(),
+        &mut rt.stderr(),
+    )
+    .status;
+    say_if_late(rt, address, order.timeout, status, &is_over);
     status
 }
 
 /// The values of the server at this address, by one scan, or how the program ends without them: as a call
 /// of so many tries and seconds does.
-pub fn fetch<N: Net + Clock, E: Write>(
+pub fn fetch<N: Net + Clock>(
     net: &N,
-    alloc: Global,
+    rt: &HostRuntime,
     address: &str,
     tries: u8,
     timeout: Option<u32>,
-    errors: &mut E,
 ) -> Result<Vec<SegmentValue>, Status>
     requires some { 1 ≤ tries }
     requires few { tries ≤ MAX_TRIES }
 {
-    if let Err(error) = look_up(net, address) {
-        let _ = complain(alloc, errors, &format_args!("{address}: {error}"));
+    if !is_known(net, rt, address) {
         return Err(Status::Failed);
     }
-    let seconds = timeout.map_or(0, u64::from);
     let is_over = AtomicBool::new(false);
     let mut end = None;
     let mut connect = || limited_connection(net, address, timeout, &mut end, &is_over);
-    let ended = match snap_call::fetch(alloc, address, tries, &mut connect, errors) {
-        Ok(values) => return Ok(values),
-        Err(ended) => ended,
-    };
-    if ended.status == Status::Failed && is_over.load(Ordering::Relaxed) {
-        let line = format_args!("{address}: there was no answer within {seconds} s (--timeout)");
-        let _ = complain(alloc, errors, &line);
+    match snap_call::fetch(rt.alloc(), address, tries, &mut connect, &mut rt.stderr()) {
+        Ok(values) => Ok(values),
+        Err(ended) => {
+            say_if_late(rt, address, timeout, ended.status, &is_over);
+            Err(ended.status)
+        }
     }
-    Err(ended.status)
+}
+
+/// Says of a call that failed that its time was over, where it was.
+fn say_if_late(
+    rt: &HostRuntime,
+    address: &str,
+    timeout: Option<u32>,
+    status: Status,
+    is_over: &AtomicBool,
+) {
+    if status == Status::Failed && is_over.load(Ordering::Relaxed) {
+        let seconds = timeout.unwrap_or(0);
+        say(
+            rt,
+            &format_args!("{address}: there was no answer within {seconds} s (--timeout)"),
+        );
+    }
+}
+
+/// The system takes the address. Says why where it doesn't.
+pub fn is_known<N: Net>(net: &N, rt: &HostRuntime, address: &str) -> bool {
+    match look_up(net, address) {
+        Ok(()) => true,
+        Err(error) => {
+            say(rt, &format_args!("{address}: {error}"));
+            false
+        }
+    }
 }
 
 /// The system takes the address. That of a Unix socket it takes as it is.
-pub fn look_up<N: Net>(net: &N, address: &str) -> io::Result<()> {
+fn look_up<N: Net>(net: &N, address: &str) -> io::Result<()> {
     if socket_path(address).is_none() {
         let _ = address.to_socket_addrs(net)?;
     }
@@ -168,19 +186,26 @@ fn connect_unix_within<N: Net + Clock>(
         return UnixStream::connect(net, path);
     }
     for _ in 0..u64::MAX {
-        match mio::net::UnixStream::connect(net, path) {
-            Ok(stream) => {
-                let stream = UnixStream::from(stream);
-                stream.set_nonblocking(false)?;
-                return Ok(stream);
-            }
-            Err(error) if error.kind() == ErrorKind::WouldBlock => {}
-            Err(error) => return Err(error),
+        if let Some(stream) = connect_unix(net, path)? {
+            return Ok(stream);
         }
         thread::sleep(net, Duration::from_millis(QUEUE_REST));
         limit.left()?;
     }
     Err(io::Error::from(ErrorKind::TimedOut))
+}
+
+/// A connection to the Unix socket at this path. `None` where its queue is full.
+fn connect_unix<N: Net>(net: &N, path: &str) -> io::Result<Option<UnixStream>> {
+    match mio::net::UnixStream::connect(net, path) {
+        Ok(stream) => {
+            let stream = UnixStream::from(stream);
+            stream.set_nonblocking(false)?;
+            Ok(Some(stream))
+        }
+        Err(error) if error.kind() == ErrorKind::WouldBlock => Ok(None),
+        Err(error) => Err(error),
+    }
 }
 
 /// A connection to the first of the address's that takes one before the time is over.
@@ -191,14 +216,22 @@ fn connect_within<N: Net + Clock>(
 ) -> io::Result<N::Stream> {
     let mut last = io::Error::from(ErrorKind::AddrNotAvailable);
     for found in address.to_socket_addrs(net)? {
-        let connected = match limit.left()? {
-            Some(left) => TcpStream::connect_timeout(net, &found, left),
-            None => net.connect(found),
-        };
-        match connected {
+        match connect_to(net, found, limit.left()?) {
             Ok(stream) => return Ok(stream),
             Err(error) => last = limit.fault_of(error),
         }
     }
     Err(last)
+}
+
+/// A connection that is made within this time, where there is a limit.
+fn connect_to<N: Net>(
+    net: &N,
+    address: SocketAddr,
+    left: Option<Duration>,
+) -> io::Result<N::Stream> {
+    match left {
+        Some(left) => TcpStream::connect_timeout(net, &address, left),
+        None => net.connect(address),
+    }
 }

@@ -6,15 +6,17 @@ use snap_disk::Refusal;
 use snap_file_commands::CommandFailure;
 use snap_order::Status;
 use snap_stream::complain;
+use std::fmt::Display;
 use std::io::{self, ErrorKind};
+
+/// Says this on standard error.
+pub fn say<T: Display>(rt: &HostRuntime, text: &T) {
+    let _ = complain(rt.alloc(), &mut rt.stderr(), text);
+}
 
 /// Says why the file at this path could not be taken.
 pub fn fail_at(rt: &HostRuntime, file: &str, fault: &FileFault) -> Status {
-    let _ = complain(
-        rt.alloc(),
-        &mut rt.stderr(),
-        &format_args!("{file}: {fault}"),
-    );
+    say(rt, &format_args!("{file}: {fault}"));
     Status::Failed
 }
 
@@ -24,7 +26,7 @@ pub fn fail_at_file(rt: &HostRuntime, file: &str, fault: &FileFault) -> Status {
     if let FileFault::System(reason) = fault {
         if reason.kind() == ErrorKind::IsADirectory {
             let line = format_args!("{file}: it is a folder: give it as --dir {file}");
-            let _ = complain(rt.alloc(), &mut rt.stderr(), &line);
+            say(rt, &line);
         }
     }
     status
@@ -32,9 +34,8 @@ pub fn fail_at_file(rt: &HostRuntime, file: &str, fault: &FileFault) -> Status {
 
 /// Says that two paths of one command name one file.
 pub fn fail_twice(rt: &HostRuntime, first: &str, second: &str) -> Status {
-    let _ = complain(
-        rt.alloc(),
-        &mut rt.stderr(),
+    say(
+        rt,
         &format_args!("{second}: it is the same file as {first}: each file is named once"),
     );
     Status::Failed
@@ -45,7 +46,7 @@ pub fn fail_in(rt: &HostRuntime, trouble: &FolderTrouble<'_>) -> Status {
     match trouble {
         FolderTrouble::Path { file, fault } => fail_at(rt, file, fault),
         FolderTrouble::Refused(why) => {
-            let _ = complain(rt.alloc(), &mut rt.stderr(), why);
+            say(rt, why);
             Status::Refused
         }
         FolderTrouble::NoMemory => stop_without_memory(rt),

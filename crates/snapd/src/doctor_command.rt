@@ -1,9 +1,9 @@
 //! The command `doctor`: how the files of a folder are, and the file system that they are on.
 ghost use Rattle.std.specs.Prelude.{◌≡◌, length};
 
-use crate::complaint::{fail_at_folder, stop, stop_without_memory};
+use crate::complaint::{stop, stop_without_memory};
 use crate::file_system::{file_system_of, keeps_locks};
-use crate::folder::{FolderTrouble, contents_of, order_of, segment_files};
+use crate::folder::{FolderTrouble, SegmentContents, contents_of, order_of, segment_files};
 use crate::store_times::{STORED_LEN, STORES, measure};
 use snap_devices::FileFault;
 use snap_file_commands::CommandFailure;
@@ -14,9 +14,9 @@ use std::io::{self, ErrorKind};
 /// Looks at the folder's files and at its file system, and says how they are, a line for each. The status
 /// is that of a refusal where something has to be mended before the folder can be served.
 pub fn examine(rt: &HostRuntime, order: &Examination<'_>) -> Status {
-    let files = match segment_files(rt, rt.alloc(), order.folder) {
+    let files = match segment_files(rt, order.folder) {
         Ok(files) => files,
-        Err(reason) => return fail_at_folder(rt, order.folder, reason),
+        Err(status) => return status,
     };
     match report(rt, order, &files) {
         Ok(true) => Status::Done,
@@ -40,27 +40,10 @@ fn report_files(rt: &HostRuntime, folder: &str, files: &[String]) -> io::Result<
     let mut places = Vec::with_capacity(rt.alloc(), files.len())?;
     let mut are_whole = true;
     for file in files {
-        let file = file.as_str();
-        match contents_of(rt, rt.alloc(), folder, file) {
-            Ok(found) => {
-                are_whole = report_segment(rt, file, found.place, found.number)? && are_whole;
-                places.push(found.place)?;
-            }
-            Err(
-                FolderTrouble::Path {
-                    fault: FileFault::InUse(_),
-                    ..
-                },
-            ) => {
-                rt.print(&format_args!(
-                    "{file}: a server or another command has it: ask it, as by snapd call ADDR status\n"
-                ))?;
-                return Ok(are_whole);
-            }
-            Err(trouble) => {
-                report_trouble(rt, &trouble)?;
-                are_whole = false;
-            }
+        match report_file(rt, folder, file.as_str())? {
+            FileState::Whole(place) => places.push(place)?,
+            FileState::Ill => are_whole = false,
+            FileState::InUse => return Ok(are_whole),
         }
     }
     // What is wrong with a file comes first. Where all are whole, each has its place.
@@ -70,23 +53,50 @@ fn report_files(rt: &HostRuntime, folder: &str, files: &[String]) -> io::Result<
     report_order(rt, folder, files, &places)
 }
 
-/// Says what a file holds, and whether it holds anything.
-fn report_segment(
-    rt: &HostRuntime,
-    file: &str,
-    place: SegmentPlace,
-    number: Option<u64>,
-) -> io::Result<bool> {
-    let SegmentPlace { index, count } = place;
-    match number {
-        Some(number) => rt.print(&format_args!(
-            "{file}: segment {index} of {count} number {number}\n"
-        ))?,
-        None => rt.print(&format_args!(
-            "{file}: segment {index} of {count}, but its slots give no answer: see snapd check {file}, and bring a copy back\n"
-        ))?,
+/// What was said of a file.
+#[derive(Clone, Copy)]
+enum FileState {
+    /// It is the file of this segment, and holds a value.
+    Whole(SegmentPlace),
+    /// Something is wrong with it.
+    Ill,
+    /// Another process has it.
+    InUse,
+}
+
+/// Says how a file is.
+fn report_file(rt: &HostRuntime, folder: &str, file: &str) -> io::Result<FileState> {
+    match contents_of(rt, rt.alloc(), folder, file) {
+        Ok(found) => report_segment(rt, file, found),
+        Err(
+            FolderTrouble::Path {
+                fault: FileFault::InUse(_),
+                ..
+            },
+        ) => {
+            rt.print(&format_args!(
+                "{file}: a server or another command has it: ask it, as by snapd call ADDR status\n"
+            ))?;
+            Ok(FileState::InUse)
+        }
+        Err(trouble) => {
+            report_trouble(rt, &trouble)?;
+            Ok(FileState::Ill)
+        }
     }
-    Ok(number.is_some())
+}
+
+/// Says what a file holds, where it holds anything.
+fn report_segment(rt: &HostRuntime, file: &str, found: SegmentContents) -> io::Result<FileState> {
+    let SegmentPlace { index, count } = found.place;
+    let Some(number) = found.number else {
+        rt.print(&format_args!(
+            "{file}: segment {index} of {count}, but its slots give no answer: see snapd check {file}, and bring a copy back\n"
+        ))?;
+        return Ok(FileState::Ill);
+    };
+    rt.print(&format_args!("{file}: segment {index} of {count} number {number}\n"))?;
+    Ok(FileState::Whole(found.place))
 }
 
 /// Says whether the files are all segments of one server.
@@ -128,25 +138,30 @@ fn report_file_system(rt: &HostRuntime, folder: &str, files: &[String]) -> io::R
         Some(kind) => kind,
         None => String::from_str(rt.alloc(), "unknown")?,
     };
-    let tried = files.first().map_or(folder, |file| file.as_str());
-    match keeps_locks(rt, tried) {
-        Ok(true) => {
-            rt.print(&format_args!("{folder}: its file system is {kind}, and keeps locks\n"))?;
-            Ok(true)
-        }
-        Ok(false) => {
-            rt.print(&format_args!(
-                "{folder}: its file system is {kind}, whose locks keep nobody out: two servers could have one file, so serve from another\n"
-            ))?;
-            Ok(false)
-        }
+    let tried = match files.first() {
+        Some(file) => file.as_str(),
+        None => folder,
+    };
+    report_locks(rt, folder, kind.as_str(), tried)
+}
+
+/// Says whether locks keep anybody out on a file system of this type.
+fn report_locks(rt: &HostRuntime, folder: &str, kind: &str, tried: &str) -> io::Result<bool> {
+    let (are_kept, locks) = match keeps_locks(rt, tried) {
+        Ok(true) => (true, "and keeps locks"),
+        Ok(false) => (
+            false,
+            "whose locks keep nobody out: two servers could have one file, so serve from another",
+        ),
         Err(reason) => {
             rt.print(&format_args!(
                 "{folder}: its file system is {kind}, and {tried} can't be locked: {reason}\n"
             ))?;
-            Ok(false)
+            return Ok(false);
         }
-    }
+    };
+    rt.print(&format_args!("{folder}: its file system is {kind}, {locks}\n"))?;
+    Ok(are_kept)
 }
 
 /// Says how long a store takes there, and whether it can have waited for a disk.

@@ -4,7 +4,7 @@ ghost use Rattle.snap_order.specs.Limits.{MAX_COUNT};
 ghost use Rattle.snap_order.specs.Order.{IsDumpable};
 
 use crate::call_command::fetch;
-use crate::complaint::{fail_at, fail_at_folder, fail_in, stop, stop_without_memory};
+use crate::complaint::{fail_at, fail_in, say, stop, stop_without_memory};
 use crate::files::{FirstFault, first_faults};
 use crate::folder::{FolderTrouble, files_in_order, segment_files};
 use jiff::Timestamp;
@@ -13,7 +13,7 @@ use snap_dump::{DumpFault, document, read};
 use snap_file_commands::{CommandFailure, held_value};
 use snap_frame::SegmentValue;
 use snap_order::{Dumping, Holder, Status};
-use snap_stream::{complain, write_whole};
+use snap_stream::write_whole;
 use std::alloc::Global;
 use std::fmt::InlineText;
 
@@ -28,11 +28,7 @@ pub fn dump(rt: &HostRuntime, order: &Dumping<'_>) -> Status
     let time = match Timestamp::now(rt) {
         Ok(now) => time_text(now),
         Err(error) => {
-            let _ = complain(
-                rt.alloc(),
-                &mut rt.stderr(),
-                &format_args!("the clock: {error}"),
-            );
+            say(rt, &format_args!("the clock: {error}"));
             return Status::Failed;
         }
     };
@@ -62,7 +58,7 @@ fn print_dump(rt: &HostRuntime, time: &str, values: &[SegmentValue]) -> Status {
         Err(DumpFault::NoMemory) => return stop_without_memory(rt),
         Err(fault) => {
             let line = format_args!("the dump can't be read back: {fault}");
-            let _ = complain(rt.alloc(), &mut rt.stderr(), &line);
+            say(rt, &line);
             return Status::Failed;
         }
     }
@@ -80,14 +76,7 @@ fn server_values(
 ) -> Result<Vec<SegmentValue>, Status>
     requires { IsDumpable order.now }
 {
-    fetch(
-        rt,
-        rt.alloc(),
-        address,
-        order.tries,
-        order.timeout,
-        &mut rt.stderr(),
-    )
+    fetch(rt, rt, address, order.tries, order.timeout)
 }
 
 /// The values of a folder's files, which are locked until all are read: so they are those of the moment at
@@ -97,10 +86,7 @@ fn folder_values(
     alloc: Global,
     folder: &str,
 ) -> Result<Vec<SegmentValue>, Status> {
-    let files = match segment_files(rt, alloc, folder) {
-        Ok(files) => files,
-        Err(reason) => return Err(fail_at_folder(rt, folder, reason)),
-    };
+    let files = segment_files(rt, folder)?;
     match files_in_order(rt, alloc, folder, &files) {
         Ok(files) => read_files(rt, alloc, &files),
         Err(FolderTrouble::Path { file, fault }) => Err(fail_at_locked(rt, file, &fault)),
@@ -155,7 +141,7 @@ fn read_file<'f>(
 fn fail_at_locked(rt: &HostRuntime, file: &str, fault: &FileFault) -> Status {
     if let FileFault::InUse(_) = fault {
         let line = format_args!("{file}: {fault}: where that is a server, ask it: snapd dump ADDR");
-        let _ = complain(rt.alloc(), &mut rt.stderr(), &line);
+        say(rt, &line);
         return Status::Failed;
     }
     fail_at(rt, file, fault)

@@ -2,9 +2,11 @@
 ghost use Rattle.std.specs.Prelude.{◌≡◌, length, IfOk};
 ghost use Rattle.snap_devices.specs.FileDisk.{IsUncalled};
 
+use crate::complaint::{fail_at, fail_twice};
 use snap_devices::{CallFault, FileDisk, FileFault, Lock};
-use snap_disk::Disk;
-use snap_order::FileOrder;
+use snap_disk::{Disk, Refusal};
+use snap_file_commands::{Causes, CommandFailure, MigrationFailure};
+use snap_order::{FileOrder, Migration, Status};
 use snap_segment::{OLD_FILE_LEN, Which};
 use snap_slot::FILE_LEN;
 use snap_stream::Cause;
@@ -60,10 +62,30 @@ pub fn first_faults(alloc: Global, count: usize) -> Result<Vec<FirstFault>, Allo
     Ok(told)
 }
 
+/// The order's file as a device, by [`open_file`]. Says why where it can't be taken.
+pub fn take_file<'a>(
+    rt: &'a HostRuntime,
+    order: &FileOrder<'_>,
+    file: &'a str,
+    told: &'a FirstFault,
+) -> Result<FileDisk<'a, HostRuntime>, Status>
+    ensures { IfOk result IsUncalled }
+{
+    match open_file(rt, order, file, told) {
+        Ok(disk) => Ok(disk),
+        Err(FileFault::WrongFile { len }) => {
+            let refused = CommandFailure::Refused(Refusal::WrongFile);
+            let ended = refused.report_of(rt.alloc(), order, len, told, &mut rt.stderr());
+            Err(ended.status)
+        }
+        Err(fault) => Err(fail_at(rt, file, &fault)),
+    }
+}
+
 /// The order's file as a device: `format` makes the file where it isn't there, and the other
 /// commands take it as it is. What writes the file has it alone. `file` is the order's path, and
 /// `told` gets why a call of the file fails.
-pub fn open_file<'a, R: Files<File = File> + Clock>(
+fn open_file<'a, R: Files<File = File> + Clock>(
     rt: &'a R,
     order: &FileOrder<'_>,
     file: &'a str,
@@ -84,9 +106,37 @@ pub fn writes(order: &FileOrder<'_>) -> bool {
     matches!(order, FileOrder::Format { .. } | FileOrder::Put { .. })
 }
 
+/// The files of a migration as devices, by [`open_pair`]. Says why where they can't be taken.
+pub fn take_pair<'a>(
+    rt: &'a HostRuntime,
+    order: &Migration<'_>,
+    old: &'a str,
+    new: &'a str,
+    told_old: &'a FirstFault,
+    told_new: &'a FirstFault,
+) -> Result<(FileDisk<'a, HostRuntime>, FileDisk<'a, HostRuntime>), Status>
+    ensures { IfOk result (λ pair. IsUncalled pair.0 × IsUncalled pair.1) }
+{
+    match open_pair(rt, old, new, told_old, told_new) {
+        Ok(pair) => Ok(pair),
+        Err(PairFault::Path { file, fault }) => Err(fail_at(rt, file, &fault)),
+        Err(PairFault::WrongFile(which)) => {
+            let why = Refusal::WrongFile;
+            let refused = MigrationFailure::OfFile { which, why };
+            let causes = Causes {
+                old: told_old,
+                new: told_new,
+            };
+            let ended = refused.report(rt.alloc(), order, &causes, &mut rt.stderr());
+            Err(ended.status)
+        }
+        Err(PairFault::SameFile) => Err(fail_twice(rt, old, new)),
+    }
+}
+
 /// Why the files of a migration could not be taken.
-#[derive(Debug, Drop)]
-pub enum PairFault<'a> {
+#[derive(Drop)]
+enum PairFault<'a> {
     /// The file at this path could not be taken as a device.
     Path { file: &'a str, fault: FileFault },
     /// This file is refused for its length.
@@ -98,7 +148,7 @@ pub enum PairFault<'a> {
 /// The files of a migration as devices: the old one, which others may read meanwhile, and then the
 /// new one, which is made where it isn't there. Where both have a wrong length, the old one counts.
 /// `told_old` and `told_new` get why a call of each fails.
-pub fn open_pair<'a, R: Files<File = File> + Clock>(
+fn open_pair<'a, R: Files<File = File> + Clock>(
     rt: &'a R,
     old: &'a str,
     new: &'a str,

@@ -6,86 +6,22 @@ ghost use Rattle.std.specs.Prelude.{◌≡◌, ◌<◌, ◌≤◌, All, IfOk, le
 ghost use Rattle.snap_folder.specs.Order.{IsFaultOf};
 ghost use Rattle.snap_order.specs.Limits.{MAX_COUNT};
 
+use crate::complaint::fail_at_folder;
 use crate::files::FirstFault;
+use crate::folder_refusal::{FileRefusal, FolderRefusal, Pair};
 use snap_devices::{FileDisk, FileFault, Lock, sync_folder_of};
 use snap_disk::{Disk, Refusal};
 use snap_folder::{FolderFault, SegmentPlace, file_name, is_further, is_segment_name, order_files};
-use snap_order::OLD_FILE_LEN;
-use snap_segment::{Header, check};
+use snap_order::{OLD_FILE_LEN, Status};
+use snap_segment::{Findings, Header, check};
 use snap_stream::Cause;
 use std::alloc::{AllocError, Global};
-use std::fs;
+use std::fs::{self, DirEntry};
 use std::io::{self, ErrorKind};
 use std::path::Path;
-use thiserror::Error;
-
-/// Why a folder's files are not the segments of one server, or not those that are to be made. Each text
-/// names a file, or the folder, and says what to do.
-#[derive(Debug, Drop, Error)]
-pub enum FolderRefusal<'f> {
-    #[error("{folder}: it has no segment file: make them with snapd init {folder} --count N")]
-    NoFiles {
-        folder: &'f str,
-    },
-    #[error("{file}: it is none of {count} segments: give the count that {folder} was made with, or move it out of there")]
-    Further {
-        folder: &'f str,
-        file: &'f str,
-        count: u8,
-    },
-    #[error("{file}: it is of {count} segments, and --count is {wanted}: give --count {count}; a folder of more is made of a dump, by snapd load")]
-    AnotherCount {
-        file: String,
-        count: u8,
-        wanted: u8,
-    },
-    #[error("{file}: it was never formatted, or its header is gone: go on with the init or format that was cut off, or move it out of {folder}")]
-    Unformatted {
-        folder: &'f str,
-        file: &'f str,
-    },
-    #[error("{file}: it has the length of the old format: carry it over with snapd migrate {file} NEW, and move it out of {folder}")]
-    OldFormat {
-        folder: &'f str,
-        file: &'f str,
-    },
-    #[error("{file}: it is no segment file: bring a copy back if it was one, else move it out of {folder}, or give it a name that doesn't end in .seg")]
-    NoSegment {
-        folder: &'f str,
-        file: &'f str,
-    },
-    #[error("{file}: it is of {count} segments, and {first} of {first_count}: move the one that doesn't belong here out of {folder}")]
-    OtherCount {
-        folder: &'f str,
-        file: &'f str,
-        count: u8,
-        first: &'f str,
-        first_count: u8,
-    },
-    #[error("{file}: it is segment {index} of {count}, as {first} is: move one of them out of {folder}")]
-    Twice {
-        folder: &'f str,
-        file: &'f str,
-        first: &'f str,
-        index: u8,
-        count: u8,
-    },
-    #[error("{folder}: segment {index} of {count} is missing: bring its file back, or make a new and empty one with snapd format {file} --index {index} --count {count}")]
-    Missing {
-        folder: &'f str,
-        file: String,
-        index: u8,
-        count: u8,
-    },
-    #[error("{file}: {reason}: look after its disk, and start again")]
-    Failed {
-        file: &'f str,
-        reason: String,
-    },
-}
 
 /// Why the files of a folder could not be taken.
-#[derive(Debug, Drop)]
+#[derive(Drop)]
 pub enum FolderTrouble<'f> {
     /// The file at this path could not be taken as a device.
     Path { file: &'f str, fault: FileFault },
@@ -112,22 +48,39 @@ pub fn make_folder(rt: &HostRuntime, folder: &str) -> io::Result<()> {
 }
 
 /// The paths of the folder's files whose names end in `.seg`, in order of name. A name that is no text is
-/// none of these.
-pub fn segment_files(rt: &HostRuntime, alloc: Global, folder: &str) -> io::Result<Vec<String>> {
+/// none of these. Says why where they can't be listed.
+pub fn segment_files(rt: &HostRuntime, folder: &str) -> Result<Vec<String>, Status> {
+    match listed(rt, rt.alloc(), folder) {
+        Ok(files) => Ok(files),
+        Err(reason) => Err(fail_at_folder(rt, folder, reason)),
+    }
+}
+
+/// These paths, by the system's list.
+fn listed(rt: &HostRuntime, alloc: Global, folder: &str) -> io::Result<Vec<String>> {
     let mut files = Vec::new(alloc);
     for entry in fs::read_dir(rt, folder)? {
-        match entry {
-            Ok(entry) => {
-                if is_segment_name(entry.file_name()) {
-                    files.push(path_in(alloc, folder, entry.file_name())?)?;
-                }
-            }
-            Err(reason) if reason.kind() == ErrorKind::InvalidFilename => {}
-            Err(reason) => return Err(reason),
+        if let Some(file) = segment_file(alloc, folder, entry)? {
+            files.push(file)?;
         }
     }
     files.sort()?;
     Ok(files)
+}
+
+/// The path of this entry of the folder, where its name ends in `.seg`.
+fn segment_file(
+    alloc: Global,
+    folder: &str,
+    entry: io::Result<DirEntry>,
+) -> io::Result<Option<String>> {
+    match entry {
+        Ok(entry) if is_segment_name(entry.file_name()) => {
+            Ok(Some(path_in(alloc, folder, entry.file_name())?))
+        }
+        Err(reason) if reason.kind() != ErrorKind::InvalidFilename => Err(reason),
+        _ => Ok(None),
+    }
 }
 
 /// The path of this name in the folder.
@@ -241,31 +194,47 @@ pub fn contents_of<'f>(
         Ok(disk) => disk.telling(told.place()),
         Err(fault) => return Err(FolderTrouble::Path { file, fault }),
     };
-    let refusal = match check(&mut disk) {
-        Ok(findings) => match findings.header {
-            Header::Open { index, count } => {
-                return Ok(SegmentContents {
-                    place: SegmentPlace { index, count },
-                    number: findings.answer.map(|found| found.number),
-                });
-            }
-            Header::Closed => FolderRefusal::Unformatted { folder, file },
-            Header::Wrong => FolderRefusal::NoSegment { folder, file },
-        },
-        Err(Refusal::DeviceFailed) => return Err(failure_of(alloc, file, &told)),
-        Err(_) => match disk.len() {
-            0 => FolderRefusal::Unformatted { folder, file },
-            OLD_FILE_LEN => FolderRefusal::OldFormat { folder, file },
-            _ => FolderRefusal::NoSegment { folder, file },
-        },
-    };
-    Err(FolderTrouble::Refused(refusal))
+    match check(&mut disk) {
+        Ok(findings) => contents_by(folder, file, &findings),
+        Err(Refusal::DeviceFailed) => Err(failure_of(alloc, file, &told)),
+        Err(_) => Err(refused(no_segment(folder, file, disk.len()))),
+    }
+}
+
+/// What a file holds by what was found in it.
+fn contents_by<'f>(
+    folder: &'f str,
+    file: &'f str,
+    findings: &Findings,
+) -> Result<SegmentContents, FolderTrouble<'f>> {
+    match findings.header {
+        Header::Open { index, count } => Ok(SegmentContents {
+            place: SegmentPlace { index, count },
+            number: findings.answer.map(|found| found.number),
+        }),
+        Header::Closed => Err(refused(FileRefusal::Unformatted { folder, file })),
+        Header::Wrong => Err(refused(FileRefusal::NoSegment { folder, file })),
+    }
+}
+
+/// Why a file of this length, which isn't a segment's, is none.
+fn no_segment<'f>(folder: &'f str, file: &'f str, len: u64) -> FileRefusal<'f> {
+    match len {
+        0 => FileRefusal::Unformatted { folder, file },
+        OLD_FILE_LEN => FileRefusal::OldFormat { folder, file },
+        _ => FileRefusal::NoSegment { folder, file },
+    }
+}
+
+/// A file is no segment's.
+fn refused(why: FileRefusal<'_>) -> FolderTrouble<'_> {
+    FolderTrouble::Refused(FolderRefusal::File(why))
 }
 
 /// The file could not be read.
 fn failure_of<'f>(alloc: Global, file: &'f str, told: &FirstFault) -> FolderTrouble<'f> {
     match told.text(alloc) {
-        Some(reason) => FolderTrouble::Refused(FolderRefusal::Failed { file, reason }),
+        Some(reason) => refused(FileRefusal::Failed { file, reason }),
         None => FolderTrouble::NoMemory,
     }
 }
@@ -280,36 +249,51 @@ fn trouble_of<'f>(
 ) -> FolderTrouble<'f>
     requires { IsFaultOf places.now fault }
 {
-    let path = |at: usize| files.get(at).map_or(folder, |file| file.as_str());
-    let place = |at: usize| places
-        .get(at)
-        .copied()
-        .unwrap_or(SegmentPlace { index: 0, count: 0 });
+    let pair = |first, second| pair_of(folder, files, places, first, second);
     FolderTrouble::Refused(match fault {
         FolderFault::Empty => FolderRefusal::NoFiles { folder },
-        FolderFault::NoPlace { file } => FolderRefusal::NoSegment {
+        FolderFault::NoPlace { file } => FolderRefusal::File(FileRefusal::NoSegment {
             folder,
-            file: path(file),
-        },
-        FolderFault::OtherCount { file } => FolderRefusal::OtherCount {
-            folder,
-            file: path(file),
-            count: place(file).count,
-            first: path(0),
-            first_count: place(0).count,
-        },
-        FolderFault::Twice { first, second } => FolderRefusal::Twice {
-            folder,
-            file: path(second),
-            first: path(first),
-            index: place(second).index,
-            count: place(second).count,
-        },
-        FolderFault::Missing { index, count } => {
-            return missing(alloc, folder, index, count);
-        }
+            file: path_at(folder, files, file),
+        }),
+        FolderFault::OtherCount { file } => FolderRefusal::OtherCount(pair(0, file)),
+        FolderFault::Twice { first, second } => FolderRefusal::Twice(pair(first, second)),
+        FolderFault::Missing { index, count } => return missing(alloc, folder, index, count),
         FolderFault::NoMemory => return FolderTrouble::NoMemory,
     })
+}
+
+/// Two of the files, with what their headers say.
+fn pair_of<'f>(
+    folder: &'f str,
+    files: &'f [String],
+    places: &[SegmentPlace],
+    first: usize,
+    second: usize,
+) -> Pair<'f> {
+    Pair {
+        folder,
+        first: path_at(folder, files, first),
+        first_place: place_at(places, first),
+        file: path_at(folder, files, second),
+        place: place_at(places, second),
+    }
+}
+
+/// The path of this file of the folder.
+fn path_at<'f>(folder: &'f str, files: &'f [String], at: usize) -> &'f str {
+    match files.get(at) {
+        Some(file) => file.as_str(),
+        None => folder,
+    }
+}
+
+/// What the header of this file says.
+fn place_at(places: &[SegmentPlace], at: usize) -> SegmentPlace {
+    match places.get(at) {
+        Some(place) => *place,
+        None => SegmentPlace { index: 0, count: 0 },
+    }
 }
 
 /// The segment is missing.

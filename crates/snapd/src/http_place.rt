@@ -1,10 +1,9 @@
 //! The place at which a server answers HTTP.
 
-use crate::complaint::stop_without_memory;
+use crate::complaint::{say, stop_without_memory};
 use mio::net::TcpListener;
 use snap_http::{Site, Stop};
 use snap_order::{MAX_SCANNERS, Serving, Status, socket_path};
-use snap_stream::complain;
 use std::io::{self, ErrorKind};
 use std::net::{Net, SocketAddr, ToSocketAddrs};
 use std::random::RandomSource;
@@ -40,22 +39,27 @@ pub fn open_http<X: Net + RandomSource + Clock>(
     }
     match open_at(threads, rt, address) {
         Ok(place) => Ok(Some(place)),
-        Err(error) if error.kind() == ErrorKind::OutOfMemory => Err(stop_without_memory(rt)),
-        Err(error) => {
-            let line = format_args!(
-                "{address}: can't listen there for HTTP: {error}: give an address of this machine whose port is free"
-            );
-            let _ = complain(rt.alloc(), &mut rt.stderr(), &line);
-            Err(Status::Failed)
-        }
+        Err(error) => Err(fail_to_listen(rt, address, error)),
     }
+}
+
+/// Says why the address can't be had.
+fn fail_to_listen(rt: &HostRuntime, address: &str, error: io::Error) -> Status {
+    if error.kind() == ErrorKind::OutOfMemory {
+        return stop_without_memory(rt);
+    }
+    let line = format_args!(
+        "{address}: can't listen there for HTTP: {error}: give an address of this machine whose port is free"
+    );
+    say(rt, &line);
+    Status::Failed
 }
 
 /// Says that no scanner is left for who asks by HTTP.
 fn refuse_scanners(rt: &HostRuntime) -> Status {
     let most = MAX_SCANNERS - 1;
     let line = format_args!("--http takes a scanner of its own: give --scanners {most} or fewer");
-    let _ = complain(rt.alloc(), &mut rt.stderr(), &line);
+    say(rt, &line);
     Status::Misused
 }
 
@@ -64,7 +68,7 @@ fn refuse_socket(rt: &HostRuntime, address: &str) -> Status {
     let line = format_args!(
         "{address}: HTTP is answered at HOST:PORT: give for example 127.0.0.1:7080"
     );
-    let _ = complain(rt.alloc(), &mut rt.stderr(), &line);
+    say(rt, &line);
     Status::Failed
 }
 
@@ -78,7 +82,7 @@ fn refuse_twice(rt: &HostRuntime, address: &str) -> Status {
     let line = format_args!(
         "{address}: clients and HTTP can't have one address: give --http another port"
     );
-    let _ = complain(rt.alloc(), &mut rt.stderr(), &line);
+    say(rt, &line);
     Status::Misused
 }
 

@@ -48,19 +48,29 @@ impl<'a, X: Wait + Clock> HttpView<'a, X> {
             stop,
         }
     }
-}
 
-impl<X: Wait + Clock> Onlook for HttpView<'_, X> {
-    fn look<Y: Wait + Clock, S: Service + Drop>(&self, rt: &Y, service: S) {
-        let Some(mut site) = self.site.lock(rt).take() else {
-            return;
-        };
-        let address = self.address;
-        info!(self.log; target: "http", "browsers and monitors are answered at http://{address}/");
+    /// What answers, once.
+    fn take_site<Y: Wait>(&self, rt: &Y) -> Option<Site> {
+        self.site.lock(rt).take()
+    }
+
+    /// Answers by this service until the server ends.
+    fn answer<Y: Wait + Clock, S: Service + Drop>(&self, rt: &Y, mut site: Site, service: S) {
         let mut board = Board::new(self.alloc, service, self.process);
         if let Err(error) = site.serve(rt, &mut board) {
             warn!(self.log; target: "http", "no browser and no monitor is answered any more: {error}");
         }
+    }
+}
+
+impl<X: Wait + Clock> Onlook for HttpView<'_, X> {
+    fn look<Y: Wait + Clock, S: Service + Drop>(&self, rt: &Y, service: S) {
+        let Some(site) = self.take_site(rt) else {
+            return;
+        };
+        let address = self.address;
+        info!(self.log; target: "http", "browsers and monitors are answered at http://{address}/");
+        self.answer(rt, site, service);
     }
 
     fn stop(&self) {

@@ -3,15 +3,14 @@ ghost use Rattle.std.specs.Prelude.{◌<◌, ◌≤◌};
 ghost use Rattle.snap_order.specs.Limits.{MAX_COUNT};
 ghost use Rattle.snap_order.specs.Order.{IsOneTo};
 
-use crate::complaint::{fail_at, fail_at_folder, fail_in, stop_without_memory};
-use crate::files::FirstFault;
+use crate::complaint::{fail_at_folder, fail_in, stop_without_memory};
+use crate::files::{FirstFault, take_file};
 use crate::folder::{
-    FolderRefusal, FolderTrouble, check_names, contents_of, make_folder, segment_files,
-    segment_path,
+    FolderTrouble, check_names, contents_of, make_folder, segment_files, segment_path,
 };
-use snap_devices::{FileDisk, FileFault};
-use snap_disk::Refusal;
-use snap_file_commands::{CommandFailure, found};
+use crate::folder_refusal::FolderRefusal;
+use snap_devices::FileFault;
+use snap_file_commands::found;
 use snap_order::{FileOrder, Founding, Status};
 use std::alloc::Global;
 
@@ -45,17 +44,27 @@ fn prepare(rt: &HostRuntime, order: &Founding<'_>) -> Status
     if let Err(reason) = make_folder(rt, folder) {
         return fail_at_folder(rt, folder, reason);
     }
-    let files = match segment_files(rt, rt.alloc(), folder) {
+    let files = match segment_files(rt, folder) {
         Ok(files) => files,
-        Err(reason) => return fail_at_folder(rt, folder, reason),
+        Err(status) => return status,
     };
-    if let Err(trouble) = check_names(rt.alloc(), folder, &files, order.count) {
-        return fail_in(rt, &trouble);
-    }
-    match check_counts(rt, rt.alloc(), folder, order.count) {
+    match check_files(rt, folder, &files, order.count) {
         Ok(()) => Status::Done,
         Err(trouble) => fail_in(rt, &trouble),
     }
+}
+
+/// The folder's files are of so many segments, by their names and by what they say.
+fn check_files<'f>(
+    rt: &HostRuntime,
+    folder: &'f str,
+    files: &'f [String],
+    count: u8,
+) -> Result<(), FolderTrouble<'f>>
+    requires { count ≤ MAX_COUNT }
+{
+    check_names(rt.alloc(), folder, files, count)?;
+    check_counts(rt, rt.alloc(), folder, count)
 }
 
 /// None of the files that are to be kept says that it is one of another count. What can't be read is left to who
@@ -98,17 +107,10 @@ fn found_at(rt: &HostRuntime, file: &str, index: u8, count: u8) -> Status
     requires few { count ≤ MAX_COUNT }
 {
     let told = FirstFault::new();
-    let disk = match FileDisk::create(rt, file) {
-        Ok(disk) => disk.telling(told.place()),
-        Err(FileFault::WrongFile { len }) => {
-            let refused = CommandFailure::Refused(Refusal::WrongFile);
-            let order = FileOrder::Format { file, index, count };
-            let mut errors = rt.stderr();
-            return refused
-                .report_of(rt.alloc(), &order, len, &told, &mut errors)
-                .status;
-        }
-        Err(fault) => return fail_at(rt, file, &fault),
+    let order = FileOrder::Format { file, index, count };
+    let disk = match take_file(rt, &order, file, &told) {
+        Ok(disk) => disk,
+        Err(status) => return status,
     };
     let (_disk, ended) = found(
         rt.alloc(),

@@ -21,6 +21,12 @@ impl<S: OpenStream> Link<S> {
         }
     }
 
+    /// The longest that a read or a write waits, which is some time.
+    pub fn set_timeouts(&self, most: Duration) -> io::Result<()> {
+        self.set_read_timeout(most)?;
+        self.set_write_timeout(most)
+    }
+
     /// The longest that a read waits, which is some time.
     pub fn set_read_timeout(&self, most: Duration) -> io::Result<()> {
         match self {

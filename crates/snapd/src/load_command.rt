@@ -8,17 +8,16 @@ ghost use Rattle.snap_order.specs.Limits.{MAX_COUNT};
 ghost use Rattle.snap_order.specs.Order.{IsLoadable, IsOneTo};
 ghost use Rattle.snap_dump.specs.Document.{AreServable, IsKeepable};
 
-use crate::complaint::{fail_at, stop, stop_without_memory};
-use crate::files::FirstFault;
+use crate::complaint::{fail_at, say, stop, stop_without_memory};
+use crate::files::{FirstFault, take_file};
 use crate::folder::segment_path;
 use crate::loading_folder::{LoadRefusal, LoadingFolder};
-use snap_devices::{FileDisk, FileFault};
-use snap_disk::Refusal;
+use snap_devices::FileFault;
 use snap_dump::{Dump, DumpFault, MAX_DUMP_LEN, read};
 use snap_file_commands::{CommandFailure, LoadedFile};
 use snap_frame::SegmentValue;
 use snap_order::{FileOrder, Loading, Status};
-use snap_stream::{complain, read_up_to, write_whole};
+use snap_stream::{read_up_to, write_whole};
 use std::fs::File;
 use std::io::Read;
 
@@ -81,17 +80,13 @@ fn refuse_dump(rt: &HostRuntime, name: &str, fault: DumpFault) -> Status {
     if fault == DumpFault::NoMemory {
         return stop_without_memory(rt);
     }
-    let _ = complain(
-        rt.alloc(),
-        &mut rt.stderr(),
-        &format_args!("{name}: {fault}"),
-    );
+    say(rt, &format_args!("{name}: {fault}"));
     Status::Refused
 }
 
 /// Says why nothing is made.
 fn refuse(rt: &HostRuntime, why: &LoadRefusal<'_>) -> Status {
-    let _ = complain(rt.alloc(), &mut rt.stderr(), why);
+    say(rt, why);
     Status::Refused
 }
 
@@ -106,15 +101,7 @@ fn make_folder(
     requires values { All IsKeepable values.now }
 {
     let loading = LoadingFolder::take(rt, folder)?;
-    for index in 0..count {
-        let Ok(file) = segment_path(rt.alloc(), loading.path(), index) else {
-            return Err(stop_without_memory(rt));
-        };
-        let status = make_file(rt, file.as_str(), index, count, values);
-        if status != Status::Done {
-            return Err(status);
-        }
-    }
+    make_files(rt, loading.path(), count, values)?;
     // The line is made first, so that want of memory leaves the folder out of its place.
     let Ok(line) = format!(in rt.alloc(); "ready {folder}\n") else {
         return Err(stop_without_memory(rt));
@@ -126,6 +113,28 @@ fn make_folder(
     }
 }
 
+/// Makes the files of so many segments, one after the other.
+fn make_files(
+    rt: &HostRuntime,
+    folder: &str,
+    count: u8,
+    values: &[SegmentValue],
+) -> Result<(), Status>
+    requires count { IsOneTo MAX_COUNT count }
+    requires values { All IsKeepable values.now }
+{
+    for index in 0..count {
+        let Ok(file) = segment_path(rt.alloc(), folder, index) else {
+            return Err(stop_without_memory(rt));
+        };
+        let status = make_file(rt, file.as_str(), index, count, values);
+        if status != Status::Done {
+            return Err(status);
+        }
+    }
+    Ok(())
+}
+
 /// Makes the file of a segment, with its value, or with none behind the last of these.
 fn make_file(rt: &HostRuntime, file: &str, index: u8, count: u8, values: &[SegmentValue]) -> Status
     requires below { index < count }
@@ -133,17 +142,10 @@ fn make_file(rt: &HostRuntime, file: &str, index: u8, count: u8, values: &[Segme
     requires values { All IsKeepable values.now }
 {
     let told = FirstFault::new();
-    let disk = match FileDisk::create(rt, file) {
-        Ok(disk) => disk.telling(told.place()),
-        Err(FileFault::WrongFile { len }) => {
-            let refused = CommandFailure::Refused(Refusal::WrongFile);
-            let order = FileOrder::Format { file, index, count };
-            let mut errors = rt.stderr();
-            return refused
-                .report_of(rt.alloc(), &order, len, &told, &mut errors)
-                .status;
-        }
-        Err(fault) => return fail_at(rt, file, &fault),
+    let order = FileOrder::Format { file, index, count };
+    let disk = match take_file(rt, &order, file, &told) {
+        Ok(disk) => disk,
+        Err(status) => return status,
     };
     let (number, value) = value_at(values, index);
     let of = LoadedFile {

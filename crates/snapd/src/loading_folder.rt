@@ -1,13 +1,12 @@
 //! The folder in which `load` makes its files, until it gets the name of the one that is wanted.
 
-use crate::complaint::{fail_at, fail_at_folder, stop_without_memory};
+use crate::complaint::{fail_at, fail_at_folder, say, stop_without_memory};
 use crate::folder::make_folder;
 use snap_devices::{FileFault, sync_folder_of};
 use snap_folder::{MAX_COUNT, file_name};
 use snap_order::Status;
-use snap_stream::complain;
 use std::alloc::{AllocError, Global};
-use std::fs::{self, File, TryLockError};
+use std::fs::{self, DirEntry, File, TryLockError};
 use std::io::{self, ErrorKind};
 use std::os::unix::fs::MetadataExt;
 use std::path::Path;
@@ -54,16 +53,7 @@ impl<'f> LoadingFolder<'f> {
         let Ok(path) = format!(in rt.alloc(); "{folder}.loading") else {
             return Err(stop_without_memory(rt));
         };
-        if let Err(reason) = make_folder(rt, path.as_str()) {
-            return Err(fail_at_folder(rt, path.as_str(), reason));
-        }
-        let lock = lock_folder(rt, path.as_str())?;
-        // Another load may have been here before the lock was. Then what was made just now goes again.
-        if let Err(status) = check_free(rt, folder) {
-            let _ = fs::remove_dir(rt, path.as_str());
-            return Err(status);
-        }
-        clear(rt, path.as_str())?;
+        let lock = make_for(rt, folder, path.as_str())?;
         Ok(LoadingFolder {
             folder,
             path,
@@ -81,7 +71,7 @@ impl<'f> LoadingFolder<'f> {
         let (folder, path) = (self.folder, self.path.as_str());
         if let Err(reason) = fs::rename(rt, path, folder) {
             let line = format_args!("{folder}: {reason}: all files are made, in {path}");
-            let _ = complain(rt.alloc(), &mut rt.stderr(), &line);
+            say(rt, &line);
             return Err(Status::Failed);
         }
         match sync_folder_of(rt, folder) {
@@ -93,8 +83,23 @@ impl<'f> LoadingFolder<'f> {
 
 /// Says why nothing is made.
 fn refuse(rt: &HostRuntime, why: &LoadRefusal<'_>) -> Status {
-    let _ = complain(rt.alloc(), &mut rt.stderr(), why);
+    say(rt, why);
     Status::Refused
+}
+
+/// Makes the folder at this path, in place of which the wanted one is to be, and gives its lock.
+fn make_for(rt: &HostRuntime, wanted: &str, path: &str) -> Result<File, Status> {
+    if let Err(reason) = make_folder(rt, path) {
+        return Err(fail_at_folder(rt, path, reason));
+    }
+    let lock = lock_folder(rt, path)?;
+    // Another load may have been here before the lock was. Then what was made just now goes again.
+    if let Err(status) = check_free(rt, wanted) {
+        let _ = fs::remove_dir(rt, path);
+        return Err(status);
+    }
+    clear(rt, path)?;
+    Ok(lock)
 }
 
 /// The folder isn't there, or is empty. Says so where it isn't.
@@ -140,15 +145,20 @@ fn try_lock_folder(rt: &HostRuntime, path: &str) -> io::Result<Option<File>> {
 /// Removes what a load left that was cut off. Says why where something else is there, and then removes none.
 fn clear(rt: &HostRuntime, loading: &str) -> Result<(), Status> {
     for name in names_in(rt, loading)? {
-        let path = Path::new(loading);
-        let Ok(path) = path.join(rt.alloc(), name.as_str()) else {
-            return Err(stop_without_memory(rt));
-        };
-        if let Err(reason) = fs::remove_file(rt, path.as_str()) {
-            return Err(fail_at(rt, path.as_str(), &FileFault::System(reason)));
-        }
+        remove(rt, loading, name.as_str())?;
     }
     Ok(())
+}
+
+/// Removes the file of this name.
+fn remove(rt: &HostRuntime, loading: &str, name: &str) -> Result<(), Status> {
+    let Ok(path) = Path::new(loading).join(rt.alloc(), name) else {
+        return Err(stop_without_memory(rt));
+    };
+    match fs::remove_file(rt, path.as_str()) {
+        Ok(()) => Ok(()),
+        Err(reason) => Err(fail_at(rt, path.as_str(), &FileFault::System(reason))),
+    }
 }
 
 /// The names in the folder, each of which is one that a load gives. Says so where one isn't.
@@ -159,18 +169,26 @@ fn names_in(rt: &HostRuntime, loading: &str) -> Result<Vec<String>, Status> {
     };
     let mut names = Vec::new(rt.alloc());
     for entry in entries {
-        let name = match entry {
-            Ok(entry) => own_name(rt, loading, entry.file_name())?,
-            Err(reason) if reason.kind() == ErrorKind::InvalidFilename => {
-                return Err(refuse(rt, &LoadRefusal::OddName { loading }));
-            }
-            Err(reason) => return Err(fail_at_folder(rt, loading, reason)),
-        };
-        if names.push(name).is_err() {
+        if names.push(own_name_of(rt, loading, entry)?).is_err() {
             return Err(stop_without_memory(rt));
         }
     }
     Ok(names)
+}
+
+/// The name of this entry of the folder, by [`own_name`].
+fn own_name_of(
+    rt: &HostRuntime,
+    loading: &str,
+    entry: io::Result<DirEntry>,
+) -> Result<String, Status> {
+    match entry {
+        Ok(entry) => own_name(rt, loading, entry.file_name()),
+        Err(reason) if reason.kind() == ErrorKind::InvalidFilename => {
+            Err(refuse(rt, &LoadRefusal::OddName { loading }))
+        }
+        Err(reason) => Err(fail_at_folder(rt, loading, reason)),
+    }
 }
 
 /// The name, where it is one that a load gives. Says so where it isn't.

@@ -19,6 +19,7 @@ mod dump_command;
 mod file_system;
 mod files;
 mod folder;
+mod folder_refusal;
 mod http_place;
 mod http_view;
 mod init_command;
@@ -35,33 +36,26 @@ mod update_watch;
 mod watch_command;
 
 use call_command::call;
-use complaint::{
-    fail_at, fail_at_file, fail_at_folder, fail_in, fail_twice, stop, stop_without_memory,
-};
+use complaint::{fail_in, say, stop, stop_without_memory};
 use doctor_command::examine;
 use dump_command::dump;
 use files::{
-    FirstFault, PairFault, check_streams, first_faults, open_file, open_pair, too_short_files,
-    writes,
+    FirstFault, check_streams, first_faults, take_file, take_pair, too_short_files, writes,
 };
 use folder::{files_in_order, segment_files};
 use http_place::open_http;
 use init_command::init;
 use load_command::load;
 use right_order::say_right_order;
-use serve_command::{FilesFault, open_files, serve};
+use serve_command::{serve, take_files};
 use snap_args::{WordFault, lack_of, order, text_of};
-use snap_devices::FileFault;
-use snap_disk::Refusal;
-use snap_file_commands::{Causes, CommandFailure, MigrationFailure, act, act_pair};
+use snap_file_commands::{Causes, CommandFailure, act, act_pair};
 use snap_order::{
     Calling, Dumping, Examination, Explanation, FileOrder, Founding, Holder, Loading, Migration,
     Order, Serving, Status, Watching,
 };
 use snap_script::play;
-use snap_server::ServerFault;
 use snap_slot::FILE_LEN;
-use snap_stream::complain;
 use std::alloc::AllocError;
 use std::env;
 use std::fs::File;
@@ -137,11 +131,11 @@ fn explain(rt: &HostRuntime, fault: &WordFault) -> Status {
         },
         WordFault::Memory => stop_without_memory(rt),
         _ => {
-            let _ = match fault.to_string(rt.alloc()) {
+            match fault.to_string(rt.alloc()) {
                 // Some texts have a line feed of their own.
-                Ok(text) => complain(rt.alloc(), &mut rt.stderr(), &text.trim_end()),
-                Err(_) => complain(rt.alloc(), &mut rt.stderr(), fault),
-            };
+                Ok(text) => say(rt, &text.trim_end()),
+                Err(_) => say(rt, fault),
+            }
             Status::Misused
         }
     }
@@ -155,16 +149,9 @@ fn run<'a>(rt: &'a HostRuntime, order: &FileOrder<'a>) -> Status
         return Status::Failed;
     }
     let told = FirstFault::new();
-    let disk = match open_file(rt, order, order.file(), &told) {
+    let disk = match take_file(rt, order, order.file(), &told) {
         Ok(disk) => disk,
-        Err(FileFault::WrongFile { len }) => {
-            let refused = CommandFailure::Refused(Refusal::WrongFile);
-            let mut errors = rt.stderr();
-            return refused
-                .report_of(rt.alloc(), order, len, &told, &mut errors)
-                .status;
-        }
-        Err(fault) => return fail_at(rt, order.file(), &fault),
+        Err(status) => return status,
     };
     let (_disk, ended) = act(
         rt.alloc(),
@@ -185,27 +172,15 @@ fn run_migration<'a>(rt: &'a HostRuntime, order: &Migration<'a>) -> Status
     if !are_streams_open(rt) || !may_write(rt) {
         return Status::Failed;
     }
-    let told_old = FirstFault::new();
-    let told_new = FirstFault::new();
-    let old_path = order.old;
-    let new_path = order.new;
-    let pair = open_pair(rt, old_path, new_path, &told_old, &told_new);
+    let (told_old, told_new) = (FirstFault::new(), FirstFault::new());
+    let (old_path, new_path) = (order.old, order.new);
+    let (old, new) = match take_pair(rt, order, old_path, new_path, &told_old, &told_new) {
+        Ok(pair) => pair,
+        Err(status) => return status,
+    };
     let causes = Causes {
         old: &told_old,
         new: &told_new,
-    };
-    let (old, new) = match pair {
-        Ok(pair) => pair,
-        Err(PairFault::Path { file, fault }) => return fail_at(rt, file, &fault),
-        Err(PairFault::WrongFile(which)) => {
-            let why = Refusal::WrongFile;
-            let refused = MigrationFailure::OfFile { which, why };
-            let mut errors = rt.stderr();
-            return refused
-                .report(rt.alloc(), order, &causes, &mut errors)
-                .status;
-        }
-        Err(PairFault::SameFile) => return fail_twice(rt, order.old, order.new),
     };
     let (_old, _new, ended) = act_pair(
         rt.alloc(),
@@ -263,11 +238,19 @@ fn run_folder_server<
     if !may_serve(rt, serving) {
         return Status::Failed;
     }
-    let files = match segment_files(rt, rt.alloc(), folder) {
-        Ok(files) => files,
-        Err(reason) => return fail_at_folder(rt, folder, reason),
-    };
-    match files_in_order(rt, rt.alloc(), folder, &files) {
+    match segment_files(rt, folder) {
+        Ok(files) => serve_in_order(threads, rt, folder, &files, serving),
+        Err(status) => status,
+    }
+}
+
+/// Serves these files of the folder, in order of segment.
+fn serve_in_order<
+    X: Threads + Wait + Clock + Net + Files<File = File> + RandomSource + Sync + Send + Copy,
+>(threads: &X, rt: &HostRuntime, folder: &str, files: &[String], serving: &Serving<'_>) -> Status
+    requires { KeepsLimits serving.now }
+{
+    match files_in_order(rt, rt.alloc(), folder, files) {
         Ok(files) => match with_files(serving, files) {
             Ok(order) => serve_files(threads, rt, &order),
             Err(_) => stop_without_memory(rt),
@@ -321,30 +304,9 @@ fn serve_files<
     let Ok(told) = first_faults(rt.alloc(), order.files.len()) else {
         return stop_without_memory(rt);
     };
-    let devices = match open_files(rt, rt.alloc(), &order.files, &told) {
-        Ok(devices) => devices,
-        Err(FilesFault::Path { file, fault }) => return fail_at_file(rt, file, &fault),
-        Err(FilesFault::SameFile { first, second }) => return fail_twice(rt, first, second),
-        Err(FilesFault::NoMemory) => return stop_without_memory(rt),
-    };
-    let served = serve(
-        threads,
-        rt,
-        order,
-        devices,
-        &told,
-        place,
-        &mut rt.stdout(),
-        &mut rt.stderr(),
-        rt.stderr(),
-    );
-    match served {
-        Ok(ended) => ended.status,
-        Err(ServerFault::NoMemory) => stop_without_memory(rt),
-        Err(fault) => {
-            let _ = complain(rt.alloc(), &mut rt.stderr(), &fault);
-            Status::Failed
-        }
+    match take_files(rt, &order.files, &told) {
+        Ok(devices) => serve(threads, rt, order, devices, &told, place),
+        Err(status) => status,
     }
 }
 
@@ -355,14 +317,7 @@ fn run_call(rt: &HostRuntime, order: &Calling<'_>) -> Status
     if !are_streams_open(rt) || !is_address(rt, order.address) {
         return Status::Failed;
     }
-    call(
-        rt,
-        rt.alloc(),
-        order,
-        &mut rt.stdin(),
-        &mut rt.stdout(),
-        &mut rt.stderr(),
-    )
+    call(rt, rt, order)
 }
 
 /// Shows what a server holds, and each change of it: `waiting` is the runtime as what may wait and open sockets.
@@ -403,7 +358,7 @@ fn are_streams_open(rt: &HostRuntime) -> bool {
     match check_streams(&rt.stdin(), &rt.stdout(), &rt.stderr()) {
         Ok(()) => true,
         Err(why) => {
-            let _ = complain(rt.alloc(), &mut rt.stderr(), &why);
+            say(rt, &why);
             false
         }
     }
@@ -417,7 +372,7 @@ fn may_write(rt: &HostRuntime) -> bool {
             let line = format_args!(
                 "files may have {most} bytes here, and a segment file has {FILE_LEN}: raise the limit (ulimit -f)"
             );
-            let _ = complain(rt.alloc(), &mut rt.stderr(), &line);
+            say(rt, &line);
             false
         }
     }
@@ -429,7 +384,7 @@ fn is_address(rt: &HostRuntime, address: &str) -> bool {
         None => true,
         Some(lack) => {
             let line = format_args!("{address}: {lack}");
-            let _ = complain(rt.alloc(), &mut rt.stderr(), &line);
+            say(rt, &line);
             false
         }
     }

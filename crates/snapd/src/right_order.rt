@@ -1,11 +1,10 @@
 //! The right order of a server's files, for who gave them in another one.
 ghost use Rattle.std.specs.Prelude.{◌<◌, All, length};
 
-use snap_devices::{FileDisk, Lock};
+use crate::complaint::say;
+use crate::folder::contents_of;
 use snap_folder::{SegmentPlace, order_files};
 use snap_order::Serving;
-use snap_segment::{Header, check};
-use snap_stream::complain;
 use std::alloc::{AllocError, Global};
 
 /// Says in which order the files of a refused server are its segments, by what their headers say, where that
@@ -14,16 +13,13 @@ use std::alloc::{AllocError, Global};
 pub fn say_right_order(rt: &HostRuntime, serving: &Serving<'_>) {
     if let Some(names) = names_in_order(rt, rt.alloc(), &serving.files) {
         let line = format_args!("each file names its segment, and this is their order:{names}");
-        let _ = complain(rt.alloc(), &mut rt.stderr(), &line);
+        say(rt, &line);
     }
 }
 
 /// The files in order of segment, a space in front of each. `None` where they are in order.
 fn names_in_order(rt: &HostRuntime, alloc: Global, files: &[&str]) -> Option<String> {
-    let mut places = Vec::with_capacity(alloc, files.len()).ok()?;
-    for file in files {
-        places.push(place_of(rt, *file)?).ok()?;
-    }
+    let places = places_of(rt, alloc, files)?;
     if places.len() != files.len() {
         return None;
     }
@@ -34,13 +30,14 @@ fn names_in_order(rt: &HostRuntime, alloc: Global, files: &[&str]) -> Option<Str
     joined(alloc, files, &order).ok()
 }
 
-/// What the header of the file at this path says.
-fn place_of(rt: &HostRuntime, file: &str) -> Option<SegmentPlace> {
-    let mut disk = FileDisk::open(rt, file, Lock::Shared).ok()?;
-    match check(&mut disk).ok()?.header {
-        Header::Open { index, count } => Some(SegmentPlace { index, count }),
-        Header::Closed | Header::Wrong => None,
+/// What the headers of the files say.
+fn places_of(rt: &HostRuntime, alloc: Global, files: &[&str]) -> Option<Vec<SegmentPlace>> {
+    let mut places = Vec::with_capacity(alloc, files.len()).ok()?;
+    for file in files {
+        let found = contents_of(rt, alloc, "", *file).ok()?;
+        places.push(found.place).ok()?;
     }
+    Some(places)
 }
 
 /// The files in this order, a space in front of each.

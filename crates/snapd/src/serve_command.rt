@@ -4,6 +4,7 @@ ghost use Rattle.std.specs.Thread.{IsSync};
 ghost use Rattle.snap_devices.specs.FileDisk.{IsUncalled};
 ghost use Rattle.snap_order.specs.Order.{IsServable};
 
+use crate::complaint::{fail_at_file, fail_twice, say, stop_without_memory};
 use crate::files::FirstFault;
 use crate::http_place::HttpPlace;
 use crate::http_view::HttpView;
@@ -13,15 +14,15 @@ use crate::update_watch::UpdateWatch;
 use log::{LevelFilter, warn};
 use snap_args::is_everywhere;
 use snap_devices::{FileDisk, FileFault, Lock};
+use snap_disk::Disk;
 use snap_figures::{Figures, Timed, time_all};
 use snap_http::MAX_GUESTS;
 use snap_log::{Destination, Lines, write_lines};
-use snap_order::{Exit, Serving};
-use snap_serve::{Edge, Network, host, log_note};
+use snap_order::{Exit, Serving, Status};
+use snap_serve::{Edge, Network, Onlook, host, log_note};
 use snap_server::{NoGate, Note, ServerFault};
 use std::alloc::{AllocError, Global};
 use std::fs::File;
-use std::io::Write;
 use std::net::Net;
 use std::rt::{Clock, Files};
 use std::sync::Wait;
@@ -32,8 +33,8 @@ use std::time::{Duration, Instant};
 type TimedFile<'a, X> = Timed<'a, FileDisk<'a, HostRuntime>, X>;
 
 /// Why the files of a server could not be taken.
-#[derive(Debug, Drop)]
-pub enum FilesFault<'a> {
+#[derive(Drop)]
+enum FilesFault<'a> {
     /// The file at this path could not be taken as a device.
     Path { file: &'a str, fault: FileFault },
     /// These paths name one file.
@@ -43,8 +44,25 @@ pub enum FilesFault<'a> {
 }
 
 /// The order's files as devices, in order, each with an exclusive lock. `told` gets for each of them why
-/// a call of it fails.
-pub fn open_files<'a, 'f, R: Files<File = File> + Clock>(
+/// a call of it fails. Says why where one can't be taken.
+pub fn take_files<'f>(
+    rt: &'f HostRuntime,
+    files: &'f Vec<&str>,
+    told: &'f Vec<FirstFault>,
+) -> Result<Vec<FileDisk<'f, HostRuntime>>, Status>
+    ensures count { IfOk result (λ devices. length devices.items ≡ length files.now.items) }
+    ensures uncalled { IfOk result (λ devices. All IsUncalled devices.items) }
+{
+    match open_files(rt, rt.alloc(), files, told) {
+        Ok(devices) => Ok(devices),
+        Err(FilesFault::Path { file, fault }) => Err(fail_at_file(rt, file, &fault)),
+        Err(FilesFault::SameFile { first, second }) => Err(fail_twice(rt, first, second)),
+        Err(FilesFault::NoMemory) => Err(stop_without_memory(rt)),
+    }
+}
+
+/// These files as devices.
+fn open_files<'a, 'f, R: Files<File = File> + Clock>(
     rt: &'f R,
     alloc: Global,
     files: &'f Vec<&'a str>,
@@ -57,30 +75,30 @@ pub fn open_files<'a, 'f, R: Files<File = File> + Clock>(
         return Err(FilesFault::NoMemory);
     };
     'files: for file in files {
-        let file = *file;
-        match FileDisk::open(rt, file, Lock::Exclusive) {
+        match open_telling(rt, *file, told.get(devices.len())) {
             Ok(disk) => {
-                let disk = told_to(disk, told.get(devices.len()));
                 if devices.push(disk).is_err() {
                     return Err(FilesFault::NoMemory);
                 }
             }
-            Err(fault) => return Err(fault_at(files, &devices, file, fault)),
+            Err(fault) => return Err(fault_at(files, &devices, *file, fault)),
         }
     }
     Ok(devices)
 }
 
-/// The same device, which tells why a call of it fails where there is a place for that.
-fn told_to<'f, R: Files<File = File> + Clock>(
-    disk: FileDisk<'f, R>,
+/// The file at this path as a device, which tells why a call of it fails where there is a place for that.
+fn open_telling<'f, R: Files<File = File> + Clock>(
+    rt: &'f R,
+    file: &'f str,
     told: Option<&'f FirstFault>,
-) -> FileDisk<'f, R>
-    ensures uncalled { IsUncalled disk.entry → IsUncalled result }
+) -> Result<FileDisk<'f, R>, FileFault>
+    ensures { IfOk result IsUncalled }
 {
+    let disk = FileDisk::open(rt, file, Lock::Exclusive)?;
     match told {
-        Some(told) => disk.telling(told.place()),
-        None => disk,
+        Some(told) => Ok(disk.telling(told.place())),
+        None => Ok(disk),
     }
 }
 
@@ -126,32 +144,48 @@ struct Look<'a> {
 }
 
 /// Serves these devices, and logs on standard error what is noticed meanwhile, by a thread of its own. Where
-/// there is a place for it, browsers and monitors are answered. An error is that there was no memory for the log
-/// or for what is counted, or no thread: nothing was done.
-pub fn serve<'x, X, W, E>(
+/// there is a place for it, browsers and monitors are answered. Says why where it can't begin.
+pub fn serve<'x, X>(
     rt: &X,
     system: &'x HostRuntime,
     order: &'x Serving<'x>,
     devices: Vec<FileDisk<'_, HostRuntime>>,
     told: &Vec<FirstFault>,
     place: Option<HttpPlace>,
-    writer: &mut W,
-    errors: &mut E,
-    logged: E,
-) -> Result<Exit, ServerFault>
+) -> Status
 where
     X: Threads + Wait + Clock + Net + Files<File = File> + Sync + Send + Copy,
-    W: Write,
-    E: Write + Send + Drop,
     requires order { IsServable order.now }
     requires devices { length devices.items ≡ length order.now.files.items }
     requires uncalled { All IsUncalled devices.items }
 {
-    let alloc = system.alloc();
-    let Ok(figures) = Figures::new(alloc, usize::from(order.scanners), devices.len()) else {
-        return Err(ServerFault::NoMemory);
-    };
-    let Ok(addresses) = texts_of(alloc, &order.addresses) else {
+    match serve_counted(rt, system, order, devices, told, place) {
+        Ok(ended) => ended.status,
+        Err(ServerFault::NoMemory) => stop_without_memory(system),
+        Err(fault) => {
+            say(system, &fault);
+            Status::Failed
+        }
+    }
+}
+
+/// Serves these devices, and counts what they do. An error is that there was no memory for the log or for
+/// what is counted, or no thread: nothing was done.
+fn serve_counted<'x, X>(
+    rt: &X,
+    system: &'x HostRuntime,
+    order: &'x Serving<'x>,
+    devices: Vec<FileDisk<'_, HostRuntime>>,
+    told: &Vec<FirstFault>,
+    place: Option<HttpPlace>,
+) -> Result<Exit, ServerFault>
+where
+    X: Threads + Wait + Clock + Net + Files<File = File> + Sync + Send + Copy,
+    requires order { IsServable order.now }
+    requires devices { length devices.items ≡ length order.now.files.items }
+    requires uncalled { All IsUncalled devices.items }
+{
+    let Ok((figures, addresses)) = figures_of(system.alloc(), order) else {
         return Err(ServerFault::NoMemory);
     };
     let process = Process {
@@ -161,10 +195,16 @@ where
         addresses: &addresses,
         files: &order.files,
     };
-    let look = Look { process, place };
-    serve_logged(
-        rt, system, order, devices, told, look, writer, errors, logged,
-    )
+    serve_logged(rt, order, devices, told, Look { process, place })
+}
+
+/// What is counted of the order's server, and the texts of its addresses.
+fn figures_of(alloc: Global, order: &Serving<'_>) -> Result<(Figures, Vec<String>), AllocError>
+    ensures workers { IfOk result (λ found. found.0.workers ≡ order.now.scanners) }
+    ensures segments { IfOk result (λ found. found.0.segments ≡ length order.now.files.items) }
+{
+    let figures = Figures::new(alloc, usize::from(order.scanners), order.files.len())?;
+    Ok((figures, texts_of(alloc, &order.addresses)?))
 }
 
 /// The same texts, as texts of their own.
@@ -177,31 +217,25 @@ fn texts_of(alloc: Global, words: &[&str]) -> Result<Vec<String>, AllocError> {
 }
 
 /// Serves these devices while a thread writes the lines of the log.
-fn serve_logged<'x, X, W, E>(
+fn serve_logged<'x, X>(
     rt: &X,
-    system: &'x HostRuntime,
     order: &'x Serving<'x>,
     devices: Vec<FileDisk<'_, HostRuntime>>,
     told: &Vec<FirstFault>,
     look: Look<'x>,
-    writer: &mut W,
-    errors: &mut E,
-    mut logged: E,
 ) -> Result<Exit, ServerFault>
 where
     X: Threads + Wait + Clock + Net + Files<File = File> + Sync + Send + Copy,
-    W: Write,
-    E: Write + Send + Drop,
     requires order { IsServable order.now }
     requires devices { length devices.items ≡ length order.now.files.items }
     requires uncalled { All IsUncalled devices.items }
     requires workers { order.now.scanners ≤ look.process.figures.now.workers }
     requires segments { length devices.items ≤ look.process.figures.now.segments }
 {
-    let alloc = system.alloc();
-    let level = filter_of(order.log);
-    let destination = Destination::of_standard_error(system, alloc);
-    let Ok((log, waiting)) = Lines::new(rt, alloc, level, destination) else {
+    let system = look.process.rt;
+    let destination = Destination::of_standard_error(system, system.alloc());
+    let Ok((log, waiting)) = Lines::new(rt, system.alloc(), filter_of(order.log), destination)
+    else {
         return Err(ServerFault::NoMemory);
     };
     thread::scope(
@@ -214,15 +248,16 @@ where
                 × (order.now.scanners ≤ look.process.figures.now.workers)
                 × (length devices.items ≤ look.process.figures.now.segments) }
         {
+            let mut errors = system.stderr();
             let writing = move ||
                 requires { IsSync X.row }
             {
-                write_lines(rt, &waiting, &mut logged);
+                write_lines(rt, &waiting, &mut errors);
             };
             if scope.spawn(writing).is_err() {
                 return Err(ServerFault::NoThread);
             }
-            let ended = host_logged(rt, alloc, order, devices, told, &log, look, writer, errors);
+            let ended = host_logged(rt, order, devices, told, &log, look);
             // The thread that writes the lines ends once no more can come.
             drop(log);
             ended
@@ -278,62 +313,81 @@ fn warn_of_everywhere<X: Wait + Clock>(log: &Lines<'_, X>, order: &Serving<'_>) 
 
 /// Serves these devices, whose stores are timed, and logs what is noticed meanwhile. An error is that there was
 /// no memory: nothing was done.
-fn host_logged<'x, X, W, E>(
+fn host_logged<'x, X>(
     rt: &X,
-    alloc: Global,
     order: &'x Serving<'x>,
     devices: Vec<FileDisk<'_, HostRuntime>>,
     told: &'x Vec<FirstFault>,
     log: &'x Lines<'x, X>,
     look: Look<'x>,
-    writer: &mut W,
-    errors: &mut E,
 ) -> Result<Exit, ServerFault>
 where
     X: Threads + Wait + Clock + Net + Files<File = File> + Sync + Send + Copy,
-    W: Write,
-    E: Write,
     requires order { IsServable order.now }
     requires devices { length devices.items ≡ length order.now.files.items }
     requires uncalled { All IsUncalled devices.items }
     requires workers { order.now.scanners ≤ look.process.figures.now.workers }
     requires segments { length devices.items ≤ look.process.figures.now.segments }
 {
-    match time_all(alloc, devices, *rt, look.process.figures) {
-        Ok(devices) => Ok(host_timed(rt, alloc, order, devices, told, log, look, writer, errors)),
+    let system = look.process.rt;
+    match time_all(system.alloc(), devices, *rt, look.process.figures) {
+        Ok(devices) => Ok(host_timed(rt, order, devices, told, log, look)),
         Err(AllocError) => Err(ServerFault::NoMemory),
     }
 }
 
 /// Serves these devices, and logs what is noticed meanwhile.
 #[tactic(auto, using(crate::proofs::Uncalled::headroom))]
-fn host_timed<'x, X, W, E>(
+fn host_timed<'x, X>(
     rt: &X,
-    alloc: Global,
     order: &'x Serving<'x>,
     devices: Vec<TimedFile<'_, X>>,
     told: &'x Vec<FirstFault>,
     log: &'x Lines<'x, X>,
     look: Look<'x>,
-    writer: &mut W,
-    errors: &mut E,
 ) -> Exit
 where
     X: Threads + Wait + Clock + Net + Files<File = File> + Sync + Send + Copy,
-    W: Write,
-    E: Write,
     requires order { IsServable order.now }
     requires devices { length devices.items ≡ length order.now.files.items }
     requires uncalled { All IsUncalled devices.items }
     requires figures { order.now.scanners ≤ look.process.figures.now.workers }
 {
     warn_of_everywhere(log, order);
-    let Look { process, place } = look;
-    let figures = process.figures;
-    let view = match place {
-        Some(place) => Some(HttpView::new(alloc, log, process, place)),
-        None => None,
-    };
+    let (system, figures) = (look.process.rt, look.process.figures);
+    let view = view_of(log, look);
+    host_noted(
+        rt,
+        system,
+        order,
+        devices,
+        told,
+        log,
+        figures,
+        view.as_ref(),
+    )
+}
+
+/// Serves these devices, and logs and counts what is noticed meanwhile.
+fn host_noted<'x, X, D, O>(
+    rt: &X,
+    system: &HostRuntime,
+    order: &'x Serving<'x>,
+    devices: Vec<D>,
+    told: &'x Vec<FirstFault>,
+    log: &'x Lines<'x, X>,
+    figures: &'x Figures,
+    onlooker: Option<&O>,
+) -> Exit
+where
+    X: Threads + Wait + Clock + Net + Files<File = File> + Sync + Send + Copy,
+    D: Disk + Send + Drop,
+    O: Onlook + Sync,
+    requires order { IsServable order.now }
+    requires devices { length devices.items ≡ length order.now.files.items }
+    requires headroom { All (λ d. D.failure_count d < 2 ^ 64 - 1) devices.items }
+    requires figures { order.now.scanners ≤ figures.now.workers }
+{
     let note = |told: &Note| {
         if let Note::Ended(_) = told {
             figures.end();
@@ -346,12 +400,36 @@ where
         note: &note,
         watch: UpdateWatch::new(StoreLog::new(log, &order.files, told), figures),
         figures,
-        onlooker: view.as_ref(),
+        onlooker,
         causes: told,
         clients: most_clients(order),
-        idle: order
-            .idle
-            .map(|seconds| Duration::from_secs(u64::from(seconds))),
+        idle: patience_of(order),
     };
-    host(rt, alloc, order, devices, edge, writer, errors)
+    let (mut writer, mut errors) = (system.stdout(), system.stderr());
+    host(
+        rt,
+        system.alloc(),
+        order,
+        devices,
+        edge,
+        &mut writer,
+        &mut errors,
+    )
+}
+
+/// Who looks at the server from outside, where there is a place for it.
+fn view_of<'x, X: Wait + Clock>(log: &'x Lines<'x, X>, look: Look<'x>) -> Option<HttpView<'x, X>> {
+    let Look { process, place } = look;
+    match place {
+        Some(place) => Some(HttpView::new(process.rt.alloc(), log, process, place)),
+        None => None,
+    }
+}
+
+/// How long a connection may say nothing.
+fn patience_of(order: &Serving<'_>) -> Option<Duration> {
+    match order.idle {
+        Some(seconds) => Some(Duration::from_secs(u64::from(seconds))),
+        None => None,
+    }
 }

@@ -3,6 +3,7 @@
 use crate::files::FirstFault;
 use log::error;
 use snap_log::Lines;
+use std::fmt::Display;
 use std::rt::Clock;
 use std::sync::Wait;
 
@@ -34,12 +35,15 @@ impl<'a, X: Wait + Clock> StoreLog<'a, X> {
             return;
         };
         match told.place().get() {
-            Some(fault) => error!(self.log; target: "store",
-                "{file}: segment {segment}: update {number} failed: a restart shows whether it is stored, and the segment is fenced until then: {fault}"
-            ),
-            None => error!(self.log; target: "store",
-                "{file}: segment {segment}: update {number} failed: a restart shows whether it is stored, and the segment is fenced until then: a call of its device failed"
-            ),
+            Some(fault) => self.log_unstored(file, segment, number, fault),
+            None => self.log_unstored(file, segment, number, &"a call of its device failed"),
         }
+    }
+
+    /// Logs that the update could not be stored, for this reason.
+    fn log_unstored<T: Display>(&self, file: &str, segment: usize, number: u64, why: &T) {
+        error!(self.log; target: "store",
+            "{file}: segment {segment}: update {number} failed: a restart shows whether it is stored, and the segment is fenced until then: {why}"
+        );
     }
 }

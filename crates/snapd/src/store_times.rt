@@ -3,7 +3,7 @@ ghost use Rattle.snap_devices.specs.FileDisk.{IsUncalled};
 
 use crate::files::FirstFault;
 use snap_devices::{FileDisk, FileFault};
-use snap_disk::Refusal;
+use snap_disk::{Disk, Refusal};
 use snap_segment::{Segment, format};
 use snap_stream::Cause;
 use std::alloc::{AllocError, Global};
@@ -98,20 +98,19 @@ fn store_all<'p>(
         Ok(()) | Err(Refusal::AlreadyFormatted) => {}
         Err(_) => return Err(MeasureFault::Store(String::new(alloc))),
     }
-    let Ok(mut segment) = Segment::open(alloc, disk, 0, 1) else {
-        return Err(MeasureFault::Store(String::new(alloc)));
-    };
-    let value = [b'v'; STORED_LEN];
-    let mut times = Vec::with_capacity(alloc, STORES)?;
-    for _ in 0..STORES {
-        let began = Instant::now(rt)?;
-        if segment.store(&value).is_err() {
-            return Err(MeasureFault::Store(String::new(alloc)));
-        }
-        if times.push(began.elapsed(rt)?).is_err() {
-            return Err(MeasureFault::NoMemory);
-        }
+    match Segment::open(alloc, disk, 0, 1) {
+        Ok(mut segment) => time_stores(rt, alloc, &mut segment),
+        Err(_) => Err(MeasureFault::Store(String::new(alloc))),
     }
+}
+
+/// How long the stores took.
+fn time_stores<D: Disk>(
+    rt: &HostRuntime,
+    alloc: Global,
+    segment: &mut Segment<D>,
+) -> Result<StoreTimes, MeasureFault> {
+    let mut times = times_of(rt, alloc, segment)?;
     times.sort_unstable();
     match (times.get(STORES / 2), times.get(STORES * 99 / 100)) {
         (Some(median), Some(late)) => Ok(StoreTimes {
@@ -120,6 +119,34 @@ fn store_all<'p>(
         }),
         _ => Err(MeasureFault::NoMemory),
     }
+}
+
+/// How long each store took, in order.
+fn times_of<D: Disk>(
+    rt: &HostRuntime,
+    alloc: Global,
+    segment: &mut Segment<D>,
+) -> Result<Vec<Duration>, MeasureFault> {
+    let mut times = Vec::with_capacity(alloc, STORES)?;
+    for _ in 0..STORES {
+        if times.push(time_store(rt, alloc, segment)?).is_err() {
+            return Err(MeasureFault::NoMemory);
+        }
+    }
+    Ok(times)
+}
+
+/// How long one store took.
+fn time_store<D: Disk>(
+    rt: &HostRuntime,
+    alloc: Global,
+    segment: &mut Segment<D>,
+) -> Result<Duration, MeasureFault> {
+    let began = Instant::now(rt)?;
+    if segment.store(&[b'v'; STORED_LEN]).is_err() {
+        return Err(MeasureFault::Store(String::new(alloc)));
+    }
+    Ok(began.elapsed(rt)?)
 }
 
 /// What the system said of the file's device.

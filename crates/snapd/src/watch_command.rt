@@ -2,18 +2,17 @@
 ghost use Rattle.std.specs.Prelude.{◌<◌, IfSome};
 ghost use Rattle.snap_order.specs.Order.{IsWatchable};
 
-use crate::call_command::{link_within, look_up};
-use crate::complaint::{stop, stop_without_memory};
+use crate::call_command::{is_known, link_within};
+use crate::complaint::{say, stop, stop_without_memory};
 use crate::link::Link;
 use crate::time_limit::TimeLimit;
 use snap_client::{Client, ClientFault};
 use snap_file_commands::CommandFailure;
 use snap_frame::SegmentSet;
 use snap_order::{Status, Watching};
-use snap_stream::{complain, write_whole};
+use snap_stream::write_whole;
 use snap_watch::{Form, Row, Trouble, changes, drawing, look, set_of};
 use std::alloc::{AllocError, Global};
-use std::fmt::Display;
 use std::io::{ErrorKind, IsTerminal};
 use std::net::{Net, OpenStream};
 use std::rt::Clock;
@@ -37,8 +36,7 @@ pub fn watch<N: Wait + Clock + Net>(net: &N, rt: &HostRuntime, order: &Watching<
     requires { IsWatchable order.now }
 {
     let address = order.address;
-    if let Err(error) = look_up(net, address) {
-        say(rt, &format_args!("{address}: {error}"));
+    if !is_known(net, rt, address) {
         return Status::Failed;
     }
     let pause = Duration::from_millis(u64::from(order.every.unwrap_or(PAUSE)));
@@ -46,19 +44,7 @@ pub fn watch<N: Wait + Clock + Net>(net: &N, rt: &HostRuntime, order: &Watching<
     let mut screen = Screen::new(rt, order.is_json);
     let mut client = None;
     for _ in net.forever() {
-        let rows = rows_now(
-            net,
-            rt.alloc(),
-            address,
-            watched,
-            &mut client,
-            &screen.shown,
-        );
-        let shown = match rows {
-            Ok(rows) => screen.show(rt, address, rows),
-            Err(trouble) => screen.bear(rt, address, trouble),
-        };
-        match shown {
+        match screen.renew(net, rt, address, watched, &mut client) {
             Ok(()) => thread::sleep(net, pause),
             Err(status) => return status,
         }
@@ -78,38 +64,50 @@ fn rows_now<N: Clock + Net>(
 ) -> Result<Vec<Row>, Trouble>
     requires some { IfSome watched (λ set. 0 < set.bits) }
 {
-    if let Some(mut open) = client.take() {
-        match look(alloc, &mut open, watched, shown) {
-            Ok(rows) => {
-                *client = Some(open);
-                return Ok(rows);
-            }
+    if let Some(open) = client.take() {
+        match rows_by::<N>(alloc, open, watched, client, shown) {
             Err(Trouble::Lost(fault)) if fault.may_pass() => {}
-            Err(trouble) => return Err(trouble),
+            told => return told,
         }
     }
-    let Some(mut open) = connect(net, alloc, address) else {
-        return Err(Trouble::Lost(ClientFault::ConnectFailed));
-    };
-    let rows = look(alloc, &mut open, watched, &[])?;
-    *client = Some(open);
+    match connect(net, alloc, address) {
+        Some(open) => rows_by::<N>(alloc, open, watched, client, &[]),
+        None => Err(Trouble::Lost(ClientFault::ConnectFailed)),
+    }
+}
+
+/// The rows by one look on this connection, which is kept where it went well.
+fn rows_by<N: Net>(
+    alloc: Global,
+    mut open: Watched<N>,
+    watched: Option<SegmentSet>,
+    kept: &mut Option<Watched<N>>,
+    shown: &[Row],
+) -> Result<Vec<Row>, Trouble>
+    requires some { IfSome watched (λ set. 0 < set.bits) }
+{
+    let rows = look(alloc, &mut open, watched, shown)?;
+    *kept = Some(open);
     Ok(rows)
 }
 
 /// A new connection, on which each read and each write ends after a while.
 fn connect<N: Clock + Net>(net: &N, alloc: Global, address: &str) -> Option<Watched<N>> {
-    let most = Duration::from_secs(PATIENCE);
-    let is_over = AtomicBool::new(false);
+    let writer = patient_link(net, address, Duration::from_secs(PATIENCE))?;
+    let reader = writer.try_clone().ok()?;
+    Some(Client::new(alloc, reader, writer))
+}
+
+/// A connection that is made within this time, on which each read and each write ends after as long.
+fn patient_link<N: Clock + Net>(net: &N, address: &str, most: Duration) -> Option<Link<N::Stream>> {
     let limit = TimeLimit {
         clock: net,
         end: Instant::now(net).ok()?.checked_add(most),
-        is_over: &is_over,
+        is_over: &AtomicBool::new(false),
     };
-    let writer = link_within(net, address, &limit)?;
-    writer.set_read_timeout(most).ok()?;
-    writer.set_write_timeout(most).ok()?;
-    let reader = writer.try_clone().ok()?;
-    Some(Client::new(alloc, reader, writer))
+    let link = link_within(net, address, &limit)?;
+    link.set_timeouts(most).ok()?;
+    Some(link)
 }
 
 /// What was shown last, and where.
@@ -145,6 +143,23 @@ impl Screen {
             shown: Vec::new(rt.alloc()),
             above: 0,
             contact: Contact::None,
+        }
+    }
+
+    /// Shows the server as it is now. Answers how the program ends where that fails.
+    fn renew<N: Clock + Net>(
+        &mut self,
+        net: &N,
+        rt: &HostRuntime,
+        address: &str,
+        watched: Option<SegmentSet>,
+        client: &mut Option<Watched<N>>,
+    ) -> Result<(), Status>
+        requires some { IfSome watched (λ set. 0 < set.bits) }
+    {
+        match rows_now(net, rt.alloc(), address, watched, client, &self.shown) {
+            Ok(rows) => self.show(rt, address, rows),
+            Err(trouble) => self.bear(rt, address, trouble),
         }
     }
 
@@ -206,11 +221,6 @@ impl Screen {
             }
         }
     }
-}
-
-/// Says this on standard error.
-fn say<T: Display>(rt: &HostRuntime, text: &T) {
-    let _ = complain(rt.alloc(), &mut rt.stderr(), text);
 }
 
 /// What to do where there was no first answer.

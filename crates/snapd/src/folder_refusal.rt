@@ -1,0 +1,167 @@
+//! Why the files of a folder are not those that are wanted, in words.
+
+use snap_folder::SegmentPlace;
+use std::fmt::{self, Display, Formatter, Write};
+
+/// Why a folder's files are not the segments of one server, or not those that are to be made. Each text
+/// names a file, or the folder, and says what to do.
+#[derive(Drop)]
+pub enum FolderRefusal<'f> {
+    /// It has none.
+    NoFiles {
+        folder: &'f str,
+    },
+    /// A file has the name of a segment that isn't among so many.
+    Further {
+        folder: &'f str,
+        file: &'f str,
+        count: u8,
+    },
+    /// A file is of another count than the one that is wanted.
+    AnotherCount {
+        file: String,
+        count: u8,
+        wanted: u8,
+    },
+    /// A file is no segment's.
+    File(FileRefusal<'f>),
+    /// Two files are of different counts.
+    OtherCount(Pair<'f>),
+    /// Two files are the same segment's.
+    Twice(Pair<'f>),
+    /// A segment has no file.
+    Missing {
+        folder: &'f str,
+        file: String,
+        index: u8,
+        count: u8,
+    },
+}
+
+impl Display for FolderRefusal<'_> {
+    fn fmt<W: Write>(&self, f: &mut Formatter<W>) -> fmt::Result {
+        match self {
+            FolderRefusal::NoFiles { folder } => write!(
+                f,
+                "{folder}: it has no segment file: make them with snapd init {folder} --count N"
+            ),
+            FolderRefusal::Further {
+                folder,
+                file,
+                count,
+            } => write!(
+                f,
+                "{file}: it is none of {count} segments: give the count that {folder} was made with, or move it out of there"
+            ),
+            FolderRefusal::AnotherCount {
+                file,
+                count,
+                wanted,
+            } => write_another_count(f, file.as_str(), *count, *wanted),
+            FolderRefusal::File(why) => why.fmt(f),
+            FolderRefusal::OtherCount(pair) => pair.write_counts(f),
+            FolderRefusal::Twice(pair) => pair.write_index(f),
+            FolderRefusal::Missing {
+                folder,
+                file,
+                index,
+                count,
+            } => write_missing(f, folder, file.as_str(), *index, *count),
+        }
+    }
+}
+
+/// That a file is of another count.
+fn write_another_count<W: Write>(
+    f: &mut Formatter<W>,
+    file: &str,
+    count: u8,
+    wanted: u8,
+) -> fmt::Result {
+    write!(
+        f,
+        "{file}: it is of {count} segments, and --count is {wanted}: give --count {count}; a folder of more is made of a dump, by snapd load"
+    )
+}
+
+/// That a segment has no file.
+fn write_missing<W: Write>(
+    f: &mut Formatter<W>,
+    folder: &str,
+    file: &str,
+    index: u8,
+    count: u8,
+) -> fmt::Result {
+    write!(
+        f,
+        "{folder}: segment {index} of {count} is missing: bring its file back, or make a new and empty one with snapd format {file} --index {index} --count {count}"
+    )
+}
+
+/// Why a file is no segment's.
+#[derive(Drop)]
+pub enum FileRefusal<'f> {
+    /// It has no header.
+    Unformatted { folder: &'f str, file: &'f str },
+    /// It has the length of the old format.
+    OldFormat { folder: &'f str, file: &'f str },
+    /// It has another length, or another header.
+    NoSegment { folder: &'f str, file: &'f str },
+    /// It couldn't be read.
+    Failed { file: &'f str, reason: String },
+}
+
+impl Display for FileRefusal<'_> {
+    fn fmt<W: Write>(&self, f: &mut Formatter<W>) -> fmt::Result {
+        match self {
+            FileRefusal::Unformatted { folder, file } => write!(
+                f,
+                "{file}: it was never formatted, or its header is gone: go on with the init or format that was cut off, or move it out of {folder}"
+            ),
+            FileRefusal::OldFormat { folder, file } => write!(
+                f,
+                "{file}: it has the length of the old format: carry it over with snapd migrate {file} NEW, and move it out of {folder}"
+            ),
+            FileRefusal::NoSegment { folder, file } => write!(
+                f,
+                "{file}: it is no segment file: bring a copy back if it was one, else move it out of {folder}, or give it a name that doesn't end in .seg"
+            ),
+            FileRefusal::Failed { file, reason } => write!(
+                f,
+                "{file}: {reason}: look after its disk, and start again"
+            ),
+        }
+    }
+}
+
+/// Two files that aren't of one server, with what their headers say.
+#[derive(Clone, Copy)]
+pub struct Pair<'f> {
+    pub folder: &'f str,
+    pub first: &'f str,
+    pub first_place: SegmentPlace,
+    pub file: &'f str,
+    pub place: SegmentPlace,
+}
+
+impl Pair<'_> {
+    /// That they are of different counts.
+    fn write_counts<W: Write>(&self, f: &mut Formatter<W>) -> fmt::Result {
+        let (folder, first, file) = (self.folder, self.first, self.file);
+        let (first_count, count) = (self.first_place.count, self.place.count);
+        write!(
+            f,
+            "{file}: it is of {count} segments, and {first} of {first_count}: move the one that doesn't belong here out of {folder}"
+        )
+    }
+
+    /// That they are the same segment's.
+    fn write_index<W: Write>(&self, f: &mut Formatter<W>) -> fmt::Result {
+        let (folder, first, file) = (self.folder, self.first, self.file);
+        let SegmentPlace { index, count } = self.place;
+        write!(
+            f,
+            "{file}: it is segment {index} of {count}, as {first} is: move one of them out of {folder}"
+        )
+    }
+}
