@@ -1,15 +1,52 @@
-# Two commands for a stranger: `make demo` builds the program and runs its first job, `make test` runs every test.
-# They want the kit (`rt` on the PATH), python3 and gcc.
+# For a stranger: `make demo` builds the program in minutes and runs its first job, `make test` runs every test, `make prove` proves
+# everything. They want the kit (`rt` on the PATH), python3 and gcc.
 
-.PHONY: build install uninstall programs demo test test-all edits new-edits libraries tests bench replicated clean
+.PHONY: demo build prove test edits libraries programs tests bench replicated install uninstall clean
 
-# The program is proved before it is built, with all that it stands on, on as many processors as there are. What this machine has
-# proved before is taken from its archive, with FRESH=1 nothing.
+# The program without its proofs, as bin/snapd.
+demo:
+	@sh verification/needs.sh rt python3
+	@python3 verification/demo.py
+
 build:
-	python3 verification/build.py $(if $(FRESH),--fresh)
+	@sh verification/needs.sh rt python3
+	@python3 verification/demo.py --build
 
-# Installs what `make build` left: the program, its page of the manual, what completes its words in three shells, and the headers for C. All
-# go below DESTDIR with PREFIX, as packages want it.
+# Every proof of the program, from nothing or from this machine's archive of such runs (with FRESH=1 from nothing), the program by
+# two compilers, the edits that must-fail.lock lacks, and the end-to-end tests on the proved program. It writes proofs.lock.
+prove:
+	@sh verification/needs.sh rt python3 gcc
+	@python3 verification/prove.py $(if $(FRESH),--fresh)
+
+# Every test; proofs and edits where the locks lack them, and a sample of the others. With PROVE=all every crate is proved.
+test:
+	@sh verification/needs.sh rt python3 gcc
+	@python3 verification/test.py $(if $(filter all,$(PROVE)),--all) $(if $(FRESH),--fresh)
+
+# Tries the edits that must-fail.lock doesn't have as they are now, with CRATES="NAME .." those of these crates, and records them.
+edits:
+	@python3 verification/edits.py $(CRATES)
+
+# Lays the libraries that this machine has proved before where `rt check` looks, so that it begins at once in any crate.
+libraries:
+	@python3 verification/libraries.py
+
+# The programs that the end-to-end tests run beside snapd, without their proofs, and these tests alone, on bin/snapd.
+programs:
+	@python3 verification/quick.py --level 0 try_faults try_bench
+
+tests: programs
+	python3 tests/run.py
+
+# What is timed has no checks in it, so it is proved.
+bench:
+	python3 verification/prove.py snapd try_faults try_bench
+	python3 bench/run.py
+	python3 bench/server.py
+	python3 bench/seen.py
+
+# Installs bin/snapd as `make prove` or `make demo` left it, its page of the manual, what completes its words in three shells, and the
+# headers for C. All go below DESTDIR with PREFIX, as packages want it.
 PREFIX ?= /usr/local
 DESTDIR ?=
 PROGRAM ?= bin/snapd
@@ -31,42 +68,6 @@ install:
 
 uninstall:
 	rm -f $(FILES:%='$(TO)/%')
-
-demo: build
-	sh tests/demo.sh bin/snapd
-
-# Everything. The last line counts proofs, edits and end-to-end tests. With FRESH=1 nothing comes from this machine's archive.
-test:
-	python3 verification/test.py $(if $(FRESH),--fresh)
-
-# The same with every must-fail edit tried by the kit itself. Where it refuses all, must-fail.lock says so.
-test-all:
-	python3 verification/test.py --every-edit $(if $(FRESH),--fresh)
-
-# Tries all edits from nothing, or those alone that must-fail.lock doesn't have as they are now, and writes the lock. With
-# CRATES="NAME .." it tries those of these crates.
-edits:
-	python3 verification/edits.py --every $(CRATES)
-
-new-edits:
-	python3 verification/edits.py $(CRATES)
-
-# The programs that tests and benchmarks run beside snapd.
-programs:
-	python3 verification/build.py try_faults try_bench
-
-# Lays the libraries that this machine has proved before where `rt check` looks, so that it begins at once in any crate.
-libraries:
-	python3 verification/libraries.py
-
-# The end-to-end tests alone.
-tests: programs
-	python3 tests/run.py
-
-bench: programs
-	python3 bench/run.py
-	python3 bench/server.py
-	python3 bench/seen.py
 
 # Fails hosts under a server whose files have three copies, 50 times in each of four ways, for half an hour. It wants bin/snapd, root,
 # FUSE and some packages of Debian's, says so in one line where something is missing, and is no part of `make test`.

@@ -263,9 +263,11 @@ def test_help_and_version(snapd, _):
             if command != "check":
                 assert "[default: 0]" in printed and "[default: 1]" in printed, printed
         version = snapd(command, "--version")
-        assert version.status == 0 and version.errors == "" and version.output.split()[1:] == [b"0.1.0"], version
-    snapd("--version").gave(0, "snapd 0.1.0\n")
-    snapd("-V").gave(0, "snapd 0.1.0\n")
+        assert version.status == 0 and version.errors == "" and version.output.split()[1] == b"0.1.0", version
+        assert version.output.split(b" ", 1)[1] == snapd("--version").output.split(b" ", 1)[1]
+    # A build without proofs says so.
+    assert snapd("--version").output in (b"snapd 0.1.0\n", b"snapd 0.1.0 (not proved)\n")
+    snapd("-V").gave(0, snapd("--version").output)
 
 
 def test_output_that_fails(snapd, _):

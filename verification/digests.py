@@ -1,36 +1,28 @@
-"""What an edit's refusal rests on, as a digest, and the file that keeps the digests.
+"""What an edit's refusal rests on, as a digest: the edit, the function that it changes, and the contracts and definitions that
+this function names.
 
-Whether an edit has to be refused depends on the edit, on its crate, on what of the libraries below can be seen from there, and
-on the kit's logic, which says what a proof is. Of the crate that is all its text but comments and the layout of imports. Of
-the libraries it is what is named from there, and what that names in turn: a library's public signatures with their clauses
-and its types, and each file of definitions or lemmas that is imported; no bodies of functions, no private functions, and no
-proofs of functions. A name counts by where it is defined, whoever hands it on.
-
-`must-fail.lock` has a line for each edit that was refused: its name, the digest of all that, and the release of the kit that
-refused it. Another release of the same logic may find other proofs, so the line says whose word it is.
+Whether an edit has to be refused, a contract says: the function's clauses, what these mean, and what the functions that it
+calls promise. So a digest takes the edit, the function's own text, and each definition of `specs/`, each type, and each
+function's head with its clauses that the text names, with what these name in turn, and the kit's logic. No bodies of other
+functions count, and no proofs: a wrong body stays wrong however the right one is proved. A name counts by the file's imports;
+a method by its name, wherever a crate below has one.
 """
 
+import functools
 import hashlib
+import re
+from collections import defaultdict
 from dataclasses import dataclass
 
-from scopes import Scopes
-from source import applies
-from tree import crates_of
+from source import applies, function_of, items_of, without_comments
+from tree import below, crates_of
 
-LOCK = "must-fail.lock"
-HEAD = """\
-# Each edit that the prover has refused, with the digest of what that rests on (the edit, its crate, what it sees of the
-# libraries below and the kit's logic) and the kit's release that refused it. `make edits` and `make test-all` write it;
-# `make test` tries what doesn't stand here, and a sample of what does.
-"""
-
-
-@dataclass(frozen=True)
-class Refusal:
-    """A line of the lock: the digest under which an edit was refused, and by which release."""
-
-    digest: str
-    release: str
+# The names that a file imports from a place, as a list or one by itself. (Of a place that is taken whole each name may be meant.)
+ALIAS = re.compile(r"^\s*(?:pub )?(?:ghost )?use Rattle\.(\w+)\.[\w.]+ as (\w+)", re.M)
+IMPORTS = re.compile(r"^\s*(?:pub )?(?:ghost )?use (?:Rattle\.)?(\w+)(?:\.|::)(?:[\w.:]*(?:\.|::))?(?:\{([^{}]*)\}|(\w+))", re.M)
+WORDS = re.compile(r"[^\s(){}\[\],;.:&|<>\"]+")
+CALLED = re.compile(r"(?:\.|::)(\w+)(?=\(|::)")
+HERE = ("crate", "super", "self")
 
 
 def summed(*parts):
@@ -42,40 +34,81 @@ def summed(*parts):
     return total.hexdigest()
 
 
+def words_of(text):
+    """The words of a text; of an operator its signs."""
+    return {part for it in WORDS.findall(text) for part in it.split("◌") if part}
+
+
+@dataclass(frozen=True)
+class Piece:
+    """A definition, a type, or a function's head with its clauses, in a file of a crate."""
+
+    crate: str
+    path: str
+    text: str
+
+
 class Digests:
-    """The digests of a checkout's crates and edits under one logic."""
+    """The digests of a checkout's edits under one logic."""
 
     def __init__(self, top, logic):
-        self.top, self.logic, self.crates, self.scopes = top, logic, crates_of(top), Scopes(top)
-        self.wholes = {}
+        self.top, self.logic, self.crates = top, logic, crates_of(top)
+        self.below = {it: below(self.crates, it) for it in self.crates}
+        # By crate and name; by file and name; and the names that each file imports, with their crates.
+        self.named, self.in_file, self.imports, self.aliases = defaultdict(list), defaultdict(list), {}, {}
+        for name in self.crates:
+            folder = top / "crates" / name
+            for path in sorted([*(folder / "src").rglob("*.rt"), *(folder / "specs").rglob("*.antt")]):
+                self.read(name, str(path.relative_to(top / "crates")), without_comments(path))
 
-    def line(self, name):
-        """A crate's line of crates.txt, without the libraries of the checkout: of these counts what is seen of them."""
-        head, _, uses = self.crates[name].line.partition(":")
-        return " ".join([head, *(it for it in uses.split() if it not in self.crates)])
+    def read(self, crate, path, text):
+        found = defaultdict(set)
+        for of, names, one in IMPORTS.findall(text):
+            for name in (names or one).split(","):
+                for it in words_of(name.split(" as ")[0].strip() + " " + name.split(" as ")[-1]):
+                    found[it].add((crate if of in HERE else of, name.split(" as ")[0].strip()))
+        self.imports[path], self.aliases[path] = found, [(of, re.compile(rf"\b{name}\.(\w+)")) for of, name in ALIAS.findall(text)]
+        for names, body in items_of(text, path):
+            piece = Piece(crate, path, body)
+            for name in names:
+                for it in {name, *words_of(name)}:
+                    self.named[crate, it].append(piece)
+                    self.in_file[path, it].append(piece)
 
-    def crate(self, name):
-        """The digest of a crate: all that its own proofs rest on."""
-        if name not in self.wholes:
-            own, seen = self.scopes.own(name), self.scopes.seen_from(name)
-            lines = [self.line(it) for it in sorted({name, *(path.split("/")[0] for path in seen)})]
-            texts = [part for found in (own, seen) for path in sorted(found) for part in (path, found[path])]
-            self.wholes[name] = summed(self.logic, str(len(lines)), *lines, str(len(own)), *texts)
-        return self.wholes[name]
+    @functools.lru_cache(maxsize=None)
+    def meant(self, crate, path, text):
+        """The pieces that a text names, which stands in this file."""
+        imports, found = self.imports.get(path, {}), []
+        for word in words_of(text):
+            found += self.in_file.get((path, word), [])
+            for of, name in imports.get(word, ()):
+                found += self.defined(of, name)
+        for of, alias in self.aliases.get(path, ()):
+            for name in alias.findall(text):
+                found += self.defined(of, name)
+        for name in set(CALLED.findall(text)):
+            found += [it for lower in (crate, *self.below[crate]) for it in self.named.get((lower, name), [])]
+        return found
 
-    def edit(self, name, path):
-        """The digest of an edit of a crate, by whether its text still stands where it says."""
-        is_there = "there" if applies(self.top / "crates" / name, path) else "gone"
-        return summed(self.crate(name), is_there, path.name, path.read_bytes())
+    def defined(self, crate, name):
+        """The pieces of this name that a crate has, or that it hands on from one below."""
+        own = self.named.get((crate, name), [])
+        return own or [it for lower in self.below.get(crate, ()) for it in self.named.get((lower, name), [])]
 
-
-def read_lock(top):
-    """The refusal of each edit that has one, by its name, `CRATE/EDIT`."""
-    path = top / LOCK
-    lines = path.read_text().split("\n") if path.exists() else []
-    rows = [line.split() for line in lines if line and not line.startswith("#")]
-    return {name: Refusal(digest, release) for name, digest, release in rows}
-
-
-def write_lock(top, refusals):
-    (top / LOCK).write_text(HEAD + "".join(f"{name} {it.digest} {it.release}\n" for name, it in sorted(refusals.items())))
+    def edit(self, crate, path):
+        """The digest of an edit of a crate."""
+        folder = self.top / "crates" / crate
+        if not applies(folder, path):
+            return summed(self.logic, "gone", path.name, path.read_bytes())
+        source, own = function_of(folder, path)
+        # (a trait's method has the clauses of the trait's, too)
+        methods = re.findall(r"\bfn (\w+)", own) if re.match(r"impl\b[^{]* for ", own) else []
+        again = [it for name in methods for lower in (crate, *self.below[crate]) for it in self.named.get((lower, name), [])]
+        seen, left = set(), [Piece(crate, f"{crate}/{source}", own), *again]
+        while left:
+            it = left.pop()
+            if it not in seen:
+                seen.add(it)
+                left += self.meant(it.crate, it.path, it.text)
+        texts = sorted(f"{it.path}\n{it.text}" for it in seen)
+        return summed(self.logic, path.name, path.read_bytes(), own, *texts)

@@ -1,145 +1,148 @@
-"""Tries the must-fail edits: each turns the meaning of a function, and the prover has to refuse it.
+"""Tries must-fail edits: each turns the meaning of a function, and the prover has to refuse it.
 
     python3 verification/edits.py [--every] [NAME ..]
 
-tries what must-fail.lock doesn't have under its digest, with --every all edits from nothing, and writes the lock. With names
-it tries the edits of these crates alone.
+tries what must-fail.lock doesn't have under its digest, with --every all, and records what is refused. With names it tries the
+edits of these crates alone.
+
+`must-fail.lock` has a line for each edit that was refused: its name, the digest of what that rests on (digests.py), and the kit's
+release that refused it. The kit tries edits by `rt must-fail`, over what a proof of their crate has left.
 """
 
 import argparse
 import random
+import re
+import shutil
+import subprocess
 import sys
-import threading
 import time
+from concurrent.futures import ThreadPoolExecutor
 from dataclasses import dataclass, field
 
 import kit
-from batches import Tried, tried
-from digests import Digests, Refusal, read_lock, write_lock
+from digests import Digests
+from libraries import lay_all
 from proofs import prove
-from tree import TOP, below, copied, crates_of, edits_of, refuse_strange
+from tree import LOGS, TOP, below, copied, crates_of, edits_of, laid, refuse_strange, rows_of, with_below
 
-LOG = TOP / "out" / "edits.log"
-# How many recorded edits each run of the tests tries again, and how many of one crate: each crate is proved first.
-SAMPLE = 20
-OF_ONE_CRATE = 5
+LOCK = "must-fail.lock"
+HEAD = """\
+# Each edit that the prover has refused: the digest of what that rests on (the edit, its function, the contracts and definitions
+# that this names, and the kit's logic), and the kit's release. Every run that tries an edit records it.
+"""
+SAID = re.compile(r"rt: must-fail (\S+/\S+): (refused|NOT REFUSED|BAD EDIT|NOT TRIED)(.*)")
+# What the kit says of an edit that took a name away which a proof cites: that says nothing of the contract.
+NAMELESS = "only because a proof file names"
+PARTS = ("rtlib.crates_below", "rtlib.guarded", "rtlib.RATTLE", "rtlib.KEPT", "Crate.words", "processors", "free")
+# The memory that a check may take.
+EACH = 4_000_000_000
 
 
-def drawn(edits, seed):
-    """A sample of these edits, given as pairs of crate and path: as a rule SAMPLE of them, each with about the same chance.
+@dataclass(frozen=True)
+class Refusal:
+    """A line of the lock: the digest under which an edit was refused, and by which release."""
 
-    Before an edit is tried its crate is proved, which takes longer than the edit, so some of a crate come together.
-    An edit of a crate that has fewer than OF_ONE_CRATE comes less often.
-    """
-    draw, left, found = random.Random(seed), sorted(edits), []
-    while left and len(found) < SAMPLE:
-        name = draw.choice(left)[0]
-        of_crate = [it for it in left if it[0] == name]
-        found += draw.sample(of_crate, min(OF_ONE_CRATE, len(of_crate), SAMPLE - len(found)))
-        left = [it for it in left if it[0] != name]
-    return found
+    digest: str
+    release: str
+
+
+def read_lock(top):
+    """The refusal of each edit that has one, by its name, `CRATE/EDIT`."""
+    return {name: Refusal(digest, release) for name, digest, release in rows_of(top / LOCK)}
 
 
 @dataclass
 class Edits:
-    """The edits of a checkout: which stand in the lock, which are tried, and what came of these."""
+    """The edits of a checkout, given as pairs of crate and path: their digests, what the lock has, and what came of those that were tried."""
 
     digests: dict
     recorded: dict
-    chosen: list = field(default_factory=list)
-    answers: list = field(default_factory=list)
+    failures: list = field(default_factory=list)
+    refused: int = 0
 
     @classmethod
     def of(cls, top):
         digests, names = Digests(top, kit.logic()), crates_of(top)
         return cls({(it, path): digests.edit(it, path) for it in names for path in edits_of(top, it)}, read_lock(top))
 
-    def name(self, edit):
+    @staticmethod
+    def name(edit):
         return f"{edit[0]}/{edit[1].name}"
 
+    def is_known(self, edit):
+        return self.recorded.get(self.name(edit), Refusal("", "")).digest == self.digests[edit]
+
     def known(self):
-        found = [(it, digest, self.recorded.get(self.name(it))) for it, digest in self.digests.items()]
-        return [it for it, digest, refusal in found if refusal and refusal.digest == digest]
+        return [it for it in self.digests if self.is_known(it)]
 
     def unknown(self):
-        known = set(self.known())
-        return [it for it in self.digests if it not in known]
+        return [it for it in self.digests if not self.is_known(it)]
 
-    def by_others(self):
-        """The edits that stand in the lock as another release refused them."""
-        return [it for it in self.known() if self.recorded[self.name(it)].release != kit.release()]
-
-    def choose(self, every=False, seed=None, names=()):
-        """Chooses all, or what the lock doesn't have and with a seed a sample, from what another release refused where there is such.
-        With names it chooses of these crates alone."""
-        sample = drawn(self.by_others() or self.known(), seed) if seed is not None else []
-        found = list(self.digests) if every else self.unknown() + sample
-        self.chosen = [it for it in found if not names or it[0] in names]
-
-    def refuse_all(self):
-        """Takes each edit as refused now: the kit itself has tried it."""
-        self.chosen = list(self.digests)
-        self.answers = [Tried(self.name(it), True, "by the kit") for it in self.chosen]
-
-    def refused(self):
-        return [it.name for it in self.answers if it.is_refused]
-
-    def failed(self):
-        return [it for it in self.answers if not it.is_refused]
-
-    def counts(self):
-        """How many are refused, now or by the lock, and how many aren't."""
-        now = {self.name(it) for it in self.chosen}
-        earlier = [it for it in self.known() if self.name(it) not in now]
-        return len(earlier) + len(self.refused()), len(self.failed())
+    def take(self, chosen, said):
+        """Takes in what `rt must-fail` said of these edits."""
+        found = {name: (came, text) for name, came, text in SAID.findall(said)}
+        for edit in chosen:
+            name = self.name(edit)
+            came, text = found.get(name, ("NOT TRIED", ""))
+            self.recorded.pop(name, None)
+            if came == "refused" and NAMELESS not in text:
+                self.recorded[name] = Refusal(self.digests[edit], kit.release())
+                self.refused += 1
+            else:
+                self.failures.append(f"edit {name}: {came}{text[:300]}")
 
     def record(self, top):
-        """Writes what stands in the lock and what was refused now, and nothing of an edit that is gone or wasn't refused."""
-        by_name = {self.name(it): Refusal(digest, kit.release()) for it, digest in self.digests.items()}
+        """Writes what stands: nothing of an edit that is gone, has changed, or wasn't refused."""
         kept = {self.name(it): self.recorded[self.name(it)] for it in self.known()}
-        for it in self.answers:
-            kept.pop(it.name, None)
-        write_lock(top, kept | {it: by_name[it] for it in self.refused()})
+        (top / LOCK).write_text(HEAD + "".join(f"{name} {it.digest} {it.release}\n" for name, it in sorted(kept.items())))
 
 
-def try_over(copy, edits, log, record=lambda: None):
-    """Tries the chosen edits over a copy of the tree whose libraries are built, and records what is known after each batch."""
-    if not edits.chosen:
+def drawn(names, edits, crates, seconds, missing, seed, most):
+    """A sample of these crates, drawn anew with each seed: `most[0]` of them at most, and `most[1]` of their edits. Those whose proofs, with what
+    is below them and isn't at hand, would take more than `most[2]` seconds of a processor in all are left out."""
+    draw, chosen, proved, spent = random.Random(seed), [], set(missing), 0
+    for name in draw.sample(sorted(names), len(names)):
+        owed = {it for it in below(crates, name) if it in proved} | {name}
+        cost = sum(seconds.get(it, 60) for it in owed)
+        if len(chosen) < most[0] and spent + cost <= most[2]:
+            chosen.append(name)
+            proved -= owed
+            spent += cost
+    found = sorted(it for it in edits if it[0] in chosen)
+    return chosen, draw.sample(found, min(most[1], len(found)))
+
+
+def proved_anew(rt, crate):
+    """Proves a crate from nothing, and leaves in its out/ what its edits begin with; why it isn't proved, or None."""
+    shutil.rmtree(f"{crate.folder}/out/incremental", ignore_errors=True)
+    words = [*rt.rtlib.guarded(), rt.rtlib.RATTLE, "check", *crate.words(["--jobs", "1"], keeps=False), *rt.rtlib.KEPT]
+    ran = subprocess.run(words, cwd=crate.folder, stdin=subprocess.DEVNULL, stdout=subprocess.PIPE, stderr=subprocess.STDOUT, text=True, errors="replace")
+    return None if ran.returncode == 0 else f"{crate.name} isn't proved:\n{ran.stdout[-1000:]}"
+
+
+def try_over(copy, names, edits, chosen, tell=lambda it: print(it, flush=True)):
+    """Proves these crates anew in a copy where those below them are proved, and tries the chosen edits of theirs over that.
+    What was refused is recorded."""
+    laid(TOP, copy, names)
+    _, missing = lay_all(copy)
+    rt = kit.load(*PARTS)
+    crates = [it for it in rt.rtlib.crates_below(str(copy)) if it.name in names]
+    lacking = [it for crate in crates for it in crate.below() if it.name in missing]
+    began, lanes = time.monotonic(), max(1, min(rt.processors(), rt.free() // EACH))
+    with ThreadPoolExecutor(lanes) as pool:
+        for crate, why in zip(crates, pool.map(lambda it: "a library below it isn't proved" if lacking else proved_anew(rt, it), crates)):
+            edits.failures += [f"{crate.name}: {why}"] * bool(why)
+    tell(f"{len(crates)} crates proved anew in {time.monotonic() - began:.0f} s")
+    if edits.failures or not chosen:
         return
-    rt = kit.load()
-    rt.rtlib.guarded()
-    crates = {it.name: it for it in rt.rtlib.crates_below(str(copy))}
-    chosen = {}
-    for name, path in edits.chosen:
-        chosen.setdefault(name, []).append(path)
-    log.parent.mkdir(parents=True, exist_ok=True)
-    telling = threading.Lock()
-    with log.open("w") as kept:
-
-        def tell(found):
-            with telling:
-                for it in found:
-                    print(f"{it.name}: {it.text}", file=kept, flush=True)
-                edits.answers += found
-                record()
-
-        edits.answers = tried(rt, [(crates[it], paths) for it, paths in chosen.items()], tell)
-
-
-def record_all(top, edits, proofs):
-    """Has the lock say that each of these edits is refused, where a run of the kit over everything has tried and refused them.
-    They are read before that run, so a text that changed meanwhile isn't said to have been tried."""
-    if not proofs.failed and proofs.edits == len(edits.digests):
-        edits.refuse_all()
-        edits.record(top)
-
-
-def told(edits, seconds):
-    refused, failed = edits.counts()
-    lines = [f"edits: {refused} refused, of these {len(edits.refused())} tried now in {seconds:.0f} s"]
-    others = {edits.recorded[edits.name(it)].release for it in set(edits.by_others()) - set(edits.chosen)}
-    lines += [f"edits that stand as another release of the kit refused them: {', '.join(sorted(others))}"] if others else []
-    return lines + [f"edit {it.name}: NOT REFUSED: {it.text}" for it in edits.failed()] + ([f"edits not refused: {failed}"] if failed else [])
+    for name, path in chosen:
+        (copy / "crates" / name / "must-fail").mkdir(exist_ok=True)
+        shutil.copy(path, copy / "crates" / name / "must-fail")
+    with (LOGS / "edits.log").open("w") as log:
+        ran = subprocess.run(["rt", "must-fail", *sorted({it[0] for it in chosen})], cwd=copy, stdin=subprocess.DEVNULL, stdout=log, stderr=subprocess.STDOUT)
+    edits.take(chosen, (LOGS / "edits.log").read_text(errors="replace"))
+    edits.record(TOP)
+    tell(f"edits: {edits.refused} of {len(chosen)} refused in {time.monotonic() - began:.0f} s" + ("" if ran.returncode == 0 else ", see out/edits.log"))
 
 
 def main():
@@ -147,22 +150,21 @@ def main():
     words.add_argument("--every", action="store_true", help="all edits, also those that must-fail.lock has")
     words.add_argument("names", nargs="*", metavar="NAME", help="the crates whose edits are tried: all, where none is named")
     words = words.parse_args()
-    if not kit.is_known():
-        sys.exit(f"{kit.identity()} lacks a part of rt that verification/kit.py names: look through it first")
     edits, crates = Edits.of(TOP), crates_of(TOP)
     refuse_strange(crates, words.names)
-    edits.choose(every=words.every, names=words.names)
-    wanted = {it for name, _ in edits.chosen for it in [*below(crates, name), name]}
-    with copied(TOP, wanted) as copy:
-        libraries = prove(copy, LOG.with_name("proofs.log")) if wanted else None
-        if libraries and libraries.failed:
-            print(*libraries.failures, sep="\n")
-            return 1
-        began = time.monotonic()
-        try_over(copy, edits, LOG, lambda: edits.record(TOP))
+    chosen = [it for it in (edits.digests if words.every else edits.unknown()) if not words.names or it[0] in words.names]
+    names = {it[0] for it in chosen}
+    LOGS.mkdir(exist_ok=True)
+    if chosen:
+        with copied(TOP, with_below(crates, names)) as copy:
+            libraries = prove(copy, LOGS / "proofs.log")
+            if libraries.failed:
+                print(*libraries.failures, sep="\n")
+                return 1
+            try_over(copy, names, edits, chosen)
     edits.record(TOP)
-    print(*told(edits, time.monotonic() - began), sep="\n")
-    return 1 if edits.failed() else 0
+    print(*edits.failures, f"{len(edits.known())} of {len(edits.digests)} edits stand in {LOCK}", sep="\n")
+    return 1 if edits.failures else 0
 
 
 if __name__ == "__main__":

@@ -1,4 +1,11 @@
-"""Proves crates by the kit's `rt ci`, and shows a line for each."""
+"""Proves crates by the kit's `rt ci`, from a copy of the checkout, and says how it gets on.
+
+    python3 proofs.py ci [--anew]
+
+is the kit's `rt ci` in this folder, but for three things: tests aren't proved, since nobody relies on a theorem about a test; the
+crates come in the order of the times that the record has, the longest chain first; and it says how long each took. What the
+kit keeps of what it has proved on this machine it takes, with --anew nothing.
+"""
 
 import os
 import re
@@ -8,16 +15,15 @@ import time
 from dataclasses import dataclass, field
 
 import kit
-from tree import TOP, crates_of, has_tests
-from watch import Watch
+from record import read_lock
+from tree import TOP, crates_of
 
-# The kit's `rt ci`, with its work handed out in another order, without what is no proof, and as it is.
-BY_LANES = [sys.executable, str(TOP / "verification" / "lanes.py")]
-LANES, QUICK, PLAIN = [*BY_LANES, "ci"], [*BY_LANES, "build"], ["rt", "ci"]
+PARTS = ("in_lanes", "main", "Crate.ci", "rtlib.Crate.has_tests", "processors")
 COUNT = re.compile(r"(\d+) passed, (\d+) failed")
-# What `rt` says of one crate.
-SAID = re.compile(r"rt: (\w+)(: its tests are)? (proved|NOT PROVED|(?:is )?kept\b)")
-REFUSED = re.compile(r"rt: must-fail \S+: refused")
+SAID = re.compile(r"rt: (\w+) (proved|NOT PROVED|is kept\b)")
+TOOK = re.compile(r"took (\w+) (\d+)")
+# What a crate takes that the record doesn't have, by its lines.
+EACH_LINE = 0.12
 # How many lines of a failed run are shown again.
 LAST = 12
 
@@ -28,80 +34,94 @@ class Proofs:
 
     passed: int = 0
     failed: int = 0
-    seconds: float = 0
-    processor: float = 0
-    # How many proofs, of crates and of their tests, an earlier run on this machine made of the same texts, and of how many.
-    kept: tuple = (0, 0)
-    # The edits of the copy that were refused.
-    edits: int = 0
-    times: list = field(default_factory=list)
+    kept: int = 0
+    # What each crate that this run proved took, in seconds.
+    seconds: dict = field(default_factory=dict)
+    took: float = 0
     failures: list = field(default_factory=list)
 
     def told(self):
-        lines = [f"proofs: {self.passed - self.edits} crates passed in {self.seconds:.0f} s, {self.processor:.0f} s of processors"]
-        return lines + (["from this machine's archive: {} of {} proofs".format(*self.kept)] if self.kept[0] else [])
+        return f"proofs: {self.passed} crates passed in {self.took:.0f} s, {self.kept} of them from this machine's archive of earlier runs"
 
 
 class Progress:
-    """One line for each proof, as it ends."""
+    """One line for each crate as its proof ends, with how long it still takes."""
 
-    def __init__(self, top):
-        crates = crates_of(top)
-        with_tests = [it for it in crates if has_tests(top / "crates" / it)]
-        self.all, self.done, self.kept = len(crates) + len(with_tests), 0, 0
-        self.failed = []
+    def __init__(self, names, lanes):
+        lines = read_lock(TOP)
+        self.left, self.lanes = {it: lines[it].seconds if it in lines else 60 for it in names}, lanes
+        self.all, self.done, self.kept, self.seconds, self.bad = len(names), 0, 0, {}, []
 
-    def take(self, line, watch):
+    def take(self, line):
+        if took := TOOK.match(line):
+            self.seconds[took[1]] = int(took[2])
         said = SAID.match(line)
         if not said:
             return
+        name, came = said.groups()
         self.done += 1
-        name, of_tests, came = said.groups()
-        if came.endswith("kept"):
-            self.kept += 1
-            return
-        seconds, _ = watch.took(name, "tests" if of_tests else "proof")
-        what = f"the tests of {name}" if of_tests else name
-        bad = "" if came == "proved" else " NOT PROVED"
-        self.failed += [what] if bad else []
-        print(f"[{self.done} of {self.all}] {what} {seconds:.0f} s{bad}", flush=True)
+        self.left.pop(name, None)
+        self.kept += came == "is kept"
+        if came == "NOT PROVED":
+            self.bad.append(name)
+        if came != "is kept":
+            minutes = max(1, round(sum(self.left.values()) / self.lanes / 60))
+            what = f"{self.seconds.get(name, 0)} s" + (" NOT PROVED" if came == "NOT PROVED" else "")
+            print(f"[{self.done} of {self.all}] {name} {what}" + (f", about {minutes} min left" if self.left else ""), flush=True)
 
 
-def prove(copy, log, anew=False, by=LANES):
-    """Proves, builds and runs all crates of this copy of the tree, and tries the edits that it has. The kit's own lines go
-    into the log."""
-    words = [*by, *(["--anew"] if anew and (by != PLAIN or kit.keeps_proofs()) else [])]
-    began, progress, lines = time.monotonic(), Progress(copy), []
+def prove(copy, log, anew=False):
+    """Proves and builds all crates of this copy. The kit's own lines go into the log."""
+    words = [sys.executable, str(TOP / "verification" / "proofs.py"), "ci", *["--anew"] * anew]
+    began, lines, progress = time.monotonic(), [], Progress(list(crates_of(copy)), kit.load(*PARTS).processors())
     log.parent.mkdir(parents=True, exist_ok=True)
     how = {"cwd": copy, "stdin": subprocess.DEVNULL, "stdout": subprocess.PIPE, "stderr": subprocess.STDOUT}
     with log.open("w") as kept, subprocess.Popen(words, text=True, errors="replace", **how) as run:
-        watch = Watch(run.pid)
         for line in run.stdout:
             kept.write(line)
             kept.flush()
             lines.append(line.rstrip())
-            progress.take(line, watch)
-    watch.end()
+            progress.take(line)
     came = judged(lines, run.returncode)
-    came.kept = came.kept if came.kept[1] else (progress.kept, progress.all)
-    came.seconds, came.processor = time.monotonic() - began, watch.processor()
-    came.times = sorted(f"{it.crate} {it.what} {it.processor:.0f}" for it in watch.works.values())
+    came.kept, came.seconds, came.took = progress.kept, progress.seconds, time.monotonic() - began
     if came.failed:
         came.failures.append(f"the whole log: {os.path.relpath(log)}")
     return came
 
 
 def judged(lines, status):
-    """What a run came to, by its last lines and its status: one that ends with no count, or with a status of failure, has failed."""
+    """What a run came to, by its last line and its status: one that ends with no count, or with a status of failure, has failed."""
     count = COUNT.fullmatch(lines[-1]) if lines else None
     passed, failed = (int(count[1]), int(count[2])) if count else (0, 1)
     came = Proofs(passed, max(failed, 1) if status else failed)
-    total = lines[-2] if len(lines) > 1 else ""
-    # Some releases count the edits in their last line but one.
-    refused = re.search(r"must-fail edits: (\d+) refused", total)
-    came.edits = int(refused[1]) if refused else sum(bool(REFUSED.match(it)) for it in lines)
-    if done := re.search(r"done in this run: (\d+) of the (\d+) proofs", total):
-        came.kept = int(done[2]) - int(done[1]), int(done[2])
     if came.failed:
         came.failures = [it for it in lines if re.search(r"NOT PROVED|FAILED|: error", it)][-LAST:] or lines[-LAST:]
     return came
+
+
+def by_seconds(tasks, seconds):
+    """The kit's tasks with what each took when it was last proved in place of its lines, by which the longest chain is found."""
+    return {key: (waits, seconds.get(key[0], EACH_LINE * lines) if key[1] == "proof" else 0, *rest) for key, (waits, lines, *rest) in tasks.items()}
+
+
+def main():
+    rt = kit.load(*PARTS)
+    seconds, in_lanes, ci = {name: it.seconds for name, it in read_lock(TOP).items()}, rt.in_lanes, rt.Crate.ci
+
+    def timed(crate, flags, tests):
+        began = time.monotonic()
+        status = ci(crate, flags, tests)
+        # (as one piece: other threads print too)
+        sys.stdout.write(f"took {crate.name} {time.monotonic() - began:.0f}\n")
+        return status
+
+    rt.Crate.ci = timed
+    rt.in_lanes = lambda tasks: in_lanes(by_seconds(tasks, seconds))
+    rt.rtlib.Crate.has_tests = lambda crate: False
+    status = rt.main(sys.argv[1:])
+    sys.stdout.flush()
+    return status
+
+
+if __name__ == "__main__":
+    sys.exit(main())

@@ -1,14 +1,20 @@
-"""Where an edit lies in the source of its crate, how the prover names the function there, and what is seen of a source from outside."""
+"""What stands in a source or a file of definitions, and what an edit replaces in it."""
 
 import re
 from dataclasses import dataclass
 
 HEAD = re.compile(r"^(\s*)(?:pub(?:\([a-z]+\))? )?(?:const )?(?:unsafe )?fn (\w+)")
 IMPL = re.compile(r"^(?:pub )?(?:impl|trait)\b(.*)")
-# A part of a source that its crate alone sees: a module's line, names that are imported, and an impl of which nothing is left.
-MODULE = re.compile(r"^mod \w+;\n", re.M)
-USE = re.compile(r"^(use [\w:]+::)(?:(\w+)|\{([\w\s,]*)\});\n", re.M)
-EMPTY_IMPL = re.compile(r"^impl\b[^\n]*\{\s*\}\n", re.M)
+# A line that is a comment and nothing else, by the file's kind.
+COMMENT = {".rt": re.compile(r"^[ ]*//.*\n", re.M), ".antt": re.compile(r"^[ ]*--.*\n", re.M)}
+# The word that a line of a definition begins with, behind the words that say what it is.
+DEFINED = re.compile(r"^( *)(?:(?:pub|abbrev|unfoldable|record|data|unfolding) )*([A-Za-z_◌][^\s:({]*)", re.M)
+DECLARED = re.compile(r"\b(?:struct|enum|trait|type|union|const|static) (\w+)")
+VARIANTS = re.compile(r"^    (\w+)[ ,({=]", re.M)
+
+
+def without_comments(path):
+    return COMMENT[path.suffix].sub("", path.read_text())
 
 
 @dataclass(frozen=True)
@@ -20,93 +26,25 @@ class Function:
     first: int
     last: int
     of: str
-    is_private: bool = False
 
 
 def functions_in(text, path):
     """A file's functions. In the layout of `rt fmt` each ends at the first brace that stands where its head begins."""
-    lines, found, of, is_trait = text.split("\n"), [], "", False
+    lines, found, of = text.split("\n"), [], ""
     for first, line in enumerate(lines):
         if IMPL.match(line):
-            of = IMPL.match(line)[1]
-            is_trait = re.match(r"(pub )?trait\b", line) is not None or re.search(r"\bfor\b", of) is not None
+            of = line
         elif line == "}":
-            of, is_trait = "", False
+            of = ""
         head = HEAD.match(line)
         if head:
             is_short = line.endswith("}") and line.count("{") == line.count("}")
             ends = [at for at in range(first, len(lines)) if lines[at] == head[1] + "}"]
             last = first if is_short or not ends else ends[0]
-            # The prover places an error of the whole function at its first attribute.
             while re.match(r"\s*(#\[|///)", lines[first - 1]):
                 first -= 1
-            is_private = not is_trait and not line.lstrip().startswith("pub fn") and " const " not in f" {line}"
-            found.append(Function(path, head[2], first + 1, last + 1, of, is_private))
+            found.append(Function(path, head[2], first + 1, last + 1, of))
     return found
-
-
-def replacements(edit):
-    """What an edit replaces: the file, the old text and the new one, in order."""
-    path, old, found = "", "", []
-    for line in edit.read_text().split("\n"):
-        if line.startswith("file: "):
-            path = line.removeprefix("file: ").strip()
-        elif line.startswith("old: "):
-            old = line.removeprefix("old: ")
-        elif line.startswith("new:"):
-            found.append((path, old, line.removeprefix("new:").removeprefix(" ")))
-    return found
-
-
-def function_of(folder, edit):
-    """The one function that an edit lies in, or None. Lines keep their numbers, since each text is one line."""
-    found = set()
-    for path, old, _ in replacements(edit):
-        text = (folder / path).read_text()
-        if not path.endswith(".rt") or text.count(old) != 1:
-            return None
-        line = text[: text.index(old)].count("\n") + 1
-        inside = [it for it in functions_in(text, path) if it.first < line <= it.last]
-        found.add(max(inside, key=lambda it: it.first, default=None))
-    return found.pop() if len(found) == 1 else None
-
-
-def named(function, crate, names):
-    """The one of these names by which the prover calls the function, or None where several fit or none.
-
-    A function is called by its module, a method by the module of its type, wherever the method stands, and a method of a
-    trait by its type and the trait in one word.
-    """
-    parts = function.path.removeprefix("src/").removesuffix(".rt").split("/")
-    module = "::".join([crate, *(it for it in parts if it not in ("lib", "main", "mod"))])
-    if not function.of:
-        return f"{module}::{function.name}" if f"{module}::{function.name}" in names else None
-    words = re.findall(r"\w+", re.sub(r"<[^<>]*>|\bwhere\b.*|\{.*", "", re.sub(r"<[^<>]*>", "", function.of)))
-    of = {words[0], words[-1]} if "for" not in words else {words[-1] + words[words.index("for") - 1], words[-1]}
-    fits = [it for it in names if it.split("::")[-1] == function.name and it.split("::")[-2:-1] and it.split("::")[-2] in of]
-    here = [it for it in fits if it.startswith(f"{module}::")]
-    fits = here if len(fits) > 1 and here else fits
-    return fits[0] if len(fits) == 1 else None
-
-
-def together(folder, edits):
-    """The texts with all these edits, by their path in the crate, or None where one doesn't apply beside the others."""
-    texts = {}
-    for edit in edits:
-        for path, old, new in replacements(edit):
-            text = texts.get(path) or (folder / path).read_text()
-            if text.count(old) != 1:
-                return None
-            texts[path] = text.replace(old, new)
-    return texts
-
-
-def applies(folder, edit):
-    """Whether what an edit replaces still stands in its crate, once each."""
-    try:
-        return together(folder, [edit]) is not None
-    except OSError:
-        return False
 
 
 def body_of(lines, function):
@@ -122,29 +60,73 @@ def body_of(lines, function):
     return None
 
 
-def without_bodies(text):
-    """A source without the bodies of its functions, which callers don't see, and without the functions that its crate alone sees.
-    Where a file writes macros it stays whole, and so do functions whose value a constant may be."""
+def items_of(text, path):
+    """What a file says, as pairs of the names that it defines there and its text: definitions, types, and heads of functions
+    with their clauses. (A function that may be a constant's value has its body too, and so has a file that writes macros.)"""
+    if path.endswith(".antt"):
+        blocks = re.split(r"\n\n+(?=\S)", text.strip("\n"))
+        return [(defined_in(it), it) for it in blocks]
     if "macro_rules!" in text:
-        return text
-    lines, inside = text.split("\n"), set()
-    for function in functions_in(text, ""):
-        if function.is_private:
-            inside.update(range(function.first - 1, function.last))
-        elif body := body_of(lines, function):
-            inside.update(range(*body))
-    return "\n".join(line for at, line in enumerate(lines) if at not in inside)
+        return [(set(re.findall(r"\w+", text)), text)]
+    lines, found, taken = text.split("\n"), [], set()
+    for function in functions_in(text, path):
+        inside = range(function.first - 1, function.last)
+        body = range(*(body_of(lines, function) or (0, 0)))
+        head = "\n".join([function.of, *(lines[at] for at in inside if at not in body)])
+        found.append(({function.name}, head))
+        taken.update(inside)
+    rest = "\n".join("" if at in taken else line for at, line in enumerate(lines))
+    for block in re.split(r"\n\n+(?=\S)", rest.strip("\n")):
+        names = set(DECLARED.findall(block)) | (set(VARIANTS.findall(block)) if re.search(r"\benum\b", block) else set())
+        impl = re.match(r"impl\b[^{]*", block)
+        if names or impl:
+            found.append((names | set(re.findall(r"\w+", impl[0]) if impl else ()), block))
+    return found
 
 
-def seen_of(text):
-    """What a crate above sees of a source: no bodies, no private functions, no private module's line, and of the names that the
-    source imports those that are left in it, a line each. Nothing, where nothing but imports is left."""
-    left = EMPTY_IMPL.sub("", MODULE.sub("", without_bodies(text)))
-    rest = USE.sub("", left)
+def defined_in(paragraph):
+    """The names that a paragraph may define: those at its lines' beginnings, and in a module or a list of variants the indented ones."""
+    is_inside = re.match(r"(?:pub )?(?:abbrev )?(?:module|data|record)\b", paragraph) is not None
+    return {name for indent, name in DEFINED.findall(paragraph) if is_inside or not indent}
 
-    def used(found):
-        names = [found[2]] if found[2] else [it.strip() for it in found[3].split(",") if it.strip()]
-        return "".join(f"{found[1]}{it};\n" for it in sorted(names) if re.search(rf"\b{it}\b", rest))
 
-    is_left = re.sub(r"^(ghost use .*|#!\[.*)\n", "", rest, flags=re.M).strip()
-    return USE.sub(used, left) if is_left else ""
+def replacements(edit):
+    """What an edit replaces: the file, the old text and the new one, in order."""
+    path, old, found = "", "", []
+    for line in edit.read_text().split("\n"):
+        if line.startswith("file: "):
+            path = line.removeprefix("file: ").strip()
+        elif line.startswith("old: "):
+            old = line.removeprefix("old: ")
+        elif line.startswith("new:"):
+            found.append((path, old, line.removeprefix("new:").removeprefix(" ")))
+    return found
+
+
+def applies(folder, edit):
+    """Whether what an edit replaces still stands in its crate, once each."""
+    texts = {}
+    for path, old, new in replacements(edit):
+        if path not in texts and not (folder / path).exists():
+            return False
+        text = texts.get(path) or (folder / path).read_text()
+        if text.count(old) != 1:
+            return False
+        texts[path] = text.replace(old, new)
+    return bool(texts)
+
+
+def function_of(folder, edit):
+    """The file that an edit changes, and the text of the function that it lies in, with the head of its impl; where it lies in
+    several, or in none, the whole file's."""
+    path = replacements(edit)[0][0]
+    text, found = (folder / path).read_text(), set()
+    for where, old, _ in replacements(edit):
+        line = text[: text.find(old)].count("\n") + 1 if where == path and old in text else 0
+        found.add(max((it for it in functions_in(text, path) if it.first < line <= it.last), key=lambda it: it.first, default=None))
+    whole = without_comments(folder / path)
+    if len(found) != 1 or None in found:
+        return path, whole
+    function = found.pop()
+    lines = text.split("\n")[function.first - 1 : function.last]
+    return path, function.of + "\n" + COMMENT[".rt"].sub("", "\n".join(lines))

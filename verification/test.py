@@ -1,88 +1,80 @@
-"""The whole test, in three parts: the kit proves, builds and runs all crates with their tests; the prover refuses
-edits; and the end-to-end tests run on the built programs.
+"""The whole test: builds the program and all tests without proofs and runs them, proves what isn't on record, and a sample of what is.
 
-    python3 verification/test.py [--fresh] [--seed N]
+    python3 verification/test.py [--all] [--fresh] [--seed N]
 
-With --fresh nothing is taken from this machine's archive of earlier proofs. The last line, `N passed, M failed`, is the sum
-of the three, and the status is 1 where something failed or didn't come to its count. Before it stand the parts by
-themselves, how long each took, and the last lines of what failed.
+proves the crates that proofs.lock doesn't have as they are, tries the edits that must-fail.lock doesn't have, and proves and
+tries a sample of the others, drawn anew in each run. With --all every crate is proved by this run, or was by an earlier one on
+this machine, both locks have to have everything, and the end-to-end tests run on the proved program, which is left at
+bin/snapd. With --fresh nothing is taken from this machine's archive. The last line, `N passed, M failed`, is the sum of all
+parts, and the status is 1 where something failed or didn't come to its count.
 """
 
 import argparse
 import random
 import subprocess
 import sys
-import time
 
-import kit
-from build import take_programs
-from digests import LOCK
-from edits import Edits, record_all, told, try_over
-from proofs import COUNT, LANES, PLAIN, prove
-from tree import TOP, copied, crates_of
+from edits import LOCK, Edits, drawn, try_over
+from libraries import lay_all
+from proofs import prove
+from record import Record
+from tree import LOGS, TOP, below, copied, crates_of, proved_crates, take_program, with_below
+from run_tests import PROGRAM, build_and_run, run_end_to_end
 
-LOGS = TOP / "out"
-# How many lines of a failed part are shown again at the end.
-LAST = 12
+# The sample: how many crates, how many of their edits, and what the crates' proofs may take in all, in seconds of a processor.
+SAMPLE = (3, 20, 400)
 
 
-def prove_all(copy, fresh, by=LANES):
-    print("proofs: every crate, its tests and its programs", flush=True)
-    proofs = prove(copy, LOGS / "proofs.log", fresh, by)
-    (LOGS / "times.txt").write_text("\n".join(proofs.times) + "\n")
-    lines = proofs.told() + ([f"edits: {proofs.edits} refused, all by the kit itself"] if proofs.edits else [])
-    print(*lines, sep="\n", flush=True)
-    return proofs
+def run_demo():
+    """The first job, as `make demo` runs it."""
+    ran = subprocess.run(["sh", "tests/demo.sh", str(PROGRAM)], cwd=TOP, stdin=subprocess.DEVNULL, stdout=subprocess.DEVNULL)
+    return (1, 0, []) if ran.returncode == 0 else (0, 1, ["the first job failed: sh tests/demo.sh out/snapd"])
 
 
-def try_edits(copy, edits, seed):
-    began = time.monotonic()
-    edits.choose(seed=seed)
-    new, known = len(edits.unknown()), len(edits.known())
-    print(f"edits: {known} stand in {LOCK} as they are now, {new} don't; these and a sample are tried (seed {seed})", flush=True)
-    try_over(copy, edits, LOGS / "edits.log")
-    lines = told(edits, time.monotonic() - began)
-    print(*lines, sep="\n", flush=True)
-    refused, failed = edits.counts()
-    return refused, failed, lines[1:]
+def lacking(record, edits):
+    """What the locks don't have as it is now."""
+    said = [f"proofs.lock doesn't have {it} as it is: make prove writes it" for it in record.missing()]
+    return said + [f"{LOCK} doesn't have {edits.name(it)} as it is: make edits tries it" for it in edits.unknown()]
+
+
+def sample(edits, record, owed, words):
+    """The crates and the edits that are drawn, where the crates in `owed` are proved anyway."""
+    with copied(TOP, proved_crates(TOP)) as copy:
+        missing = proved_crates(TOP) if words.fresh else lay_all(copy)[1]
+    seconds = {name: it.seconds for name, it in record.lines.items()}
+    names, chosen = drawn(proved_crates(TOP), edits.known(), crates_of(TOP), seconds, set(missing) - owed, words.seed, SAMPLE)
+    print(f"sample: {', '.join(names) or 'no crate'}, with {len(chosen)} edits (seed {words.seed})", flush=True)
+    return names, chosen
 
 
 def prove_and_try(words):
-    """Proves all, and tries edits: those that the lock doesn't have and a sample, or each of them as the kit does it. A kit
-    that isn't known here is asked for everything."""
-    names, is_known = list(crates_of(TOP)), kit.is_known()
-    every, edits = words.every_edit or not is_known, Edits.of(TOP) if is_known else None
-    with copied(TOP, names, with_edits=every) as copy:
-        proofs = prove_all(copy, words.fresh, PLAIN if every else LANES)
-        take_programs(copy, [it for it in names if (copy / "crates" / it / "src" / "main.rt").exists()])
-        parts = [(proofs.passed, proofs.failed, proofs.failures)]
-        if words.every_edit and is_known:
-            record_all(TOP, edits, proofs)
-        elif not every and not proofs.failed:
-            parts.append(try_edits(copy, edits, words.seed))
-    return parts
-
-
-def run_end_to_end():
-    words = [sys.executable, str(TOP / "tests" / "run.py")]
-    lines, began = [], time.monotonic()
-    with subprocess.Popen(words, cwd=TOP, stdin=subprocess.DEVNULL, stdout=subprocess.PIPE, text=True) as run:
-        for line in run.stdout:
-            print(line, end="", flush=True)
-            lines.append(line.rstrip())
-    count = COUNT.fullmatch(lines[-1]) if lines else None
-    passed, failed = (int(count[1]), int(count[2])) if count else (0, 1)
-    print(f"end-to-end tests: {passed} passed in {time.monotonic() - began:.0f} s", flush=True)
-    failed = max(failed, 1) if run.returncode else failed
-    return passed, failed, lines[-LAST:] if failed else []
+    """Proves what is to be proved, and tries edits; what came of each."""
+    record, edits, crates = Record.of(TOP), Edits.of(TOP), crates_of(TOP)
+    print(record.told(), f"{LOCK}: {len(edits.known())} of {len(edits.digests)} edits were refused as they are here", sep="\n", flush=True)
+    owed = with_below(crates, proved_crates(TOP) if words.all else record.missing())
+    new, said = ([], lacking(record, edits)) if words.all else (edits.unknown(), [])
+    names, chosen = sample(edits, record, owed, words)
+    names = {*names, *(it[0] for it in new)}
+    with copied(TOP, owed | {lower for it in names for lower in below(crates, it)}) as copy:
+        proofs = prove(copy, LOGS / "proofs.log", words.fresh)
+        print(proofs.told(), flush=True)
+        if words.all:
+            take_program(TOP, copy, "snapd")
+        if not proofs.failed:
+            try_over(copy, names, edits, [*new, *chosen])
+    tried = edits.refused, len(edits.failures), edits.failures
+    return [(0, len(said), said), (proofs.passed, proofs.failed, proofs.failures), tried]
 
 
 def main():
-    words = argparse.ArgumentParser(description="Proves all, tries edits and runs every test.")
+    words = argparse.ArgumentParser(description="Runs every test, and proves what isn't on record and a sample of what is.")
+    words.add_argument("--all", action="store_true", help="prove every crate, by this run or an earlier one on this machine")
     words.add_argument("--fresh", action="store_true", help="take nothing from this machine's archive of proofs")
-    words.add_argument("--every-edit", action="store_true", help="try each edit, by the kit itself")
-    words.add_argument("--seed", type=int, default=random.SystemRandom().randrange(10**9), help="of the sample of edits")
-    parts = [*prove_and_try(words.parse_args()), run_end_to_end()]
+    words.add_argument("--seed", type=int, default=random.SystemRandom().randrange(10**9), help="of the sample")
+    words = words.parse_args()
+    LOGS.mkdir(exist_ok=True)
+    parts = [build_and_run(), run_demo(), *prove_and_try(words)]
+    parts.append(run_end_to_end(TOP / "bin" / "snapd" if words.all else PROGRAM))
     for _, failed, lines in parts:
         if failed:
             print(*lines, sep="\n")

@@ -9,10 +9,12 @@ import tempfile
 from dataclasses import dataclass
 
 TOP = pathlib.Path(__file__).resolve().parent.parent
+LOGS = TOP / "out"
 # What the prover reads of a crate.
 PARTS = ("src", "specs", "proofs")
-# What stays behind when a crate is copied: what an earlier run made, and as a rule the edits, which are tried apart.
-MADE, EDITS = "out", "must-fail"
+# What of a crate stays behind when it is copied: what an earlier run made, and the edits, which are tried apart.
+LEFT = shutil.ignore_patterns("out", "must-fail")
+TEST = re.compile(r"^\s*#\[test\]", re.M)
 
 
 @dataclass(frozen=True)
@@ -35,6 +37,12 @@ def crates_of(top):
     return crates
 
 
+def rows_of(lock):
+    """The lines of a lock as lists of words."""
+    text = lock.read_text() if lock.exists() else ""
+    return [line.split() for line in text.split("\n") if line and not line.startswith("#")]
+
+
 def refuse_strange(crates, names):
     """Ends the program where one of these names, which somebody typed, is no crate."""
     if strange := [it for it in names if it not in crates]:
@@ -50,13 +58,29 @@ def below(crates, name):
     return found
 
 
+def with_below(crates, names):
+    return {it for name in names for it in [*below(crates, name), name]}
+
+
 def files_of(folder):
     """The files of a crate that the prover reads, in a fixed order."""
     return sorted(it for part in PARTS for it in (folder / part).rglob("*") if it.is_file())
 
 
 def has_tests(folder):
-    return any(re.search(r"#\[test\]", it.read_text()) for it in (folder / "src").rglob("*.rt"))
+    return any(TEST.search(it.read_text()) for it in (folder / "src").rglob("*.rt"))
+
+
+def is_program(top, name):
+    return (top / "crates" / name / "src" / "main.rt").exists()
+
+
+def proved_crates(top):
+    """The crates that are proved: the program with all that it stands on, and the laws. Crates of tests, and the programs that
+    tests run, are built without proofs and run."""
+    names = crates_of(top)
+    tried = {it for it in names if it.startswith("try_") or it.startswith("tests_") and has_tests(top / "crates" / it)}
+    return [it for it in names if it not in tried]
 
 
 def edits_of(top, name):
@@ -64,17 +88,33 @@ def edits_of(top, name):
     return sorted((top / "crates" / name / "must-fail").glob("*.edit"))
 
 
-@contextlib.contextmanager
-def copied(top, names, with_edits=False):
-    """A copy of these crates, as a rule without their edits, in a folder that is gone afterwards."""
+def laid(top, copy, names):
+    """Adds these crates to a copy, without their edits, beside those that it has."""
     crates = crates_of(top)
+    there = {it.name for it in (copy / "crates").iterdir()}
+    for name in set(names) - there:
+        shutil.copytree(top / "crates" / name, copy / "crates" / name, ignore=LEFT)
+    (copy / "crates.txt").write_text("".join(f"{crates[it].line}\n" for it in crates if it in there | set(names)))
+
+
+@contextlib.contextmanager
+def copied(top, names):
+    """A copy of these crates, without their edits, in a folder that is gone afterwards."""
     with tempfile.TemporaryDirectory(prefix="snapd-proofs-") as room:
         copy = pathlib.Path(room) / "main"
         # The prover takes a folder with a .git for the top of a repository.
-        (copy / ".git").mkdir(parents=True)
-        (copy / "crates.txt").write_text("".join(f"{crates[it].line}\n" for it in crates if it in names))
+        for it in (".git", "crates"):
+            (copy / it).mkdir(parents=True)
         shutil.copy(top / "HANDLES", copy)
-        for name in names:
-            left = shutil.ignore_patterns(MADE, *([] if with_edits else [EDITS]))
-            shutil.copytree(top / "crates" / name, copy / "crates" / name, ignore=left)
+        laid(top, copy, names)
         yield copy
+
+
+def take_program(top, copy, name):
+    """Takes a program that was proved and built in a copy: `snapd` to bin/, others to their crate's out/. Never the one of an earlier run."""
+    built = copy / "crates" / name / "out" / name
+    to = top / "bin" / name if name == "snapd" else top / "crates" / name / "out" / name
+    to.unlink(missing_ok=True)
+    if built.is_file():
+        to.parent.mkdir(parents=True, exist_ok=True)
+        shutil.copy(built, to)

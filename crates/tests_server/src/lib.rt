@@ -1,6 +1,6 @@
 //! The tests of what serves: of `snap_service`, `snap_desk`, `snap_server`, `snap_spin` and
-//! `snap_figures`, by their public items alone. The tests of a room of the building stand in one crate of their own: a
-//! crate with tests is proved twice, and each crate of tests pays a start-up of its own.
+//! `snap_figures`, by their public items alone. The tests of a room share a crate, since each crate of
+//! tests reads all libraries below it.
 #![tactic(auto)]
 
 #[cfg(test)]

@@ -1,7 +1,7 @@
 //! The tests of the room of the snapshots: the rules of a scan and the plain program (`snap_scan`,
 //! `snap_history`), the seats (`snap_register`), and scans and updates by hand and in threads
-//! (`snap_memory`). They stand in a crate of their own, since a crate with tests is proved twice, and
-//! in one crate for the room, since each crate of tests pays a start-up of its own.
+//! (`snap_memory`). The tests of a room share a crate, since each crate of tests reads all libraries
+//! below it.
 #![tactic(auto)]
 
 #[cfg(test)]

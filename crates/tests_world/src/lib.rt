@@ -1,8 +1,7 @@
 //! The tests of the world of `snap_world`: worked and drawn runs with device faults, crashes and
 //! restarts, and equal lists of looks and updates for it and for the memory that threads share, which
-//! have to give equal numbers and answers. They stand in a crate of their own, since a crate with tests
-//! is proved twice and neither library stands on the other, and in one crate for the room, since each
-//! crate of tests pays a start-up of its own.
+//! have to give equal numbers and answers. The tests of a room share a crate, since each crate of tests
+//! reads all libraries below it.
 #![tactic(auto)]
 
 #[cfg(test)]

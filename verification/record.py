@@ -1,0 +1,96 @@
+"""The record of proofs: which crates were proved whole as they stand, by which release of the kit, when, and in what time.
+
+    python3 verification/record.py
+
+says how much of this checkout stands in `proofs.lock` as it is now. `make prove` writes a line for each crate that was proved
+from nothing, by that run or by an earlier one on that machine. Its digest (SHA-256) is of all that the proof rests on: each file
+of the crate's src/, specs/ and proofs/, byte for byte, its line of crates.txt, HANDLES, the kit's logic, and the digests of
+the crates below. A line is the word of who wrote it: what holds it to that is everybody's `make prove`, and `make test`'s sample.
+"""
+
+import datetime
+import sys
+from dataclasses import dataclass
+
+import kit
+from digests import summed
+from tree import TOP, crates_of, files_of, proved_crates, rows_of
+
+LOCK = "proofs.lock"
+HEAD = """\
+# Each crate that was proved whole, from nothing: the digest of all that the proof rests on, the kit's release, the day, and the
+# seconds that it took one processor. `make prove` writes it.
+"""
+
+
+@dataclass(frozen=True)
+class Proved:
+    """A line of the record."""
+
+    digest: str
+    release: str
+    day: str
+    seconds: int
+
+
+def digests_of(top, logic):
+    """The digest of each crate of a checkout that is proved."""
+    crates, handles, found = crates_of(top), (top / "HANDLES").read_bytes(), {}
+
+    def digest(name):
+        if name not in found:
+            folder = top / "crates" / name
+            own = [part for it in files_of(folder) for part in (str(it.relative_to(folder)), it.read_bytes())]
+            below = [digest(it) for it in crates[name].uses if it in crates]
+            found[name] = summed(logic, handles, crates[name].line, str(len(below)), *below, *own)
+        return found[name]
+
+    return {it: digest(it) for it in proved_crates(top)}
+
+
+def read_lock(top):
+    """The record's lines, by crate."""
+    return {name: Proved(digest, release, day, int(seconds)) for name, digest, release, day, seconds in rows_of(top / LOCK)}
+
+
+@dataclass
+class Record:
+    """A checkout's crates by their digests, and what the record has of them."""
+
+    digests: dict
+    lines: dict
+
+    @classmethod
+    def of(cls, top):
+        return cls(digests_of(top, kit.logic()), read_lock(top))
+
+    def missing(self):
+        """The crates that the record doesn't have as they are now."""
+        return [it for it, digest in self.digests.items() if it not in self.lines or self.lines[it].digest != digest]
+
+    def told(self):
+        """One line on how much of the checkout the record has."""
+        missing = self.missing()
+        found = [self.lines[it] for it in self.digests if it not in missing]
+        days = sorted({it.day for it in found})
+        line = f"{LOCK}: {len(found)} of {len(self.digests)} crates were proved as they are here"
+        line += f", by {', '.join(sorted({it.release for it in found}))}, {' to '.join(dict.fromkeys(days[:1] + days[-1:]))}" if found else ""
+        return line + (f"; not {', '.join(missing)}" if missing else "")
+
+    def take(self, seconds, day=None):
+        """Notes all crates as proved now, those in `seconds` in so many, and lets go of those that are gone."""
+        day, missing, were = day or datetime.date.today().isoformat(), set(self.missing()), self.lines
+        self.lines = {}
+        for name, digest in self.digests.items():
+            took = seconds.get(name, were[name].seconds if name in were else 0)
+            is_new = name in seconds or name in missing
+            self.lines[name] = Proved(digest, kit.release(), day, took) if is_new else were[name]
+
+    def write(self, top):
+        rows = [f"{name} {it.digest} {it.release} {it.day} {it.seconds}\n" for name, it in sorted(self.lines.items())]
+        (top / LOCK).write_text(HEAD + "".join(rows))
+
+
+if __name__ == "__main__":
+    print(Record.of(TOP).told())
+    sys.exit(0)
