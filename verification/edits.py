@@ -22,7 +22,7 @@ from dataclasses import dataclass, field
 import kit
 from digests import Digests
 from libraries import lay_all
-from proofs import prove
+from proofs import UNKNOWN, prove
 from tree import LOGS, TOP, below, copied, crates_of, edits_of, laid, refuse_strange, rows_of, with_below
 
 LOCK = "must-fail.lock"
@@ -103,7 +103,7 @@ def drawn(names, edits, crates, seconds, missing, seed, most):
     draw, chosen, proved, spent = random.Random(seed), [], set(missing), 0
     for name in draw.sample(sorted(names), len(names)):
         owed = {it for it in below(crates, name) if it in proved} | {name}
-        cost = sum(seconds.get(it, 60) for it in owed)
+        cost = sum(seconds.get(it, UNKNOWN) for it in owed)
         if len(chosen) < most[0] and spent + cost <= most[2]:
             chosen.append(name)
             proved -= owed

@@ -22,8 +22,8 @@ PARTS = ("in_lanes", "main", "Crate.ci", "rtlib.Crate.has_tests", "processors")
 COUNT = re.compile(r"(\d+) passed, (\d+) failed")
 SAID = re.compile(r"rt: (\w+) (proved|NOT PROVED|is kept\b)")
 TOOK = re.compile(r"took (\w+) (\d+)")
-# What a crate takes that the record doesn't have, by its lines.
-EACH_LINE = 0.12
+# What a crate takes that the record doesn't have: by each of its lines, and where these aren't known.
+EACH_LINE, UNKNOWN = 0.12, 60
 # How many lines of a failed run are shown again.
 LAST = 12
 
@@ -49,7 +49,7 @@ class Progress:
 
     def __init__(self, names, lanes):
         lines = read_lock(TOP)
-        self.left, self.lanes = {it: lines[it].seconds if it in lines else 60 for it in names}, lanes
+        self.left, self.lanes = {it: lines[it].seconds if it in lines else UNKNOWN for it in names}, lanes
         self.all, self.done, self.kept, self.seconds, self.bad = len(names), 0, 0, {}, []
 
     def take(self, line):

@@ -22,7 +22,7 @@ from tree import LOGS, TOP, below, copied, crates_of, proved_crates, take_progra
 from run_tests import PROGRAM, build_and_run, run_end_to_end
 
 # The sample: how many crates, how many of their edits, and what the crates' proofs may take in all, in seconds of a processor.
-SAMPLE = (3, 20, 400)
+SAMPLE = (3, 20, 600)
 
 
 def run_demo():
