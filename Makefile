@@ -25,14 +25,17 @@ test:
 
 # Tries the edits that must-fail.lock doesn't have as they are now, with CRATES="NAME .." those of these crates, and records them.
 edits:
+	@sh verification/needs.sh rt python3
 	@python3 verification/edits.py $(CRATES)
 
 # Lays the libraries that this machine has proved before where `rt check` looks, so that it begins at once in any crate.
 libraries:
+	@sh verification/needs.sh rt python3
 	@python3 verification/libraries.py
 
 # The programs that the end-to-end tests run beside snapd, without their proofs, and these tests alone, on bin/snapd.
 programs:
+	@sh verification/needs.sh rt python3
 	@python3 verification/quick.py --level 0 try_faults try_bench
 
 tests: programs
@@ -40,6 +43,7 @@ tests: programs
 
 # What is timed has no checks in it, so it is proved.
 bench:
+	@sh verification/needs.sh rt python3 gcc
 	python3 verification/prove.py snapd try_faults try_bench
 	python3 bench/run.py
 	python3 bench/server.py

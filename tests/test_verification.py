@@ -163,6 +163,8 @@ def test_a_sample_is_new_with_each_seed_and_keeps_to_its_bounds(snapd, _):
     draws = [drawn(LOWER, edits, crates, seconds, [], seed, (2, 5, 250)) for seed in range(40)]
     assert {name for names, _ in draws for name in names} == set(LOWER) and len({tuple(it) for _, it in draws}) > 30
     assert all(len(names) == 2 and len(chosen) == 5 and {it[0] for it in chosen} <= set(names) for names, chosen in draws)
+    # What nobody has measured isn't taken to cost nothing.
+    assert all(len(drawn(LOWER, edits, crates, {**seconds, "low": 0}, list(LOWER), seed, (3, 5, 150))[0]) < 3 for seed in range(20))
     # Where nothing below is at hand, a high one would cost all three.
     draws = [drawn(LOWER, edits, crates, seconds, list(LOWER), seed, (3, 99, 250)) for seed in range(40)]
     assert {tuple(sorted(names)) for names, _ in draws} == {("low", "middle"), ("middle",)}, draws
@@ -241,7 +243,7 @@ def test_each_proof_is_told_as_it_ends(snapd, _):
 
 def test_the_longest_chain_goes_by_what_was_measured(snapd, _):
     tasks = {("low", "proof"): ([], 100, 1, "call"), ("low", "tests"): ([], 100, 1, "call"), ("new", "proof"): ([("low", "proof")], 100, 2, "call")}
-    assert by_seconds(tasks, {"low": 70}) == {
+    assert by_seconds(tasks, {"low": 70, "new": 0}) == {
         ("low", "proof"): ([], 70, 1, "call"), ("low", "tests"): ([], 0, 1, "call"), ("new", "proof"): ([("low", "proof")], 12.0, 2, "call")}
 
 

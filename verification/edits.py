@@ -103,7 +103,7 @@ def drawn(names, edits, crates, seconds, missing, seed, most):
     draw, chosen, proved, spent = random.Random(seed), [], set(missing), 0
     for name in draw.sample(sorted(names), len(names)):
         owed = {it for it in below(crates, name) if it in proved} | {name}
-        cost = sum(seconds.get(it, UNKNOWN) for it in owed)
+        cost = sum(seconds.get(it) or UNKNOWN for it in owed)
         if len(chosen) < most[0] and spent + cost <= most[2]:
             chosen.append(name)
             proved -= owed

@@ -49,7 +49,7 @@ class Progress:
 
     def __init__(self, names, lanes):
         lines = read_lock(TOP)
-        self.left, self.lanes = {it: lines[it].seconds if it in lines else UNKNOWN for it in names}, lanes
+        self.left, self.lanes = {it: (lines[it].seconds if it in lines else 0) or UNKNOWN for it in names}, lanes
         self.all, self.done, self.kept, self.seconds, self.bad = len(names), 0, 0, {}, []
 
     def take(self, line):
@@ -101,7 +101,7 @@ def judged(lines, status):
 
 def by_seconds(tasks, seconds):
     """The kit's tasks with what each took when it was last proved in place of its lines, by which the longest chain is found."""
-    return {key: (waits, seconds.get(key[0], EACH_LINE * lines) if key[1] == "proof" else 0, *rest) for key, (waits, lines, *rest) in tasks.items()}
+    return {key: (waits, seconds.get(key[0]) or EACH_LINE * lines if key[1] == "proof" else 0, *rest) for key, (waits, lines, *rest) in tasks.items()}
 
 
 def main():
