@@ -19,8 +19,8 @@ def closing(record):
 
 
 def main():
-    print("bin/snapd is built without its proofs, in 2 to 3 minutes:", flush=True)
-    built = build_all([("snapd", False, place("snapd", False))], tell=lambda it: print(it, flush=True))[0]
+    print("bin/snapd is built without its proofs, in about 2 minutes:", flush=True)
+    built = build_all([("snapd", False, place("snapd", False))], level=0, tell=lambda it: print(it, flush=True))[0]
     print(told(built), flush=True)
     if not built.is_built:
         return 1
