@@ -31,7 +31,7 @@ def listings(without):
     """The recipe's texts by name, less the parts that are left out."""
     recipes = (TOP / "docs" / "RECIPES.md").read_text()
     found = {name: re.search(LISTING % re.escape(name), recipes, re.S | re.M)[1]
-             for name in ("volume.sh", "fstab", "files.sh", "takeover.py", "snapd-takeover.service")}
+             for name in ("volume.sh", "fstab", "files.sh", "takeover.py", "snapd-board-takeover.service")}
     for part in without:
         name, old, new = PARTS[part]
         if old not in found[name]:
@@ -55,7 +55,7 @@ class Cluster:
         make_network()
         self.hosts = [Host(number, folder, self.mount("/srv/brick")[3]) for number in (1, 2, 3)]
         self.log = open(folder / "units.log", "ab")
-        start, stop = (re.search(rf"^{key}=-?/\S+ (.*)$", self.texts["snapd-takeover.service"], re.M)[1].split()
+        start, stop = (re.search(rf"^{key}=-?/\S+ (.*)$", self.texts["snapd-board-takeover.service"], re.M)[1].split()
                        for key in ("ExecStart", "ExecStopPost"))
         self.files = [word for word in start if word.endswith(".seg")]
         script = "cd /srv/snapd && exec python3 -u " + shlex.join([str(self.tools / "takeover.py"), *start[1:]])

@@ -30,9 +30,9 @@ LISTINGS = {
 
 
 def test_every_listing_is_known(_, __):
-    hosts = ["files.sh", "fstab", "snapd-takeover.service", "takeover.py", "volume.sh"]
+    hosts = ["files.sh", "fstab", "snapd-board-takeover.service", "takeover.py", "volume.sh"]
     assert sorted(LISTINGS) == sorted([*hosts, "prometheus.yml", "snapd.rules.yml", "backup.sh", "board.py", "checkpoint.py", "grow.sh", "launch.sh", "lease.py",
-                                "snapd.service", "socket.conf", "start.sh"])
+                                "snapd-board@.service", "socket.conf", "start.sh"])
     assert len(re.findall(r"^```\w+$", RECIPES, re.M)) == len(LISTINGS)
 
 
@@ -50,6 +50,12 @@ def written(snapd, *names):
         (snapd.folder / name).write_text(LISTINGS[name])
 
 
+def written_with(snapd, name, old, new):
+    """The listing with another number in one place, so that a test needn't wait so long."""
+    assert LISTINGS[name].count(old) == 1, (name, old)
+    (snapd.folder / name).write_text(LISTINGS[name].replace(old, new))
+
+
 def environment(snapd, more):
     """With the program, the client and this Python on the paths, and with more."""
     (snapd.folder / "bin").mkdir(exist_ok=True)
@@ -64,6 +70,16 @@ def started(snapd, *words, env=(), **more):
     """A process group of its own, so that it can be killed with all that it started."""
     return subprocess.Popen(list(map(str, words)), cwd=snapd.folder, env=environment(snapd, dict(env)), text=True,
                             start_new_session=True, stdin=subprocess.DEVNULL, stdout=subprocess.PIPE, **more)
+
+
+def ended(snapd, *words):
+    """The status of a process that ends by itself, what it printed, and what it said on standard error."""
+    process = started(snapd, *words, stderr=subprocess.PIPE)
+    try:
+        output, errors = process.communicate(timeout=PATIENCE)
+    finally:
+        killed(process)
+    return process.returncode, output, errors
 
 
 def killed(process):
@@ -92,9 +108,9 @@ def test_backups_are_kept_and_restored(snapd, _):
             0, f"loaded 0 of 3 number 0\nloaded 1 of 3 number {number}\nloaded 2 of 3 number 0\nready board{number}\n")
         with Server(snapd, "--dir", f"board{number}") as server:
             assert server.scan() == [(0, b""), (number, b"%d" % number), (0, b"")]
-    # A server that is gone leaves no dump, and none of the old ones goes.
-    done = started(snapd, "sh", "backup.sh", "127.0.0.1:1", "dumps", 1, stderr=subprocess.DEVNULL)
-    assert done.wait() == 1 and sorted(it for it in (snapd.folder / "dumps").iterdir() if it.suffix == ".dump") == kept
+    # A server that is gone leaves no dump and no part of one, and none of the old ones goes.
+    status, output, errors = ended(snapd, "sh", "backup.sh", "127.0.0.1:1", "dumps", 1)
+    assert (status, output) == (1, "") and errors.startswith("snapd: 127.0.0.1:1: ") and sorted((snapd.folder / "dumps").iterdir()) == kept, errors
 
 
 def test_a_job_grows(snapd, _):
@@ -108,6 +124,34 @@ def test_a_job_grows(snapd, _):
         assert server.scan() == [(0, b""), (1, b"hi"), (0, b""), (0, b"")]
     with Server(snapd, "--dir", "board.old") as server:
         assert server.scan() == [(0, b""), (1, b"hi")]
+
+
+def test_a_job_that_cannot_grow_stays(snapd, _):
+    """Its folder is served, or one of the old name is there: each folder has what it had, and nothing is left beside."""
+    written(snapd, "grow.sh")
+    snapd("init", "board", "--count", 2)
+    with Server(snapd, "--dir", "board"):
+        status, output, errors = ended(snapd, "sh", "grow.sh", "board", 4)
+        assert (status, output) == (1, "") and "in use by another snapd" in errors, (status, errors)
+    snapd.file("board.old").mkdir()
+    assert ended(snapd, "sh", "grow.sh", "board", 4) == (1, "", "grow.sh: board.old is there already: move it away\n")
+    assert sorted(it.name for it in snapd.folder.iterdir() if it.name.startswith("board")) == ["board", "board.old"]
+    assert sorted(it.name for it in snapd.file("board").iterdir()) == ["segment-00.seg", "segment-01.seg"]
+
+
+# ---- three hosts ----
+
+def test_hosts_begin_nothing_where_something_is_missing(snapd, _):
+    """No folder of a volume, no tools of one, and no file to lock: each ends, and leaves nothing."""
+    written(snapd, "files.sh", "volume.sh", "takeover.py")
+    before = sorted(snapd.folder.iterdir())
+    if not os.path.exists("/srv/snapd"):
+        assert ended(snapd, "sh", "files.sh")[0] != 0
+    if not shutil.which("gluster"):
+        assert ended(snapd, "sh", "volume.sh", "127.0.0.1", "127.0.0.1", "127.0.0.1")[0] == 127
+    status, _, errors = ended(snapd, "python3", "takeover.py", "10.77.0.10/24", "none", 7070, "s0.seg")
+    assert status == 1 and "serving" in errors.splitlines()[-1], (status, errors)
+    assert sorted(it for it in snapd.folder.iterdir() if it.name != "bin") == before
 
 
 # ---- the start ----
@@ -142,14 +186,15 @@ LIVES = ("ranks", "server", "both", "start") * 3
 
 def newest_step(server):
     """The newest step that a rank has saved."""
-    return max((it["step"] for _, value in server.scan() for it in json.loads(value or b"[]")), default=0)
+    return max((it["step"] for _, value in server.scan()[:RANKS] for it in json.loads(value or b"[]")), default=0)
 
 
 def test_checkpoints_survive_kills_of_all(snapd, rng):
     """Ranks and server are killed again and again, together or alone, at moments that follow from how far the job is. At the
     end each rank has the sum of all its steps."""
     written(snapd, "checkpoint.py", "launch.sh")
-    files = fresh(snapd, RANKS)
+    # The last segment is another job's.
+    files = segments(snapd, *[[(0, b"")]] * RANKS, [(0, b""), (1, b"other")])
     server = Server(snapd, *files, scanners=2)
     place = server.address
 
@@ -187,6 +232,21 @@ def test_checkpoints_survive_kills_of_all(snapd, rng):
             assert list(snapd.folder.glob(f"rank{rank}.step{steps}.*")), "the last checkpoint is gone"
     finally:
         server.kill()
+
+
+def test_ranks_that_cannot_go_on_say_so(snapd, _):
+    """One of two ranks can't save, a rank is alone, and a server has too few segments: nobody waits for ever, and the job has failed."""
+    written_with(snapd, "checkpoint.py", "PATIENCE = 600", "PATIENCE = 1")
+    written(snapd, "launch.sh")
+    with Server(snapd, *fresh(snapd, 2)) as server:
+        alone = ended(snapd, "python3", "checkpoint.py", server.address, 2, 0, 3, 0)
+        assert alone == (1, "", "ranks [1] haven't saved step 1 for 1 s\n"), alone
+        few = ended(snapd, "sh", "launch.sh", server.address, 3, 3)
+        assert few == (1, "", "the server has 2 segments, and 3 ranks want one each\n"), few
+    with Server(snapd, *fresh(snapd, 2)) as server:
+        snapd.file("rank1.step1.1.part").mkdir()
+        status, output, errors = ended(snapd, "sh", "launch.sh", server.address, 2, 3)
+        assert (status, output) == (1, "") and "IsADirectoryError" in errors and "ranks [1] haven't saved step 1" in errors, (status, output, errors)
 
 
 # ---- the board ----
@@ -239,6 +299,12 @@ def test_board_shows_what_all_said(snapd, _):
         assert board.printed == board.wanted
     finally:
         server.kill()
+
+
+def test_board_ends_where_nobody_answers(snapd, _):
+    written_with(snapd, "board.py", "tries=10", "tries=1")
+    status, output, errors = ended(snapd, "python3", "board.py", "127.0.0.1:1", 1)
+    assert (status, output) == (1, "") and "127.0.0.1:1" in errors.splitlines()[-1], (status, output, errors)
 
 
 def test_board_prints_nothing_while_nothing_changes(snapd, _):
@@ -395,7 +461,7 @@ def stores(client, segment, value):
 
 # ---- the service ----
 
-UNIT = LISTINGS["snapd.service"]
+UNIT = LISTINGS["snapd-board@.service"]
 
 
 def of_section(section):
@@ -409,37 +475,44 @@ def of_section(section):
 
 SERVICE = of_section("Service")
 (PROGRAM, COMMAND, ADDRESS, *WORDS), = [it.split() for it in SERVICE["ExecStart"]]
-FILES = [word for word in WORDS if word.endswith(".seg")]
+FOLDER = "/var/lib/snapd-board/%i"
 UNIT_ENVIRONMENT = dict(it.split("=", 1) for it in SERVICE["Environment"])
+COUNT = 4
 
 
-def formatted_as_the_unit_wants(snapd):
-    for index, file in enumerate(FILES):
-        snapd.formatted(file, "--index", index, "--count", len(FILES))
+def words_here(words):
+    """The words of the unit, with a folder of this one in place of its own."""
+    assert FOLDER in words
+    return ["board" if word == FOLDER else word for word in words]
+
+
+def made_as_the_unit_wants(snapd):
+    snapd("init", "board", "--count", COUNT)
 
 
 def test_unit_of_the_system(snapd, _):
     assert (pathlib.Path(PROGRAM).name, COMMAND, ADDRESS) == ("snapd", "serve", "127.0.0.1:7070")
-    assert SERVICE["WorkingDirectory"] == ["/var/lib/snapd"] and SERVICE["StateDirectory"] == ["snapd"]
+    assert SERVICE["WorkingDirectory"] == [FOLDER] and SERVICE["StateDirectory"] == ["snapd-board/%i"]
     assert UNIT_ENVIRONMENT == {"GLIBC_TUNABLES": "glibc.malloc.hugetlb=1", "MALLOC_ARENA_MAX": "1"}
     # It goes on trying what may come right by itself: here the files aren't there yet.
     assert of_section("Unit")["StartLimitIntervalSec"] == ["0"] and SERVICE["Restart"] == ["always"]
     gives_up = [int(it) for it in SERVICE["RestartPreventExitStatus"][0].split()]
     assert gives_up == [2, 3]
     serve = lambda *words: snapd("serve", "127.0.0.1:0", *words, env=UNIT_ENVIRONMENT)  # noqa: E731
-    assert serve(*WORDS).status == 1
-    formatted_as_the_unit_wants(snapd)
-    assert serve("--scanners").status == 2 and serve(*reversed(FILES)).status == 3
+    assert serve(*words_here(WORDS)).status == 1
+    made_as_the_unit_wants(snapd)
+    snapd.formatted("foreign.seg", "--index", 0, "--count", 2)
+    assert serve("--scanners").status == 2 and serve("foreign.seg").status == 3
     # One connection, so that it ends.
-    with Server(snapd, *WORDS, connections=1, env=UNIT_ENVIRONMENT) as server:
-        wanted = "".join(f"segment {index} number 0 value -\n" for index in range(len(FILES)))
+    with Server(snapd, *words_here(WORDS), connections=1, env=UNIT_ENVIRONMENT) as server:
+        wanted = "".join(f"segment {index} number 0 value -\n" for index in range(COUNT))
         snapd("call", server.address, "scan").gave(0, wanted)
         assert server.end().status == 0
 
 
 # What the unit doesn't let the server do. The tool below rates more of them than these.
 LIMITS = {
-    "User": ["snapd"], "NoNewPrivileges": ["yes"], "CapabilityBoundingSet": [""], "ProtectSystem": ["strict"], "ProtectHome": ["yes"],
+    "User": ["snapd-board"], "NoNewPrivileges": ["yes"], "CapabilityBoundingSet": [""], "ProtectSystem": ["strict"], "ProtectHome": ["yes"],
     "PrivateTmp": ["yes"], "PrivateDevices": ["yes"], "MemoryDenyWriteExecute": ["yes"], "RestrictNamespaces": ["yes"],
     "RestrictAddressFamilies": ["AF_INET AF_INET6"], "SystemCallArchitectures": ["native"],
     "SystemCallFilter": ["@system-service", "~@privileged @resources"], "UMask": ["0077"],
@@ -450,10 +523,10 @@ EXPOSURE = 4.0
 
 def analyzed(snapd, unit, *words):
     """What `systemd-analyze` says of a unit, in which it finds the program."""
-    path = snapd.folder / "snapd.service"
+    path = snapd.folder / "snapd-board@sim.service"
     path.write_text(unit.replace(PROGRAM, snapd.path))
     run = subprocess.run(["systemd-analyze", *words, path.resolve()], capture_output=True, text=True, timeout=PATIENCE)
-    assert "snapd.service:" not in run.stderr, run.stderr
+    assert ".service:" not in run.stderr, run.stderr
     return run
 
 
@@ -462,12 +535,12 @@ def test_unit_is_as_narrow_as_it_says(snapd, _):
     if shutil.which("systemd-analyze") is None:
         return
     # The user needn't be there.
-    analyzed(snapd, UNIT.replace("User=snapd\n", ""), "verify")
+    analyzed(snapd, UNIT.replace("User=snapd-board\n", ""), "verify")
     # Releases before 250 rate no unit that isn't loaded.
     if "--offline" not in subprocess.run(["systemd-analyze", "--help"], capture_output=True, text=True).stdout:
         return
     run = analyzed(snapd, UNIT, "security", "--offline=true", f"--threshold={10 * EXPOSURE:.0f}")
-    rated = re.search(r"Overall exposure level for snapd\.service: (\d+\.\d+) ", run.stdout)
+    rated = re.search(r"Overall exposure level for snapd-board@sim\.service: (\d+\.\d+) ", run.stdout)
     assert run.returncode == 0 and rated and float(rated[1]) < EXPOSURE, (run.returncode, run.stdout[-400:], run.stderr)
 
 
@@ -477,19 +550,20 @@ def test_unit_at_a_socket(snapd, _):
     command, = re.findall(r"^ExecStart=(\S.*)$", text, re.M)
     program, serve, address, option, mode, *words = command.split()
     assert (program, serve, words) == (PROGRAM, COMMAND, WORDS)
-    assert (address, option, mode) == ("unix:/run/snapd/snapd.sock", "--socket-mode", "0660")
+    assert "/var/lib/snapd/" not in RECIPES and "/run/snapd/" not in RECIPES
+    assert (address, option, mode) == ("unix:/run/snapd-board/%i/sock", "--socket-mode", "0660")
     # A list begins anew with an empty one; and the unit makes nothing that others may read but what is said.
     assert "ExecStart=\nExecStart=/" in text and "RestrictAddressFamilies=\nRestrictAddressFamilies=AF_UNIX\n" in text
-    assert "RuntimeDirectory=snapd\nRuntimeDirectoryMode=0711\n" in text and SERVICE["UMask"] == ["0077"]
-    formatted_as_the_unit_wants(snapd)
-    more, before = [option, mode, *words[len(FILES) :]], ("sh", "-c", 'umask 0077 && exec "$@"', "sh")
-    with AtSocket(snapd, *FILES, address="unix:snapd.sock", more=more, before=before) as server:
+    assert "RuntimeDirectory=snapd-board/%i\nRuntimeDirectoryMode=0711\n" in text and SERVICE["UMask"] == ["0077"]
+    made_as_the_unit_wants(snapd)
+    more, before = [option, mode, *words_here(words)], ("sh", "-c", 'umask 0077 && exec "$@"', "sh")
+    with AtSocket(snapd, address="unix:snapd.sock", more=more, before=before) as server:
         assert os.stat(server.path).st_mode & 0o7777 == 0o660
         snapd("call", server.address, "health").gave(0, "healthy\n")
     if shutil.which("systemd-analyze") is not None:
-        (snapd.folder / "snapd.service.d").mkdir()
-        (snapd.folder / "snapd.service.d" / "socket.conf").write_text(text.replace(PROGRAM, snapd.path))
-        analyzed(snapd, UNIT.replace("User=snapd\n", ""), "verify")
+        (snapd.folder / "snapd-board@.service.d").mkdir()
+        (snapd.folder / "snapd-board@.service.d" / "socket.conf").write_text(text.replace(PROGRAM, snapd.path))
+        analyzed(snapd, UNIT.replace("User=snapd-board\n", ""), "verify")
 
 
 @functools.cache
@@ -514,10 +588,10 @@ def test_unit_leaves_the_server_what_it_needs(snapd, _):
     assert taken.startswith("~")
     left = calls_of_all(allowed.split()) - calls_of_all(taken[1:].split())
     assert {"openat", "pwrite64", "fdatasync", "accept4"} <= left and not {"chown", "setuid", "mount", "reboot"} & left
-    formatted_as_the_unit_wants(snapd)
+    made_as_the_unit_wants(snapd)
     log = snapd.file("calls")
     traced = ["strace", "-f", "-qq", "-o", log.name]
-    server = started(snapd, *traced, snapd.path, "serve", "127.0.0.1:0", *WORDS, "--connections", 3, stderr=subprocess.PIPE,
+    server = started(snapd, *traced, snapd.path, "serve", "127.0.0.1:0", *words_here(WORDS), "--connections", 3, stderr=subprocess.PIPE,
                      env=UNIT_ENVIRONMENT)
     try:
         while not (line := server.stdout.readline()).startswith("listening "):
@@ -526,7 +600,7 @@ def test_unit_leaves_the_server_what_it_needs(snapd, _):
         address = line.split()[1]
         snapd("call", address, "update", 0, 1, "6869").gave(0, "stored 1\n")
         snapd("call", address, "scan").gave(0, "segment 0 number 1 value 6869\n" + "".join(
-            f"segment {index} number 0 value -\n" for index in range(1, len(FILES))))
+            f"segment {index} number 0 value -\n" for index in range(1, COUNT)))
         snapd("call", address, "status")
         output, errors = server.communicate(timeout=PATIENCE)
         assert (server.returncode, output) == (0, "served 3\n"), (server.returncode, output, errors)
