@@ -91,11 +91,11 @@ EXAMPLES = TOP / "clients" / "c" / "examples"
 
 
 @functools.lru_cache(maxsize=None)
-def compiled(name, folder=EXAMPLES):
+def compiled(name, folder=EXAMPLES, more=()):
     """The path of a program in C, as a rule of an example, compiled once with every warning an error."""
     path = pathlib.Path(_folder().name) / name
     source = folder / f"{name}.c"
-    subprocess.run(["gcc", *STRICT, "-I", TOP / "clients" / "c", "-o", path, source], check=True)
+    subprocess.run(["gcc", *STRICT, *more, "-I", TOP / "clients" / "c", "-o", path, source], check=True)
     return str(path)
 
 
@@ -168,15 +168,14 @@ def hangs_up_after(count):
     return lambda peer, connection: peer.hear(connection, count)
 
 
-def says(answer, count=5, then=None):
-    """Reads a request of so many bytes, and answers by these bytes."""
+def says(answer, count=5, then=lambda _, connection: connection.recv(1)):
+    """Reads a request of so many bytes, and answers by these bytes. A client that closes before it has read them resets the
+    connection."""
     def handle(peer, connection):
         peer.hear(connection, count)
-        connection.sendall(answer)
-        if then:
+        with contextlib.suppress(ConnectionError):
+            connection.sendall(answer)
             then(peer, connection)
-        else:
-            connection.recv(1)
     return handle
 
 
@@ -243,6 +242,11 @@ def refused(call, number, detail):
 def framed(text):
     payload = bytes.fromhex(text)
     return struct.pack(">I", len(payload)) + payload
+
+
+def part(segment, number, value=b""):
+    """The frame of the reply to a scan of one segment."""
+    return framed("8401%02x%016x%08x" % (segment, number, len(value)) + value.hex())
 
 
 def vectors():

@@ -5,8 +5,8 @@ import pickle
 import threading
 import time
 
-from clients import BOTH, STORED_ONE, Client, Peer, ask, framed, hangs_up, hangs_up_after, oracle, raised, refused, replaced
-from clients import says, says_nothing
+from clients import BOTH, STORED_ONE, Client, Peer, ask, framed, hangs_up, hangs_up_after, oracle, part, raised, refused
+from clients import replaced, says, says_nothing
 from serving import snapshot, standings, stored
 from waiting import PATIENCE, wait_until
 
@@ -15,11 +15,6 @@ from snapd_client import messages
 
 # How long a call may take beyond what it was given, on a machine that has other work, in seconds.
 LATE = 5
-
-
-def part(segment, number, value=b""):
-    """The frame of a scan of one segment."""
-    return framed("8401%02x%016x%08x" % (segment, number, len(value)) + value.hex())
 
 
 # ---- a segment ----
@@ -272,6 +267,15 @@ def test_a_wait_ends_once_all_have_come(_, __):
             writing.start()
             assert ask(server.address, "wait", 1000 * PATIENCE, 1, 4)[0] == 0
             writing.join()
+
+
+def test_a_wait_that_ends_at_a_later_look_tells_what_that_one_saw(_, __):
+    looks = says(standings((5, False)), 5, says(standings((6, False)), 10, says(standings((7, False)), 15)))
+    for make, peer in Peer.each(looks):
+        with peer, make(peer.address) as client:
+            assert client.wait({0: 7}, timeout=PATIENCE) == {0: 7}
+    with Peer(looks) as peer:
+        assert ask(peer.address, "wait", 1000 * PATIENCE, 0, 7) == (0, "segment 0 number 7 fenced 0\n", "")
 
 
 def test_threads_make_their_calls_while_another_one_waits(_, __):

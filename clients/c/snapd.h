@@ -17,7 +17,11 @@
  *
  * A call connects where no connection stands. One whose connection fails, ends or says nothing for the timeout is tried
  * again on a new connection, with the same bytes: an update under one number is stored once, however often it comes.
- * One thread at a time uses a client; a process that is forked off makes a connection of its own. It never raises SIGPIPE.
+ * A value that a scan or a get gives lies within the client. It stands until the client's next snapd_scan, snapd_scan_some or
+ * snapd_get, whatever that comes to. All other calls leave it: so it may be stored again, by as many of them as that takes.
+ *
+ * One thread at a time uses a client, and snapd_close is such a use. A process that is forked off makes a connection of its own,
+ * and a program that is executed inherits none. It never raises SIGPIPE.
  */
 #ifndef SNAPD_H
 #define SNAPD_H
@@ -33,6 +37,7 @@
 #include <string.h>
 #include <sys/socket.h>
 #include <sys/types.h>
+#include <sys/uio.h>
 #include <sys/un.h>
 #include <time.h>
 #include <unistd.h>
@@ -84,7 +89,7 @@ typedef enum {
 typedef struct {
     uint64_t number;
     uint32_t length;
-    const unsigned char *value; /* within the client: it stands until the client's next call */
+    const unsigned char *value; /* within the client: it stands until the client's next scan or get */
 } snapd_entry;
 
 /* All segments at one moment. */
@@ -124,8 +129,9 @@ typedef struct {
     int refusal;
     uint64_t detail;
     int error;
-    /* a frame: of the request, then of the reply */
-    unsigned char frame[4 + SNAPD_MAX_PAYLOAD];
+    /* the reply to a scan, within which its values lie; that to any other request, of which a status is the longest */
+    unsigned char values[SNAPD_MAX_PAYLOAD];
+    unsigned char reply[2 + 9 * SNAPD_MAX_SEGMENTS];
 } snapd_client;
 
 /* ---- numbers: the highest byte first ---- */
@@ -309,19 +315,41 @@ static inline snapd_result snapd_connected(snapd_client *client, int64_t end)
     return snapd_connect(client, end);
 }
 
-static inline snapd_result snapd_send(snapd_client *client, const unsigned char *bytes, size_t length, int64_t end)
+/* A request: its head, the value behind it, and the room for its reply's payload. */
+typedef struct {
+    unsigned char head[14];
+    size_t head_length;
+    const void *value;
+    size_t length;
+    unsigned char *reply;
+    size_t room;
+} snapd_request;
+
+/* Sends a request, in as many pieces as the system takes it. The value goes from where it lies. */
+static inline snapd_result snapd_send(snapd_client *client, snapd_request *request, int64_t end)
 {
-    while (length > 0) {
+    struct iovec rest[2];
+    struct msghdr message;
+    memset(&message, 0, sizeof message);
+    message.msg_iov = rest;
+    message.msg_iovlen = 2;
+    rest[0].iov_base = request->head;
+    rest[0].iov_len = request->head_length;
+    rest[1].iov_base = (void *)(uintptr_t)request->value; /* it is only read */
+    rest[1].iov_len = request->length;
+    while (rest[0].iov_len + rest[1].iov_len > 0) {
         ssize_t sent;
         snapd_result result = snapd_poll(client, POLLOUT, end);
         if (result != SNAPD_OK)
             return result;
-        sent = send(client->connection, bytes, length, MSG_NOSIGNAL);
+        sent = sendmsg(client->connection, &message, MSG_NOSIGNAL);
         if (sent < 0 && errno != EAGAIN && errno != EWOULDBLOCK && errno != EINTR)
             return snapd_failed(client);
-        if (sent > 0) {
-            bytes += sent;
-            length -= (size_t)sent;
+        for (int i = 0; i < 2 && sent > 0; i++) {
+            size_t gone = (size_t)sent < rest[i].iov_len ? (size_t)sent : rest[i].iov_len;
+            rest[i].iov_base = (unsigned char *)rest[i].iov_base + gone;
+            rest[i].iov_len -= gone;
+            sent -= (ssize_t)gone;
         }
     }
     return SNAPD_OK;
@@ -352,43 +380,31 @@ static inline snapd_result snapd_receive(snapd_client *client, unsigned char *by
 
 /* ---- one call ---- */
 
-/* A request: its head, and the value behind it. */
-typedef struct {
-    unsigned char head[14];
-    size_t head_length;
-    const void *value;
-    size_t length;
-} snapd_request;
-
-/* One try: the request is sent, and the payload of the reply, of *length bytes, stands in the client's frame. */
-static inline snapd_result snapd_try(snapd_client *client, const snapd_request *request, size_t *length)
+/* One try: the request is sent, and the payload of the reply, of *length bytes, stands in its room. One that is longer answers
+ * another request. */
+static inline snapd_result snapd_try(snapd_client *client, snapd_request *request, size_t *length)
 {
     int64_t end = snapd_now() + client->timeout;
-    size_t whole = request->head_length + request->length;
+    unsigned char head[4];
     snapd_result result;
     if (end > client->until)
         end = client->until;
     result = snapd_connected(client, end);
     if (result != SNAPD_OK)
         return result;
-    memcpy(client->frame, request->head, request->head_length);
-    if (request->length > 0)
-        memcpy(client->frame + request->head_length, request->value, request->length);
-    result = snapd_send(client, client->frame, whole, end);
+    result = snapd_send(client, request, end);
     if (result != SNAPD_OK)
         return result;
-    result = snapd_receive(client, client->frame, 4, end);
+    result = snapd_receive(client, head, 4, end);
     if (result != SNAPD_OK)
         return result;
-    *length = (size_t)snapd_read_number(client->frame, 4);
-    if (*length > SNAPD_MAX_PAYLOAD)
-        return SNAPD_BAD_REPLY;
-    return snapd_receive(client, client->frame, *length, end);
+    *length = (size_t)snapd_read_number(head, 4);
+    return *length > request->room ? SNAPD_BAD_REPLY : snapd_receive(client, request->reply, *length, end);
 }
 
 /* The payload of the reply, over as many connections as it may take. It rests for a tenth of a second after the first one, and
  * after each other one twice as long. */
-static inline snapd_result snapd_ask(snapd_client *client, const snapd_request *request, size_t *length)
+static inline snapd_result snapd_ask(snapd_client *client, snapd_request *request, size_t *length)
 {
     for (int made = 1;; made++) {
         int64_t rest = 100 * (made < 8 ? (int64_t)1 << (made - 1) : 128), left;
@@ -409,9 +425,8 @@ static inline snapd_result snapd_ask(snapd_client *client, const snapd_request *
 }
 
 /* What isn't the reply that was asked for: a refusal, or no reply at all. */
-static inline snapd_result snapd_other(snapd_client *client, size_t length)
+static inline snapd_result snapd_other(snapd_client *client, const unsigned char *x, size_t length)
 {
-    const unsigned char *x = client->frame;
     if (length == 10 && x[0] == 0xE0 && x[1] >= SNAPD_MALFORMED && x[1] <= SNAPD_WORN) {
         client->refusal = x[1];
         client->detail = snapd_read_number(x + 2, 8);
@@ -450,24 +465,29 @@ static inline snapd_result snapd_update(snapd_client *client, unsigned segment, 
     request.head_length = 14;
     request.value = value;
     request.length = length;
+    request.reply = client->reply;
+    request.room = sizeof client->reply;
     result = snapd_ask(client, &request, &came);
     if (result != SNAPD_OK)
         return result;
-    if (came != 9 || client->frame[0] != 0x81 || !snapd_is_number(number) || snapd_read_number(client->frame + 1, 8) != number)
-        return snapd_other(client, came);
+    if (came != 9 || client->reply[0] != 0x81 || !snapd_is_number(number) || snapd_read_number(client->reply + 1, 8) != number)
+        return snapd_other(client, client->reply, came);
     *stored = number;
     return SNAPD_OK;
 }
 
-/* Asks by one byte. */
-static inline snapd_result snapd_ask_byte(snapd_client *client, unsigned char byte, size_t *length)
+/* Asks by a head alone, of so many bytes behind the first four. */
+static inline snapd_result snapd_ask_head(snapd_client *client, uint64_t head, int bytes, unsigned char *reply, size_t room,
+                                          size_t *length)
 {
     snapd_request request;
-    snapd_write_number(request.head, 1, 4);
-    request.head[4] = byte;
-    request.head_length = 5;
+    snapd_write_number(request.head, (uint64_t)bytes, 4);
+    snapd_write_number(request.head + 4, head, bytes);
+    request.head_length = 4 + (size_t)bytes;
     request.value = NULL;
     request.length = 0;
+    request.reply = reply;
+    request.room = room;
     return snapd_ask(client, &request, length);
 }
 
@@ -504,11 +524,11 @@ static inline int snapd_read_snapshot(const unsigned char *x, size_t length, sna
 static inline snapd_result snapd_scan(snapd_client *client, snapd_snapshot *snapshot)
 {
     size_t length = 0;
-    snapd_result result = snapd_ask_byte(client, 0x02, &length);
+    snapd_result result = snapd_ask_head(client, 0x02, 1, client->values, sizeof client->values, &length);
     snapshot->count = 0;
     if (result != SNAPD_OK)
         return result;
-    return snapd_read_snapshot(client->frame, length, snapshot) ? SNAPD_OK : snapd_other(client, length);
+    return snapd_read_snapshot(client->values, length, snapshot) ? SNAPD_OK : snapd_other(client, client->values, length);
 }
 
 /* The entries of these segments, in ascending order; 0 where the payload isn't a scan of them. */
@@ -540,23 +560,16 @@ static inline int snapd_read_part(const unsigned char *x, size_t length, unsigne
  * and else 0. A reply of other segments is SNAPD_BAD_REPLY. */
 static inline snapd_result snapd_scan_some(snapd_client *client, unsigned mask, snapd_part *part)
 {
-    snapd_request request;
     snapd_result result;
     size_t length = 0;
     part->mask = 0;
     if (mask == 0 || mask >> SNAPD_MAX_SEGMENTS != 0)
         return SNAPD_BAD_CALL;
-    snapd_write_number(request.head, 3, 4);
-    request.head[4] = 0x04;
-    snapd_write_number(request.head + 5, mask, 2);
-    request.head_length = 7;
-    request.value = NULL;
-    request.length = 0;
-    result = snapd_ask(client, &request, &length);
+    result = snapd_ask_head(client, 0x040000U | mask, 3, client->values, sizeof client->values, &length);
     if (result != SNAPD_OK)
         return result;
-    if (!snapd_read_part(client->frame, length, mask, part))
-        return snapd_other(client, length);
+    if (!snapd_read_part(client->values, length, mask, part))
+        return snapd_other(client, client->values, length);
     part->mask = mask;
     return SNAPD_OK;
 }
@@ -581,11 +594,11 @@ static inline int snapd_read_status(const unsigned char *x, size_t length, snapd
 static inline snapd_result snapd_status(snapd_client *client, snapd_status_list *list)
 {
     size_t length = 0;
-    snapd_result result = snapd_ask_byte(client, 0x03, &length);
+    snapd_result result = snapd_ask_head(client, 0x03, 1, client->reply, sizeof client->reply, &length);
     list->count = 0;
     if (result != SNAPD_OK)
         return result;
-    return snapd_read_status(client->frame, length, list) ? SNAPD_OK : snapd_other(client, length);
+    return snapd_read_status(client->reply, length, list) ? SNAPD_OK : snapd_other(client, client->reply, length);
 }
 
 /* The name of a refusal, as snapd prints it. */

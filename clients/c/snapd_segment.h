@@ -17,8 +17,8 @@
 extern "C" {
 #endif
 
-/* Number and value of one segment, 0 to 15: else SNAPD_BAD_CALL. *entry is as a scan's: it stands until the client's next call.
- * It has number 0 and no byte where the result isn't SNAPD_OK. */
+/* Number and value of one segment, 0 to 15: else SNAPD_BAD_CALL. *entry is as a scan's: it stands until the client's next scan or
+ * get, and may be put or updated meanwhile. It has number 0 and no byte where the result isn't SNAPD_OK. */
 static inline snapd_result snapd_get(snapd_client *client, unsigned segment, snapd_entry *entry)
 {
     snapd_part part;
