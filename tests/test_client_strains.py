@@ -59,6 +59,11 @@ def test_bytes_that_pass_one_by_one_and_signals_change_no_answer(_, __):
         assert [(it.number, it.value) for it in model.segments] == [(1, b"v" * 300)] * 2, system
 
 
+def test_a_signal_shortens_no_rest(_, __):
+    _, lines = strained("interrupted", "127.0.0.1:1", "rest")
+    assert int(lines[0].split()[2]) >= 50, lines
+
+
 def test_a_peer_that_goes_away_while_it_is_sent_to_ends_no_process(_, __):
     with Peer(hangs_up) as peer:
         assert strained("gone", peer.address, "fill:300", "update:0:1")[0] == [OK, NOT_ANSWERED]
@@ -91,7 +96,7 @@ def test_a_call_behind_a_wait_has_its_own_time(_, __):
 def test_bytes_between_two_calls_answer_nothing(_, __):
     told = standings((5, False))
     with Peer(says(told + told), says(told)) as peer:
-        assert strained("plain", peer.address, "status", "stray", "status", "status", tries=2)[0] == [OK, OK, BAD_REPLY, OK]
+        assert strained("interrupted", peer.address, "status", "stray", "status", "status", tries=2)[0] == [OK, OK, BAD_REPLY, OK]
     # An end costs no try.
     with Peer(says(told, then=hangs_up), says(told)) as peer:
-        assert strained("plain", peer.address, "status", "stray", "status")[0] == [OK] * 3
+        assert strained("interrupted", peer.address, "status", "stray", "status")[0] == [OK] * 3

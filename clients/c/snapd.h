@@ -21,7 +21,7 @@
  * snapd_get, whatever that comes to. All other calls leave it: so it may be stored again, by as many of them as that takes.
  *
  * One thread at a time uses a client, and snapd_close is such a use. A process that is forked off makes a connection of its own,
- * and a program that is executed inherits none. It never raises SIGPIPE.
+ * and a program that is executed inherits none. Signals shorten no call and no rest, and it never raises SIGPIPE.
  */
 #ifndef SNAPD_H
 #define SNAPD_H
@@ -221,14 +221,16 @@ static inline int64_t snapd_now(void)
     return (int64_t)now.tv_sec * 1000 + now.tv_nsec / 1000000;
 }
 
+/* Rests so long, whatever signals come meanwhile. */
 static inline void snapd_rest(int64_t milliseconds)
 {
-    struct timespec rest;
-    if (milliseconds <= 0)
-        return;
-    rest.tv_sec = (time_t)(milliseconds / 1000);
-    rest.tv_nsec = (long)(milliseconds % 1000) * 1000000L;
-    nanosleep(&rest, NULL);
+    int64_t end = snapd_now() + milliseconds, left;
+    while ((left = end - snapd_now()) > 0) {
+        struct timespec rest;
+        rest.tv_sec = (time_t)(left / 1000);
+        rest.tv_nsec = (long)(left % 1000) * 1000000L;
+        nanosleep(&rest, NULL);
+    }
 }
 
 /* Waits until the connection can be read (POLLIN) or written (POLLOUT). */
@@ -305,10 +307,13 @@ static inline snapd_result snapd_connected(snapd_client *client, int64_t end)
         snapd_close(client);
     if (client->connection >= 0) {
         unsigned char byte;
-        ssize_t held = recv(client->connection, &byte, 1, MSG_PEEK);
+        ssize_t held;
+        do
+            held = recv(client->connection, &byte, 1, MSG_PEEK);
+        while (held < 0 && errno == EINTR);
         if (held > 0)
             return SNAPD_BAD_REPLY;
-        if (held < 0 && (errno == EAGAIN || errno == EWOULDBLOCK || errno == EINTR))
+        if (held < 0 && (errno == EAGAIN || errno == EWOULDBLOCK))
             return SNAPD_OK;
         snapd_close(client);
     }
