@@ -29,6 +29,7 @@ SHARED = {
         test_an_answer_in_any_pieces test_a_new_connection_sends_the_same_bytes test_the_third_try_is_stored_once
         test_no_more_tries_than_were_asked_for test_nobody_listens test_timeouts test_a_timeout_is_of_the_whole_answer
         test_an_answer_that_comes_late_is_nobodys test_bytes_that_nobody_asked_for
+        test_bytes_that_come_between_two_calls
         test_an_idle_connection_that_the_server_ended_costs_no_try test_a_closed_client_connects_again
         test_a_job_outlives_its_server
     """,

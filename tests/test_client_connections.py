@@ -12,7 +12,7 @@ import time
 
 from clients import ENVIRONMENT, STORED_ONE, TOP, Client, Peer, ask, begun, ends_right, framed, hangs_up, hangs_up_after, jobs
 from clients import kill, oracle, raised, says, says_nothing
-from waiting import NO_END, PATIENCE, gets_on, moment
+from waiting import NO_END, PATIENCE, gets_on, moment, wait_until
 
 import snapd_client
 from snapd_client import messages
@@ -133,6 +133,22 @@ def test_bytes_that_nobody_asked_for(_, __):
             assert client.scan() == ((0, b""),)
 
 
+def test_bytes_that_come_between_two_calls(_, __):
+    """The first answer has been read by then: they lie in the socket alone."""
+    snapshot, was_read = framed("8201" + "00" * 12), threading.Event()
+
+    def says_more(peer, connection):
+        was_read.wait(PATIENCE)
+        says(snapshot)(peer, connection)
+
+    with Peer(says(snapshot, 5, says_more), says(snapshot)) as peer, Client(peer.address, tries=2) as client:
+        assert client.scan() == ((0, b""),)
+        was_read.set()
+        assert select.select([client._socket], [], [], PATIENCE)[0], "nothing came"
+        assert isinstance(raised(client.scan), snapd_client.BadReply)
+        assert client.scan() == ((0, b""),)
+
+
 def test_an_idle_connection_that_the_server_ended_costs_no_try(_, __):
     snapshot = framed("8201" + "00" * 12)
     with Peer(says(snapshot, 5, hangs_up), says(snapshot)) as peer:
@@ -165,6 +181,42 @@ def test_a_closed_client_connects_again(_, __):
         assert client._socket is None
         assert client.update(0, 1, b"hi") == 1
         client.close()
+
+
+def test_a_close_waits_for_the_call_of_another_thread(_, __):
+    closes, seen = threading.Event(), []
+
+    def answers_late(_, connection):
+        closes.wait(PATIENCE)
+        connection.sendall(STORED_ONE)
+        connection.recv(1)
+
+    with Peer(says(b"", 16, answers_late)) as peer, Client(peer.address, tries=1) as client:
+        call = threading.Thread(target=lambda: seen.append(client.update(0, 1, b"hi")))
+        call.start()
+        wait_until(lambda: peer.heard == [messages.update(0, 1, b"hi")])
+        closing = threading.Thread(target=client.close)
+        closing.start()
+        closing.join(0.05)
+        assert closing.is_alive() and client._socket is not None
+        closes.set()
+        call.join()
+        closing.join()
+        assert seen == [1] and client._socket is None
+
+
+def test_a_close_between_two_looks_ends_no_wait(_, __):
+    model, seen = oracle.Model(1), []
+    with oracle.Server(model) as server, Client(server.address, tries=1) as client:
+        waiting = threading.Thread(target=lambda: seen.append(client.wait({0: 1}, timeout=PATIENCE)))
+        waiting.start()
+        for _ in range(5):
+            looks = model.answered
+            wait_until(lambda: model.answered > looks)
+            client.close()
+        model.segments[0].store(1, b"")
+        waiting.join()
+        assert seen == [{0: 1}]
 
 
 # ---- jobs ----

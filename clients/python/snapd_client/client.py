@@ -89,7 +89,7 @@ class Client(Caller):
         return completed(reached(self, wanted, timeout))
 
     def close(self) -> None:
-        """Ends the connection. A later call makes a new one."""
+        """Ends the connection, once the call has ended that another thread makes. A later call makes a new one."""
         with self._lock:
             self._drop()
 
