@@ -4,6 +4,7 @@ Python and against peers that misbehave."""
 import contextlib
 import re
 import select
+import signal
 import socket
 import subprocess
 import sys
@@ -217,6 +218,44 @@ def test_a_close_between_two_looks_ends_no_wait(_, __):
         model.segments[0].store(1, b"")
         waiting.join()
         assert seen == [{0: 1}]
+
+
+# A signal's handler comes in the middle of its own thread's call.
+HANDLER = """
+import signal, sys
+from snapd_client import Client
+
+client, told = Client(sys.argv[1], timeout=60, tries=2, pause=0.01), []
+
+def handle(*_):
+    try:
+        client.status()
+    except RuntimeError as error:
+        told.append(str(error))
+    client.close()
+
+signal.signal(signal.SIGUSR1, handle)
+print(client.scan(), told)
+"""
+
+
+def test_a_signals_handler_does_not_wait_for_the_call_that_it_came_in(_, __):
+    started = []
+
+    def signals(peer, connection):
+        peer.hear(connection, 5)
+        wait_until(lambda: started)
+        started[0].send_signal(signal.SIGUSR1)
+        says_nothing(peer, connection)
+
+    with Peer(signals, says(framed("8201" + "00" * 12))) as peer:
+        words = [sys.executable, "-c", HANDLER, peer.address]
+        started.append(subprocess.Popen(words, env=ENVIRONMENT, stdout=subprocess.PIPE, text=True))
+        try:
+            output, _ = started[0].communicate(timeout=PATIENCE)
+        finally:
+            kill(started[0])
+        assert output == "(Entry(number=0, value=b''),) [\"a signal's handler came in a call of this client\"]\n", output
 
 
 # ---- jobs ----

@@ -418,7 +418,7 @@ def test_a_wait_does_not_outlast_another_threads_call(_, __):
     with Peer(says_nothing) as peer, Client(peer.address, tries=1) as client:
         call = threading.Thread(target=lambda: raised(client.scan))
         call.start()
-        wait_until(lambda: peer.heard and client._lock.locked())
+        wait_until(lambda: peer.heard and client._is_taken)
         error = raised(lambda: client.wait({0: 9}, timeout=0.1))
         assert type(error) is snapd_client.WaitTimedOut and "another call" in str(error.__cause__), error
         client._socket.shutdown(2)

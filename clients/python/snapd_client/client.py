@@ -33,7 +33,8 @@ class Client(Caller):
     def __init__(self, address: Address, *, timeout: float = 5.0, tries: int = 3, pause: float = 0.1) -> None:
         """`address` is "HOST:PORT", a pair of both, or "unix:PATH" of a Unix socket. Nothing is sent yet. `ValueError` where a word
         is out of range."""
-        self._lock = threading.Lock()
+        self._lock = threading.RLock()
+        self._is_taken = False
         super().__init__(address, timeout, tries, pause)
 
     def update(self, segment: int, number: int, value: Bytes) -> int:
@@ -89,7 +90,8 @@ class Client(Caller):
         return completed(reached(self, wanted, timeout))
 
     def close(self) -> None:
-        """Ends the connection, once the call has ended that another thread makes. A later call makes a new one."""
+        """Ends the connection, once the call has ended that another thread makes. A later call makes a new one, and so does the one
+        that this thread makes, where a signal's handler closes."""
         with self._lock:
             self._drop()
 
@@ -107,12 +109,19 @@ class Client(Caller):
     # ---- turns ----
 
     def _in_turn(self, call: Callable[[], Coroutine[Any, Any, Answer]], until: float = math.inf) -> Answer:
-        """Makes a call once no other thread is in one. `OutOfTime` where that isn't before `until`."""
+        """Makes a call once no other thread is in one. `OutOfTime` where that isn't before `until`, `RuntimeError` where this thread is
+        in one itself: in a signal's handler, whose call would take the reply to that one."""
         left = min(max(until - time.monotonic(), 0), threading.TIMEOUT_MAX)
         if not self._lock.acquire(timeout=left):
             raise OutOfTime(f"{self._address}: another call was under way")
         try:
-            return completed(call())
+            if self._is_taken:
+                raise RuntimeError("a signal's handler came in a call of this client")
+            self._is_taken = True
+            try:
+                return completed(call())
+            finally:
+                self._is_taken = False
         finally:
             self._lock.release()
 
@@ -121,7 +130,7 @@ class Client(Caller):
 
     def _begin_anew(self) -> None:
         """A thread that isn't here may have been in a call."""
-        self._lock = threading.Lock()
+        self._lock, self._is_taken = threading.RLock(), False
         super()._begin_anew()
 
     # ---- waits ----
