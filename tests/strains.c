@@ -4,10 +4,13 @@
  *
  * SYSTEM is `plain`, or one in which each send and each receive passes on one byte (`short`), in which of each kind of call
  * every other one does nothing and ends by EINTR (`interrupted`; a connection goes on being made), or in which a send waits until
- * the peer is gone (`gone`). A STEP is one word: it prints the result of its call, and the number that it told. `get`, `put`,
- * `update`, `wait` (for 50 ms) and `fill` (so many bytes) take their numbers behind a colon: `update:1:4`. What is put and updated
- * is the value that was read or filled last. `stray` waits for bytes or an end that nobody asked for, `rest` for 50 ms, of which it
- * tells how many passed, and `exec` becomes a program that lists the descriptors it has.
+ * the peer is gone (`gone`).
+ *
+ * A STEP is one word: it prints the result of its call, the number that it told, and the error. `get`, `put`, `update`, `wait` (for
+ * a minute), `lag` (a wait for 50 ms) and `fill` (so many bytes) take their numbers behind a colon: `update:1:4`. What is put and
+ * updated is the value that was read or filled last. `stray` waits for bytes or an end that nobody asked for, `rest` rests for
+ * 50 ms, of which it tells how many passed, `later` lets two minutes pass by the clock, and `exec` becomes a program that lists the
+ * descriptors it has.
  */
 #define _POSIX_C_SOURCE 200809L
 #include <arpa/inet.h>
@@ -44,6 +47,15 @@ static int strained_poll(struct pollfd *of, nfds_t count, int timeout)
 {
     static int calls;
     return ends_early(&calls) ? -1 : poll(of, count, timeout);
+}
+
+static time_t passed;
+
+static int strained_clock_gettime(clockid_t clock, struct timespec *now)
+{
+    int result = clock_gettime(clock, now);
+    now->tv_sec += passed;
+    return result;
 }
 
 static int strained_nanosleep(const struct timespec *time, struct timespec *left)
@@ -91,6 +103,7 @@ static ssize_t strained_sendmsg(int connection, const struct msghdr *message, in
 
 #define connect strained_connect
 #define poll strained_poll
+#define clock_gettime strained_clock_gettime
 #define nanosleep strained_nanosleep
 #define recv strained_recv
 #define sendmsg strained_sendmsg
@@ -99,13 +112,13 @@ static ssize_t strained_sendmsg(int connection, const struct msghdr *message, in
 static snapd_client client;
 static snapd_entry held;
 
-static snapd_result wait_for(unsigned segment, uint64_t number, uint64_t *seen)
+static snapd_result wait_for(unsigned segment, uint64_t number, int timeout, uint64_t *seen)
 {
     uint64_t wanted[SNAPD_MAX_SEGMENTS] = {0};
     snapd_status_list list;
     snapd_result result;
     wanted[segment] = number;
-    result = snapd_wait(&client, 1U << segment, wanted, 50, &list);
+    result = snapd_wait(&client, 1U << segment, wanted, timeout, &list);
     *seen = list.standing[segment].number;
     return result;
 }
@@ -125,8 +138,8 @@ static snapd_result done(const char *step, unsigned segment, uint64_t *number)
         result = snapd_update(&client, segment, *number, held.value, held.length, number);
     } else if (strcmp(step, "status") == 0) {
         result = snapd_status(&client, &list);
-    } else if (strcmp(step, "wait") == 0) {
-        result = wait_for(segment, *number, number);
+    } else if (strcmp(step, "wait") == 0 || strcmp(step, "lag") == 0) {
+        result = wait_for(segment, *number, step[0] == 'w' ? 60000 : 50, number);
     } else if (strcmp(step, "fill") == 0) {
         held.length = (uint32_t)segment;
         held.value = memset(filled, 'v', sizeof filled);
@@ -136,6 +149,8 @@ static snapd_result done(const char *step, unsigned segment, uint64_t *number)
         int64_t began = snapd_now();
         snapd_rest(50);
         *number = (uint64_t)(snapd_now() - began);
+    } else if (strcmp(step, "later") == 0) {
+        passed += 120;
     } else {
         execlp("ls", "ls", "-l", "/proc/self/fd", (char *)NULL);
     }
@@ -156,7 +171,7 @@ int main(int argc, char **argv)
         snapd_result result;
         sscanf(argv[i], "%15[^:]:%u:%" SCNu64, step, &segment, &number);
         result = done(step, segment, &number);
-        printf("%s %d %" PRIu64 "\n", argv[i], (int)result, number);
+        printf("%s %d %" PRIu64 " %d\n", argv[i], (int)result, number, client.error);
         fflush(stdout);
     }
     snapd_close(&client);

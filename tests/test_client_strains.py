@@ -1,9 +1,10 @@
 """The client in C where a peer hangs up, signals come, few bytes pass at a time, and between its calls: by a program that is
 compiled to end at the first thing that C leaves undefined."""
 
+import errno
 import subprocess
 
-from clients import TOP, Peer, compiled, hangs_up, host_and_port, oracle, part, says
+from clients import TOP, Peer, compiled, hangs_up, hangs_up_after, host_and_port, oracle, part, says
 from serving import Server, segments, standings, stored
 from waiting import PATIENCE
 
@@ -42,7 +43,7 @@ def test_a_value_that_was_read_is_stored_as_it_was_on_each_try(_, __):
 
 def test_a_value_that_was_read_stands_until_the_next_read(snapd, _):
     with Server(snapd, *segments(snapd, [(0, b""), (1, VALUE)], [(0, b""), (1, b"hi")])) as server:
-        steps = ["get:0", "put:1", "status", "update:0:2", "wait:1:1", "wait:1:9", "put:1", "get:1", "put:0"]
+        steps = ["get:0", "put:1", "status", "update:0:2", "wait:1:1", "lag:1:9", "put:1", "get:1", "put:0"]
         results, lines = strained("plain", server.address, *steps)
         assert results == [OK, OK, OK, OK, OK, TIMED_OUT, OK, OK, OK], lines
         assert server.scan() == [(3, VALUE), (3, VALUE)]
@@ -66,7 +67,15 @@ def test_a_signal_shortens_no_rest(_, __):
 
 def test_a_peer_that_goes_away_while_it_is_sent_to_ends_no_process(_, __):
     with Peer(hangs_up) as peer:
-        assert strained("gone", peer.address, "fill:300", "update:0:1")[0] == [OK, NOT_ANSWERED]
+        results, lines = strained("gone", peer.address, "fill:300", "update:0:1")
+        assert results == [OK, NOT_ANSWERED] and int(lines[1].split()[3]) in (errno.EPIPE, errno.ECONNRESET), lines
+
+
+def test_no_answer_has_the_systems_reason_and_an_end_has_none(_, __):
+    with Peer(hangs_up_after(5)) as peer:
+        assert strained("plain", peer.address, "status")[1] == [f"status {NOT_ANSWERED} 0 0"]
+    # Nobody listens there any more.
+    assert strained("plain", peer.address, "status")[1] == [f"status {NOT_ANSWERED} 0 {errno.ECONNREFUSED}"]
 
 
 def test_no_program_inherits_the_connection(_, __):
@@ -89,8 +98,8 @@ def test_a_call_behind_a_wait_has_its_own_time(_, __):
     model = oracle.Model(1)
     model.segments[0].number = 5
     with oracle.Server(model) as server:
-        results, lines = strained("plain", server.address, "wait:0:5", "rest", "status", "wait:0:9", "rest", "put:0")
-        assert results == [OK, OK, OK, TIMED_OUT, OK, OK], lines
+        results, lines = strained("plain", server.address, "wait:0:5", "later", "status", "lag:0:9", "status")
+        assert results == [OK, OK, OK, TIMED_OUT, OK], lines
 
 
 def test_bytes_between_two_calls_answer_nothing(_, __):
