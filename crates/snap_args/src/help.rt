@@ -38,9 +38,14 @@ pub(crate) const CHECK_HELP: &str = "\
 Prints the header, the three slots, and `answer number K` or `answer none`. Ends with status 3
 where there is no answer. With --json it prints the same as one JSON object.
 
+With --slot S --value it prints the value that lies in slot S, byte for byte, whether that slot is
+open or closed, and whatever the others hold: for a file that has no answer. A slot whose length,
+number or zeros are wrong holds no value, and ends it with status 3.
+
 Example:
   snapd check manifest.seg
-  snapd check manifest.seg --json";
+  snapd check manifest.seg --json
+  snapd check damaged.seg --slot 1 --value > saved";
 
 pub(crate) const MIGRATE_HELP: &str = "\
 OLD is a file of the old format, 20,480 bytes that begin `SNAPSEG1`; it is only read. NEW is made
@@ -57,8 +62,9 @@ DIR gets the files segment-00.seg, segment-01.seg and so on, each formatted as o
 is made where it isn't there; the folder above it has to be. Prints `formatted I of N` for each.
 
 It may be run again, above all where it was cut off: a file that is whole is left as it is, which
-prints `kept I of N number K`, and what is missing is made, empty: where a file was lost, bring it
-back before (`snapd doctor DIR` says which). A file that is neither is refused, and keeps its bytes.
+prints `kept I of N number K`, and what is missing is made, empty. Where a file that is there holds a
+number above 0, a missing one was lost: nothing is made then. Bring it back from a copy, or say
+--missing-empty, and it is made all the same. A file that is neither is refused, and keeps its bytes.
 Nothing is made in a folder of another count: a folder of more segments is made by `snapd load`.
 
 Example:
@@ -155,7 +161,9 @@ the put is refused as 4 Conflict or 5 OutOfStep, and isn't tried again. A get ta
 
 A connection that fails is tried again up to T times in all, with the same request. That is safe:
 an update whose number is stored already isn't stored twice. A put asks twice, each up to T times.
-A call has SECONDS for its answer, all tries together; without it waits for as long as it takes.
+Between two tries it rests, a little longer each time. With --wait it goes on for so many seconds,
+however many tries that takes, which bridges a server's restart. With --timeout a call has so many
+seconds for its answer, all tries together; without it waits for as long as it takes.
 
 With --text, scan and part print `text \"..\"` in place of `value HEX` where a value is printable:
 UTF-8 without control characters but tabs and line ends. It is quoted as in JSON, so each value is
@@ -176,7 +184,7 @@ Examples:
   snapd call 127.0.0.1:7070 get 0
   snapd call 127.0.0.1:7070 update 0 1 6869
   snapd call 127.0.0.1:7070 scan --text
-  snapd call 127.0.0.1:7070 scan --tries 3 --timeout 5
+  snapd call 127.0.0.1:7070 scan --wait 30 --timeout 60
   snapd call 127.0.0.1:7070 part 0009
   snapd call 127.0.0.1:7070 health";
 
@@ -223,7 +231,7 @@ there are, a line with the number and the value of each, and the SHA-256 of all 
 whoever carries it can check it: the last line of DUMP has what `head -n -1 DUMP | sha256sum` prints.
 Nothing is printed of a dump that fails; but a shell has emptied the file behind `>` by then.
 
-T and SECONDS are for a server, as in `snapd call`.
+T, --wait and --timeout are for a server, as in `snapd call`.
 
 Examples:
   snapd dump 127.0.0.1:7070 > new.dump && mv new.dump board.dump

@@ -179,6 +179,7 @@ fn ends(alloc: Global, case: &Case<'_>) -> Result<bool, AllocError> {
         address: "host:7",
         question,
         tries: case.tries.clamp(1, MAX_TRIES),
+        wait: None,
         timeout: None,
         layout,
     };
