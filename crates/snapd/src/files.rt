@@ -96,7 +96,9 @@ fn open_file<'a, R: Files<File = File> + Clock>(
     let disk = match *order {
         FileOrder::Format { .. } => FileDisk::create(rt, file)?,
         FileOrder::Put { .. } => FileDisk::open(rt, file, Lock::Exclusive)?,
-        FileOrder::Get { .. } | FileOrder::Check { .. } => FileDisk::open(rt, file, Lock::Shared)?,
+        FileOrder::Get { .. } | FileOrder::Check { .. } | FileOrder::Slot { .. } => {
+            FileDisk::open(rt, file, Lock::Shared)?
+        }
     };
     Ok(disk.telling(told.place()))
 }
