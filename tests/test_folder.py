@@ -8,6 +8,7 @@ import signal
 import subprocess
 import time
 
+import remedies
 import segment_file as layout
 from program import Program, Skipped
 from serving import Server, stored, update
@@ -214,8 +215,8 @@ def test_init_leaves_other_files_alone(snapd, _):
 
 
 def test_init_in_no_folder(snapd, _):
-    no_entry, no_folder = "No such file or directory (os error 2)", "Not a directory (os error 20)"
-    snapd("init", "A/B").gave(1, errors=said(f"A/B: {no_entry}"))
+    no_entry, no_folder = remedies.MISSING, "Not a directory (os error 20)"
+    snapd("init", "A/B").gave(1, errors=remedies.failed("A/B", no_entry, remedies.nowhere("A")))
     assert not snapd.file("A").exists()
     snapd.file("A").write_bytes(b"hi")
     snapd("init", "A").gave(1, errors=said(f"A: {no_folder}"))
@@ -223,7 +224,7 @@ def test_init_in_no_folder(snapd, _):
     assert snapd.file("A").read_bytes() == b"hi"
     snapd("init", "").gave(1, errors=said(f": {no_entry}"))
     os.symlink("nowhere", snapd.file("L"))
-    snapd("init", "L").failed_with(1, "L: ")
+    snapd("init", "L").gave(1, errors=remedies.failed("L", no_entry, remedies.of_nothing("L")))
     snapd("init", "x" * 300).failed_with(1, "File name too long (os error 36)")
     # A folder where a file is to be.
     (snapd.file("D") / name_of(0)).mkdir(parents=True)
@@ -242,12 +243,17 @@ def test_init_where_the_folder_takes_no_file(snapd, _):
     program.write_bytes(pathlib.Path(snapd.path).read_bytes())
     program.chmod(0o755)
     other = Program(program, snapd.folder)
-    denied = "Permission denied (os error 13)"
-    other("init", "D", "--count", 2, user=65_534).gave(1, errors=said(f"D/{name_of(0)}: {denied}"))
+    first, second = (f"D/{name_of(it)}" for it in range(2))
+
+    def denied(path, *owner):
+        return remedies.failed(path, remedies.DENIED, remedies.owned(*owner))
+
+    other("init", "D", "--count", 2, user=65_534).gave(1, errors=denied(first, first, place / name_of(0)))
     os.chmod(place / name_of(0), 0o666)
     run = other("init", "D", "--count", 2, user=65_534)
-    run.gave(1, "kept 0 of 2 number 0\n", said(f"D/{name_of(1)}: {denied}"))
-    other("init", "E", user=65_534).gave(1, errors=said(f"E: {denied}"))
+    # The file isn't there: its folder is in the way.
+    run.gave(1, "kept 0 of 2 number 0\n", denied(second, "D", place))
+    other("init", "E", user=65_534).gave(1, errors=denied("E", ".", snapd.folder))
     assert files_in(place) == {name_of(0): fresh_files(2)[name_of(0)]}
 
 
@@ -424,7 +430,7 @@ def test_files_that_are_no_segments(snapd, _):
 
 
 def test_no_folder_to_serve(snapd, _):
-    serve(snapd).gave(1, errors=said("D: No such file or directory (os error 2)"))
+    serve(snapd).gave(1, errors=remedies.failed("D", remedies.MISSING, remedies.no_folder("D")))
     snapd.file("D").write_bytes(b"")
     serve(snapd).gave(1, errors=said("D: Not a directory (os error 20)"))
     snapd.file("E").mkdir()

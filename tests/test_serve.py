@@ -9,6 +9,7 @@ import socket
 import subprocess
 import threading
 
+import remedies
 import segment_file as layout
 from serving import FRESH, OVER_THE_LIMIT, SCAN, STATUS, TOO_LARGE, Server, frame, free_port, fresh, received, refused
 from serving import reset, segments, snapshot, standings, stored, to_its_end, update
@@ -127,7 +128,7 @@ def file_faults(snapd):
     snapd.file("another").write_bytes(layout.holding((1, b"a"), index=0, count=3))
     snapd.file("folder").mkdir()
     return [
-        ("missing", 1, ["missing: No such file or directory (os error 2)"]),
+        ("missing", 1, [f"missing: {remedies.MISSING}", remedies.no_file("missing")]),
         ("folder", 1, ["folder: Is a directory (os error 21)", "folder: it is a folder: give it as --dir folder"]),
         ("damaged", 3, ["refused 10 Damaged", remedy("10", "damaged", **place)]),
         ("unformatted", 3, ["refused 11 Unformatted", remedy("11", "unformatted", **place)]),
