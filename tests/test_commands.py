@@ -437,6 +437,31 @@ def test_the_reason_of_a_failed_call_is_told(snapd, _):
                 assert layout.answer_of(snapd.file().read_bytes()) in ((0, b""), (1, b"hi"))
 
 
+def test_a_folder_that_isnt_synced(snapd, _):
+    """Where the system syncs none, or not for this user, nothing has failed. Each other reason ends a format, and the next goes on."""
+    disk, place = Disk(snapd), snapd.file("D")
+    place.mkdir()
+    made, file = "formatted 0 of 1\n", place / "F"
+    for why in (errno.EINVAL, errno.EOPNOTSUPP, errno.ENOSYS, errno.EROFS, errno.EACCES, errno.EPERM):
+        disk.says(f"D sync fail {why}")
+        snapd("format", "D/F", env=disk.env).gave(0, made)
+        file.unlink()
+    for why, text in REASONS.items():
+        disk.says(f"D sync fail {why}")
+        snapd("format", "D/F", env=disk.env).gave(1, errors=remedies.failed("D/F", text))
+        assert file.read_bytes() == b""
+        disk.says()
+        snapd("format", "D/F", env=disk.env).gave(0, made)
+        file.unlink()
+    # One in which files may be made and which may not be read can't be opened to be synced.
+    own, user, by_him = by_nobody(snapd)
+    if by_him:
+        os.chown(place, user, user)
+    place.chmod(0o300)
+    own("format", "D/F", **by_him).gave(0, made)
+    place.chmod(0o700)
+
+
 @contextlib.contextmanager
 def putting(snapd, value):
     """A `put` that has its file and has read these bytes of its value. What comes last is its end."""

@@ -393,6 +393,22 @@ def test_a_folder_that_this_user_cant_serve(snapd, _):
     assert files_in(place) == {name_of(it): layout.holding((0, b""), index=it, count=2) for it in range(2)}
 
 
+def test_a_pipe_that_this_user_may_only_read(snapd, _):
+    """It is no segment's file, and nobody waits for a writer, also beside one in use."""
+    place = folder(snapd, 1)
+    own, user, by_him = by_nobody(snapd)
+    os.mkfifo(place / "a.seg")
+    (place / "a.seg").chmod(0o444)
+    (place / name_of(0)).chmod(0o666)
+    denied = f"D/a.seg: {remedies.DENIED}\n{remedies.owned('D/a.seg', place / 'a.seg', user)}\n"
+    for used in (False, True):
+        with locked(place / name_of(0), fcntl.LOCK_EX) if used else contextlib.nullcontext():
+            (place / "a.seg").rename(place / "z.seg") if used else None
+            run = own("doctor", "D", **by_him)
+            wanted = denied.replace("a.seg", "z.seg") if used else denied
+            assert run.status == 3 and not run.errors and wanted in run.output.decode(), run
+
+
 def test_a_folder_on_a_file_system_that_is_read_only(snapd, _):
     place = snapd.file("D")
     place.mkdir()

@@ -70,11 +70,13 @@ pub fn is_taken(rt: &HostRuntime, path: &str) -> bool {
     }
 }
 
-/// The file, to be written where that is allowed: some file systems want that of whose lock is his alone.
+/// The file, to be written where that is allowed: some file systems want that of whose lock is his alone. A pipe
+/// would let a reader wait for a writer.
 fn opened(rt: &HostRuntime, path: &str) -> io::Result<File> {
+    let found = fs::metadata(rt, path)?;
     match File::options().read(true).write(true).open(rt, path) {
-        Ok(file) => Ok(file),
-        Err(_) => File::open(rt, path),
+        Err(_) if found.is_file() || found.is_dir() => File::open(rt, path),
+        opened => opened,
     }
 }
 
