@@ -242,9 +242,9 @@ pub call_fault : {name : Text} (found : Found) → name ≡ codes "call" → (wh
 call_fault found named why is = λ words its.
     calling_fault its named why (by_words its (λ of all. IsCallingFault of all why) is)
 
-pub check_fault : {name : Text} (found : Found) (why : WordFault)
+pub check_fault : (name : Text) (found : Found) (why : WordFault)
     → IsSlotFault (first_value found) why → OfCommand name found (λ words. IsFaultOf words why)
-check_fault found why is = λ words its.
+check_fault name found why is = λ words its.
     slot_fault words why (by_words its (λ of all. IsSlotFault of why) is)
 
 pub placed_fault : {name : Text} (found : Found) → name ≢ codes "script" → name ≢ codes "serve"

@@ -25,7 +25,7 @@ returns-in_default-clause-faults c = λ words has.
 
 pub returns-in_err-checking-clause-faults : goal.returns-in_err-checking-clause-faults
 returns-in_err-checking-clause-faults c =
-    let fault = check_fault (found_of c.args.matches.now) c.in_err-checking.field-0.0
+    let fault = check_fault c.args.command.now (found_of c.args.matches.now) c.in_err-checking.field-0.0
     c.in_err-checking.ensures.fault in
     search rules
 
