@@ -2,38 +2,36 @@
 
 import contextlib
 import errno
-import fcntl
 import json
 import os
-import pty
 import re
 import select
 import signal
-import struct
+import socket
 import subprocess
-import termios
+import threading
 import time
 
-from serving import FRESH, AtSocket, Server, free_port, fresh, received, refused, segments, stored, update
+from serving import FRESH, AtSocket, Server, free_port, fresh, received, refused, segments, standings, stored, update
+from terminal import Terminal
 from test_serve_disks import Disk
 from waiting import PATIENCE, comes_to
 
 HELD = [(0, b""), (1, b"hi")]
 # Looks often, so that a test needn't wait.
 OFTEN = ("--every", "10")
-# What a terminal is told before and behind the rows of a board.
-BEGIN, END = "\x1b[?25l\x1b[?7l\r", "\x1b[J\x1b[?7h\x1b[?25h"
 
 
 class Watch:
     """A `snapd watch` that runs, and what it has printed. It is ended at the end of a `with`."""
 
-    def __init__(self, snapd, address, *words, output=None, often=OFTEN):
+    def __init__(self, snapd, address, *words, output=None, often=OFTEN, env=None):
         self.errors = snapd.file(f"watch-errors-{time.monotonic_ns()}")
         words = [snapd.path, "watch", address, *map(str, words), *often]
         with open(self.errors, "wb") as errors:
             self.process = subprocess.Popen(
-                words, cwd=snapd.folder, stdin=subprocess.DEVNULL, stdout=output or subprocess.PIPE, stderr=errors
+                words, cwd=snapd.folder, stdin=subprocess.DEVNULL, stdout=output or subprocess.PIPE, stderr=errors,
+                env={**{it: os.environ[it] for it in os.environ if it != "NO_COLOR"}, **(env or {})},
             )
         self.text = b""
 
@@ -211,6 +209,69 @@ def test_an_output_that_is_closed_ends_it(snapd, _):
         watch.process.stdout = None
 
 
+def test_an_output_that_is_closed_ends_it_at_rest(snapd, _):
+    """At the next look, though there is nothing to print."""
+    with Server(snapd, *two(snapd)) as server, Watch(snapd, server.address) as watch:
+        watch.lines(2)
+        watch.process.stdout.close()
+        watch.process.stdout = None
+        assert watch.process.wait(PATIENCE / 4) == 1 and watch.notes() == []
+
+
+class Stalled:
+    """A peer that takes one connection, and answers nothing on it, or a byte of the answer to a status each half second."""
+
+    def __init__(self, is_trickling):
+        self.listener = socket.create_server(("127.0.0.1", 0))
+        self.listener.settimeout(PATIENCE)
+        self.address = "127.0.0.1:%d" % self.listener.getsockname()[1]
+        self.is_trickling, self.is_over = is_trickling, threading.Event()
+        self.thread = threading.Thread(target=self.serve)
+
+    def __enter__(self):
+        self.thread.start()
+        return self
+
+    def __exit__(self, *_):
+        self.is_over.set()
+        self.thread.join()
+        self.listener.close()
+
+    def serve(self):
+        with self.listener.accept()[0] as stream, contextlib.suppress(OSError):
+            for byte in standings(*[(0, False)] * 16):
+                if self.is_over.wait(0.5):
+                    break
+                if self.is_trickling:
+                    stream.send(bytes([byte]))
+
+
+def test_a_server_that_hangs_is_lost_within_ten_seconds(snapd, _):
+    """Before its first answer and behind it, as lines and on a board; a peer that trickles, too."""
+    late = "there was no answer within 10 s"
+    with contextlib.ExitStack() as all_of_it:
+        begin = all_of_it.enter_context
+        server, terminal = begin(Server(snapd, *two(snapd))), begin(Terminal())
+        lines, board = begin(Watch(snapd, server.address)), begin(Watch(snapd, server.address, output=terminal.side))
+        lines.lines(2)
+        terminal.board()
+        server.process.send_signal(signal.SIGSTOP)
+        began = time.monotonic()
+        peers = [begin(Stalled(it)) for it in (False, True)]
+        first = [begin(Watch(snapd, it.address)) for it in peers]
+        shown = terminal.comes_to(lambda it: not it[0].endswith("connected"))
+        assert shown[0] == f"{server.address}: {late}: trying again" and told(shown[3])[5] == '"hi"', shown
+        comes_to([f"snapd: {server.address}: {late}: trying again"], lines.notes)
+        for watch, peer in zip(first, peers):
+            assert watch.process.wait(PATIENCE) == 1
+            assert watch.notes() == [f"snapd: {peer.address}: {late}: see what serves there"], watch.notes()
+        assert 9 < time.monotonic() - began < 15, time.monotonic() - began
+        server.process.send_signal(signal.SIGCONT)
+        terminal.comes_to(lambda it: it[0] == f"{server.address}: connected")
+        comes_to(["trying again", "connected again"], lines.told)
+        assert lines.is_silent()
+
+
 def test_a_full_disk_is_told(snapd, _):
     with Server(snapd, *two(snapd)) as server, open("/dev/full", "wb") as full:
         snapd("watch", server.address, stdout=full).gave(
@@ -218,54 +279,118 @@ def test_a_full_disk_is_told(snapd, _):
         )
 
 
-class Terminal:
-    """A terminal of so many columns, and what it was told."""
+HEAD = "segment      number   age    rate  state   value"
+# In which colours are wanted, though the tests may run where they aren't.
+COLOURED = {"NO_COLOR": ""}
 
-    def __init__(self, columns):
-        self.end, self.side = pty.openpty()
-        fcntl.ioctl(self.side, termios.TIOCSWINSZ, struct.pack("HHHH", 24, columns, 0, 0))
-        self.text = ""
 
-    def __enter__(self):
-        return self
-
-    def __exit__(self, *_):
-        os.close(self.end)
-        os.close(self.side)
-
-    def drawing(self):
-        """The next whole drawing: how many lines it goes up, and its rows."""
-        until = time.monotonic() + PATIENCE
-        while END not in self.text:
-            ready, _, _ = select.select([self.end], [], [], until - time.monotonic())
-            assert ready, self.text
-            self.text += os.read(self.end, 65_536).decode()
-        drawn, _, self.text = self.text.partition(END)
-        found = re.fullmatch(re.escape(BEGIN) + r"(?:\x1b\[(\d+)A)?((?:\x1b\[2K[^\x1b]*\r\n)*)", drawn)
-        assert found, drawn
-        return int(found[1] or 0), [it.rstrip("\r\n") for it in found[2].split("\x1b[2K")[1:]]
-
-    def is_silent(self, seconds=0.3):
-        ready, _, _ = select.select([self.end], [], [], seconds)
-        return not ready and self.text == ""
+def told(line):
+    """The fields of a segment's line, the value as one."""
+    return line.split(maxsplit=5)
 
 
 def test_a_board_in_a_terminal(snapd, _):
+    with Server(snapd, *two(snapd)) as server, Terminal() as terminal:
+        terminal.screen.take("before\r\n")
+        watch = Watch(snapd, server.address, output=terminal.side, env=COLOURED)
+        with watch:
+            shown = terminal.board()
+            assert shown[:3] == ["before", f"{server.address}: connected", HEAD] and not any(shown[5:]), shown
+            assert told(shown[3]) == ["0", "0", "-", "-", "ok", '""'] and told(shown[4]) == ["1", "1", "-", "-", "ok", '"hi"'], shown
+            assert shown[3] == '      0           0     -       -  ok      ""', shown
+            server.ask(update(1, 2, bytes(range(256))), stored(2))
+            shown = terminal.comes_to(lambda it: told(it[4])[1] == "2")
+            assert told(shown[4])[5] == bytes(range(256)).hex()[:79 - 43], shown
+            server.ask(update(1, 3, "\x85\u00e9".encode()) + update(1, 4, b"\x7f") + update(1, 5, "\u00e9\n".encode()), stored(3) + stored(4) + stored(5))
+            terminal.comes_to(lambda it: told(it[4])[1:] == ["5", "0s", told(it[4])[3], "ok", '"\u00e9\\n"'])
+            terminal.comes_to(lambda it: told(it[4])[2] == "2s" and told(it[3])[2] == "-" and told(it[3])[3] == "0.0")
+            assert terminal.screen.gone == [] and terminal.screen.line == 5
+        assert watch.notes() == []
+
+
+def test_a_board_is_cut_by_width_and_height(snapd, _):
+    """At each size: the first lines but one, each as wide as fits, and nothing that leaves the terminal at its top."""
+    files = segments(snapd, *[[(0, b""), (1, b"v" * 4_080)]] * 16)
+    with Server(snapd, *files) as server, Terminal(200, 40) as terminal, Watch(snapd, server.address, output=terminal.side):
+        whole = terminal.comes_to(lambda it: told(it[17])[3:5] == ["0.0", "ok"])
+        assert len(whole[17]) == 199 and not any(whole[18:]) and terminal.screen.gone == []
+        for columns, lines in [(80, 24), (80, 19), (80, 18), (80, 10), (80, 3), (44, 2), (20, 30), (2, 2), (1, 1), (200, 40)]:
+            terminal.resize(columns, lines)
+            gone = len(terminal.screen.gone)
+            terminal.board()
+            shown = terminal.board()
+            assert shown[: lines - 1] == [it[: columns - 1].rstrip() for it in whole[: lines - 1]], (columns, lines, shown)
+            assert shown[lines - 1] == "" and len(terminal.screen.gone) == gone, (columns, lines)
+    with Server(snapd, *files) as server, Terminal(30, 5) as terminal, Watch(snapd, server.address, output=terminal.side):
+        shown = terminal.board()
+        gone = len(terminal.screen.gone)
+        assert shown[1] == HEAD[:29].rstrip() and gone <= 18 and not any(terminal.screen.gone)
+        for _ in range(20):
+            terminal.board()
+        assert len(terminal.screen.gone) == gone
+
+
+def test_colours(snapd, _):
+    disk = Disk(snapd)
+    with Server(snapd, *two(snapd), env=disk.env) as server:
+        disk.says(f"S1 sync fail {errno.EIO}")
+        server.ask(update(1, 2, b"x"), refused(13, 1))
+        for said, is_coloured in [({"NO_COLOR": "1"}, False), ({"NO_COLOR": "0"}, False), (COLOURED, True), (None, True)]:
+            with Terminal() as terminal, Watch(snapd, server.address, output=terminal.side, env=said):
+                assert told(terminal.board()[3])[4:] == ["fenced", '"hi"']
+                assert ("\x1b[31mfenced\x1b[0m  " in terminal.told) == is_coloured, terminal.told
+                assert re.search(r"\x1b\[[0-9;]*m", terminal.told) is None or is_coloured, terminal.told
+
+
+def test_the_terminal_is_given_back_at_any_end(snapd, _):
+    for number in (signal.SIGINT, signal.SIGTERM, signal.SIGHUP, signal.SIGKILL):
+        with Server(snapd, *two(snapd)) as server, Terminal() as terminal, Watch(snapd, server.address, output=terminal.side) as watch:
+            shown = terminal.board()
+            watch.process.send_signal(number)
+            assert watch.process.wait(PATIENCE) == -number
+            terminal.rest()
+            assert terminal.screen.is_given_back() and terminal.screen.line == 4, number
+            assert terminal.screen.text()[0] == f"{server.address}: connected" and told(terminal.screen.text()[3])[1] == "1", shown
+
+
+def test_a_board_of_a_server_that_goes_away_and_comes_back(snapd, _):
     files, address = two(snapd), f"127.0.0.1:{free_port()}"
-    with contextlib.ExitStack() as all_of_it:
-        terminal = all_of_it.enter_context(Terminal(40))
-        with Server(snapd, *files, address=address) as server:
-            watch = all_of_it.enter_context(Watch(snapd, address, output=terminal.side))
-            assert terminal.drawing() == (0, [row(0, 0, 'text ""'), row(1, 1, 'text "hi"')])
-            assert terminal.is_silent()
-            server.ask(update(1, 2, b"\x1b[2J" + b"v" * 100), stored(2))
-            hexed = (b"\x1b[2J" + b"v" * 100).hex()
-            assert terminal.drawing() == (2, [row(0, 0, 'text ""'), row(1, 2, f"value {hexed}")])
-        comes_to(1, lambda: len(watch.notes()))
+    lost = re.compile(re.escape(address) + r": (no connection to the server can be made|the connection failed before the answer came): trying again")
+    with Terminal() as terminal:
         with Server(snapd, *files, address=address):
-            # What was said meanwhile may stand in the same terminal: so it is drawn anew below that.
-            assert terminal.drawing() == (0, [row(0, 0, 'text ""'), row(1, 2, f"value {hexed}")])
-            comes_to(2, lambda: len(watch.notes()))
+            watch = Watch(snapd, address, output=terminal.side)
+            terminal.board()
+        with watch:
+            shown = terminal.comes_to(lambda it: lost.fullmatch(it[0]))
+            assert told(shown[3])[1] == "1" and told(shown[3])[4:] == ["ok", '"hi"'], shown
+            more = segments(snapd, *[FRESH] * 3, [(0, b""), (9, b"y")])
+            with Server(snapd, *more, address=address):
+                shown = terminal.comes_to(lambda it: it[0] == f"{address}: connected")
+                assert told(shown[5])[1:2] + told(shown[5])[4:] == ["9", "ok", '"y"'], shown
+                assert told(shown[3])[1:3] == ["0", "0s"], shown
+            terminal.comes_to(lambda it: lost.fullmatch(it[0]))
+            with Server(snapd, *fresh(snapd, 1), address=address):
+                shown = terminal.comes_to(lambda it: it[0] == f"{address}: connected")
+                assert not any(shown[3:]) and terminal.screen.line == 3, shown
+            assert watch.notes() == []
+
+
+def test_the_rate_is_that_of_the_updates(snapd, _):
+    with Server(snapd, *fresh(snapd, 1)) as server, Terminal() as terminal:
+        began = time.monotonic()
+        with Watch(snapd, server.address, output=terminal.side):
+            terminal.board()
+            first = time.monotonic()
+            for number in range(1, 31):
+                server.ask(update(0, number), stored(number))
+                time.sleep(0.05)
+            before = time.monotonic()
+            shown = terminal.comes_to(lambda it: told(it[2])[1] == "30")
+            least, most = 30 / (time.monotonic() - began), 30 / (before - first)
+            # The window may not have begun anew meanwhile, which it does each five seconds.
+            assert time.monotonic() - began < 5, "this machine is too slow to tell"
+            assert least - 0.1 <= float(told(shown[2])[3]) <= most + 0.1 + most / 10, (shown, least, most)
+            terminal.comes_to(lambda it: told(it[2])[3] == "0.0")
 
 
 def test_objects_in_a_terminal_are_lines(snapd, _):
@@ -273,7 +398,7 @@ def test_objects_in_a_terminal_are_lines(snapd, _):
         with Watch(snapd, server.address, "--json", output=terminal.side):
             wanted = '{"segment":0,"number":0,"fenced":false,"text":""}\r\n'
             until = time.monotonic() + PATIENCE
-            while len(terminal.text) < len(wanted):
+            while len(terminal.unread) < len(wanted):
                 assert time.monotonic() < until
-                terminal.text += os.read(terminal.end, 4_096).decode()
-            assert terminal.text == wanted
+                terminal.unread += os.read(terminal.end, 4_096).decode()
+            assert terminal.unread == wanted

@@ -1,5 +1,5 @@
 -- What is printed of a board's rows (docs/FORMATS.md).
-use Rattle.std.specs.Prelude.{ℕ, Bool, true, false, List, [], ◌∷◌, ◌++◌, codes, flat_map, nat_lt, if◌then◌else◌}
+use Rattle.std.specs.Prelude.{ℕ, Bool, true, false, List, [], ◌∷◌, ◌++◌, codes, flat_map, if◌then◌else◌}
 use Rattle.std.specs.Option.{option_map_or}
 use Rattle.std.specs.Fmt.{decimal}
 use Rattle.json.specs.Token.{Token, boolean, end_object, key}
@@ -19,6 +19,10 @@ fence_text false = codes "0"
 abbrev pub value_text : List ℕ → List ℕ
 value_text bytes = option_map_or (λ (text : List ℕ). codes " text " ++ text) (quote_of bytes)
     (codes " value " ++ hex_text bytes)
+
+-- what a board says of a value: the same without the word before it
+abbrev pub cell_text : List ℕ → List ℕ
+cell_text bytes = option_map_or (λ (text : List ℕ). text) (quote_of bytes) (hex_text bytes)
 
 -- the segment's index and number, and whether it is fenced
 abbrev pub state_text : Row → List ℕ
@@ -45,24 +49,3 @@ change_text form shown row = if is_shown shown row then [] else row_text form ro
 -- what is printed of these rows: each that is another one than was shown, in order
 abbrev pub changes_text : Form → (shown rows : List Row) → List ℕ
 changes_text form shown rows = flat_map (change_text form shown) rows
-
--- ---- a board in a terminal
-
--- what a terminal does, and doesn't show
-abbrev pub escape : List ℕ → List ℕ
-escape text = 27 ∷ (91 ∷ text)
-
--- the cursor goes up so many lines
-abbrev pub up : ℕ → List ℕ
-up n = if nat_lt 0 n then escape (decimal n ++ codes "A") else []
-
--- the row on a line that was emptied
-abbrev pub drawn_row : Row → List ℕ
-drawn_row row = escape (codes "2K") ++ row_line row
-
--- The board in the place of the lines above the cursor, of which there are so many. Nobody sees the cursor
--- meanwhile, a line that is too long is cut off, and what was below is gone.
-abbrev pub drawing_text : (above : ℕ) → List Row → List ℕ
-drawing_text above rows = (escape (codes "?25l") ++ (escape (codes "?7l") ++ (codes "\r" ++ up above)))
-    ++ (flat_map drawn_row rows
-    ++ (escape (codes "J") ++ (escape (codes "?7h") ++ escape (codes "?25h"))))

@@ -2,9 +2,9 @@
 //!
 //! [`look`] asks a server over any connection: for the numbers and fences of its segments, and for their values
 //! only where a number has moved. [`changes`] is what is printed of the rows that are other ones than those
-//! that were shown, and [`drawing`] draws all rows in a terminal. When to look, and where it is printed, is for
-//! the caller. `specs/Looks.antt` says what is asked and what the board is then, `specs/Board.antt` which rows
-//! are the same, and `specs/Text.antt` has the texts (docs/FORMATS.md).
+//! that were shown. In a terminal [`drawing`] draws all rows, with what was seen of them before ([`followed`]).
+//! When to look, and where it is printed, is for the caller. `specs/Looks.antt` says what is asked and what the
+//! board is then, `specs/Board.antt` which rows are the same, and `specs/Text.antt` has the texts (docs/FORMATS.md).
 #![tactic(auto)]
 
 mod exchange;
@@ -15,6 +15,7 @@ mod row;
 mod rows;
 mod segments;
 mod terminal;
+mod track;
 mod trouble;
 
 pub use exchange::look;
@@ -22,5 +23,6 @@ pub use form::Form;
 pub use print::changes;
 pub use row::Row;
 pub use segments::set_of;
-pub use terminal::drawing;
+pub use terminal::{Panel, drawing};
+pub use track::{Track, followed};
 pub use trouble::Trouble;

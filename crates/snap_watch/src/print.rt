@@ -65,7 +65,7 @@ fn append_row(
 }
 
 /// Appends a row as a line.
-pub(crate) fn put_line(alloc: Global, out: &mut Vec<u8>, row: &Row) -> Result<(), AllocError>
+fn put_line(alloc: Global, out: &mut Vec<u8>, row: &Row) -> Result<(), AllocError>
     ensures { OnOk result (out.new.items ≡ out.old.items ++ row_line row.now) }
 {
     put_state(out, row)?;

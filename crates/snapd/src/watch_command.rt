@@ -6,32 +6,35 @@ use crate::call_command::{is_known, link_within};
 use crate::complaint::{say, stop, stop_without_memory};
 use crate::link::Link;
 use crate::time_limit::TimeLimit;
+use libc::net::{POLLERR, POLLHUP, poll};
+use libc::types::pollfd;
 use snap_client::{Client, ClientFault};
 use snap_file_commands::CommandFailure;
 use snap_frame::SegmentSet;
 use snap_order::{Status, Watching};
 use snap_stream::write_whole;
-use snap_watch::{Form, Row, Trouble, changes, drawing, look, set_of};
+use snap_watch::{Form, Panel, Row, Track, Trouble, changes, drawing, followed, look, set_of};
 use std::alloc::{AllocError, Global};
+use std::env::{self, VarError};
 use std::io::{ErrorKind, IsTerminal};
 use std::net::{Net, OpenStream};
 use std::rt::Clock;
 use std::sync::Wait;
-use std::sync::atomic::AtomicBool;
+use std::sync::atomic::{AtomicBool, Ordering};
 use std::thread;
 use std::time::{Duration, Instant};
 
 /// How long it waits between two looks where nothing is said, in milliseconds.
 const PAUSE: u32 = 1_000;
 
-/// How long a server may take to let in and to answer, in seconds: one that takes longer is taken for lost.
+/// How long a look may take, in seconds: a server that takes longer is taken for lost.
 const PATIENCE: u64 = 10;
 
-/// A connection on which one look follows the other.
-type Watched<N> = Client<Link<<N as Net>::Stream>, Link<<N as Net>::Stream>>;
+/// What is said of a server that took longer.
+const LATE: &str = "there was no answer within 10 s";
 
 /// Shows what the server at the order's address holds, and each change, until the process is interrupted or
-/// standard output fails. A first connection that fails, or a refusal, ends it too.
+/// nobody reads standard output. A first look that fails, or a refusal, ends it too.
 pub fn watch<N: Wait + Clock + Net>(net: &N, rt: &HostRuntime, order: &Watching<'_>) -> Status
     requires { IsWatchable order.now }
 {
@@ -41,15 +44,79 @@ pub fn watch<N: Wait + Clock + Net>(net: &N, rt: &HostRuntime, order: &Watching<
     }
     let pause = Duration::from_millis(u64::from(order.every.unwrap_or(PAUSE)));
     let watched = set_of(&order.segments);
-    let mut screen = Screen::new(rt, order.is_json);
-    let mut client = None;
+    let began = Instant::now(net).ok();
+    let mut screen = Screen::new(rt, address, order.is_json);
+    let mut link = None;
     for _ in net.forever() {
-        match screen.renew(net, rt, address, watched, &mut client) {
-            Ok(()) => thread::sleep(net, pause),
-            Err(status) => return status,
+        if is_unread() {
+            return Status::Failed;
         }
+        let is_late = AtomicBool::new(false);
+        let rows = rows_within(
+            net,
+            rt,
+            address,
+            watched,
+            &mut link,
+            &screen.shown,
+            &is_late,
+        );
+        screen.now = millis_since(net, began);
+        let shown = match rows {
+            Ok(rows) => screen.show(rt, rows),
+            Err(trouble) => screen.bear(rt, trouble, is_late.load(Ordering::Relaxed)),
+        };
+        if let Err(status) = shown {
+            return status;
+        }
+        thread::sleep(net, pause);
     }
     unreachable!()
+}
+
+/// Nobody reads standard output any more: it is a pipe whose other end is closed.
+fn is_unread() -> bool {
+    let mut asked = [pollfd {
+        fd: libc::STDOUT_FILENO,
+        events: 0,
+        revents: 0,
+    }];
+    poll(&mut asked, 0) == 1 && asked[0].revents & (POLLERR | POLLHUP) != 0
+}
+
+/// The milliseconds since then, or 0 where no clock tells.
+fn millis_since<C: Clock>(clock: &C, began: Option<Instant>) -> u64 {
+    match (began, Instant::now(clock)) {
+        (Some(began), Ok(now)) => {
+            let time = now.saturating_duration_since(began);
+            u64::try_from(time.as_millis()).unwrap_or(u64::MAX)
+        }
+        _ => 0,
+    }
+}
+
+/// The rows of the server as they are now, by a look that ends with its time. `is_late` says then that it did.
+fn rows_within<N: Clock + Net>(
+    net: &N,
+    rt: &HostRuntime,
+    address: &str,
+    watched: Option<SegmentSet>,
+    link: &mut Option<Link<N::Stream>>,
+    shown: &[Row],
+    is_late: &AtomicBool,
+) -> Result<Vec<Row>, Trouble>
+    requires some { IfSome watched (λ set. 0 < set.bits) }
+{
+    let end = match Instant::now(net) {
+        Ok(now) => now.checked_add(Duration::from_secs(PATIENCE)),
+        Err(_) => None,
+    };
+    let limit = TimeLimit {
+        clock: net,
+        end,
+        is_over: is_late,
+    };
+    rows_now(net, rt.alloc(), address, watched, link, shown, &limit)
 }
 
 /// The rows of the server as they are now, by one look. Where the connection fails it looks once more on a new
@@ -59,67 +126,61 @@ fn rows_now<N: Clock + Net>(
     alloc: Global,
     address: &str,
     watched: Option<SegmentSet>,
-    client: &mut Option<Watched<N>>,
+    link: &mut Option<Link<N::Stream>>,
     shown: &[Row],
+    limit: &TimeLimit<'_, '_, N>,
 ) -> Result<Vec<Row>, Trouble>
     requires some { IfSome watched (λ set. 0 < set.bits) }
 {
-    if let Some(open) = client.take() {
-        match rows_by::<N>(alloc, open, watched, client, shown) {
+    if let Some(open) = link.take() {
+        match rows_by(alloc, open, watched, link, shown, limit) {
             Err(Trouble::Lost(fault)) if fault.may_pass() => {}
             told => return told,
         }
     }
-    match connect(net, alloc, address) {
-        Some(open) => rows_by::<N>(alloc, open, watched, client, &[]),
+    match link_within(net, address, limit) {
+        Some(open) => rows_by(alloc, open, watched, link, &[], limit),
         None => Err(Trouble::Lost(ClientFault::ConnectFailed)),
     }
 }
 
 /// The rows by one look on this connection, which is kept where it went well.
-fn rows_by<N: Net>(
+fn rows_by<C: Clock, S: OpenStream>(
     alloc: Global,
-    mut open: Watched<N>,
+    open: Link<S>,
     watched: Option<SegmentSet>,
-    kept: &mut Option<Watched<N>>,
+    kept: &mut Option<Link<S>>,
     shown: &[Row],
+    limit: &TimeLimit<'_, '_, C>,
 ) -> Result<Vec<Row>, Trouble>
     requires some { IfSome watched (λ set. 0 < set.bits) }
 {
-    let rows = look(alloc, &mut open, watched, shown)?;
+    let (Ok(reader), Ok(writer)) = (open.try_clone(), open.try_clone()) else {
+        return Err(Trouble::Lost(ClientFault::ConnectFailed));
+    };
+    let mut client = Client::new(alloc, limit.on(reader), limit.on(writer));
+    let rows = look(alloc, &mut client, watched, shown)?;
     *kept = Some(open);
     Ok(rows)
 }
 
-/// A new connection, on which each read and each write ends after a while.
-fn connect<N: Clock + Net>(net: &N, alloc: Global, address: &str) -> Option<Watched<N>> {
-    let writer = patient_link(net, address, Duration::from_secs(PATIENCE))?;
-    let reader = writer.try_clone().ok()?;
-    Some(Client::new(alloc, reader, writer))
-}
-
-/// A connection that is made within this time, on which each read and each write ends after as long.
-fn patient_link<N: Clock + Net>(net: &N, address: &str, most: Duration) -> Option<Link<N::Stream>> {
-    let limit = TimeLimit {
-        clock: net,
-        end: Instant::now(net).ok()?.checked_add(most),
-        is_over: &AtomicBool::new(false),
-    };
-    let link = link_within(net, address, &limit)?;
-    link.set_timeouts(most).ok()?;
-    Some(link)
-}
-
 /// What was shown last, and where.
 #[derive(Drop)]
-struct Screen {
+struct Screen<'a> {
+    address: &'a str,
     form: Form,
-    /// Whether the rows stand in a terminal, each on a line that is drawn anew.
+    /// Whether the rows stand in a terminal, where all are drawn at each look.
     is_board: bool,
-    /// The rows that were shown last.
+    /// Whether a board has colours.
+    is_coloured: bool,
+    /// The rows that were told last.
     shown: Vec<Row>,
-    /// How many lines above the cursor are those of the rows, of a board.
+    /// What a board has seen of each of them.
+    tracks: Vec<Track>,
+    /// How many lines above the cursor are those of the board.
     above: usize,
+    /// The time of the last look, in milliseconds since the first one.
+    now: u64,
     contact: Contact,
 }
 
@@ -134,69 +195,48 @@ enum Contact {
     Lost,
 }
 
-impl Screen {
+impl<'a> Screen<'a> {
     /// Nothing was shown yet.
-    fn new(rt: &HostRuntime, is_json: bool) -> Screen {
+    fn new(rt: &HostRuntime, address: &'a str, is_json: bool) -> Screen<'a> {
         Screen {
+            address,
             form: if is_json { Form::Objects } else { Form::Lines },
             is_board: !is_json && rt.stdout().is_terminal(),
+            is_coloured: are_colours_wanted(rt),
             shown: Vec::new(rt.alloc()),
+            tracks: Vec::new(rt.alloc()),
             above: 0,
+            now: 0,
             contact: Contact::None,
         }
     }
 
-    /// Shows the server as it is now. Answers how the program ends where that fails.
-    fn renew<N: Clock + Net>(
-        &mut self,
-        net: &N,
-        rt: &HostRuntime,
-        address: &str,
-        watched: Option<SegmentSet>,
-        client: &mut Option<Watched<N>>,
-    ) -> Result<(), Status>
-        requires some { IfSome watched (λ set. 0 < set.bits) }
-    {
-        match rows_now(net, rt.alloc(), address, watched, client, &self.shown) {
-            Ok(rows) => self.show(rt, address, rows),
-            Err(trouble) => self.bear(rt, address, trouble),
+    /// Shows the rows, or what is another one than was shown. Answers how the program ends where that fails.
+    fn show(&mut self, rt: &HostRuntime, rows: Vec<Row>) -> Result<(), Status> {
+        let was_lost = self.contact == Contact::Lost;
+        self.contact = Contact::Held;
+        if self.is_board {
+            let Ok(tracks) = followed(rt.alloc(), &self.tracks, &rows, self.now) else {
+                return Err(stop_without_memory(rt));
+            };
+            self.tracks = tracks;
+            self.shown = rows;
+            return self.draw(rt, None);
         }
-    }
-
-    /// Shows the rows, where they are other ones than those that were shown. Answers how the program ends where
-    /// that fails.
-    fn show(&mut self, rt: &HostRuntime, address: &str, rows: Vec<Row>) -> Result<(), Status> {
-        if self.contact == Contact::Lost {
+        if was_lost {
+            let address = self.address;
             say(rt, &format_args!("{address}: connected again"));
         }
-        self.contact = Contact::Held;
-        let Ok(text) = self.text_of(rt.alloc(), &rows) else {
+        let Ok(text) = changes(rt.alloc(), self.form, &self.shown, &rows) else {
             return Err(stop_without_memory(rt));
         };
-        if let Err(error) = write_whole(&mut rt.stdout(), text.as_slice()) {
-            return Err(match error.kind() {
-                ErrorKind::BrokenPipe => Status::Failed,
-                _ => stop(rt, &CommandFailure::Output(error)),
-            });
-        }
-        self.above = rows.len();
         self.shown = rows;
-        Ok(())
+        print(rt, text.as_slice())
     }
 
-    /// What shows these rows.
-    fn text_of(&self, alloc: Global, rows: &[Row]) -> Result<Vec<u8>, AllocError> {
-        if !self.is_board {
-            return changes(alloc, self.form, &self.shown, rows);
-        }
-        if self.above > 0 && self.shown.as_slice() == rows {
-            return Ok(Vec::new(alloc));
-        }
-        drawing(alloc, self.above, rows)
-    }
-
-    /// Says that the server is lost, once, where it was there before. Answers how the program ends where it does.
-    fn bear(&mut self, rt: &HostRuntime, address: &str, trouble: Trouble) -> Result<(), Status> {
+    /// Says that the server is lost, where it was there before. Answers how the program ends where it does.
+    fn bear(&mut self, rt: &HostRuntime, trouble: Trouble, is_late: bool) -> Result<(), Status> {
+        let address = self.address;
         match trouble {
             Trouble::Refused { why, detail } => {
                 let (code, name) = (why.code(), why.name());
@@ -205,34 +245,85 @@ impl Screen {
             }
             Trouble::Lost(ClientFault::NoMemory) => Err(stop_without_memory(rt)),
             Trouble::Lost(fault) if self.contact == Contact::None => {
-                let remedy = remedy_of(fault);
-                say(rt, &format_args!("{address}: {fault}: {remedy}"));
+                say_first_loss(rt, address, fault, is_late);
                 Err(Status::Failed)
             }
-            Trouble::Lost(fault) => {
-                if self.contact == Contact::Held {
-                    let loss = loss_of(fault);
-                    say(rt, &format_args!("{address}: {loss}: trying again"));
-                }
-                self.contact = Contact::Lost;
-                // What was said stands below the rows, so they are drawn anew below it.
-                self.above = 0;
-                Ok(())
-            }
+            Trouble::Lost(fault) => self.lose(rt, loss_of(fault, is_late)),
         }
+    }
+
+    /// Says how the server was lost: a board at each look, and else once. Answers how the program ends where that
+    /// fails.
+    fn lose(&mut self, rt: &HostRuntime, loss: &str) -> Result<(), Status> {
+        let was_held = self.contact == Contact::Held;
+        self.contact = Contact::Lost;
+        if self.is_board {
+            return self.draw(rt, Some(loss));
+        }
+        if was_held {
+            let address = self.address;
+            say(rt, &format_args!("{address}: {loss}: trying again"));
+        }
+        Ok(())
+    }
+
+    /// Draws the board. Answers how the program ends where that fails.
+    fn draw(&mut self, rt: &HostRuntime, loss: Option<&str>) -> Result<(), Status> {
+        let panel = Panel {
+            address: self.address,
+            loss,
+            rows: &self.shown,
+            tracks: &self.tracks,
+            now: self.now,
+            is_coloured: self.is_coloured,
+        };
+        let Ok(text) = drawing(rt.alloc(), self.above, &panel) else {
+            return Err(stop_without_memory(rt));
+        };
+        self.above = panel.len();
+        print(rt, text.as_bytes())
     }
 }
 
-/// What to do where there was no first answer.
-fn remedy_of(fault: ClientFault) -> &'static str {
-    match fault {
+/// Colours are wanted: `NO_COLOR` isn't set, or is empty.
+fn are_colours_wanted(rt: &HostRuntime) -> bool {
+    match env::var(rt, "NO_COLOR") {
+        Ok(value) => value.is_empty(),
+        Err(VarError::NotPresent) => true,
+        Err(_) => false,
+    }
+}
+
+/// Prints this on standard output. Answers how the program ends where that fails.
+fn print(rt: &HostRuntime, text: &[u8]) -> Result<(), Status> {
+    match write_whole(&mut rt.stdout(), text) {
+        Ok(()) => Ok(()),
+        Err(error) if error.kind() == ErrorKind::BrokenPipe => Err(Status::Failed),
+        Err(error) => Err(stop(rt, &CommandFailure::Output(error))),
+    }
+}
+
+/// Says why there was no first answer, and what to do.
+fn say_first_loss(rt: &HostRuntime, address: &str, fault: ClientFault, is_late: bool) {
+    if is_late {
+        say(
+            rt,
+            &format_args!("{address}: {LATE}: see what serves there"),
+        );
+        return;
+    }
+    let remedy = match fault {
         ClientFault::BadReply => "check the address",
         _ => "start snapd serve there",
-    }
+    };
+    say(rt, &format_args!("{address}: {fault}: {remedy}"));
 }
 
 /// How a server was lost.
-fn loss_of(fault: ClientFault) -> &'static str {
+fn loss_of(fault: ClientFault, is_late: bool) -> &'static str {
+    if is_late {
+        return LATE;
+    }
     match fault {
         ClientFault::ConnectFailed => "no connection to the server can be made",
         ClientFault::BadReply => "what came isn't an answer",

@@ -4,7 +4,7 @@ use snap_client::{Client, ClientFault};
 use snap_disk::Refusal;
 use snap_frame::SegmentSet;
 use snap_stream::TestStream;
-use snap_watch::{Form, Row, Trouble, changes, drawing, look, set_of};
+use snap_watch::{Form, Panel, Row, Trouble, changes, drawing, followed, look, set_of};
 use std::alloc::{AllocError, Global};
 use std::test::Fail;
 
@@ -171,16 +171,29 @@ fn objects_have_the_fence(rt: HostRuntime) -> Result<(), Fail> {
     Ok(())
 }
 
+/// A board of one segment, as it is drawn in the place of three lines.
+const DRAWN: &str = "\x1b[?25l\x1b[?7l\r\x1b[3Ah:1: connected\x1b[K\r\x1b[B\
+segment      number   age    rate  state   value\x1b[K\r\x1b[B      \
+0           4    2s     2.0  fenced  \"a\\tb\"\x1b[K\r\x1b[B\x1b[J\x1b[?7h\x1b[?25h";
+
 #[test]
 fn a_board_is_drawn_in_place(rt: HostRuntime) -> Result<(), Fail> {
     let mut rows = Vec::new(rt.alloc());
-    rows.push(row(0, 1, true, b"a\tb"))?;
-    let first: &[u8] =
-        b"\x1b[?25l\x1b[?7l\r\x1b[2Ksegment 0 number 1 fenced 1 text \"a\\tb\"\n\x1b[J\x1b[?7h\x1b[?25h";
-    let text = drawing(rt.alloc(), 0, &rows)?;
-    assert!(rt; text.as_slice() == first);
-    let above: &[u8] = b"\x1b[?25l\x1b[?7l\r\x1b[16A\x1b[J\x1b[?7h\x1b[?25h";
-    let text = drawing(rt.alloc(), 16, &[])?;
-    assert!(rt; text.as_slice() == above);
+    rows.push(row(0, 1, false, b"a"))?;
+    let first = followed(rt.alloc(), &[], &rows, 0)?;
+    rows.clear();
+    rows.push(row(0, 4, true, b"a\tb"))?;
+    let tracks = followed(rt.alloc(), &first, &rows, 1_500)?;
+    let panel = Panel {
+        address: "h:1",
+        loss: None,
+        rows: &rows,
+        tracks: &tracks,
+        now: 3_500,
+        is_coloured: false,
+    };
+    assert!(rt; panel.len() == 3);
+    let text = drawing(rt.alloc(), 3, &panel)?;
+    assert!(rt; text.as_str() == DRAWN);
     Ok(())
 }
