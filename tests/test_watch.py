@@ -357,21 +357,21 @@ def test_a_board_of_a_server_that_goes_away_and_comes_back(snapd, _):
     files, address = two(snapd), f"127.0.0.1:{free_port()}"
     lost = re.compile(re.escape(address) + r": (no connection to the server can be made|the connection failed before the answer came): trying again")
     with Terminal() as terminal:
+        terminal.screen.take("before\r\n")
         with Server(snapd, *files, address=address):
             watch = Watch(snapd, address, output=terminal.side)
             terminal.board()
         with watch:
-            shown = terminal.comes_to(lambda it: lost.fullmatch(it[0]))
-            assert told(shown[3])[1] == "1" and told(shown[3])[4:] == ["ok", '"hi"'], shown
-            more = segments(snapd, *[FRESH] * 3, [(0, b""), (9, b"y")])
-            with Server(snapd, *more, address=address):
-                shown = terminal.comes_to(lambda it: it[0] == f"{address}: connected")
-                assert told(shown[5])[1:2] + told(shown[5])[4:] == ["9", "ok", '"y"'], shown
-                assert told(shown[3])[1:3] == ["0", "0s"], shown
-            terminal.comes_to(lambda it: lost.fullmatch(it[0]))
+            shown = terminal.comes_to(lambda it: lost.fullmatch(it[1]))
+            assert told(shown[4])[1] == "1" and told(shown[4])[4:] == ["ok", '"hi"'], shown
+            with Server(snapd, *segments(snapd, *[FRESH] * 3, [(0, b""), (9, b"y")]), address=address):
+                shown = terminal.comes_to(lambda it: it[1] == f"{address}: connected")
+                assert told(shown[6])[1:2] + told(shown[6])[4:] == ["9", "ok", '"y"'], shown
+                assert told(shown[4])[1:3] == ["0", "0s"] and shown[0] == "before", shown
+            terminal.comes_to(lambda it: lost.fullmatch(it[1]))
             with Server(snapd, *fresh(snapd, 1), address=address):
-                shown = terminal.comes_to(lambda it: it[0] == f"{address}: connected")
-                assert not any(shown[3:]) and terminal.screen.line == 3, shown
+                shown = terminal.comes_to(lambda it: it[1] == f"{address}: connected")
+                assert not any(shown[4:]) and terminal.screen.line == 4 and shown[0] == "before", shown
             assert watch.notes() == []
 
 

@@ -14,7 +14,7 @@ const HEAD: usize = 2;
 /// The most bytes of a value's text that are drawn. No terminal is so wide.
 const MOST: usize = 1_000;
 
-/// Ends a line: what stood behind it is erased, and the cursor goes to the next one, and stays where there is none.
+/// Ends a line: what stood behind it is erased, and the cursor goes to the next one, or stays where there is none.
 const END: &str = "\x1b[K\r\x1b[B";
 
 /// What stands above each column.
@@ -54,9 +54,9 @@ impl Panel<'_> {
 /// The cursor stands at the beginning of the line below the board then.
 ///
 /// The terminal cuts it: a line at its width, of which the last column stays empty, and the board at its height,
-/// of which the last line stays the cursor's. So it needs no size, and is right in any. But for the room that the first
-/// drawing makes it scrolls nothing. The cursor is hidden meanwhile; all is as it was at the end, so it is to be written
-/// whole. A terminal gets no control character of a value.
+/// of which the last line stays the cursor's. So it needs no size, and is right in any. But for the room that the
+/// first drawing makes it scrolls nothing. The cursor is hidden meanwhile, and all is as it was at its end: so it
+/// is to be written whole. A terminal gets no control character of a value.
 pub fn drawing(alloc: Global, above: usize, panel: &Panel<'_>) -> Result<String, AllocError> {
     let len = panel.len();
     let up = above.max(len);

@@ -78,8 +78,8 @@ impl Track {
     }
 }
 
-/// The tracks once these rows were seen, one for each and in their order. `at` is the time in milliseconds since the watch
-/// began.
+/// The tracks once these rows were seen, one for each and in their order. `at` is the time in milliseconds since
+/// the watch began.
 pub fn followed(
     alloc: Global,
     tracks: &[Track],
