@@ -12,6 +12,7 @@ import subprocess
 import threading
 import time
 
+from program import Skipped
 from serving import FRESH, AtSocket, Server, free_port, fresh, received, refused, segments, standings, stored, update
 from terminal import Terminal
 from test_serve_disks import Disk
@@ -382,14 +383,14 @@ def test_the_rate_is_that_of_the_updates(snapd, _):
             terminal.board()
             first = time.monotonic()
             for number in range(1, 31):
-                server.ask(update(0, number), stored(number))
                 time.sleep(0.05)
-            before = time.monotonic()
+                last = time.monotonic()
+                server.ask(update(0, number), stored(number))
             shown = terminal.comes_to(lambda it: told(it[2])[1] == "30")
-            least, most = 30 / (time.monotonic() - began), 30 / (before - first)
-            # The window may not have begun anew meanwhile, which it does each five seconds.
-            assert time.monotonic() - began < 5, "this machine is too slow to tell"
-            assert least - 0.1 <= float(told(shown[2])[3]) <= most + 0.1 + most / 10, (shown, least, most)
+            least, most = 30 / (time.monotonic() - began), 30 / (last - first)
+            if time.monotonic() - began > 5:
+                raise Skipped("this machine is too slow: a rate is told anew after five seconds")
+            assert least - 0.1 <= float(told(shown[2])[3]) <= most + 0.1, (shown, least, most)
             terminal.comes_to(lambda it: told(it[2])[3] == "0.0")
 
 
