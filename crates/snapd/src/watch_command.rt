@@ -17,7 +17,7 @@ use snap_watch::{Form, Panel, Row, Track, Trouble, changes, drawing, followed, l
 use std::alloc::{AllocError, Global};
 use std::env::{self, VarError};
 use std::io::{ErrorKind, IsTerminal};
-use std::net::{Net, OpenStream};
+use std::net::Net;
 use std::rt::Clock;
 use std::sync::Wait;
 use std::sync::atomic::{AtomicBool, Ordering};
@@ -145,13 +145,13 @@ fn rows_now<N: Clock + Net>(
 }
 
 /// The rows by one look on this connection, which is kept where it went well.
-fn rows_by<C: Clock, S: OpenStream>(
+fn rows_by<N: Clock + Net>(
     alloc: Global,
-    open: Link<S>,
+    open: Link<N::Stream>,
     watched: Option<SegmentSet>,
-    kept: &mut Option<Link<S>>,
+    kept: &mut Option<Link<N::Stream>>,
     shown: &[Row],
-    limit: &TimeLimit<'_, '_, C>,
+    limit: &TimeLimit<'_, '_, N>,
 ) -> Result<Vec<Row>, Trouble>
     requires some { IfSome watched (λ set. 0 < set.bits) }
 {
