@@ -120,7 +120,8 @@ nobody else. The file of a server that was killed is replaced. Where a process l
 what is there is no socket, the server doesn't start. At its own end it removes the file.
 
 Killing it is a proper stop, with any signal and at any time: what was acknowledged or shown is in
-the files, and the next start gives it back.
+the files, and the next start gives it back. Never copy onto a file while it is served, and move or
+remove none: its next update is refused. `snapd load` makes a new folder of a copy.
 
 Exit status:
   0  K connections were served
@@ -190,8 +191,9 @@ Examples:
 
 pub(crate) const WATCH_HELP: &str = "\
 Prints a line for each SEGMENT, or for all, and from then on one more at each change: where a segment
-has another number, and where it is fenced or no longer is. In a terminal each segment has one line
-instead, drawn anew in place and cut to the width. A line says
+has another number, and where it is fenced or no longer is. In a terminal it draws a board instead, in
+place and anew at each look: segment, number, age, updates a second, state and value in columns, cut
+to the terminal, and in colours unless NO_COLOR is set. A line says
 
   segment I number K fenced 0 text \"..\"
 
@@ -203,9 +205,9 @@ It keeps one connection. Each look asks for the numbers alone, which costs the s
 the values where one of them is another. So nothing is printed twice, and of the values between two
 looks the last one is.
 
-It runs until it is interrupted or its output fails. Where the server goes away it says so on standard
-error, tries again at each look, and says when the server is back. Where there is no server at its
-start it ends.
+It runs until it is interrupted or its output fails. Where the server goes away, or gives a look no
+answer for ten seconds, it says so on standard error, tries again at each look, and says when the
+server is back. Where there is no server at its start it ends.
 
 Exit status:
   1  no connection gave a first answer, or standard output failed
