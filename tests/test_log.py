@@ -14,16 +14,16 @@ JOURNAL = ("sh", "-c", 'JOURNAL_STREAM="$(stat -L -c %d:%i /proc/self/fd/2)" exe
 
 
 def test_only_what_matters_is_logged(snapd, _):
-    """Connections that come and go are no news, unless they are asked for."""
-    for more in ((), ("--log", "error"), ("--log", "debug")):
+    """Connections that come and go are no news, unless they are asked for; the start and the end are."""
+    for more, count in (((), 2), (("--log", "warn"), 0), (("--log", "error"), 0), (("--log", "debug"), 5)):
         with Server(snapd, *fresh(snapd, 1), connections=3, more=more) as server:
             for _ in range(3):
                 server.ask(SCAN, snapshot((0, b"")))
             run = server.end()
             assert (run.status, run.output) == (0, b"served 3\n"), run
-            lines = run.errors.splitlines()
-            assert len(lines) == (3 if "debug" in more else 0), run.errors
-            assert all(LOG_LINE.fullmatch(line)[3].endswith(" closed") for line in lines), run.errors
+            ended, lines = server.logged("DEBUG", "connection"), run.errors.splitlines()
+            assert len(lines) == len(server.logged()) == count and len(ended) == (3 if "debug" in more else 0), run.errors
+            assert all(line.endswith(" closed") for line in ended), run.errors
 
 
 def test_lines_of_several_threads_stay_whole(snapd, _):
@@ -54,8 +54,8 @@ def test_a_line_begins_with_the_time(snapd, _):
 def test_the_journal_keeps_the_time_itself(snapd, _):
     with Server(snapd, *fresh(snapd, 1), connections=1, more=("--log", "debug"), before=JOURNAL) as server:
         server.ask(SCAN, snapshot((0, b"")))
-        line = server.end().errors
-        assert line.startswith("DEBUG connection: 127.0.0.1:") and line.endswith(" closed\n"), line
+        line = server.end().errors.splitlines()[1]
+        assert line.startswith("DEBUG connection: 127.0.0.1:") and line.endswith(" closed"), line
 
 
 def test_all_addresses_are_warned_of(snapd, _):

@@ -55,7 +55,7 @@ def test_report_of_each_kind_of_file(snapd, _):
 
 def test_no_connection_is_served(snapd, _):
     files = two(snapd)
-    run = snapd("serve", "127.0.0.1:0", *files, "--connections", 0)
+    run = snapd("serve", "127.0.0.1:0", *files, "--connections", 0, "--log", "error")
     found = re.fullmatch(REPORT + r"listening 127\.0\.0\.1:\d+\nserved 0\n", run.output.decode())
     assert found and (run.status, run.errors) == (0, ""), run
 
@@ -67,7 +67,7 @@ def test_as_many_connections_as_were_asked_for(snapd, _):
         server.ask(STATUS, standings((3, False), (0, False)))
         run = server.end()
         assert (run.status, run.output) == (0, b"served 3\n"), run
-        assert len(run.errors.splitlines()) == 3, run
+        assert len(server.logged("DEBUG", "connection")) == 3, run
     with Server(snapd, "S0", "S1") as server:
         assert server.scan() == [(3, b"x"), (0, b"")]
 

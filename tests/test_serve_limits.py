@@ -247,8 +247,9 @@ def test_a_listener_that_fails_for_good_ends_it(snapd, _):
             with contextlib.suppress(ConnectionResetError):
                 assert connection.recv(1) == b""
         run = server.end()
-        said = f"snapd: {LOOPBACK}: 16 connections in a row couldn't be accepted"
-        assert (run.status, run.errors.splitlines()[-1], accepts.count()) == (1, said, 16), run
+        why = "16 connections in a row couldn't be accepted"
+        assert (run.status, accepts.count()) == (1, 16) and f"snapd: {LOOPBACK}: {why}" in run.errors.splitlines(), run
+        assert server.logged("ERROR", "server") == [f"it ends: {why}"]
 
 
 def refuses(server):

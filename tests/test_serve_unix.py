@@ -89,7 +89,8 @@ def test_a_socket_is_served_and_called(snapd, _):
         snapd("call", ADDRESS, "update", 0, 2, "-").gave(0, "stored 2\n")
         snapd("call", ADDRESS, "health", "--timeout", 5).gave(0, "healthy\n")
         snapd("call", ADDRESS, "put", 3, "--value", "x").refused(2, "NoSegment 1")
-        server.end().gave(0, "served 7\n")
+        run = server.end()
+        assert (run.status, run.output) == (0, b"served 7\n"), run
         assert not os.path.lexists(server.path)
 
 
@@ -121,7 +122,6 @@ def test_each_mode_is_what_the_file_gets(snapd, _):
                 assert mode_of(server.path) == wanted, (mode, mask)
 
 
-def test_words_that_are_no_mode(snapd, _):
 def masked(mask):
     """Starts a program under this mask."""
     return ("sh", "-c", f'umask {mask} && exec "$@"', "sh")
@@ -153,6 +153,7 @@ def test_no_mode_is_given_back_where_others_could_put_a_link(snapd, _):
             assert (run.returncode, MASKED in run.stderr) == ((0, False) if owner == 0 else (1, True)), run
 
 
+def test_words_that_are_no_mode(snapd, _):
     for word in ("", "8", "1000", "-1", "0o600", "u+rw", "7777", "99999999999999999999"):
         run = snapd("serve", ADDRESS, "missing", f"--socket-mode={word}")
         assert run.status == 2 and run.output == b"", (word, run)
@@ -392,7 +393,8 @@ def test_several_addresses_in_order(snapd, _):
         assert lines[1].startswith("listening 127.0.0.1:") and lines[3].startswith("listening [::1]:"), lines
         for number, line in enumerate(lines * 2, 1):
             snapd("call", line.removeprefix("listening "), "update", 0, number, "00").gave(0, f"stored {number}\n")
-        server.end().gave(0, b"".join(f"{line}\n".encode() for line in lines[1:]) + b"served 8\n")
+        run = server.end()
+        assert (run.status, run.output.decode().splitlines()) == (0, [*lines[1:], "served 8"]), run
         assert not any(os.path.lexists(snapd.folder / name) for name in "ab")
 
 
@@ -428,7 +430,7 @@ def test_each_call_of_a_start_fails(snapd, _):
         for number in itertools.count(1):
             sockets = Sockets(snapd, call, number, why)
             sockets.fail()
-            run = snapd("serve", *MIXED, *files, "--scanners", 2, "--connections", 0, env=sockets.env)
+            run = snapd("serve", *MIXED, *files, "--scanners", 2, "--connections", 0, "--log", "error", env=sockets.env)
             came = sockets.has_failed()
             # Some options of a socket may be refused, and at its end those in the queue may wait for it.
             if not (call in ("setsockopt", "ioctl") and run.status == 0):
@@ -443,7 +445,7 @@ def test_each_call_of_a_start_fails(snapd, _):
 
 def test_each_allocation_of_a_start_is_refused(snapd, _):
     """It serves, or says that memory was wanting, or a thread, and nothing else; and no socket's file is left."""
-    words = ("serve", *MIXED, *fresh(snapd, 1), "--connections", 0)
+    words = ("serve", *MIXED, *fresh(snapd, 1), "--connections", 0, "--log", "error")
     env, counted = {"LD_PRELOAD": library("allocations")}, snapd.file("count")
     snapd(*words, env={**env, "ALLOCATIONS_COUNT": str(counted)})
     refusals = 0
@@ -573,7 +575,7 @@ def test_two_thousand_connections_over_both(snapd, _):
                 stream.sendall(SCAN)
             for stream in streams:
                 assert entries_of(reply(stream)) == [(0, b"")]
-            assert server.notes() == []
+            assert len(server.notes()) == len(server.logged("INFO", "server")) == 1
     finally:
         resource.setrlimit(resource.RLIMIT_NOFILE, (soft, hard))
 

@@ -27,6 +27,7 @@ mod link;
 mod load_command;
 mod loading_folder;
 mod right_order;
+mod run_log;
 mod serve_command;
 mod store_log;
 mod store_times;
@@ -221,7 +222,7 @@ fn run_server<
     if !may_serve(rt, order) {
         return Status::Failed;
     }
-    let status = serve_files(threads, rt, order);
+    let status = serve_files(threads, rt, order, None);
     if status == Status::Refused {
         say_right_order(rt, order);
     }
@@ -250,7 +251,7 @@ fn serve_in_order<
     requires { KeepsLimits serving }
 {
     match files_in_order(rt, rt.alloc(), folder, files) {
-        Ok(files) => serve_files(threads, rt, &with_files(serving, files)),
+        Ok(files) => serve_files(threads, rt, &with_files(serving, files), Some(folder)),
         Err(trouble) => fail_in(rt, &trouble),
     }
 }
@@ -280,10 +281,10 @@ fn may_serve(rt: &HostRuntime, order: &Serving<'_>) -> bool {
         && may_write(rt)
 }
 
-/// Opens the files, and serves them.
+/// Opens the files, and serves them: those of a folder, where the words name one.
 fn serve_files<
     X: Threads + Wait + Clock + Net + Files<File = File> + RandomSource + Sync + Send + Copy,
->(threads: &X, rt: &HostRuntime, order: &Serving<'_>) -> Status
+>(threads: &X, rt: &HostRuntime, order: &Serving<'_>, folder: Option<&str>) -> Status
     requires { IsServable order.now }
 {
     let place = match open_http(threads, rt, order) {
@@ -294,7 +295,7 @@ fn serve_files<
         return stop_without_memory(rt);
     };
     match take_files(rt, &order.files, &told) {
-        Ok(devices) => serve(threads, rt, order, devices, &told, place),
+        Ok(devices) => serve(threads, rt, order, folder, devices, &told, place),
         Err(status) => status,
     }
 }

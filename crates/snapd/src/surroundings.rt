@@ -12,6 +12,15 @@ use std::time::{Duration, Instant};
 /// machine's memory.
 const MEMORY: &str = "/proc/self/statm";
 
+/// Where it tells which signals a process ignores, and what stands in front of them there: a bit for each, in
+/// hexadecimal digits.
+const STATUS: &str = "/proc/self/status";
+
+const IGNORED: &str = "SigIgn:";
+
+/// The bit of an interrupt, which is signal 2.
+const INTERRUPT: u64 = 1 << 1;
+
 /// The bytes of a page.
 const PAGE: u64 = 4_096;
 
@@ -24,8 +33,26 @@ pub struct Process<'a> {
     pub began: Option<Instant>,
     /// Where it listens, as its words say.
     pub addresses: &'a Vec<String>,
+    /// The folder that it serves, where its words name one.
+    pub folder: Option<&'a str>,
     /// The path of each segment's file, as its words say.
     pub files: &'a Vec<&'a str>,
+}
+
+/// Whether this process ignores an interrupt, where the system tells. It has that from whoever started it: a
+/// shell has what a script starts with `&` ignore it.
+pub fn ignores_interrupts(rt: &HostRuntime) -> bool {
+    match ignored_signals(rt) {
+        Some(signals) => signals & INTERRUPT != 0,
+        None => false,
+    }
+}
+
+/// The signals that this process ignores.
+fn ignored_signals(rt: &HostRuntime) -> Option<u64> {
+    let status = fs::read_to_string(rt, STATUS).ok()?;
+    let (_, behind) = status.split_once(IGNORED)?;
+    u64::from_str_radix(behind.split_whitespace().next()?, 16).ok()
 }
 
 impl Surroundings for Process<'_> {
