@@ -3,14 +3,16 @@
 import datetime
 import errno
 import os
+import re
 import subprocess
 
 from serving import LOG_LINE, SCAN, Server, fresh, refused, snapshot, stored, update
 from test_serve_disks import Disk
 from waiting import PATIENCE, comes_to
 
-# Tells the program that what it has as standard error is the journal's.
+# Tells the program that what it has as standard error is the journal's; and that it has another stream.
 JOURNAL = ("sh", "-c", 'JOURNAL_STREAM="$(stat -L -c %d:%i /proc/self/fd/2)" exec "$@"', "sh")
+ELSEWHERE = ("sh", "-c", 'JOURNAL_STREAM="$(stat -L -c %d:1%i /proc/self/fd/2)" exec "$@"', "sh")
 
 
 def test_only_what_matters_is_logged(snapd, _):
@@ -52,10 +54,19 @@ def test_a_line_begins_with_the_time(snapd, _):
 
 
 def test_the_journal_keeps_the_time_itself(snapd, _):
-    with Server(snapd, *fresh(snapd, 1), connections=1, more=("--log", "debug"), before=JOURNAL) as server:
+    """And takes each line by the priority that it begins with. Another stream than the one that is named is no journal."""
+    disk, anywhere = Disk(snapd), ("--listen", "0.0.0.0:0", "--log", "debug")
+    numbers = {"ERROR": "3", "WARN": "4", "INFO": "6", "DEBUG": "7"}
+    with Server(snapd, *fresh(snapd, 1), connections=2, env=disk.env, more=anywhere, before=JOURNAL) as server:
         server.ask(SCAN, snapshot((0, b"")))
-        line = server.end().errors.splitlines()[1]
-        assert line.startswith("DEBUG connection: 127.0.0.1:") and line.endswith(" closed"), line
+        disk.says(f"S0 sync fail {errno.EIO}")
+        server.ask(update(0, 1, b"a"), refused(13, 0))
+        found = [re.fullmatch(r"<(\d)>([A-Z]+) (\w+): (.*)", line) for line in server.end().errors.splitlines()]
+        assert all(it and numbers[it[2]] == it[1] for it in found), found
+        assert {it[2] for it in found} == set(numbers) and "DEBUG connection" in {f"{it[2]} {it[3]}" for it in found}, found
+    with Server(snapd, *fresh(snapd, 1), connections=0, before=ELSEWHERE) as server:
+        lines = server.end().errors.splitlines()
+        assert len(lines) == 2 and all(map(LOG_LINE.fullmatch, lines)), lines
 
 
 def test_all_addresses_are_warned_of(snapd, _):

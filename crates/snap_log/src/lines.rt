@@ -6,7 +6,7 @@ ghost use Rattle.snap_log.specs.Line.{IsOneLine};
 use crate::Destination;
 use crate::line::line_of;
 use crate::message::Message;
-use crate::stamp::stamp;
+use crate::stamp::{beginning, stamp};
 use crossbeam_channel::{Receiver, Sender, unbounded};
 use log::kv::Source;
 use log::span::Spans;
@@ -107,7 +107,7 @@ impl<'a, R: Wait + Clock> Lines<'a, R> {
         let text = format!(in self.alloc; "{}", Message(record))?;
         line_of(
             self.alloc,
-            stamp.as_str(),
+            beginning(self.destination, record.level(), stamp.as_str()),
             record.level(),
             record.target(),
             text.as_str(),
