@@ -441,7 +441,7 @@ def test_folders_that_are_there(snapd, _):
     snapd("load", "dump", "dump").gave(1, errors="snapd: dump: Not a directory (os error 20)\n")
     snapd("load", "dump/E", "dump").gave(1, errors="snapd: dump/E: Not a directory (os error 20)\n")
     snapd("load", "none/E", "dump").gave(1, errors=remedies.failed("none/E.loading", remedies.MISSING, remedies.nowhere("none")))
-    for name in (".", "..", "/", "", "other/..", "./"):
+    for name in (".", "..", "/", "", "other/..", "./", "./.", "/."):
         snapd("load", name, "dump").failed_with(3, "it has no name of its own")
     assert sorted(it.name for it in snapd.folder.iterdir()) == ["dump", "empty", "other"]
     for name in ("a b", "c/", "./d", "ü'\"$", ".hidden", "e//", snapd.file("g"), "a:1"):

@@ -97,6 +97,18 @@ pub fn segment_path(alloc: Global, folder: &str, index: u8) -> Result<String, Al
     path_in(alloc, folder, name.as_str())
 }
 
+/// Which of so many segments has a file of this name in its folder, by the names that [`segment_path`] gives.
+pub fn index_of_name(alloc: Global, name: &str, count: u8) -> Result<Option<u8>, AllocError>
+    requires { count ≤ MAX_COUNT }
+{
+    for index in 0..count {
+        if file_name(alloc, index)?.as_str() == name {
+            return Ok(Some(index));
+        }
+    }
+    Ok(None)
+}
+
 /// None of the folder's files has the name of a segment that isn't among so many.
 pub fn check_names<'f>(
     alloc: Global,
