@@ -119,9 +119,6 @@ IN_NO_ROW = {
         ("snap_server/src/gate.rt", "enter leave"), ("snap_server/src/socket.rt", "flush"),
         ("snap_server/src/stream.rt", "flush"), ("snapd/src/link.rt", "flush"),
     ),
-    "no test was seen to fail on another body: which errors of a folder's sync are none": (
-        ("snap_devices/src/file.rt", "is_not_allowed"),
-    ),
 }
 
 

@@ -95,18 +95,32 @@ def test_init_takes_names_of_any_form(snapd, _):
 
 
 def test_init_goes_on_where_it_was_cut_off(snapd, _):
+    """Where a file was stored to since, only with the word for that."""
     place = folder(snapd, 5)
+
+    def cut_off():
+        (place / name_of(0)).unlink()
+        (place / name_of(1)).write_bytes(b"")
+        (place / name_of(2)).write_bytes(bytes(layout.LENGTH))
+        # All but the byte that opens the header's gate.
+        cut = bytearray(layout.holding((0, b""), index=3, count=5))
+        cut[layout.HEADER_GATE] = 0
+        (place / name_of(3)).write_bytes(cut)
+
+    cut_off()
+    snapd("init", "D", "--count", 5).gave(0, made(5, kept=[(4, 0)]))
+    assert files_in(place) == fresh_files(5)
     put(snapd, place / name_of(4), 4, 5, "hi").gave(0, "stored 1\n")
-    (place / name_of(0)).unlink()
-    (place / name_of(1)).write_bytes(b"")
-    (place / name_of(2)).write_bytes(bytes(layout.LENGTH))
-    # All but the byte that opens the header's gate.
-    cut = bytearray(layout.holding((0, b""), index=3, count=5))
-    cut[layout.HEADER_GATE] = 0
-    (place / name_of(3)).write_bytes(cut)
-    last = (place / name_of(4)).read_bytes()
-    snapd("init", "D", "--count", 5).gave(0, made(5, kept=[(4, 1)]))
-    assert files_in(place) == fresh_files(5) | {name_of(4): last}
+    cut_off()
+    before = files_in(place)
+    missing = ", ".join(f"D/{name_of(index)}" for index in range(4))
+    snapd("init", "D", "--count", 5).gave(3, errors=said(
+        f"{missing}: missing or never formatted, though D/{name_of(4)} holds number 1: restore what is missing from a backup, or make it "
+        "new and empty with snapd init D --count 5 --missing-empty"
+    ))
+    assert files_in(place) == before
+    snapd("init", "D", "--count", 5, "--missing-empty").gave(0, made(5, kept=[(4, 1)]))
+    assert files_in(place) == fresh_files(5) | {name_of(4): before[name_of(4)]}
 
 
 def test_init_goes_on_where_the_slots_are_torn(snapd, _):
@@ -260,9 +274,10 @@ def test_init_where_the_folder_takes_no_file(snapd, _):
 def test_init_of_a_file_in_use(snapd, _):
     place = folder(snapd, 2)
     in_use = f"snapd: D/{name_of(1)}: it is in use by another snapd\n"
-    for how in (fcntl.LOCK_EX, fcntl.LOCK_SH):
+    # Who writes it keeps out who would look whether it was stored to; who reads it only keeps out who would write it.
+    for how, output in ((fcntl.LOCK_EX, ""), (fcntl.LOCK_SH, "kept 0 of 2 number 0\n")):
         with locked(place / name_of(1), how):
-            snapd("init", "D", "--count", 2).gave(1, "kept 0 of 2 number 0\n", in_use)
+            snapd("init", "D", "--count", 2).gave(1, output, in_use)
     with Server(snapd, "--dir", "D"):
         snapd("init", "D", "--count", 2).gave(1, errors=in_use.replace(name_of(1), name_of(0)))
     assert files_in(place) == fresh_files(2)

@@ -201,13 +201,25 @@ pub fn contents_of<'f>(
     folder: &'f str,
     file: &'f str,
 ) -> Result<SegmentContents, FolderTrouble<'f>> {
+    let findings = findings_of(rt, alloc, folder, file)?;
+    contents_by(folder, file, &findings)
+}
+
+/// What is found in the file at this path, where it has a segment file's length. Others may read it
+/// meanwhile.
+pub fn findings_of<'f>(
+    rt: &HostRuntime,
+    alloc: Global,
+    folder: &'f str,
+    file: &'f str,
+) -> Result<Findings, FolderTrouble<'f>> {
     let told = FirstFault::new();
     let mut disk = match FileDisk::open(rt, file, Lock::Shared) {
         Ok(disk) => disk.telling(told.place()),
         Err(fault) => return Err(FolderTrouble::Path { file, fault }),
     };
     match check(&mut disk) {
-        Ok(findings) => contents_by(folder, file, &findings),
+        Ok(findings) => Ok(findings),
         Err(Refusal::DeviceFailed) => Err(failure_of(alloc, file, &told)),
         Err(_) => Err(refused(no_segment(folder, file, disk.len()))),
     }
@@ -293,7 +305,7 @@ fn pair_of<'f>(
 }
 
 /// The path of this file of the folder.
-fn path_at<'f>(folder: &'f str, files: &'f [String], at: usize) -> &'f str {
+pub fn path_at<'f>(folder: &'f str, files: &'f [String], at: usize) -> &'f str {
     match files.get(at) {
         Some(file) => file.as_str(),
         None => folder,
