@@ -56,6 +56,8 @@ SYNCED = [("fdatasync",), LOOK, ("look at the name",)]
 SYNCED_ALONE = [("fdatasync",)]
 NAMED = [("open of the folder",), ("fsync of the folder",), ("close of the folder",)]
 RECOVERED = [*SYNCED, ("pread64", 0, 28_672)]
+# Before the first write of a store: whether the file has the length, gates and numbers that were left in it.
+COMPARED = [("lseek",), ("pread64", 0, 24_592)]
 # Of a file that is taken for a new segment: whether it is formatted, and the calls that format it.
 LOOKED_AT = [*SYNCED, ("pread64", 0, 4_096)]
 FILLED = [("pwrite64", 0, 4_095), ("pwrite64", 4_096, 24_576), *SYNCED_ALONE, ("pwrite64", 4_095, 1), *SYNCED]
@@ -66,7 +68,7 @@ def store_calls(number):
     slot, spare = number % 3, (number + 1) % 3
     closing = [("pwrite64", layout.gate_at(spare), 1)] if number > 1 else []
     writing = [("pwrite64", layout.body_at(slot), 4_096), *SYNCED_ALONE]
-    return closing + writing + [("pwrite64", layout.gate_at(slot), 1), *SYNCED]
+    return COMPARED + closing + writing + [("pwrite64", layout.gate_at(slot), 1), *SYNCED]
 
 
 def test_calls_of_each_command(snapd, _):
@@ -78,7 +80,7 @@ def test_calls_of_each_command(snapd, _):
     for number in (1, 2, 3, 4):
         on_file, on_streams = calls_of(snapd, "put", "F", stdin=b"hi")
         assert on_file == OPENED + RECOVERED + store_calls(number) + [("close",)], on_file
-        assert len(store_calls(number)) == (6 if number == 1 else 7)
+        assert len(store_calls(number)) == (8 if number == 1 else 9)
         assert on_streams == [("read", 0, 2), ("read", 0, 0), ("write", 1, len("stored 1\n"))], on_streams
 
     on_file, on_streams = calls_of(snapd, "get", "F")

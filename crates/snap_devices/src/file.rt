@@ -3,6 +3,7 @@ ghost use Rattle.std.specs.Prelude.{◌≡◌, ◌≢◌, ℕ, length, IfOk, IfE
 ghost use Rattle.snap_devices.specs.CallLog.{IsHonestLog, LeftSince, counts_now, only_now};
 ghost use Rattle.snap_devices.specs.FileDisk.{IsUncalled, file_device, file_held};
 
+use crate::contents::Contents;
 use crate::name::{FileId, Name, folder_of};
 use crate::{Call, Log};
 use snap_disk::{DeviceFault, Disk};
@@ -78,6 +79,10 @@ pub enum CallFault {
     /// file that nobody finds again. Only a sync finds that.
     #[error("sync: its path doesn't name it any more: it was moved, removed or replaced")]
     Moved,
+    /// The file has another length or other gates, numbers or lengths than this device left in it: another
+    /// program wrote it or cut it, which no lock kept out. It is left as it is. Only a write finds that.
+    #[error("write: another program wrote it or cut it, and it is left so: never copy onto a file in use: snapd load makes a new folder of a dump")]
+    Overwritten,
 }
 
 /// An open and locked file, with its length when it was opened.
@@ -87,8 +92,13 @@ pub enum CallFault {
 ///
 /// Each method makes the call of the system that it is named for, and then notes it. A sync also
 /// asks whether the path still names the file, if the one before it didn't, and fails where it
-/// doesn't: so each store asks, which syncs twice. It is honest where every noted call did what the
-/// model of [`Disk`] says, after a sync that failed too, and nobody else writes the file. Which places are open at first no contract says: those that were
+/// doesn't: so each store asks, which syncs twice. Once the file was read whole, the first write, and
+/// then the first one behind each second sync, compares its gates, numbers and lengths with what was read
+/// and written: so each store does, before it writes anything. Where they differ the write fails, and isn't
+/// made.
+///
+/// It is honest where every noted call did what the model of [`Disk`] says, after a sync that failed
+/// too, and nobody else writes the file. Which places are open at first no contract says: those that were
 /// written before and not synced, by a process that ended or before a crash, which leaves them
 /// open. A sync that succeeds closes them. So what is proved holds where each is open, and where a
 /// premise says that no more are than a crash left.
@@ -99,6 +109,7 @@ pub struct FileDisk<'p, R> {
     rt: &'p R,
     file: fs::File,
     name: Name<'p>,
+    contents: Contents,
     len: u64,
     failures: u64,
     /// Gets why the first call that fails did.
@@ -192,6 +203,7 @@ impl<'p, R: Files<File = fs::File> + Clock> FileDisk<'p, R> {
             rt,
             file,
             name: Name::new(path, id),
+            contents: Contents::unknown(),
             len,
             failures: 0,
             told: None,
@@ -315,6 +327,7 @@ impl<R: Files<File = fs::File> + Clock> Disk for FileDisk<'_, R> {
     fn read_at(&mut self, at: u64, buf: &mut [u8]) -> Result<(), DeviceFault> {
         match self.file.read_exact_at(buf, at) {
             Ok(()) => {
+                self.contents.note_read(at, buf);
                 self.calls = self.calls.and(&[Call::Gave {
                     at,
                     bytes: Log::new().and(buf),
@@ -332,7 +345,7 @@ impl<R: Files<File = fs::File> + Clock> Disk for FileDisk<'_, R> {
     }
 
     fn write_at(&mut self, at: u64, bytes: &[u8]) -> Result<(), DeviceFault> {
-        match self.file.write_all_at(bytes, at) {
+        match self.contents.write(&mut self.file, at, bytes) {
             Ok(()) => {
                 self.calls = self.calls.and(&[Call::Wrote {
                     at,
@@ -340,11 +353,10 @@ impl<R: Files<File = fs::File> + Clock> Disk for FileDisk<'_, R> {
                 }]);
                 Ok(())
             }
-            Err(reason) => {
+            Err(fault) => {
                 let count = bytes.len() as u64;
                 self.calls = self.calls.and(&[Call::WriteFailed { at, count }]);
-                let call = CallKind::Write;
-                tell(self.told, CallFault::System { call, reason });
+                tell(self.told, fault);
                 self.failures += 1;
                 Err(DeviceFault)
             }
@@ -354,10 +366,12 @@ impl<R: Files<File = fs::File> + Clock> Disk for FileDisk<'_, R> {
     fn sync(&mut self) -> Result<(), DeviceFault> {
         match sync_named(self.rt, &self.file, &mut self.name) {
             Ok(()) => {
+                self.contents.note_sync();
                 self.calls = self.calls.and(&[Call::Synced]);
                 Ok(())
             }
             Err(fault) => {
+                self.contents.forget();
                 self.calls = self.calls.and(&[Call::SyncFailed]);
                 tell(self.told, fault);
                 self.failures += 1;

@@ -7,6 +7,7 @@
 #![tactic(auto)]
 
 mod call;
+mod contents;
 mod fault_plan;
 mod file;
 mod held;

@@ -6,6 +6,7 @@ use snap_disk::{DeviceFault, Disk};
 use snap_slot::FILE_LEN;
 use std::alloc::{AllocError, Allocator};
 use std::fs::{self, OpenOptions};
+use std::os::unix::fs::FileExt;
 use std::process::Abort;
 use std::rt::{Clock, Files};
 use std::sync::OnceLock;
@@ -359,6 +360,72 @@ fn a_file_that_is_moved(rt: HostRuntime) -> Result<(), Fail> {
     assert!(rt; disk.failures() < 9 && disk.sync().is_ok());
     fs::remove_file(&rt, path.as_str())?;
     is_unsynced(&rt, &mut disk);
+    Ok(())
+}
+
+/// The whole file is read.
+fn is_read(rt: &impl Abort, disk: &mut FileDisk<'_, HostRuntime>) {
+    let mut buf = [0; FILE_LEN as usize];
+    assert!(rt; disk.len() == FILE_LEN && disk.failures() < 9);
+    assert!(rt; disk.read_at(0, &mut buf).is_ok());
+}
+
+/// It can't be written, and isn't.
+fn is_unwritten(rt: &impl Abort, disk: &mut FileDisk<'_, HostRuntime>) {
+    let failures = disk.failures();
+    assert!(rt; disk.len() == FILE_LEN && failures < 9);
+    assert!(rt; disk.write_at(7, b"w") == Err(DeviceFault));
+    assert!(rt; disk.failures() == failures + 1);
+    gives(rt, disk, 6, [0, 0, 0]);
+}
+
+const OVERWRITTEN: &str =
+    "write: another program wrote it or cut it, and it is left so: never copy onto a file in use: snapd load makes a new folder of a dump";
+
+/// Where a gate stands.
+const GATE: u64 = 20_480;
+
+/// A write is refused while a gate is another one, and while there is one more byte.
+fn is_watched(
+    rt: &impl Abort,
+    host: &HostRuntime,
+    path: &str,
+    disk: &mut FileDisk<'_, HostRuntime>,
+) -> Result<(), Fail> {
+    let file = OpenOptions::new().write(true).open(host, path)?;
+    file.write_all_at(b"o", GATE)?;
+    is_unwritten(rt, disk);
+    file.write_all_at(b"n", GATE)?;
+    cut(host, path, FILE_LEN + 1)?;
+    is_unwritten(rt, disk);
+    cut(host, path, FILE_LEN)?;
+    Ok(())
+}
+
+#[test]
+fn a_file_that_is_overwritten(rt: HostRuntime) -> Result<(), Fail> {
+    let path = temporary(&rt, "overwritten")?;
+    let told = OnceLock::new();
+    let mut disk = FileDisk::create(&rt, path.as_str())?.telling(&told);
+    // Of a file that wasn't read whole nothing is known.
+    let file = OpenOptions::new().write(true).open(&rt, path.as_str())?;
+    file.write_all_at(b"n", GATE)?;
+    writes(&rt, &mut disk, 0, b"a");
+    is_read(&rt, &mut disk);
+    is_watched(&rt, &rt, path.as_str(), &mut disk)?;
+    says(&rt, &told, OVERWRITTEN)?;
+    // It is back. The next look comes behind two syncs.
+    writes(&rt, &mut disk, 1, b"b");
+    assert!(rt; disk.failures() < 9);
+    disk.sync()?;
+    file.write_all_at(b"o", GATE)?;
+    writes(&rt, &mut disk, 2, b"c");
+    assert!(rt; disk.failures() < 9);
+    disk.sync()?;
+    is_unwritten(&rt, &mut disk);
+    file.write_all_at(b"n", GATE)?;
+    writes(&rt, &mut disk, 3, b"d");
+    fs::remove_file(&rt, path.as_str())?;
     Ok(())
 }
 
