@@ -242,7 +242,8 @@ def test_a_fenced_segment_is_dumped_as_it_was(snapd, _):
 
 
 def test_a_server_that_gives_no_answer(snapd, _):
-    none = "snapd: 127.0.0.1:1: no connection to the server could be made: start snapd serve there, or try again with --tries\n"
+    none = "snapd: 127.0.0.1:1: no connection to the server could be made\n"
+    none += "snapd: 127.0.0.1:1: Connection refused (os error 111): nobody listens there: start snapd serve there, or wait for it with --wait\n"
     snapd("dump", "127.0.0.1:1").gave(1, errors=none)
     snapd("dump", "127.0.0.1:1", "--tries", 3, "--timeout", 5).gave(1, errors=none)
     with Server(snapd, *fresh(snapd, 2)) as server:

@@ -329,7 +329,7 @@ def test_nobody_listens(snapd, _):
     address = f"127.0.0.1:{free_port()}"
     for words in (("scan",), ("status", "--tries", 3), ("update", 0, 1, "-", "--tries", 2)):
         run = snapd("call", address, *words).failed_with(1, address)
-        assert run.errors.count("\n") == 1, run
+        assert run.errors.count("\n") == 2, run
     for address in ("nowhere", "127.0.0.1", "127.0.0.1:65536", ""):
         snapd("call", address, "scan").failed_with(1, f"snapd: {address}: ")
 

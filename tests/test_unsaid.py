@@ -308,7 +308,7 @@ def test_a_migration_looks_before_it_opens(snapd, _):
 def test_a_call_says_what_to_do(snapd, _):
     """Where nobody listens, where the peer closes before it has answered, and where it answers what no server does."""
     run = snapd("call", f"127.0.0.1:{free_port()}", "scan")
-    assert run.status == 1 and run.errors.endswith(": start snapd serve there, or try again with --tries\n"), run
+    assert run.status == 1 and run.errors.endswith(": start snapd serve there, or wait for it with --wait\n"), run
     for sent, remedy in ((b"", "send it again, since an update is stored once"), (frame(b"\0"), "check the address")):
         with socket.create_server(("127.0.0.1", 0)) as listener:
 

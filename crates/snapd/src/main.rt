@@ -26,6 +26,7 @@ mod init_command;
 mod link;
 mod load_command;
 mod loading_folder;
+mod remedy;
 mod right_order;
 mod run_log;
 mod serve_command;
@@ -33,6 +34,7 @@ mod store_log;
 mod store_times;
 mod surroundings;
 mod time_limit;
+mod tries;
 mod update_watch;
 mod watch_command;
 
