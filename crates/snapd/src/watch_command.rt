@@ -273,8 +273,8 @@ impl<'a> Screen<'a> {
         let panel = Panel {
             address: self.address,
             loss,
-            rows: &self.shown,
-            tracks: &self.tracks,
+            rows: self.shown.as_slice(),
+            tracks: self.tracks.as_slice(),
             now: self.now,
             is_coloured: self.is_coloured,
         };

@@ -187,8 +187,8 @@ fn a_board_is_drawn_in_place(rt: HostRuntime) -> Result<(), Fail> {
     let panel = Panel {
         address: "h:1",
         loss: None,
-        rows: &rows,
-        tracks: &tracks,
+        rows: rows.as_slice(),
+        tracks: tracks.as_slice(),
         now: 3_500,
         is_coloured: false,
     };
