@@ -13,7 +13,7 @@ pub fn sign_of_loss(lacking: usize, numbers: &[u64]) -> Option<usize>
         return None;
     }
     for (at, number) in numbers.iter().enumerate() {
-        if *number != 0 {
+        if *number > 0 {
             return Some(at);
         }
     }
