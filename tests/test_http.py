@@ -2,12 +2,14 @@
 
 import base64
 import contextlib
+import email.utils
 import errno
 import os
 import shutil
 import socket
 import subprocess
 import threading
+import time
 
 from http_place import SeenServer
 from program import Skipped
@@ -17,6 +19,7 @@ from test_serve_disks import TWO, Disk
 from waiting import PATIENCE, comes_to
 
 PATHS = b"Nothing is here. There is: / /metrics /health /scan /status /stats\n"
+EACH = ("/", "/metrics", "/health", "/scan", "/status", "/stats", "/board.js", "/board.css")
 
 
 def part(mask):
@@ -136,6 +139,16 @@ def test_health_is_told_by_the_status(snapd, _):
         assert server.get("/health")[::2] == (503, b'{"healthy":false,"fenced":[1]}\n')
 
 
+def test_each_answer_says_when_it_was_made(snapd, _):
+    """A date as HTTP writes it, of the time between the request and its answer: also of what isn't there, and of a refused method."""
+    with SeenServer(snapd, *segments(snapd, TWO)) as server:
+        for method, path in [("GET", it) for it in EACH] + [("HEAD", "/scan"), ("GET", "/nothing"), ("PUT", "/scan")]:
+            before = int(time.time())
+            told = server.get(path, method)[1]["date"]
+            found = email.utils.parsedate_to_datetime(told)
+            assert email.utils.format_datetime(found, usegmt=True) == told and before <= found.timestamp() <= time.time(), (path, told)
+
+
 def test_documents_are_those_of_a_call(snapd, _):
     """`/scan` and `/status` are what `snapd call --json` prints; a value that is no text is told in base64."""
     with SeenServer(snapd, *segments(snapd, TWO, [(0, b""), (1, b"\x00\xff")])) as server:
@@ -164,7 +177,7 @@ def test_statistics_say_what_the_metrics_say(snapd, _):
 def test_head_and_what_is_not_there(snapd, _):
     """HEAD has the same head and no content; other methods and paths get their status, and nothing changes."""
     with SeenServer(snapd, *segments(snapd, TWO)) as server:
-        for path in ("/", "/metrics", "/health", "/scan", "/status", "/stats", "/board.js", "/board.css"):
+        for path in EACH:
             status, headers, content = server.get(path)
             bare_status, bare_headers, nothing = server.get(path, "HEAD")
             assert status == bare_status == 200 and content and not nothing, path
@@ -346,3 +359,4 @@ def test_the_page_shows_the_board(snapd, _):
         assert str(2**63 - 2) in digits, page[:2000]
         assert "00ff" in page.replace(" ", "").lower() and page.count(">step ") == 8, page.count(">step ")
         assert 'data-mark="fenced"' in page and "segment 10" in page.lower(), page[:2000]
+

@@ -1,7 +1,6 @@
 //! The answers to HTTP requests.
-ghost use Rattle.std.specs.Prelude.{◌≡◌, OnOk, OnErr, if◌then◌else◌};
+ghost use Rattle.std.specs.Prelude.{◌≡◌, [], OnOk, OnErr, if◌then◌else◌};
 ghost use Rattle.std.specs.List.{list_any};
-ghost use Rattle.http_server.specs.Response.{IsBlank};
 ghost use Rattle.snap_board.specs.Pages as pages;
 ghost use Rattle.snap_json.specs.Each.{each_from};
 ghost use Rattle.snap_json.specs.Documents.{health_text, list_text, status_tokens};
@@ -18,6 +17,7 @@ use crate::surroundings::Surroundings;
 use bytes::Bytes;
 use http::{HeaderName, HeaderValue, Request, StatusCode, header};
 use http_server::Response;
+use httpdate::HttpDate;
 use snap_figures::Reading;
 use snap_frame::{Reply, SegmentStatus};
 use snap_json::{health_document, scan_document, status_document};
@@ -25,7 +25,8 @@ use snap_session::Service;
 use std::alloc::{AllocError, Global};
 
 /// What is said where no page is.
-const PATHS: &[u8] = b"Nothing is here. There is: / /metrics /health /scan /status /stats\n";
+const PATHS: &[u8] =
+    b"Nothing is here. There is: / /metrics /health /scan /status /stats\n";
 
 /// What is said of a method that might change something.
 const METHODS: &[u8] = b"Only GET and HEAD are answered.\n";
@@ -66,7 +67,7 @@ impl<S: Service + Drop, X: Surroundings + Drop> Board<S, X> {
         request: &Request<Bytes>,
         response: &mut Response,
     ) -> Result<(), AllocError>
-        requires { IsBlank response.old }
+        requires { response.old.body.items ≡ [] }
         ensures answers { OnOk result (pages.Answers S.gives (X.reads self.old.surroundings)
             (X.version_of self.old.surroundings) self.old.service request.now response.new self.new.service) }
         ensures asks { OnErr result (pages.MayAskFor S.gives self.old.service request.now self.new.service) }
@@ -84,7 +85,7 @@ impl<S: Service + Drop, X: Surroundings + Drop> Board<S, X> {
 
     /// Shows a page.
     fn show(&mut self, page: Page, response: &mut Response) -> Result<(), AllocError>
-        requires { IsBlank response.old }
+        requires { response.old.body.items ≡ [] }
         ensures answers { OnOk result (pages.AnswersPage S.gives (X.reads self.old.surroundings)
             (X.version_of self.old.surroundings) page self.old.service response.new self.new.service) }
         ensures asks { OnErr result (pages.MayAsk S.gives (pages.asked_of page) self.old.service self.new.service) }
@@ -104,7 +105,7 @@ impl<S: Service + Drop, X: Surroundings + Drop> Board<S, X> {
 
     /// Shows a scan.
     fn show_scan(&mut self, response: &mut Response) -> Result<(), AllocError>
-        requires { IsBlank response.old }
+        requires { response.old.body.items ≡ [] }
         ensures answers { OnOk result (pages.AnswersPage S.gives (X.reads self.old.surroundings)
             (X.version_of self.old.surroundings) Page.Scan self.old.service response.new self.new.service) }
         ensures asks { OnErr result (pages.MayAsk S.gives (pages.asked_of Page.Scan)
@@ -122,7 +123,7 @@ impl<S: Service + Drop, X: Surroundings + Drop> Board<S, X> {
 
     /// Shows what was counted, for Prometheus.
     fn show_metrics(&mut self, response: &mut Response) -> Result<(), AllocError>
-        requires { IsBlank response.old }
+        requires { response.old.body.items ≡ [] }
         ensures answers { OnOk result (pages.AnswersPage S.gives (X.reads self.old.surroundings)
             (X.version_of self.old.surroundings) Page.Metrics self.old.service response.new self.new.service) }
         ensures asks { OnErr result (pages.MayAsk S.gives (pages.asked_of Page.Metrics)
@@ -139,7 +140,7 @@ impl<S: Service + Drop, X: Surroundings + Drop> Board<S, X> {
 
     /// Shows whether no segment is fenced.
     fn show_health(&mut self, response: &mut Response) -> Result<(), AllocError>
-        requires { IsBlank response.old }
+        requires { response.old.body.items ≡ [] }
         ensures answers { OnOk result (pages.AnswersPage S.gives (X.reads self.old.surroundings)
             (X.version_of self.old.surroundings) Page.Health self.old.service response.new self.new.service) }
         ensures asks { OnErr result (pages.MayAsk S.gives (pages.asked_of Page.Health)
@@ -154,7 +155,7 @@ impl<S: Service + Drop, X: Surroundings + Drop> Board<S, X> {
 
     /// Shows the number and the fence of each segment.
     fn show_status(&mut self, response: &mut Response) -> Result<(), AllocError>
-        requires { IsBlank response.old }
+        requires { response.old.body.items ≡ [] }
         ensures answers { OnOk result (pages.AnswersPage S.gives (X.reads self.old.surroundings)
             (X.version_of self.old.surroundings) Page.Status self.old.service response.new self.new.service) }
         ensures asks { OnErr result (pages.MayAsk S.gives (pages.asked_of Page.Status)
@@ -169,7 +170,7 @@ impl<S: Service + Drop, X: Surroundings + Drop> Board<S, X> {
 
     /// Shows what was counted, as a document.
     fn show_stats(&mut self, response: &mut Response) -> Result<(), AllocError>
-        requires { IsBlank response.old }
+        requires { response.old.body.items ≡ [] }
         ensures answers { OnOk result (pages.AnswersPage S.gives (X.reads self.old.surroundings)
             (X.version_of self.old.surroundings) Page.Stats self.old.service response.new self.new.service) }
         ensures asks { OnErr result (pages.MayAsk S.gives (pages.asked_of Page.Stats)
@@ -182,6 +183,22 @@ impl<S: Service + Drop, X: Surroundings + Drop> Board<S, X> {
             }
             reply => refuse(self.alloc, response, &reply),
         }
+    }
+
+    /// Says when the answer is made, where a clock tells and there is memory for it.
+    fn put_date(&self, response: &mut Response)
+        ensures { response.new.body ≡ response.old.body }
+    {
+        if let Some(date) = self.date() {
+            let _ = response.add_header(header::DATE, date);
+        }
+    }
+
+    /// The date, as HTTP writes it.
+    fn date(&self) -> Option<HeaderValue> {
+        let seconds = self.surroundings.now_millis()? / 1_000;
+        let date = HttpDate::from_unix_secs(seconds).ok()?;
+        HeaderValue::from_bytes(self.alloc, &date.to_bytes()).ok()
     }
 }
 
@@ -212,7 +229,7 @@ fn metrics_page<X: Surroundings>(
     statuses: &[SegmentStatus],
     response: &mut Response,
 ) -> Result<(), AllocError>
-    requires { IsBlank response.old }
+    requires { response.old.body.items ≡ [] }
     ensures { OnOk result (pages.ShowsStatuses (X.reads surroundings.now) (X.version_of surroundings.now)
         Page.Metrics statuses.now response.new) }
 {
@@ -229,7 +246,7 @@ fn stats_page<X: Surroundings>(
     statuses: &[SegmentStatus],
     response: &mut Response,
 ) -> Result<(), AllocError>
-    requires { IsBlank response.old }
+    requires { response.old.body.items ≡ [] }
     ensures { OnOk result (pages.ShowsStatuses (X.reads surroundings.now) (X.version_of surroundings.now)
         Page.Stats statuses.now response.new) }
 {
@@ -250,7 +267,7 @@ fn status_page(
     statuses: &[SegmentStatus],
     response: &mut Response,
 ) -> Result<(), AllocError>
-    requires { IsBlank response.old }
+    requires { response.old.body.items ≡ [] }
     ensures { OnOk result (pages.HasContent 200 (list_text (each_from status_tokens 0 statuses.now)) response.new) }
 {
     let text = status_document(alloc, statuses)?;
@@ -263,7 +280,7 @@ fn health_page(
     statuses: &[SegmentStatus],
     response: &mut Response,
 ) -> Result<(), AllocError>
-    requires { IsBlank response.old }
+    requires { response.old.body.items ≡ [] }
     ensures { OnOk result (pages.HasContent
         (if list_any (λ s. s.is_fenced) statuses.now then 503 else 200) (health_text statuses.now) response.new) }
 {
@@ -291,7 +308,7 @@ fn is_any_fenced(statuses: &[SegmentStatus]) -> bool
 
 /// Shows the page for people.
 fn show_home(response: &mut Response) -> Result<(), AllocError>
-    requires { IsBlank response.old }
+    requires { response.old.body.items ≡ [] }
     ensures { OnOk result (response.new.status ≡ 200) }
 {
     show_file(response, Kind::Html, HOME)?;
@@ -307,7 +324,7 @@ fn show_home(response: &mut Response) -> Result<(), AllocError>
 
 /// Shows what is the same each time.
 fn show_file(response: &mut Response, kind: Kind, content: &'static [u8]) -> Result<(), AllocError>
-    requires { IsBlank response.old }
+    requires { response.old.body.items ≡ [] }
     ensures { OnOk result (response.new.status ≡ 200) }
 {
     fill(response, StatusCode::OK, kind, Bytes::from_static(content))
@@ -315,7 +332,7 @@ fn show_file(response: &mut Response, kind: Kind, content: &'static [u8]) -> Res
 
 /// Says which refusal the service answered, or that it gave no answer.
 fn refuse(alloc: Global, response: &mut Response, reply: &Option<Reply>) -> Result<(), AllocError>
-    requires { IsBlank response.old }
+    requires { response.old.body.items ≡ [] }
     ensures { OnOk result (response.new.status ≡ 503) }
 {
     let text = match reply {
@@ -330,7 +347,7 @@ fn refuse(alloc: Global, response: &mut Response, reply: &Option<Reply>) -> Resu
 
 /// Refuses a method that might change something.
 fn refuse_method(response: &mut Response) -> Result<(), AllocError>
-    requires { IsBlank response.old }
+    requires { response.old.body.items ≡ [] }
     ensures { OnOk result (response.new.status ≡ 405) }
 {
     fill(
@@ -344,7 +361,7 @@ fn refuse_method(response: &mut Response) -> Result<(), AllocError>
 
 /// Says which paths there are.
 fn refuse_path(response: &mut Response) -> Result<(), AllocError>
-    requires { IsBlank response.old }
+    requires { response.old.body.items ≡ [] }
     ensures { OnOk result (response.new.status ≡ 404) }
 {
     fill(
@@ -369,6 +386,7 @@ impl<S: Service + Drop, X: Surroundings + Drop> http_server::Service for Board<S
         request: &Request<Bytes>,
         response: &mut Response,
     ) -> Result<(), AllocError> {
+        self.put_date(response);
         if self.answer(request, response).is_err() {
             give_up(response);
         }

@@ -115,7 +115,8 @@ fn a_status_has_each_fence(rt: HostRuntime) -> Result<(), Fail> {
 fn a_whole_response_to_the_byte(rt: HostRuntime) -> Result<(), Fail> {
     let request = b"HEAD /health HTTP/1.1\r\nHost: h\r\n\r\n";
     let said = conversation(&rt, SCAN, STATUS, request)?;
-    let told: &[u8] = b"HTTP/1.1 200 OK\r\ncontent-type: application/json\r\n\
+    let told: &[u8] = b"HTTP/1.1 200 OK\r\ndate: Thu, 01 Jan 1970 00:00:02 GMT\r\n\
+        content-type: application/json\r\n\
         cache-control: no-store\r\nx-content-type-options: nosniff\r\n\
         cross-origin-resource-policy: same-origin\r\ncontent-length: 17\r\n\r\n";
     assert!(rt; said.as_slice() == told);
@@ -321,7 +322,7 @@ fn stats_are_a_document(rt: HostRuntime) -> Result<(), Fail> {
 fn the_page_loads_its_own_alone(rt: HostRuntime) -> Result<(), Fail> {
     let request = b"GET / HTTP/1.1\r\nHost: h\r\n\r\n";
     let page = conversation(&rt, SCAN, STATUS, request)?;
-    assert!(rt; page.starts_with(b"HTTP/1.1 200 OK\r\ncontent-type: text/html; charset=utf-8\r\n"));
+    assert!(rt; has(&page, b"\r\ncontent-type: text/html; charset=utf-8\r\n"));
     assert!(rt;
         has(
             &page,
