@@ -18,8 +18,8 @@ from serving import segments, snapshot, standings, stored, to_its_end, update
 from test_serve_disks import TWO, Disk
 from waiting import PATIENCE, comes_to
 
-PATHS = b"Nothing is here. There is: / /metrics /health /scan /status /stats\n"
-EACH = ("/", "/metrics", "/health", "/scan", "/status", "/stats", "/board.js", "/board.css")
+PATHS = b"Nothing is here. There is: / /metrics /health /livez /readyz /scan /status /stats\n"
+EACH = ("/", "/metrics", "/health", "/livez", "/readyz", "/scan", "/status", "/stats", "/board.js", "/board.css")
 
 
 def part(mask):
@@ -137,6 +137,22 @@ def test_health_is_told_by_the_status(snapd, _):
         disk.says(f"S1 sync fail {errno.EIO}")
         server.ask(update(1, 1, b"x"), refused(13, 0))
         assert server.get("/health")[::2] == (503, b'{"healthy":false,"fenced":[1]}\n')
+
+
+def test_it_lives_and_is_ready_until_each_segment_is_fenced(snapd, _):
+    """`/readyz` is 200 where one of two is fenced and `/health` is 503, and 503 where both are; `/livez` is 200 all along."""
+    disk = Disk(snapd)
+    with SeenServer(snapd, *segments(snapd, TWO, FRESH), env=disk.env) as server:
+        statuses = lambda: [server.get(path)[0] for path in ("/livez", "/readyz", "/health")]  # noqa: E731
+        assert statuses() == [200, 200, 200]
+        disk.says(f"S1 sync fail {errno.EIO}")
+        server.ask(update(1, 1, b"x"), refused(13, 0))
+        assert statuses() == [200, 200, 503]
+        disk.says(f"S0 write fail {errno.EIO}")
+        server.ask(update(0, 2, b"x"), refused(13, 1))
+        assert statuses() == [200, 503, 503]
+        assert server.get("/livez")[2] == b"ok\n" and server.get("/readyz")[2] == b"each segment is fenced\n"
+        assert server.get("/livez")[1]["content-type"] == server.get("/readyz")[1]["content-type"] == "text/plain; charset=utf-8"
 
 
 def test_each_answer_says_when_it_was_made(snapd, _):

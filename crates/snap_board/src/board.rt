@@ -1,6 +1,6 @@
 //! The answers to HTTP requests.
 ghost use Rattle.std.specs.Prelude.{◌≡◌, [], OnOk, OnErr, if◌then◌else◌};
-ghost use Rattle.std.specs.List.{list_any};
+ghost use Rattle.std.specs.List.{list_all, list_any};
 ghost use Rattle.snap_board.specs.Pages as pages;
 ghost use Rattle.snap_json.specs.Each.{each_from};
 ghost use Rattle.snap_json.specs.Documents.{health_text, list_text, status_tokens};
@@ -26,10 +26,16 @@ use std::alloc::{AllocError, Global};
 
 /// What is said where no page is.
 const PATHS: &[u8] =
-    b"Nothing is here. There is: / /metrics /health /scan /status /stats\n";
+    b"Nothing is here. There is: / /metrics /health /livez /readyz /scan /status /stats\n";
 
 /// What is said of a method that might change something.
 const METHODS: &[u8] = b"Only GET and HEAD are answered.\n";
+
+/// What is said where all is well.
+const WELL: &[u8] = b"ok\n";
+
+/// What is said where no segment takes an update.
+const ALL_FENCED: &[u8] = b"each segment is fenced\n";
 
 /// What is said where the service gave no answer.
 const NO_ANSWER: &[u8] = b"no answer\n";
@@ -95,9 +101,11 @@ impl<S: Service + Drop, X: Surroundings + Drop> Board<S, X> {
             Page::Home => show_home(response),
             Page::Style => show_file(response, Kind::Css, STYLE),
             Page::Script => show_file(response, Kind::Script, SCRIPT),
+            Page::Live => show_file(response, Kind::Text, WELL),
             Page::Scan => self.show_scan(response),
             Page::Metrics => self.show_metrics(response),
             Page::Health => self.show_health(response),
+            Page::Ready => self.show_ready(response),
             Page::Status => self.show_status(response),
             Page::Stats => self.show_stats(response),
         }
@@ -149,6 +157,21 @@ impl<S: Service + Drop, X: Surroundings + Drop> Board<S, X> {
     {
         match self.service.answer(&snap_frame::Request::Status, 0) {
             Some(Reply::Status(statuses)) => { health_page(self.alloc, &statuses, response) }
+            reply => refuse(self.alloc, response, &reply),
+        }
+    }
+
+    /// Shows whether some segment takes updates.
+    fn show_ready(&mut self, response: &mut Response) -> Result<(), AllocError>
+        requires { response.old.body.items ≡ [] }
+        ensures answers { OnOk result (pages.AnswersPage S.gives (X.reads self.old.surroundings)
+            (X.version_of self.old.surroundings) Page.Ready self.old.service response.new self.new.service) }
+        ensures asks { OnErr result (pages.MayAsk S.gives (pages.asked_of Page.Ready)
+            self.old.service self.new.service) }
+        ensures same { self.new.surroundings ≡ self.old.surroundings }
+    {
+        match self.service.answer(&snap_frame::Request::Status, 0) {
+            Some(Reply::Status(statuses)) => ready_page(&statuses, response),
             reply => refuse(self.alloc, response, &reply),
         }
     }
@@ -304,6 +327,32 @@ fn is_any_fenced(statuses: &[SegmentStatus]) -> bool
     ensures { result ≡ list_any (λ s. s.is_fenced) statuses.now }
 {
     statuses.iter().any(|status| status.is_fenced)
+}
+
+/// Tells by the status whether some segment takes updates: 503 where each is fenced.
+fn ready_page(statuses: &[SegmentStatus], response: &mut Response) -> Result<(), AllocError>
+    requires { response.old.body.items ≡ [] }
+    ensures { OnOk result (response.new.status
+        ≡ (if list_all (λ s. s.is_fenced) statuses.now then 503 else 200)) }
+{
+    if are_all_fenced(statuses) {
+        let content = Bytes::from_static(ALL_FENCED);
+        fill(
+            response,
+            StatusCode::SERVICE_UNAVAILABLE,
+            Kind::Text,
+            content,
+        )
+    } else {
+        show_file(response, Kind::Text, WELL)
+    }
+}
+
+/// Whether each of the segments is fenced.
+fn are_all_fenced(statuses: &[SegmentStatus]) -> bool
+    ensures { result ≡ list_all (λ s. s.is_fenced) statuses.now }
+{
+    statuses.iter().all(|status| status.is_fenced)
 }
 
 /// Shows the page for people.

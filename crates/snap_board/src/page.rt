@@ -15,6 +15,10 @@ pub enum Page {
     Metrics,
     /// `/health`: whether a segment is fenced.
     Health,
+    /// `/livez`: that somebody answers.
+    Live,
+    /// `/readyz`: whether some segment takes updates.
+    Ready,
     /// `/scan`: the number and the value of each segment at one moment.
     Scan,
     /// `/status`: the number and the fence of each segment.
@@ -34,6 +38,8 @@ impl Page {
             "/board.js" => Some(Page::Script),
             "/metrics" => Some(Page::Metrics),
             "/health" => Some(Page::Health),
+            "/livez" => Some(Page::Live),
+            "/readyz" => Some(Page::Ready),
             "/scan" => Some(Page::Scan),
             "/status" => Some(Page::Status),
             "/stats" => Some(Page::Stats),

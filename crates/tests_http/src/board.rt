@@ -8,7 +8,7 @@ use snap_board::Board;
 use std::hash::RandomState;
 use std::io;
 use std::test::Fail;
-use told::{Around, FENCED, NOTHING, REFUSED, SCAN, STATUS, Teller};
+use told::{ALL_FENCED, Around, FENCED, NOTHING, REFUSED, SCAN, STATUS, Teller};
 
 /// What a board says to these requests, one after another on one connection, over a service with these replies.
 fn conversation(
@@ -89,6 +89,33 @@ fn a_fence_is_told_by_the_status_too(rt: HostRuntime) -> Result<(), Fail> {
     let (first, content) = get(&rt, SCAN, FENCED, "/health?now=1")?;
     assert!(rt; first.as_slice() == b"HTTP/1.1 503 Service Unavailable".as_slice());
     assert!(rt; content.as_slice() == b"{\"healthy\":false,\"fenced\":[1]}\n".as_slice());
+    Ok(())
+}
+
+#[test]
+fn readiness_and_life_are_told_by_the_status(rt: HostRuntime) -> Result<(), Fail> {
+    for (status, path, first, content) in [
+        (STATUS, "/livez", "HTTP/1.1 200 OK", "ok\n"),
+        (NOTHING, "/livez", "HTTP/1.1 200 OK", "ok\n"),
+        (STATUS, "/readyz", "HTTP/1.1 200 OK", "ok\n"),
+        (FENCED, "/readyz", "HTTP/1.1 200 OK", "ok\n"),
+        (
+            ALL_FENCED,
+            "/readyz",
+            "HTTP/1.1 503 Service Unavailable",
+            "each segment is fenced\n",
+        ),
+        (
+            NOTHING,
+            "/readyz",
+            "HTTP/1.1 503 Service Unavailable",
+            "no answer\n",
+        ),
+    ] {
+        let told = get(&rt, SCAN, status, path)?;
+        assert!(rt; told.0.as_slice() == first.as_bytes());
+        assert!(rt; told.1.as_slice() == content.as_bytes());
+    }
     Ok(())
 }
 
