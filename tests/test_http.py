@@ -165,6 +165,35 @@ def test_each_answer_says_when_it_was_made(snapd, _):
             assert email.utils.format_datetime(found, usegmt=True) == told and before <= found.timestamp() <= time.time(), (path, told)
 
 
+def test_segments_have_the_names_of_their_files(snapd, _):
+    """Without folder and ending: in the document, and as a label of a metric, where a quote stays within it."""
+    files = ["a/segment-01.seg", 'b "c".seg', "d"]
+    for name, made in zip(files, segments(snapd, TWO, FRESH, FRESH)):
+        snapd.file(name).parent.mkdir(exist_ok=True)
+        snapd.file(made).rename(snapd.file(name))
+    with SeenServer(snapd, *files) as server:
+        told = server.document("/stats")["segments"]
+        assert [(it["file"], it["name"]) for it in told] == list(zip(files, ["segment-01", 'b "c"', "d"])), told
+        lines = [it for it in server.get("/metrics")[2].decode().splitlines() if it.startswith("snapd_segment_info")]
+        names = ["segment-01", 'b \\"c\\"', "d"]
+        assert lines == [f'snapd_segment_info{{segment="{place}",name="{name}"}} 1' for place, name in enumerate(names)], lines
+        version = server.document("/stats")["version"]
+        assert f'\nsnapd_build_info{{version="{version}"}} 1\n' in server.get("/metrics")[2].decode()
+
+
+def test_lines_that_the_log_loses_are_counted(snapd, _):
+    """On an output that takes nothing: the lines of the start, and one for the end of each connection."""
+    into_full = ("sh", "-c", 'exec "$@" 2>/dev/full', "sh")
+    with SeenServer(snapd, *fresh(snapd, 1), port=free_port(), before=into_full, more=("--log", "debug")) as server:
+        lost = lambda: int(server.metrics()["snapd_log_lost_lines_total"])  # noqa: E731
+        comes_to(True, lambda: lost() > 0)
+        time.sleep(0.5)
+        before = lost()
+        for _ in range(3):
+            server.ask(STATUS, standings((0, False)))
+        comes_to(before + 3, lost)
+
+
 def test_documents_are_those_of_a_call(snapd, _):
     """`/scan` and `/status` are what `snapd call --json` prints; a value that is no text is told in base64."""
     with SeenServer(snapd, *segments(snapd, TWO, [(0, b""), (1, b"\x00\xff")])) as server:

@@ -1,5 +1,5 @@
 -- What a board answers.
-use Rattle.std.specs.Prelude.{◌≡◌, ◌⊎◌, ◌||◌, ℕ, List, Option, Some, None, Bool, MatchBool, bytes_eq, codes, option_and_then, if◌then◌else◌}
+use Rattle.std.specs.Prelude.{◌≡◌, ◌⊎◌, ◌||◌, ◌++◌, ℕ, List, Option, Some, None, Bool, MatchBool, bytes_eq, codes, option_and_then, if◌then◌else◌}
 use Rattle.std.specs.List.{list_all, list_any}
 use Rattle.http.specs.declared.request.Request as http
 use Rattle.http.specs.Request.{head_of}
@@ -39,13 +39,14 @@ asked_of pages.Scan = Some requests.Scan
 asked_of pages.Status = Some requests.Status
 asked_of pages.Stats = Some requests.Status
 
--- the text tells what was counted, as it may be read, and these statuses
+-- the text tells what was counted, as it may be read, and these statuses, and more behind that
 pub record IsMetrics (reads : Reading → Type 0) (version : List ℕ) (statuses : List SegmentStatus) (text : List ℕ) : Type 0 where
   pub facts : Facts
+  pub more : List ℕ
   pub reading : reads facts.reading.now
   pub program : facts.version.now ≡ version
   pub segments : facts.statuses.now ≡ statuses
-  pub is : text ≡ metrics_text facts
+  pub is : text ≡ metrics_text facts ++ more
 
 -- the text is the document of what was counted, as it may be read, and of these statuses; with any addresses and files
 pub record IsStats (reads : Reading → Type 0) (version : List ℕ) (statuses : List SegmentStatus) (text : List ℕ) : Type 0 where

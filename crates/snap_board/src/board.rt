@@ -10,6 +10,7 @@ use crate::figures::figures_document;
 use crate::home::HOME;
 use crate::metrics::metrics_text;
 use crate::page::Page;
+use crate::process::process_text;
 use crate::reply::{Kind, fill, fill_with, give_up};
 use crate::script::SCRIPT;
 use crate::style::STYLE;
@@ -258,7 +259,9 @@ fn metrics_page<X: Surroundings>(
 {
     let reading = surroundings.reading(alloc)?;
     let facts = facts_of(&reading, surroundings, statuses);
-    let text = metrics_text(alloc, &facts)?;
+    let mut text = metrics_text(alloc, &facts)?;
+    let more = process_text(alloc, &facts, &surroundings.usage(), surroundings.files())?;
+    text.extend_from_slice(more.as_slice())?;
     fill_with(response, StatusCode::OK, Kind::Metrics, text)
 }
 

@@ -1,7 +1,7 @@
 //! What a browser and a monitor see of a server: the answer to each HTTP request, as a value.
 //!
 //! [`Board`] is an [`http_server::Service`]. It asks a [`snap_session::Service`] for scans and statuses, which changes no
-//! segment, and its [`Surroundings`] for what was counted and for what the system tells. It has no socket, and waits for
+//! segment, and its [`Surroundings`] for what was counted, and for what the system tells. It has no socket, and waits for
 //! nobody: `snap_http` moves the bytes. docs/FORMATS.md, "HTTP", has each path with its status and its content.
 #![tactic(auto)]
 
@@ -13,6 +13,7 @@ mod home;
 mod metric;
 mod metrics;
 mod page;
+mod process;
 mod reply;
 mod sample;
 mod script;
@@ -25,4 +26,5 @@ pub use facts::Facts;
 pub use figures::figures_document;
 pub use metrics::metrics_text;
 pub use page::Page;
+pub use process::Usage;
 pub use surroundings::Surroundings;

@@ -84,6 +84,11 @@ impl<'a, R: Wait + Clock> Lines<'a, R> {
         Ok((log, waiting))
     }
 
+    /// How many lines were lost up to now.
+    pub fn lost(&self) -> u64 {
+        self.lost.load(Ordering::SeqCst)
+    }
+
     /// Hands the line of a record over, and says whether it did.
     fn hand_over<D: Display, K: Source, S: Spans>(&self, record: &Record<'_, D, K, S>) -> bool {
         if self.to.len() >= MAX_WAITING {
@@ -92,7 +97,7 @@ impl<'a, R: Wait + Clock> Lines<'a, R> {
         let Ok(text) = self.line(record) else {
             return false;
         };
-        let lost = self.lost.load(Ordering::SeqCst);
+        let lost = self.lost();
         self.to.send(self.rt, Line { text, lost }).is_ok()
     }
 

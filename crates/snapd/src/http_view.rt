@@ -1,7 +1,7 @@
 //! Who looks at a server for browsers and monitors.
 
 use crate::http_place::HttpPlace;
-use crate::surroundings::Process;
+use crate::surroundings::{Process, Seen};
 use log::{info, warn};
 use snap_args::is_everywhere;
 use snap_board::Board;
@@ -56,7 +56,11 @@ impl<'a, X: Wait + Clock> HttpView<'a, X> {
 
     /// Answers by this service until the server ends.
     fn answer<Y: Wait + Clock, S: Service + Drop>(&self, rt: &Y, mut site: Site, service: S) {
-        let mut board = Board::new(self.alloc, service, self.process);
+        let seen = Seen {
+            process: self.process,
+            log: self.log,
+        };
+        let mut board = Board::new(self.alloc, service, seen);
         if let Err(error) = site.serve(rt, &mut board) {
             warn!(self.log; target: "http", "no browser and no monitor is answered any more: {error}");
         }

@@ -10,7 +10,7 @@ use crate::http_place::HttpPlace;
 use crate::http_view::HttpView;
 use crate::run_log::RunLog;
 use crate::store_log::StoreLog;
-use crate::surroundings::Process;
+use crate::surroundings::{Process, millis_since_1970, most_descriptors};
 use crate::update_watch::UpdateWatch;
 use log::{LevelFilter, warn};
 use snap_args::is_everywhere;
@@ -196,6 +196,8 @@ where
         rt: system,
         figures: &figures,
         began: Instant::now(system).ok(),
+        started: millis_since_1970(system),
+        most_clients: most_clients(order),
         addresses: &addresses,
         folder,
         files: &order.files,
@@ -284,19 +286,15 @@ const OF_HTTP: u64 = MAX_GUESTS as u64 + 4;
 /// for.
 fn most_clients(order: &Serving<'_>) -> usize {
     let asked = order.clients.map_or(usize::MAX, |clients| clients as usize);
-    let mut limit = libc::types::rlimit {
-        rlim_cur: 0,
-        rlim_max: 0,
-    };
-    if libc::getrlimit(libc::RLIMIT_NOFILE, &mut limit) != 0 {
+    let Some(limit) = most_descriptors() else {
         return asked;
-    }
+    };
     let needed = OTHERS
         .saturating_add(order.files.len() as u64)
         .saturating_add((order.addresses.len() as u64).saturating_sub(1))
         .saturating_add(u64::from(order.scanners).saturating_mul(2))
         .saturating_add(if order.http.is_some() { OF_HTTP } else { 0 });
-    let left = limit.rlim_cur.saturating_sub(needed).max(1);
+    let left = limit.saturating_sub(needed).max(1);
     usize::try_from(left).unwrap_or(usize::MAX).min(asked)
 }
 

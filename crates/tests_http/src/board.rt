@@ -297,6 +297,42 @@ fn metrics_have_buckets_that_add_up(rt: HostRuntime) -> Result<(), Fail> {
     Ok(())
 }
 
+/// What no clause states of them, to the byte.
+#[test]
+fn metrics_have_the_process_and_the_names(rt: HostRuntime) -> Result<(), Fail> {
+    let (_, text) = get(&rt, SCAN, FENCED, "/metrics")?;
+    let told: &[u8] = b"\
+        # HELP snapd_build_info The version of the program, always 1.\n\
+        # TYPE snapd_build_info gauge\n\
+        snapd_build_info{version=\"1.2\\\"3\\\\\"} 1\n\
+        # HELP snapd_connections_max Connections that may be open.\n\
+        # TYPE snapd_connections_max gauge\n\
+        snapd_connections_max 7\n\
+        # HELP snapd_log_lost_lines_total Lines of the log that were lost.\n\
+        # TYPE snapd_log_lost_lines_total counter\n\
+        snapd_log_lost_lines_total 8\n\
+        # HELP process_start_time_seconds When the process was started, since 1970.\n\
+        # TYPE process_start_time_seconds gauge\n\
+        process_start_time_seconds 1.002\n\
+        # HELP process_cpu_seconds_total Time of processors that the process took.\n\
+        # TYPE process_cpu_seconds_total counter\n\
+        process_cpu_seconds_total 1.000000003\n\
+        # HELP process_resident_memory_bytes Memory of the process that lies in the machine's.\n\
+        # TYPE process_resident_memory_bytes gauge\n\
+        process_resident_memory_bytes 4096\n\
+        # HELP process_open_fds Descriptors that are open.\n\
+        # TYPE process_open_fds gauge\n\
+        process_open_fds 5\n\
+        # HELP process_max_fds Descriptors that may be open.\n\
+        # TYPE process_max_fds gauge\n\
+        process_max_fds 6\n\
+        # HELP snapd_segment_info The name of the segment, which is its file's, always 1.\n\
+        # TYPE snapd_segment_info gauge\n\
+        snapd_segment_info{segment=\"0\",name=\"b\\\"c\"} 1\n";
+    assert!(rt; text.ends_with(told));
+    Ok(())
+}
+
 #[test]
 fn stats_are_a_document(rt: HostRuntime) -> Result<(), Fail> {
     let (_, text) = get(&rt, SCAN, FENCED, "/stats")?;
@@ -321,7 +357,7 @@ fn stats_are_a_document(rt: HostRuntime) -> Result<(), Fail> {
     assert!(rt;
         has(
             &text,
-            b",16777216],\"segments\":[{\"segment\":0,\"file\":\"a\",\"number\":5,\"fenced\":false,"
+            b",16777216],\"segments\":[{\"segment\":0,\"file\":\"a/b\\\"c.seg\",\"name\":\"b\\\"c\",\"number\":5,\"fenced\":false,"
         )
     );
     assert!(rt;
@@ -339,7 +375,7 @@ fn stats_are_a_document(rt: HostRuntime) -> Result<(), Fail> {
     assert!(rt;
         has(
             &text,
-            b"{\"segment\":1,\"file\":null,\"number\":7,\"fenced\":true,\"updates\":0,"
+            b"{\"segment\":1,\"file\":null,\"name\":null,\"number\":7,\"fenced\":true,\"updates\":0,"
         )
     );
     Ok(())

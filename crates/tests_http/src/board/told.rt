@@ -2,7 +2,7 @@
 ghost use Rattle.std.specs.Prelude.{IfSome, codes};
 ghost use Rattle.snap_frame.specs.Messages.{IsInLimits};
 
-use snap_board::Surroundings;
+use snap_board::{Surroundings, Usage};
 use snap_disk::Refusal;
 use snap_figures::{BOUNDS, Distribution, Reading, SegmentReading, Tally};
 use snap_frame::{Reply, ReplyFeed, Request};
@@ -93,7 +93,7 @@ impl Around {
         let mut addresses = Vec::new(alloc);
         addresses.push(String::from_str(alloc, "127.0.0.1:7")?)?;
         let mut files = Vec::new(alloc);
-        files.push("a")?;
+        files.push("a/b\"c.seg")?;
         Ok(Around { addresses, files })
     }
 }
@@ -166,6 +166,18 @@ impl Surroundings for Around {
 
     fn resident_bytes(&self) -> Option<u64> {
         Some(4_096)
+    }
+
+    fn usage(&self) -> Usage {
+        Usage {
+            started: Some(1_002),
+            processors: Some(1_000_000_003),
+            addresses: None,
+            descriptors: Some(5),
+            most_descriptors: Some(6),
+            most_clients: 7,
+            lost_lines: 8,
+        }
     }
 
     fn version(&self) -> &str {
