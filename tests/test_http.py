@@ -18,8 +18,8 @@ from serving import segments, snapshot, standings, stored, to_its_end, update
 from test_serve_disks import TWO, Disk
 from waiting import PATIENCE, comes_to
 
-PATHS = b"Nothing is here. There is: / /metrics /health /livez /readyz /scan /status /stats\n"
-EACH = ("/", "/metrics", "/health", "/livez", "/readyz", "/scan", "/status", "/stats", "/board.js", "/board.css")
+PATHS = b"Nothing is here. There is: / /metrics /health /livez /readyz /scan /status /stats /history\n"
+EACH = ("/", "/metrics", "/health", "/livez", "/readyz", "/scan", "/status", "/stats", "/history", "/board.js", "/board.css")
 
 
 def part(mask):

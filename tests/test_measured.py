@@ -9,7 +9,7 @@ import subprocess
 import time
 
 from http_place import SeenServer
-from serving import FRESH, STATUS, fresh, segments, stored, update
+from serving import FRESH, SCAN, STATUS, fresh, segments, snapshot, standings, stored, update
 from test_doctor import STORES
 from test_folder import folder
 from test_serve_disks import Disk
@@ -131,3 +131,28 @@ def test_half_and_nearly_all_of_the_stores_of_a_folder(snapd, _):
     between(2 * slow, late, whole)
     comes_to([], lambda: [it.name for it in place.iterdir() if it.name.endswith("tmp")])
 
+
+def test_the_history_of_a_known_course(snapd, _):
+    """A sample about each second, the oldest first, each with all that was counted up to then; rest and work are seen where they were."""
+    with SeenServer(snapd, *segments(snapd, FRESH, FRESH)) as server:
+        samples = lambda: server.document("/history")["samples"]  # noqa: E731
+        comes_to(True, lambda: len(samples()) >= 2)
+        for number in range(1, 31):
+            server.ask(update(number % 2, (number + 1) // 2, b"v"), stored((number + 1) // 2))
+        for _ in range(5):
+            server.ask(SCAN, snapshot((15, b"v"), (15, b"v")))
+        reached, began = len(samples()), time.monotonic()
+        comes_to(True, lambda: len(samples()) >= reached + 3)
+        took = time.monotonic() - began
+        found, stats = samples(), server.document("/stats")
+        times = [it["uptime_milliseconds"] for it in found]
+        rests = [late - early for early, late in zip(times, times[1:])]
+        assert 2 < took and all(it >= 1_000 for it in rests) and times[-1] <= stats["uptime_milliseconds"], (took, times)
+        # So many in all that time, but for those that a busy machine was late with.
+        between((len(found) - 1) * 1_000, stats["uptime_milliseconds"], (len(found) + 1) * 1_000 + took * 500)
+        counts = [sum(it["store_counts"]) for it in found]
+        assert counts[:2] == [0, 0] and counts[-1] == 30 and counts == sorted(counts), counts
+        assert [it["scans"] for it in found[:2]] == [0, 0] and found[-1]["scans"] == 5
+        both = [sum(pair) for pair in zip(*(it["store"]["counts"] for it in stats["segments"]))]
+        assert found[-1]["store_counts"] == both, (found[-1], both)
+        server.ask(STATUS, standings((15, False), (15, False)))

@@ -38,6 +38,7 @@ asked_of pages.Ready = Some requests.Status
 asked_of pages.Scan = Some requests.Scan
 asked_of pages.Status = Some requests.Status
 asked_of pages.Stats = Some requests.Status
+asked_of pages.History = None
 
 -- the text tells what was counted, as it may be read, and these statuses, and more behind that
 pub record IsMetrics (reads : Reading → Type 0) (version : List ℕ) (statuses : List SegmentStatus) (text : List ℕ) : Type 0 where

@@ -27,7 +27,7 @@ use std::alloc::{AllocError, Global};
 
 /// What is said where no page is.
 const PATHS: &[u8] =
-    b"Nothing is here. There is: / /metrics /health /livez /readyz /scan /status /stats\n";
+    b"Nothing is here. There is: / /metrics /health /livez /readyz /scan /status /stats /history\n";
 
 /// What is said of a method that might change something.
 const METHODS: &[u8] = b"Only GET and HEAD are answered.\n";
@@ -103,6 +103,7 @@ impl<S: Service + Drop, X: Surroundings + Drop> Board<S, X> {
             Page::Style => show_file(response, Kind::Css, STYLE),
             Page::Script => show_file(response, Kind::Script, SCRIPT),
             Page::Live => show_file(response, Kind::Text, WELL),
+            Page::History => self.show_history(response),
             Page::Scan => self.show_scan(response),
             Page::Metrics => self.show_metrics(response),
             Page::Health => self.show_health(response),
@@ -207,6 +208,15 @@ impl<S: Service + Drop, X: Surroundings + Drop> Board<S, X> {
             }
             reply => refuse(self.alloc, response, &reply),
         }
+    }
+
+    /// Shows what was counted in the last three minutes.
+    fn show_history(&self, response: &mut Response) -> Result<(), AllocError>
+        requires { response.old.body.items ≡ [] }
+        ensures { OnOk result (response.new.status ≡ 200) }
+    {
+        let text = self.surroundings.history().document(self.alloc)?;
+        fill_with(response, StatusCode::OK, Kind::Json, text)
     }
 
     /// Says when the answer is made, where a clock tells and there is memory for it.

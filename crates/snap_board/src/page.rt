@@ -25,6 +25,8 @@ pub enum Page {
     Status,
     /// `/stats`: what was counted, as a document.
     Stats,
+    /// `/history`: what was counted in the last three minutes.
+    History,
 }
 
 impl Page {
@@ -43,6 +45,7 @@ impl Page {
             "/scan" => Some(Page::Scan),
             "/status" => Some(Page::Status),
             "/stats" => Some(Page::Stats),
+            "/history" => Some(Page::History),
             _ => None,
         }
     }

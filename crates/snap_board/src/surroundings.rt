@@ -2,6 +2,7 @@
 ghost use Rattle.std.specs.Prelude.{◌≡◌, ℕ, List, IfOk};
 ghost use Rattle.snap_figures.specs.declared.reading.Reading.{Reading};
 
+use crate::history::History;
 use crate::process::Usage;
 use snap_figures::Reading;
 use std::alloc::{AllocError, Global};
@@ -30,6 +31,9 @@ pub trait Surroundings {
 
     /// What else the process takes, and its bounds.
     fn usage(&self) -> Usage;
+
+    /// What was counted in the last three minutes.
+    fn history(&self) -> &History;
 
     /// The version of the program, as `1.2.3`.
     fn version(&self) -> &str

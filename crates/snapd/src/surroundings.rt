@@ -1,8 +1,9 @@
 //! What the system tells of a server that runs.
 
 use snap_args::VERSION;
-use snap_board::{Surroundings, Usage};
+use snap_board::{History, Surroundings, Usage};
 use snap_figures::{Figures, Reading};
+use snap_http::Beat;
 use snap_log::Lines;
 use std::alloc::{AllocError, Global};
 use std::rt::Clock;
@@ -113,15 +114,28 @@ pub fn most_descriptors() -> Option<u64> {
     Some(limit.rlim_cur)
 }
 
-/// A server in this process as who looks sees it: with its log.
+/// A server in this process as who looks sees it: with its log, and what it counted in the last three minutes.
 #[derive_where(Clone, Copy)]
 #[derive(Drop)]
-pub struct Seen<'a, X: Wait + Clock> {
+pub struct Seen<'a, 'h, X: Wait + Clock> {
     pub process: Process<'a>,
     pub log: &'a Lines<'a, X>,
+    pub history: &'h History,
 }
 
-impl<X: Wait + Clock> Surroundings for Seen<'_, X> {
+/// Takes a sample. One that there is no memory for is left out.
+impl<X: Wait + Clock> Beat for Seen<'_, '_, X> {
+    fn beat(&self) {
+        let Ok(reading) = self.process.figures.read(self.process.rt.alloc()) else {
+            return;
+        };
+        if let Some(uptime) = self.uptime() {
+            self.history.take(&reading, uptime);
+        }
+    }
+}
+
+impl<X: Wait + Clock> Surroundings for Seen<'_, '_, X> {
     ghost use Rattle.snap_args.specs.declared.grammar.TheConstants.{VERSION};
 
     ghost version_of = { λ _. VERSION.now };
@@ -152,6 +166,10 @@ impl<X: Wait + Clock> Surroundings for Seen<'_, X> {
             most_clients: self.process.most_clients as u64,
             lost_lines: self.log.lost(),
         }
+    }
+
+    fn history(&self) -> &History {
+        self.history
     }
 
     fn version(&self) -> &str {

@@ -4,10 +4,11 @@ mod told;
 
 use http_server::{Config, Connection, serve};
 use json::{Scratch, is_valid};
-use snap_board::Board;
+use snap_board::{Board, History, Surroundings};
 use std::hash::RandomState;
 use std::io;
 use std::test::Fail;
+use std::time::Duration;
 use told::{ALL_FENCED, Around, FENCED, NOTHING, REFUSED, SCAN, STATUS, Teller};
 
 /// What a board says to these requests, one after another on one connection, over a service with these replies.
@@ -334,6 +335,36 @@ fn metrics_have_the_process_and_the_names(rt: HostRuntime) -> Result<(), Fail> {
 }
 
 #[test]
+fn the_history_is_a_document(rt: HostRuntime) -> Result<(), Fail> {
+    let (first, content) = get(&rt, SCAN, NOTHING, "/history")?;
+    let told: &[u8] = b"{\"samples\":[{\"uptime_milliseconds\":1001,\"scans\":5,\
+        \"store_counts\":[1,2,0,0,0,0,0,0,0,0,0,0,0,0,0,0,0,0,0,0,0,3]}]}\n";
+    assert!(rt; first.as_slice() == b"HTTP/1.1 200 OK".as_slice());
+    assert!(rt; content.as_slice() == told);
+    Ok(())
+}
+
+#[test]
+fn the_history_keeps_three_minutes(rt: HostRuntime) -> Result<(), Fail> {
+    let alloc = rt.alloc();
+    let reading = Around::new(alloc)?.reading(alloc)?;
+    let history = History::new(alloc);
+    assert!(rt; history.document(alloc)?.as_slice() == b"{\"samples\":[]}\n".as_slice());
+    for number in 1..400 {
+        history.take(&reading, Duration::from_secs(number));
+    }
+    let text = history.document(alloc)?;
+    assert!(rt; text.starts_with(b"{\"samples\":[{\"uptime_milliseconds\":219000,"));
+    let samples = text.iter().filter(|byte| **byte == b'{').count() - 1;
+    assert!(rt; samples == 181);
+    for number in 219..400u64 {
+        let sample = format!(in alloc; "{{\"uptime_milliseconds\":{number}000,")?;
+        assert!(rt; has(&text, sample.as_bytes()));
+    }
+    Ok(())
+}
+
+#[test]
 fn stats_are_a_document(rt: HostRuntime) -> Result<(), Fail> {
     let (_, text) = get(&rt, SCAN, FENCED, "/stats")?;
     let Ok(written) = str::from_utf8(&text) else {
@@ -407,7 +438,7 @@ fn the_page_loads_its_own_alone(rt: HostRuntime) -> Result<(), Fail> {
 /// comes.
 #[test]
 fn want_of_memory_is_told_or_ends_the_connection(rt: HostRuntime) -> Result<(), Fail> {
-    for path in ["/scan", "/metrics", "/stats", "/health", "/"] {
+    for path in ["/scan", "/metrics", "/stats", "/history", "/health", "/"] {
         if let Ok((first, content)) = get(&rt, SCAN, STATUS, path) {
             let is_whole = first.as_slice() == b"HTTP/1.1 200 OK".as_slice()
                 && content.ends_with(b"\n");

@@ -2,7 +2,7 @@
 ghost use Rattle.std.specs.Prelude.{IfSome, codes};
 ghost use Rattle.snap_frame.specs.Messages.{IsInLimits};
 
-use snap_board::{Surroundings, Usage};
+use snap_board::{History, Surroundings, Usage};
 use snap_disk::Refusal;
 use snap_figures::{BOUNDS, Distribution, Reading, SegmentReading, Tally};
 use snap_frame::{Reply, ReplyFeed, Request};
@@ -86,6 +86,7 @@ impl Service for Teller {
 pub(crate) struct Around {
     addresses: Vec<String>,
     files: Vec<&'static str>,
+    history: History,
 }
 
 impl Around {
@@ -94,7 +95,15 @@ impl Around {
         addresses.push(String::from_str(alloc, "127.0.0.1:7")?)?;
         let mut files = Vec::new(alloc);
         files.push("a/b\"c.seg")?;
-        Ok(Around { addresses, files })
+        let around = Around {
+            addresses,
+            files,
+            history: History::new(alloc),
+        };
+        around
+            .history
+            .take(&around.reading(alloc)?, Duration::from_millis(1_001));
+        Ok(around)
     }
 }
 
@@ -178,6 +187,10 @@ impl Surroundings for Around {
             most_clients: 7,
             lost_lines: 8,
         }
+    }
+
+    fn history(&self) -> &History {
+        &self.history
     }
 
     fn version(&self) -> &str {
