@@ -5,6 +5,7 @@ import contextlib
 import email.utils
 import errno
 import os
+import re
 import shutil
 import socket
 import subprocess
@@ -403,5 +404,16 @@ def test_the_page_shows_the_board(snapd, _):
         digits = page.replace(",", "").replace("\u202f", "").replace("\u00a0", "")
         assert str(2**63 - 2) in digits, page[:2000]
         assert "00ff" in page.replace(" ", "").lower() and page.count(">step ") == 8, page.count(">step ")
-        assert 'data-mark="fenced"' in page and "segment 10" in page.lower(), page[:2000]
+        assert 'data-mark="fenced"' in page and "Fenced: segment 10 (S10)." in page and 'data-wrong="fenced"' in page, page[:2000]
 
+
+def test_the_page_shows_the_minutes_before_it(snapd, _):
+    """By a real browser, of a server that has run for some seconds: the course of its updates stands there at once."""
+    with SeenServer(snapd, *fresh(snapd, 1)) as server:
+        with writers(server, 0):
+            comes_to(True, lambda: len(server.document("/history")["samples"]) >= 6)
+        page = shown(server.url(), snapd.folder)
+        courses = [it.split() for it in re.findall(r'<polyline points="([^"]*)"', page)]
+        assert len(courses) == 4 and min(map(len, courses)) >= 4, courses
+        assert any(float(point.split(",")[1]) < 50 for point in courses[0]), courses[0]
+        assert ">S0</small>" in page and page.count("<dt>") == 8, page[:2000]
