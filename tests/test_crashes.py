@@ -144,15 +144,16 @@ def test_crash_upon_crash(snapd, random):
         was = answer
 
 
-# What the file holds before a `put`, and how many calls it makes: two open the file, and the store makes four, or five where
-# the number before is open too.
-STORES = [([(0, b"")], 6), ([(0, b""), (1, b"one")], 7), ([(2, b"two"), (1, b"one")], 7), ([(2, b"two")], 6)]
+# What the file holds before a `put`, and how many calls it makes: two open the file, one looks whether it was overwritten, and the
+# store makes four, or five where the number before is open too.
+STORES = [([(0, b"")], 7), ([(0, b""), (1, b"one")], 8), ([(2, b"two"), (1, b"one")], 8), ([(2, b"two")], 7)]
 
 
 def has_failed(run):
     """It was refused as 13, and says which call failed and why."""
     reasons = [f"{call}: Input/output error (os error 5)" for call in ("read", "write", "sync")]
     reasons += ["read: failed to fill whole buffer", "write: failed to write whole buffer"]
+    reasons += ["write: another program wrote it or cut it, and it is left so: never copy onto a file in use: snapd load makes a new folder of a dump"]
     told = [f"snapd: refused 13 DeviceFailed\nsnapd: F: {why}: look after its disk, and try again\n" for why in reasons]
     assert (run.status, run.output) == (3, b"") and run.errors in told, run
 
