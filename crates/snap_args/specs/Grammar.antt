@@ -67,10 +67,9 @@ flag_rule name = record (new_rule name) { long = Some name; action = Some SetTru
 abbrev pub filed : App → App
 filed app = with_rule app (word_rule (codes "file"))
 
--- with a file, whether what it holds is printed as JSON, and a slot whose value is printed
+-- with a file, and whether what it holds is printed as JSON
 abbrev pub checked : App → App
-checked app = with_rule (with_rule (with_rule (filed app) (flag_rule (codes "json")))
-    (text_rule (codes "slot"))) (flag_rule (codes "value"))
+checked app = with_rule (filed app) (flag_rule (codes "json"))
 
 -- with the place of a segment
 abbrev pub placed : App → App
@@ -81,10 +80,10 @@ placed app = with_rule (with_rule app (number_rule (codes "index") (codes "0")))
 abbrev pub paired : App → App
 paired app = placed (with_rule (with_rule app (word_rule (codes "old"))) (word_rule (codes "new")))
 
--- with a folder, how many segments it is to have, and whether a missing one is made all the same
+-- with a folder and how many segments it is to have
 abbrev pub founded : App → App
-founded app = with_rule (with_rule (with_rule app (word_rule (codes "folder")))
-    (number_rule (codes "count") (codes "1"))) (flag_rule (codes "missing-empty"))
+founded app = with_rule (with_rule app (word_rule (codes "folder")))
+    (number_rule (codes "count") (codes "1"))
 
 -- with a folder, and whether its disk is measured
 abbrev pub examined : App → App
@@ -123,8 +122,8 @@ printed app = with_rule (with_rule app (flag_rule (codes "text"))) (flag_rule (c
 
 -- with how often and how long an answer is waited for
 abbrev pub tried : App → App
-tried app = with_rule (with_rule (with_rule app (number_rule (codes "tries") (codes "1")))
-    (large_number_rule (codes "wait"))) (large_number_rule (codes "timeout"))
+tried app = with_rule (with_rule app (number_rule (codes "tries") (codes "1")))
+    (large_number_rule (codes "timeout"))
 
 -- with an address, the words of a request, the tries, a put's options, and how the answer is printed
 abbrev pub called : App → App

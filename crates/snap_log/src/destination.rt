@@ -7,13 +7,12 @@ use std::fs;
 use std::os::unix::fs::MetadataExt;
 use std::rt::{Env, Files};
 
-/// Where the lines go. That decides what they begin with.
+/// Where the lines go. That decides whether they begin with the time.
 #[derive(Clone, Copy, Debug, PartialEq, Eq)]
 pub enum Destination {
-    /// The journal of systemd, which keeps itself when each line came: a line begins with its priority,
-    /// as `<4>`, which the journal takes off.
+    /// The journal of systemd, which keeps itself when each line came.
     Journal,
-    /// A terminal, a file or a pipe: a line begins with the time.
+    /// A terminal, a file or a pipe.
     Other,
 }
 

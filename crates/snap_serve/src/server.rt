@@ -42,7 +42,7 @@ pub struct Edge<'a, B, G, N, H, C, O> {
     pub gate: &'a G,
     /// Is told of each connection that has ended, and of the accepting.
     pub note: &'a N,
-    /// Is told of the start, of the end, and of each update.
+    /// Is told of each update.
     pub watch: H,
     /// What the workers count, each for itself: as many as there are scanners.
     pub figures: &'a Figures,
@@ -211,7 +211,7 @@ where
         Ok(()) => {}
         Err(failure) => return Err(failure),
     }
-    let (listener, lines) = match listen(alloc, &order.addresses, edge.bind) {
+    let (listener, announcement) = match listen(alloc, &order.addresses, edge.bind) {
         Ok(listening) => listening,
         Err(failure) => return Err(failure),
     };
@@ -231,7 +231,6 @@ where
         fault_rest: Duration::from_millis(FAULT_REST),
         idle,
     };
-    let announcement = Announcement { lines, watch };
     let ended = serve_store(
         rt,
         alloc,
@@ -246,7 +245,6 @@ where
         &announcement,
         writer,
     );
-    watch.ended(&ended);
     match ended {
         Ok(served) => match print_served(alloc, served, writer) {
             Ok(()) => Ok(served),
@@ -282,13 +280,13 @@ fn listen<B: Bind>(
     alloc: Global,
     addresses: &Vec<&str>,
     bind: &B,
-) -> Result<(B::Listener, String), HostFailure>
+) -> Result<(B::Listener, Announcement), HostFailure>
 where
     B::Listener: Drop,
     ensures bound { IfOk result (λ made. IsNamed
         (site_at B.Bind B.Listener.Locate B.Listener.Listen bind.now
         (map (λ a. a.now) addresses.now.items))
-        made.0 (string_bytes made.1)) }
+        made.0 (string_bytes made.1.lines)) }
     ensures failed { IfErr result (ListenFails
         (site_at B.Bind B.Listener.Locate B.Listener.Listen bind.now
         (map (λ a. a.now) addresses.now.items))) }
@@ -298,7 +296,7 @@ where
         Err(unbound) => return Err(unbound_failure(unbound)),
     };
     match lines_of(alloc, listener.endpoints()) {
-        Ok(lines) => Ok((listener, lines)),
+        Ok(lines) => Ok((listener, Announcement { lines })),
         Err(_) => Err(HostFailure::NoMemory),
     }
 }
