@@ -26,13 +26,13 @@ OFTEN = ("--every", "10")
 class Watch:
     """A `snapd watch` that runs, and what it has printed. It is ended at the end of a `with`."""
 
-    def __init__(self, snapd, address, *words, output=None, often=OFTEN, env=None):
+    def __init__(self, snapd, address, *words, output=None, often=OFTEN, env=None, before=None):
         self.errors = snapd.file(f"watch-errors-{time.monotonic_ns()}")
         words = [snapd.path, "watch", address, *map(str, words), *often]
         with open(self.errors, "wb") as errors:
             self.process = subprocess.Popen(
                 words, cwd=snapd.folder, stdin=subprocess.DEVNULL, stdout=output or subprocess.PIPE, stderr=errors,
-                env={**{it: os.environ[it] for it in os.environ if it != "NO_COLOR"}, **(env or {})},
+                env={**{it: os.environ[it] for it in os.environ if it != "NO_COLOR"}, **(env or {})}, preexec_fn=before,
             )
         self.text = b""
 
@@ -343,9 +343,18 @@ def test_colours(snapd, _):
                 assert re.search(r"\x1b\[[0-9;]*m", terminal.told) is None or is_coloured, terminal.told
 
 
+def ending(snapd, address, output):
+    """A watch that signals end, also where who runs the tests has them ignored, as behind `nohup` or `&` of a script."""
+    def heed():
+        for number in (signal.SIGINT, signal.SIGTERM, signal.SIGHUP):
+            signal.signal(number, signal.SIG_DFL)
+
+    return Watch(snapd, address, output=output, before=heed)
+
+
 def test_the_terminal_is_given_back_at_any_end(snapd, _):
     for number in (signal.SIGINT, signal.SIGTERM, signal.SIGHUP, signal.SIGKILL):
-        with Server(snapd, *two(snapd)) as server, Terminal() as terminal, Watch(snapd, server.address, output=terminal.side) as watch:
+        with Server(snapd, *two(snapd)) as server, Terminal() as terminal, ending(snapd, server.address, terminal.side) as watch:
             shown = terminal.board()
             watch.process.send_signal(number)
             assert watch.process.wait(PATIENCE) == -number
