@@ -14,13 +14,14 @@ SAMPLE = re.compile(r"(\w+)(\{[^}]*\})? (\S+)")
 
 
 class SeenServer(Server):
-    """A server with `--http`, and where that is."""
+    """A server with `--http`, and where that is: at this port, or at one that its log tells."""
 
-    def __init__(self, snapd, *files, more=(), **rest):
-        super().__init__(snapd, *files, more=("--http", "127.0.0.1:0", *more), **rest)
+    def __init__(self, snapd, *files, more=(), port=0, **rest):
+        super().__init__(snapd, *files, more=("--http", f"127.0.0.1:{port}", *more), **rest)
         try:
-            comes_to(1, lambda: len(self.places()))
-            self.seen_at = self.places()[0]
+            if port == 0:
+                comes_to(1, lambda: len(self.places()))
+            self.seen_at = ("127.0.0.1", port) if port else self.places()[0]
         except BaseException:
             self.kill()
             raise

@@ -3,6 +3,7 @@
 import pathlib
 import re
 
+import remedies
 import segment_file as layout
 from preload import library
 from serving import FRESH, Server, segments
@@ -35,7 +36,7 @@ def test_an_address_that_lacks_a_part(snapd, _):
 
 def test_what_lacks_nothing_goes_to_the_system(snapd, _):
     for address in ("127.0.0.1:0", "0.0.0.0:0", "[::1]:0", "a:b", "127.0.0.1:70707", "::1:0"):
-        snapd("serve", address, "missing").gave(1, errors="snapd: missing: No such file or directory (os error 2)\n")
+        snapd("serve", address, "missing").gave(1, errors=remedies.failed("missing", remedies.MISSING, remedies.no_file("missing")))
     for address in ("a:b", "127.0.0.1:70707"):
         snapd("call", address, "scan").gave(1, errors=f"snapd: {address}: invalid port value\n")
 

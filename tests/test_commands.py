@@ -4,11 +4,13 @@ import contextlib
 import errno
 import os
 import pathlib
+import shutil
 import subprocess
 
+import remedies
 import segment_file as layout
-from program import Skipped
-from test_serve_disks import Disk
+from program import Program, Skipped
+from test_serve_disks import Disk, file_system
 from waiting import is_read
 
 # What a command says behind the line of a refusal.
@@ -179,24 +181,109 @@ def test_paths_that_fail(snapd, _):
 
 def test_line_feeds_of_a_path_and_of_wrong_words_are_said_as_they_are(snapd, _):
     """They make several lines of one reason."""
-    snapd("get", "a\nb").gave(1, errors="snapd: a\nb: No such file or directory (os error 2)\n")
+    remedy = remedies.no_file("a\nb", "--index 0 --count 1")
+    snapd("get", "a\nb").gave(1, errors=remedies.failed("a\nb", remedies.MISSING, remedy))
     run = snapd("get", "F", "--index", 1)
     assert run.status == 2 and run.errors.startswith("snapd: error: the index 1 is not below the count 1\n"), run
     assert run.errors.endswith("try '--help'.\n") and run.errors.count("snapd: ") == 1, run
 
 
+# Each command on one file, and with which place its remedy formats the file.
+FIRST, ANY = "--index 0 --count 1", "--index I --count N"
+ALL = [
+    (("format", "F"), FIRST),
+    (("put", "F"), FIRST),
+    (("put", "F", "--index", 2, "--count", 3), "--index 2 --count 3"),
+    (("get", "F"), FIRST),
+    (("check", "F"), ANY),
+    (("check", "F", "--json"), ANY),
+    (("check", "F", "--slot", 0, "--value"), ANY),
+]
+WRITERS, READERS = ALL[:3], ALL[3:]
+
+
+def at(words, path):
+    return [path if it == "F" else it for it in words]
+
+
+def by_nobody(snapd):
+    """A copy of the program that each user can run, a user who isn't root, and how that one runs it."""
+    os.chmod(snapd.folder, 0o755)
+    if os.geteuid() != 0:
+        return snapd, os.geteuid(), {}
+    user = 65_534
+    run = {"user": user, "group": user, "extra_groups": []}
+    return Program(shutil.copy(snapd.path, snapd.folder / "snapd-of-all"), snapd.folder), user, run
+
+
+def test_what_isnt_there_comes_with_its_remedy(snapd, _):
+    """A file, its folder, and what a link names: each command says what makes it, and makes nothing."""
+    os.symlink("nowhere/F", snapd.file("L"))
+    for words, place in ALL:
+        if words[0] != "format":
+            wanted = remedies.failed("F", remedies.MISSING, remedies.no_file("F", place))
+            snapd(*words, stdin="hi").gave(1, errors=wanted)
+        for path, remedy in (("nowhere/F", remedies.nowhere("nowhere")), ("a/b/F", remedies.nowhere("a/b")), ("L", remedies.of_nothing("L"))):
+            snapd(*at(words, path), stdin="hi").gave(1, errors=remedies.failed(path, remedies.MISSING, remedy))
+    snapd("migrate", "F", "G").gave(1, errors=remedies.failed("F", remedies.MISSING))
+    snapd.file("OLD").write_bytes(layout.OLD.holding((1, b"hi")))
+    snapd("migrate", "OLD", "nowhere/F").gave(1, errors=remedies.failed("nowhere/F", remedies.MISSING, remedies.nowhere("nowhere")))
+    assert sorted(it.name for it in snapd.folder.iterdir()) == ["L", "OLD"]
+
+
+def test_what_is_denied_comes_with_its_remedy(snapd, _):
+    """By the file, by the folder it is in, and by one above that, to who isn't root: whose it is, and who is asking."""
+    file = snapd.formatted()
+    folder = snapd.file("D")
+    (folder / "E").mkdir(parents=True)
+    snapd.formatted("D/F")
+    snapd.formatted("D/E/F")
+    before = {it: it.read_bytes() for it in snapd.folder.rglob("F")}
+    own, user, by_him = by_nobody(snapd)
+
+    def are_denied(commands, path, place, there):
+        remedy = remedies.owned(place, there, user)
+        for words, _ in commands:
+            own(*at(words, path), stdin="hi", **by_him).gave(1, errors=remedies.failed(path, remedies.DENIED, remedy))
+
+    for mode, denied, allowed in ((0o444, WRITERS, READERS), (0o000, ALL, [])):
+        file.chmod(mode)
+        are_denied(denied, "F", "F", file)
+        for words, _ in allowed:
+            assert own(*words, **by_him).status == 0
+    # A new file in a folder that takes none, and files in one that isn't to be entered.
+    folder.chmod(0o555)
+    are_denied(ALL[:1], "D/G", "D", folder)
+    folder.chmod(0o444)
+    are_denied(ALL, "D/F", "D", folder)
+    are_denied(ALL, "D/E/F", "D", folder)
+    folder.chmod(0o755)
+    file.chmod(0o600)
+    if os.geteuid() == 0:
+        # It is his own.
+        os.chown(file, user, user)
+        file.chmod(0o400)
+        are_denied(WRITERS, "F", "F", file)
+        assert f"user {user} owns it, its mode is 0400, and you are user {user}: give yourself" in remedies.owned("F", file, user)
+    assert before == {it: it.read_bytes() for it in snapd.folder.rglob("F")}
+
+
+def test_a_file_system_that_is_read_only_comes_with_its_remedy(snapd, _):
+    with file_system(snapd, "size=256k"):
+        snapd.formatted("small/F")
+        subprocess.run(["mount", "-o", "remount,ro", snapd.file("small")], check=True)
+        for words, _ in WRITERS:
+            for path in ("small/F", "small/G")[: 2 if words[0] == "format" else 1]:
+                run = snapd(*at(words, path), stdin="hi")
+                run.gave(1, errors=remedies.failed(path, remedies.READ_ONLY, remedies.read_only(path)))
+        for words, _ in READERS:
+            assert snapd(*at(words, "small/F")).status == 0
+
+
 def test_no_permission(snapd, _):
     """As a user that may read the file but not write it, and one that may do neither."""
     file = snapd.formatted()
-    os.chmod(snapd.folder, 0o755)
-    run = {}
-    if os.geteuid() == 0:
-        nobody = 65_534
-        run = {"user": nobody, "group": nobody, "extra_groups": []}
-        try:
-            subprocess.run([snapd.path, "--version"], check=True, stdout=subprocess.DEVNULL, **run)
-        except (PermissionError, subprocess.CalledProcessError):
-            raise Skipped("another user can't run the program where it lies")
+    snapd, _, run = by_nobody(snapd)
     snapd("put", "F", stdin="hi").gave(0, "stored 1\n")
     data = file.read_bytes()
     for mode, writers, readers in ((0o444, ("format", "put"), ("get", "check")), (0o000, ("format", "put", "get", "check"), ())):
@@ -348,6 +435,31 @@ def test_the_reason_of_a_failed_call_is_told(snapd, _):
                 if command == "format":
                     snapd("format", "F").gave(0, "formatted 0 of 1\n")
                 assert layout.answer_of(snapd.file().read_bytes()) in ((0, b""), (1, b"hi"))
+
+
+def test_a_folder_that_isnt_synced(snapd, _):
+    """Where the system syncs none, or not for this user, nothing has failed. Each other reason ends a format, and the next goes on."""
+    disk, place = Disk(snapd), snapd.file("D")
+    place.mkdir()
+    made, file = "formatted 0 of 1\n", place / "F"
+    for why in (errno.EINVAL, errno.EOPNOTSUPP, errno.ENOSYS, errno.EROFS, errno.EACCES, errno.EPERM):
+        disk.says(f"D sync fail {why}")
+        snapd("format", "D/F", env=disk.env).gave(0, made)
+        file.unlink()
+    for why, text in REASONS.items():
+        disk.says(f"D sync fail {why}")
+        snapd("format", "D/F", env=disk.env).gave(1, errors=remedies.failed("D/F", text))
+        assert file.read_bytes() == b""
+        disk.says()
+        snapd("format", "D/F", env=disk.env).gave(0, made)
+        file.unlink()
+    # One in which files may be made and which may not be read can't be opened to be synced.
+    own, user, by_him = by_nobody(snapd)
+    if by_him:
+        os.chown(place, user, user)
+    place.chmod(0o300)
+    own("format", "D/F", **by_him).gave(0, made)
+    place.chmod(0o700)
 
 
 @contextlib.contextmanager

@@ -111,15 +111,13 @@ IN_NO_ROW = {
     "it puts its arguments together, or gives a part of what is there": (
         ("snap_serve/src/bind.rt", "new"), ("snap_server/src/intake.rt", "new"),
         ("snap_server/src/room.rt", "new"), ("snap_server/src/sessions.rt", "places"), ("snap_server/src/socket.rt", "new"),
-        ("snapd/src/files.rt", "new place"), ("snapd/src/store_log.rt", "new"), ("snapd/src/update_watch.rt", "new"),
+        ("snapd/src/files.rt", "new place"), ("snapd/src/run_log.rt", "new"), ("snapd/src/store_log.rt", "new"),
+        ("snapd/src/update_watch.rt", "new"),
     ),
     "it does nothing, or hands on": (
-        ("snap_serve/src/watch.rt", "told"), ("snap_serve/src/onlooker.rt", "look stop"), ("snap_serve/src/counted.rt", "close"),
+        ("snap_serve/src/watch.rt", "begun ended told"), ("snap_serve/src/onlooker.rt", "look stop"), ("snap_serve/src/counted.rt", "close"),
         ("snap_server/src/gate.rt", "enter leave"), ("snap_server/src/socket.rt", "flush"),
         ("snap_server/src/stream.rt", "flush"), ("snapd/src/link.rt", "flush"),
-    ),
-    "no test was seen to fail on another body: which errors of a folder's sync are none": (
-        ("snap_devices/src/file.rt", "is_not_allowed"),
     ),
 }
 

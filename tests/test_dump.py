@@ -17,6 +17,7 @@ import subprocess
 import threading
 import time
 
+import remedies
 import segment_file as layout
 from load import Load, Scan
 from preload import library
@@ -241,7 +242,8 @@ def test_a_fenced_segment_is_dumped_as_it_was(snapd, _):
 
 
 def test_a_server_that_gives_no_answer(snapd, _):
-    none = "snapd: 127.0.0.1:1: no connection to the server could be made: start snapd serve there, or try again with --tries\n"
+    none = "snapd: 127.0.0.1:1: no connection to the server could be made\n"
+    none += "snapd: 127.0.0.1:1: Connection refused (os error 111): nobody listens there: start snapd serve there, or wait for it with --wait\n"
     snapd("dump", "127.0.0.1:1").gave(1, errors=none)
     snapd("dump", "127.0.0.1:1", "--tries", 3, "--timeout", 5).gave(1, errors=none)
     with Server(snapd, *fresh(snapd, 2)) as server:
@@ -296,7 +298,7 @@ def test_files_that_are_only_read(snapd, _):
 
 
 def test_folders_that_are_refused(snapd, _):
-    snapd("dump", "D").gave(1, errors="snapd: D: No such file or directory (os error 2)\n")
+    snapd("dump", "D").gave(1, errors=remedies.failed("D", remedies.MISSING, remedies.no_folder("D")))
     snapd.file("D").mkdir()
     empty = "D: it has no segment file: make them with snapd init D --count N"
     snapd("dump", "D").gave(3, errors=f"snapd: {empty}\n")
@@ -416,7 +418,8 @@ def test_dumps_that_are_not_there(snapd, _):
     write(snapd, SMALL, "closed")
     snapd.file("closed").chmod(0)
     if os.geteuid() != 0:
-        snapd("load", "E", "closed").gave(1, errors="snapd: closed: Permission denied (os error 13)\n")
+        remedy = remedies.owned("closed", snapd.file("closed"), os.geteuid())
+        snapd("load", "E", "closed").gave(1, errors=remedies.failed("closed", remedies.DENIED, remedy))
     snapd("load", "E").failed_with(2)
     snapd("load", "E", "-", "x").failed_with(2)
     refused(snapd("load", "E", "-"), "standard input", CUT)
@@ -438,8 +441,8 @@ def test_folders_that_are_there(snapd, _):
     refused(snapd("load", "other/", "dump"), "other", taken)
     snapd("load", "dump", "dump").gave(1, errors="snapd: dump: Not a directory (os error 20)\n")
     snapd("load", "dump/E", "dump").gave(1, errors="snapd: dump/E: Not a directory (os error 20)\n")
-    snapd("load", "none/E", "dump").gave(1, errors="snapd: none/E.loading: No such file or directory (os error 2)\n")
-    for name in (".", "..", "/", "", "other/..", "./"):
+    snapd("load", "none/E", "dump").gave(1, errors=remedies.failed("none/E.loading", remedies.MISSING, remedies.nowhere("none")))
+    for name in (".", "..", "/", "", "other/..", "./", "./.", "/."):
         snapd("load", name, "dump").failed_with(3, "it has no name of its own")
     assert sorted(it.name for it in snapd.folder.iterdir()) == ["dump", "empty", "other"]
     for name in ("a b", "c/", "./d", "ü'\"$", ".hidden", "e//", snapd.file("g"), "a:1"):

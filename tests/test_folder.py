@@ -8,6 +8,7 @@ import signal
 import subprocess
 import time
 
+import remedies
 import segment_file as layout
 from program import Program, Skipped
 from serving import Server, stored, update
@@ -94,18 +95,32 @@ def test_init_takes_names_of_any_form(snapd, _):
 
 
 def test_init_goes_on_where_it_was_cut_off(snapd, _):
+    """Where a file was stored to since, only with the word for that."""
     place = folder(snapd, 5)
+
+    def cut_off():
+        (place / name_of(0)).unlink()
+        (place / name_of(1)).write_bytes(b"")
+        (place / name_of(2)).write_bytes(bytes(layout.LENGTH))
+        # All but the byte that opens the header's gate.
+        cut = bytearray(layout.holding((0, b""), index=3, count=5))
+        cut[layout.HEADER_GATE] = 0
+        (place / name_of(3)).write_bytes(cut)
+
+    cut_off()
+    snapd("init", "D", "--count", 5).gave(0, made(5, kept=[(4, 0)]))
+    assert files_in(place) == fresh_files(5)
     put(snapd, place / name_of(4), 4, 5, "hi").gave(0, "stored 1\n")
-    (place / name_of(0)).unlink()
-    (place / name_of(1)).write_bytes(b"")
-    (place / name_of(2)).write_bytes(bytes(layout.LENGTH))
-    # All but the byte that opens the header's gate.
-    cut = bytearray(layout.holding((0, b""), index=3, count=5))
-    cut[layout.HEADER_GATE] = 0
-    (place / name_of(3)).write_bytes(cut)
-    last = (place / name_of(4)).read_bytes()
-    snapd("init", "D", "--count", 5).gave(0, made(5, kept=[(4, 1)]))
-    assert files_in(place) == fresh_files(5) | {name_of(4): last}
+    cut_off()
+    before = files_in(place)
+    missing = ", ".join(f"D/{name_of(index)}" for index in range(4))
+    snapd("init", "D", "--count", 5).gave(3, errors=said(
+        f"{missing}: missing or never formatted, though D/{name_of(4)} holds number 1: restore what is missing from a backup, or make it "
+        "new and empty with snapd init D --count 5 --missing-empty"
+    ))
+    assert files_in(place) == before
+    snapd("init", "D", "--count", 5, "--missing-empty").gave(0, made(5, kept=[(4, 1)]))
+    assert files_in(place) == fresh_files(5) | {name_of(4): before[name_of(4)]}
 
 
 def test_init_goes_on_where_the_slots_are_torn(snapd, _):
@@ -214,8 +229,8 @@ def test_init_leaves_other_files_alone(snapd, _):
 
 
 def test_init_in_no_folder(snapd, _):
-    no_entry, no_folder = "No such file or directory (os error 2)", "Not a directory (os error 20)"
-    snapd("init", "A/B").gave(1, errors=said(f"A/B: {no_entry}"))
+    no_entry, no_folder = remedies.MISSING, "Not a directory (os error 20)"
+    snapd("init", "A/B").gave(1, errors=remedies.failed("A/B", no_entry, remedies.nowhere("A")))
     assert not snapd.file("A").exists()
     snapd.file("A").write_bytes(b"hi")
     snapd("init", "A").gave(1, errors=said(f"A: {no_folder}"))
@@ -223,7 +238,7 @@ def test_init_in_no_folder(snapd, _):
     assert snapd.file("A").read_bytes() == b"hi"
     snapd("init", "").gave(1, errors=said(f": {no_entry}"))
     os.symlink("nowhere", snapd.file("L"))
-    snapd("init", "L").failed_with(1, "L: ")
+    snapd("init", "L").gave(1, errors=remedies.failed("L", no_entry, remedies.of_nothing("L")))
     snapd("init", "x" * 300).failed_with(1, "File name too long (os error 36)")
     # A folder where a file is to be.
     (snapd.file("D") / name_of(0)).mkdir(parents=True)
@@ -242,21 +257,27 @@ def test_init_where_the_folder_takes_no_file(snapd, _):
     program.write_bytes(pathlib.Path(snapd.path).read_bytes())
     program.chmod(0o755)
     other = Program(program, snapd.folder)
-    denied = "Permission denied (os error 13)"
-    other("init", "D", "--count", 2, user=65_534).gave(1, errors=said(f"D/{name_of(0)}: {denied}"))
+    first, second = (f"D/{name_of(it)}" for it in range(2))
+
+    def denied(path, *owner):
+        return remedies.failed(path, remedies.DENIED, remedies.owned(*owner))
+
+    other("init", "D", "--count", 2, user=65_534).gave(1, errors=denied(first, first, place / name_of(0)))
     os.chmod(place / name_of(0), 0o666)
     run = other("init", "D", "--count", 2, user=65_534)
-    run.gave(1, "kept 0 of 2 number 0\n", said(f"D/{name_of(1)}: {denied}"))
-    other("init", "E", user=65_534).gave(1, errors=said(f"E: {denied}"))
+    # The file isn't there: its folder is in the way.
+    run.gave(1, "kept 0 of 2 number 0\n", denied(second, "D", place))
+    other("init", "E", user=65_534).gave(1, errors=denied("E", ".", snapd.folder))
     assert files_in(place) == {name_of(0): fresh_files(2)[name_of(0)]}
 
 
 def test_init_of_a_file_in_use(snapd, _):
     place = folder(snapd, 2)
     in_use = f"snapd: D/{name_of(1)}: it is in use by another snapd\n"
-    for how in (fcntl.LOCK_EX, fcntl.LOCK_SH):
+    # Who writes it keeps out who would look whether it was stored to; who reads it only keeps out who would write it.
+    for how, output in ((fcntl.LOCK_EX, ""), (fcntl.LOCK_SH, "kept 0 of 2 number 0\n")):
         with locked(place / name_of(1), how):
-            snapd("init", "D", "--count", 2).gave(1, "kept 0 of 2 number 0\n", in_use)
+            snapd("init", "D", "--count", 2).gave(1, output, in_use)
     with Server(snapd, "--dir", "D"):
         snapd("init", "D", "--count", 2).gave(1, errors=in_use.replace(name_of(1), name_of(0)))
     assert files_in(place) == fresh_files(2)
@@ -424,7 +445,7 @@ def test_files_that_are_no_segments(snapd, _):
 
 
 def test_no_folder_to_serve(snapd, _):
-    serve(snapd).gave(1, errors=said("D: No such file or directory (os error 2)"))
+    serve(snapd).gave(1, errors=remedies.failed("D", remedies.MISSING, remedies.no_folder("D")))
     snapd.file("D").write_bytes(b"")
     serve(snapd).gave(1, errors=said("D: Not a directory (os error 20)"))
     snapd.file("E").mkdir()

@@ -65,8 +65,9 @@ def test_who_doesnt_answer_isnt_healthy(snapd, _):
     """Nobody there, and a peer that answers something else, are told as of a status."""
     port = free_port()
     for request in ("status", "health"):
-        wanted = f"snapd: 127.0.0.1:{port}: no connection to the server could be made: start snapd serve there, or try again with --tries\n"
-        snapd("call", f"127.0.0.1:{port}", request).gave(1, errors=wanted)
+        wanted = f"snapd: 127.0.0.1:{port}: no connection to the server could be made\n"
+        run = snapd("call", f"127.0.0.1:{port}", request).failed_with(1, "Connection refused")
+        assert run.errors.startswith(wanted) and run.errors.count("\n") == 2, run
     with socket.create_server(("127.0.0.1", 0)) as peer:
         peer.settimeout(PATIENCE)
 

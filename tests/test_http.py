@@ -2,12 +2,15 @@
 
 import base64
 import contextlib
+import email.utils
 import errno
 import os
+import re
 import shutil
 import socket
 import subprocess
 import threading
+import time
 
 from http_place import SeenServer
 from program import Skipped
@@ -16,7 +19,8 @@ from serving import segments, snapshot, standings, stored, to_its_end, update
 from test_serve_disks import TWO, Disk
 from waiting import PATIENCE, comes_to
 
-PATHS = b"Nothing is here. There is: / /metrics /health /scan /status /stats\n"
+PATHS = b"Nothing is here. There is: / /metrics /health /livez /readyz /scan /status /stats /history\n"
+EACH = ("/", "/metrics", "/health", "/livez", "/readyz", "/scan", "/status", "/stats", "/history", "/board.js", "/board.css")
 
 
 def part(mask):
@@ -136,6 +140,61 @@ def test_health_is_told_by_the_status(snapd, _):
         assert server.get("/health")[::2] == (503, b'{"healthy":false,"fenced":[1]}\n')
 
 
+def test_it_lives_and_is_ready_until_each_segment_is_fenced(snapd, _):
+    """`/readyz` is 200 where one of two is fenced and `/health` is 503, and 503 where both are; `/livez` is 200 all along."""
+    disk = Disk(snapd)
+    with SeenServer(snapd, *segments(snapd, TWO, FRESH), env=disk.env) as server:
+        statuses = lambda: [server.get(path)[0] for path in ("/livez", "/readyz", "/health")]  # noqa: E731
+        assert statuses() == [200, 200, 200]
+        disk.says(f"S1 sync fail {errno.EIO}")
+        server.ask(update(1, 1, b"x"), refused(13, 0))
+        assert statuses() == [200, 200, 503]
+        disk.says(f"S0 write fail {errno.EIO}")
+        server.ask(update(0, 2, b"x"), refused(13, 1))
+        assert statuses() == [200, 503, 503]
+        assert server.get("/livez")[2] == b"ok\n" and server.get("/readyz")[2] == b"each segment is fenced\n"
+        assert server.get("/livez")[1]["content-type"] == server.get("/readyz")[1]["content-type"] == "text/plain; charset=utf-8"
+
+
+def test_each_answer_says_when_it_was_made(snapd, _):
+    """A date as HTTP writes it, of the time between the request and its answer: also of what isn't there, and of a refused method."""
+    with SeenServer(snapd, *segments(snapd, TWO)) as server:
+        for method, path in [("GET", it) for it in EACH] + [("HEAD", "/scan"), ("GET", "/nothing"), ("PUT", "/scan")]:
+            before = int(time.time())
+            told = server.get(path, method)[1]["date"]
+            found = email.utils.parsedate_to_datetime(told)
+            assert email.utils.format_datetime(found, usegmt=True) == told and before <= found.timestamp() <= time.time(), (path, told)
+
+
+def test_segments_have_the_names_of_their_files(snapd, _):
+    """Without folder and ending: in the document, and as a label of a metric, where a quote stays within it."""
+    files = ["a/segment-01.seg", 'b "c".seg', "d"]
+    for name, made in zip(files, segments(snapd, TWO, FRESH, FRESH)):
+        snapd.file(name).parent.mkdir(exist_ok=True)
+        snapd.file(made).rename(snapd.file(name))
+    with SeenServer(snapd, *files) as server:
+        told = server.document("/stats")["segments"]
+        assert [(it["file"], it["name"]) for it in told] == list(zip(files, ["segment-01", 'b "c"', "d"])), told
+        lines = [it for it in server.get("/metrics")[2].decode().splitlines() if it.startswith("snapd_segment_info")]
+        names = ["segment-01", 'b \\"c\\"', "d"]
+        assert lines == [f'snapd_segment_info{{segment="{place}",name="{name}"}} 1' for place, name in enumerate(names)], lines
+        version = server.document("/stats")["version"]
+        assert f'\nsnapd_build_info{{version="{version}"}} 1\n' in server.get("/metrics")[2].decode()
+
+
+def test_lines_that_the_log_loses_are_counted(snapd, _):
+    """On an output that takes nothing: the lines of the start, and one for the end of each connection."""
+    into_full = ("sh", "-c", 'exec "$@" 2>/dev/full', "sh")
+    with SeenServer(snapd, *fresh(snapd, 1), port=free_port(), before=into_full, more=("--log", "debug")) as server:
+        lost = lambda: int(server.metrics()["snapd_log_lost_lines_total"])  # noqa: E731
+        comes_to(True, lambda: lost() > 0)
+        time.sleep(0.5)
+        before = lost()
+        for _ in range(3):
+            server.ask(STATUS, standings((0, False)))
+        comes_to(before + 3, lost)
+
+
 def test_documents_are_those_of_a_call(snapd, _):
     """`/scan` and `/status` are what `snapd call --json` prints; a value that is no text is told in base64."""
     with SeenServer(snapd, *segments(snapd, TWO, [(0, b""), (1, b"\x00\xff")])) as server:
@@ -164,7 +223,7 @@ def test_statistics_say_what_the_metrics_say(snapd, _):
 def test_head_and_what_is_not_there(snapd, _):
     """HEAD has the same head and no content; other methods and paths get their status, and nothing changes."""
     with SeenServer(snapd, *segments(snapd, TWO)) as server:
-        for path in ("/", "/metrics", "/health", "/scan", "/status", "/stats", "/board.js", "/board.css"):
+        for path in EACH:
             status, headers, content = server.get(path)
             bare_status, bare_headers, nothing = server.get(path, "HEAD")
             assert status == bare_status == 200 and content and not nothing, path
@@ -345,4 +404,16 @@ def test_the_page_shows_the_board(snapd, _):
         digits = page.replace(",", "").replace("\u202f", "").replace("\u00a0", "")
         assert str(2**63 - 2) in digits, page[:2000]
         assert "00ff" in page.replace(" ", "").lower() and page.count(">step ") == 8, page.count(">step ")
-        assert 'data-mark="fenced"' in page and "segment 10" in page.lower(), page[:2000]
+        assert 'data-mark="fenced"' in page and "Fenced: segment 10 (S10)." in page and 'data-wrong="fenced"' in page, page[:2000]
+
+
+def test_the_page_shows_the_minutes_before_it(snapd, _):
+    """By a real browser, of a server that has run for some seconds: the course of its updates stands there at once."""
+    with SeenServer(snapd, *fresh(snapd, 1)) as server:
+        with writers(server, 0):
+            comes_to(True, lambda: len(server.document("/history")["samples"]) >= 6)
+        page = shown(server.url(), snapd.folder)
+        courses = [it.split() for it in re.findall(r'<polyline points="([^"]*)"', page)]
+        assert len(courses) == 4 and min(map(len, courses)) >= 4, courses
+        assert any(float(point.split(",")[1]) < 50 for point in courses[0]), courses[0]
+        assert ">S0</small>" in page and page.count("<dt>") == 8, page[:2000]

@@ -2,28 +2,33 @@
 
 import datetime
 import errno
+import itertools
 import os
+import re
 import subprocess
 
 from serving import LOG_LINE, SCAN, Server, fresh, refused, snapshot, stored, update
+from talk import CLOSED, told
 from test_serve_disks import Disk
-from waiting import PATIENCE, comes_to
+from test_serve_memory import Memory, of_both
+from waiting import PATIENCE, comes_to, wait_until
 
-# Tells the program that what it has as standard error is the journal's.
+# Tells the program that what it has as standard error is the journal's; and that it has another stream.
 JOURNAL = ("sh", "-c", 'JOURNAL_STREAM="$(stat -L -c %d:%i /proc/self/fd/2)" exec "$@"', "sh")
+ELSEWHERE = ("sh", "-c", 'JOURNAL_STREAM="$(stat -L -c %d:1%i /proc/self/fd/2)" exec "$@"', "sh")
 
 
 def test_only_what_matters_is_logged(snapd, _):
-    """Connections that come and go are no news, unless they are asked for."""
-    for more in ((), ("--log", "error"), ("--log", "debug")):
+    """Connections that come and go are no news, unless they are asked for; the start and the end are."""
+    for more, count in (((), 2), (("--log", "warn"), 0), (("--log", "error"), 0), (("--log", "debug"), 5)):
         with Server(snapd, *fresh(snapd, 1), connections=3, more=more) as server:
             for _ in range(3):
                 server.ask(SCAN, snapshot((0, b"")))
             run = server.end()
             assert (run.status, run.output) == (0, b"served 3\n"), run
-            lines = run.errors.splitlines()
-            assert len(lines) == (3 if "debug" in more else 0), run.errors
-            assert all(LOG_LINE.fullmatch(line)[3].endswith(" closed") for line in lines), run.errors
+            ended, lines = server.logged("DEBUG", "connection"), run.errors.splitlines()
+            assert len(lines) == len(server.logged()) == count and len(ended) == (3 if "debug" in more else 0), run.errors
+            assert all(line.endswith(" closed") for line in ended), run.errors
 
 
 def test_lines_of_several_threads_stay_whole(snapd, _):
@@ -52,10 +57,85 @@ def test_a_line_begins_with_the_time(snapd, _):
 
 
 def test_the_journal_keeps_the_time_itself(snapd, _):
-    with Server(snapd, *fresh(snapd, 1), connections=1, more=("--log", "debug"), before=JOURNAL) as server:
+    """And takes each line by the priority that it begins with. Another stream than the one that is named is no journal."""
+    disk, anywhere = Disk(snapd), ("--listen", "0.0.0.0:0", "--log", "debug")
+    numbers = {"ERROR": "3", "WARN": "4", "INFO": "6", "DEBUG": "7"}
+    with Server(snapd, *fresh(snapd, 1), connections=2, env=disk.env, more=anywhere, before=JOURNAL) as server:
         server.ask(SCAN, snapshot((0, b"")))
-        line = server.end().errors
-        assert line.startswith("DEBUG connection: 127.0.0.1:") and line.endswith(" closed\n"), line
+        disk.says(f"S0 sync fail {errno.EIO}")
+        server.ask(update(0, 1, b"a"), refused(13, 0))
+        found = [re.fullmatch(r"<(\d)>([A-Z]+) (\w+): (.*)", line) for line in server.end().errors.splitlines()]
+        assert all(it and numbers[it[2]] == it[1] for it in found), found
+        assert {it[2] for it in found} == set(numbers) and "DEBUG connection" in {f"{it[2]} {it[3]}" for it in found}, found
+    with Server(snapd, *fresh(snapd, 1), connections=0, before=ELSEWHERE) as server:
+        lines = server.end().errors.splitlines()
+        assert len(lines) == 2 and all(map(LOG_LINE.fullmatch, lines)), lines
+
+
+def lost_lines(server):
+    """How many lines it says that it lost."""
+    return sum(int(text.removeprefix("lines lost: ")) for text in server.logged("WARN", "log"))
+
+
+def ends_of(server):
+    """How many ends of connections it logged."""
+    return len(server.logged("DEBUG", "connection") + server.logged("WARN", "connection"))
+
+
+def test_lines_that_find_no_memory_are_told_of(snapd, _):
+    """While there is none, connections end that nobody hears of; the next line that there is memory for says how many."""
+    memory = Memory(snapd, "all")
+    with Server(snapd, *fresh(snapd, 1), scanners=1, env=memory.env, more=("--log", "debug")) as server, server.connect() as last:
+        streams = [server.connect() for _ in range(3)]
+        for stream in (*streams, last):
+            assert told(stream, SCAN) == snapshot((0, b""))
+        memory.runs_out()
+        for stream in streams:
+            stream.close()
+        # Each is noted before its descriptor is given back.
+        wait_until(lambda: server.connections() == 1)
+        assert ends_of(server) == 0
+        memory.is_there_again()
+        last.close()
+        comes_to((3, 1), lambda: (lost_lines(server), ends_of(server)))
+        assert server.notes()[-1].endswith(" closed") and server.notes()[-2].endswith("WARN log: lines lost: 3"), server.notes()
+
+
+def test_each_allocation_of_a_line_is_refused(snapd, _):
+    """The line is there, or it is counted as lost."""
+    losses = 0
+    for number in itertools.count(1):
+        memory = Memory(snapd, number)
+        with Server(snapd, *fresh(snapd, 1), scanners=1, env=memory.env, more=("--log", "debug")) as server, server.connect() as last:
+            with server.connect() as first:
+                assert told(first, SCAN) == told(last, SCAN) == snapshot((0, b""))
+                memory.runs_out()
+            wait_until(lambda: server.connections() == 1)
+            is_last = memory.wanting.exists()
+            memory.is_there_again()
+            last.close()
+            comes_to(2, lambda: lost_lines(server) + ends_of(server))
+            losses += lost_lines(server)
+        if is_last:
+            break
+    assert 1 < losses < number, (number, losses)
+
+
+def test_a_line_of_a_store_that_finds_no_memory_is_told_of(snapd, _):
+    """The update is answered as ever."""
+    disk, memory = Disk(snapd), Memory(snapd, "all")
+    with Server(snapd, *fresh(snapd, 2), scanners=1, env=of_both(disk, memory), more=("--log", "error")) as server:
+        with server.connect() as stream:
+            assert told(stream, update(0, 1, b"a")) == stored(1)
+            disk.says("S0 write hold 0")
+            stream.sendall(update(0, 2, b"b"))
+            disk.wait_for_hold()
+            memory.runs_out()
+            disk.says(f"S0 sync fail {errno.EIO}", f"S1 sync fail {errno.EIO}")
+            assert told(stream) in (refused(13, 1), CLOSED)
+            memory.is_there_again()
+        server.ask(update(1, 1, b"a"), refused(13, 0))
+        comes_to((1, 1), lambda: (lost_lines(server), len(server.logged("ERROR", "store"))))
 
 
 def test_all_addresses_are_warned_of(snapd, _):

@@ -56,10 +56,8 @@ def test_server_of_the_readme_survives_its_kill(snapd, random):
             printed += line + "\n"
     assert len(commands) == 6 and sum(it.startswith("snapd serve") for it in commands) == 2
     port = free_port()
-    # Where the README sleeps for a second, the story goes on once the server answers, however long that takes.
-    waits = "sleep() { until snapd call 127.0.0.1:7070 status > status.txt 2>&1; do command sleep 0.02; done; }"
-    assert all(it.endswith("& sleep 1") for it in commands if it.startswith("snapd serve"))
-    story = "\n".join([waits, *commands, "kill $!", ""]).replace("7070", str(port))
+    assert all(it.endswith(" &") for it in commands if it.startswith("snapd serve"))
+    story = "\n".join([*commands, "kill $!", ""]).replace("7070", str(port))
     env = {**os.environ, "PATH": f"{pathlib.Path(snapd.path).parent}:{os.environ['PATH']}"}
     run = subprocess.run(["sh", "-c", story], cwd=snapd.folder, env=env, capture_output=True, text=True, timeout=2 * PATIENCE)
     # A shell may say that the first server was killed.

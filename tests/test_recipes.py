@@ -93,7 +93,7 @@ def killed(process):
 # ---- a copy of everything ----
 
 def test_backups_are_kept_and_restored(snapd, _):
-    written(snapd, "backup.sh")
+    written_with(snapd, "backup.sh", "--wait 30", "--wait 1")
     (snapd.folder / "dumps").mkdir()
     with Server(snapd, *fresh(snapd, 3)) as server:
         for number in range(1, 5):

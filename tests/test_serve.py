@@ -9,6 +9,7 @@ import socket
 import subprocess
 import threading
 
+import remedies
 import segment_file as layout
 from serving import FRESH, OVER_THE_LIMIT, SCAN, STATUS, TOO_LARGE, Server, frame, free_port, fresh, received, refused
 from serving import reset, segments, snapshot, standings, stored, to_its_end, update
@@ -54,7 +55,7 @@ def test_report_of_each_kind_of_file(snapd, _):
 
 def test_no_connection_is_served(snapd, _):
     files = two(snapd)
-    run = snapd("serve", "127.0.0.1:0", *files, "--connections", 0)
+    run = snapd("serve", "127.0.0.1:0", *files, "--connections", 0, "--log", "error")
     found = re.fullmatch(REPORT + r"listening 127\.0\.0\.1:\d+\nserved 0\n", run.output.decode())
     assert found and (run.status, run.errors) == (0, ""), run
 
@@ -66,7 +67,7 @@ def test_as_many_connections_as_were_asked_for(snapd, _):
         server.ask(STATUS, standings((3, False), (0, False)))
         run = server.end()
         assert (run.status, run.output) == (0, b"served 3\n"), run
-        assert len(run.errors.splitlines()) == 3, run
+        assert len(server.logged("DEBUG", "connection")) == 3, run
     with Server(snapd, "S0", "S1") as server:
         assert server.scan() == [(3, b"x"), (0, b"")]
 
@@ -127,7 +128,7 @@ def file_faults(snapd):
     snapd.file("another").write_bytes(layout.holding((1, b"a"), index=0, count=3))
     snapd.file("folder").mkdir()
     return [
-        ("missing", 1, ["missing: No such file or directory (os error 2)"]),
+        ("missing", 1, [f"missing: {remedies.MISSING}", remedies.no_file("missing")]),
         ("folder", 1, ["folder: Is a directory (os error 21)", "folder: it is a folder: give it as --dir folder"]),
         ("damaged", 3, ["refused 10 Damaged", remedy("10", "damaged", **place)]),
         ("unformatted", 3, ["refused 11 Unformatted", remedy("11", "unformatted", **place)]),
@@ -328,7 +329,7 @@ def test_nobody_listens(snapd, _):
     address = f"127.0.0.1:{free_port()}"
     for words in (("scan",), ("status", "--tries", 3), ("update", 0, 1, "-", "--tries", 2)):
         run = snapd("call", address, *words).failed_with(1, address)
-        assert run.errors.count("\n") == 1, run
+        assert run.errors.count("\n") == 2, run
     for address in ("nowhere", "127.0.0.1", "127.0.0.1:65536", ""):
         snapd("call", address, "scan").failed_with(1, f"snapd: {address}: ")
 

@@ -7,6 +7,7 @@ import os
 import socket
 import subprocess
 
+import remedies
 import segment_file as layout
 from preload import library
 from program import Skipped
@@ -223,7 +224,7 @@ def test_the_file_system_is_read_only(snapd, _):
     with file_system(snapd, "size=256k") as place:
         files = segments(snapd, TWO, TWO, folder="small")
         subprocess.run(["mount", "-o", "remount,ro", place], check=True)
-        snapd("serve", "127.0.0.1:0", *files).gave(1, errors="snapd: small/S0: Read-only file system (os error 30)\n")
+        snapd("serve", "127.0.0.1:0", *files).gave(1, errors=remedies.failed("small/S0", remedies.READ_ONLY, remedies.read_only("small/S0")))
         # What only reads goes on.
         snapd("get", "small/S0", "--index", 0, "--count", 2).gave(0, "hi")
         assert snapd("check", "small/S0").status == 0
@@ -275,7 +276,7 @@ def test_a_file_is_gone_while_it_serves(snapd, _):
             server.ask(SCAN + update(1, 1, b"on"), snapshot((1, b"hi"), (0, b"")) + stored(1))
         run = snapd("serve", "127.0.0.1:0", *files)
         if how == "removed":
-            run.gave(1, errors="snapd: S0: No such file or directory (os error 2)\n")
+            run.gave(1, errors=remedies.failed("S0", remedies.MISSING, remedies.no_file("S0")))
         else:
             run.refused(14, "WrongFile", remedy("14, no byte", "S0", 0, 2))
         segments(snapd, FRESH, [(1, b"on")])

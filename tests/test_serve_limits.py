@@ -3,6 +3,7 @@
 import contextlib
 import errno
 import re
+import resource
 import signal
 import socket
 import threading
@@ -12,7 +13,7 @@ from clients import Client
 from preload import Accepts, library
 from serving import LOOPBACK, SCAN, Server, fresh, received, segments, snapshot, stored, to_its_end, update
 from test_serve_disks import TWO, Disk
-from waiting import PATIENCE, comes_to
+from waiting import PATIENCE, comes_to, wait_until
 
 from snapd_client import TimedOut
 
@@ -93,6 +94,42 @@ def test_a_disk_that_hangs_makes_it_deaf_to_nobody_for_long(snapd, _):
         disk.says()
         server.ask(update(0, 2, b"new") + update(1, 2, b"on"), stored(2) + stored(2))
         server.ask(SCAN, snapshot((2, b"new"), (2, b"on")))
+
+
+# One listener alone has a descriptor for the next caller at once, while it waits for it. Of two the second counts as a connection.
+TWO_LISTENERS = ("--listen", LOOPBACK)
+
+
+def test_want_of_descriptors_where_nothing_is_open_is_told_each_time(snapd, _):
+    """No connection is there that could go and make room, and there is room all the same once the process may have more."""
+    with Server(snapd, *fresh(snapd, 1), more=TWO_LISTENERS) as server:
+        process, (soft, hard) = server.process.pid, resource.getrlimit(resource.RLIMIT_NOFILE)
+        for times in range(1, 4):
+            wait_until(lambda: server.connections() == 1)
+            resource.prlimit(process, resource.RLIMIT_NOFILE, (server.descriptors(), hard))
+            with server.connect() as stream:
+                stream.sendall(SCAN)
+                comes_to([0] * times, lambda: told(server)[0])
+                resource.prlimit(process, resource.RLIMIT_NOFILE, (soft, hard))
+                assert received(stream, len(EMPTY)) == EMPTY
+                comes_to(times, lambda: told(server)[1])
+
+
+def test_room_that_others_made_is_told(snapd, _):
+    """Where a connection stays, and the process may have more: more are open than were then, so there is room."""
+    with Server(snapd, *fresh(snapd, 1), more=TWO_LISTENERS) as server, contextlib.ExitStack() as open_ones:
+        process, (soft, hard) = server.process.pid, resource.getrlimit(resource.RLIMIT_NOFILE)
+        for times, count in enumerate((9, 11), 1):
+            while server.connections() < 1 + count:
+                stream = open_ones.enter_context(server.connect())
+                assert answered(stream)
+            resource.prlimit(process, resource.RLIMIT_NOFILE, (server.descriptors(), hard))
+            late = open_ones.enter_context(server.connect())
+            late.sendall(SCAN)
+            comes_to([9, 11][:times], lambda: told(server)[0])
+            resource.prlimit(process, resource.RLIMIT_NOFILE, (soft, hard))
+            assert received(late, len(EMPTY)) == EMPTY
+            comes_to(times, lambda: told(server)[1])
 
 
 class Honest(threading.Thread):
@@ -210,8 +247,9 @@ def test_a_listener_that_fails_for_good_ends_it(snapd, _):
             with contextlib.suppress(ConnectionResetError):
                 assert connection.recv(1) == b""
         run = server.end()
-        said = f"snapd: {LOOPBACK}: 16 connections in a row couldn't be accepted"
-        assert (run.status, run.errors.splitlines()[-1], accepts.count()) == (1, said, 16), run
+        why = "16 connections in a row couldn't be accepted"
+        assert (run.status, accepts.count()) == (1, 16) and f"snapd: {LOOPBACK}: {why}" in run.errors.splitlines(), run
+        assert server.logged("ERROR", "server") == [f"it ends: {why}"]
 
 
 def refuses(server):

@@ -49,7 +49,7 @@ NO_THREAD = "the system refused a thread: allow more of them, or give --scanners
 
 def test_each_allocation_of_a_start_is_refused(snapd, _):
     """It serves, or says that memory was wanting, or a thread, and nothing else. The files stay as they are."""
-    words = ("serve", LOOPBACK, *segments(snapd, FRESH, [(0, b""), (1, b"hi")]), "--connections", 0)
+    words = ("serve", LOOPBACK, *segments(snapd, FRESH, [(0, b""), (1, b"hi")]), "--connections", 0, "--log", "error")
     before = [snapd.file(name).read_bytes() for name in ("S0", "S1")]
     env, counted = {"LD_PRELOAD": library("allocations")}, snapd.file("count")
     snapd(*words, env={**env, "ALLOCATIONS_COUNT": str(counted)})

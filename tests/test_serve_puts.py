@@ -125,8 +125,7 @@ def test_the_value_comes_before_any_connection(snapd, _):
         run = snapd("call", nobody, "put", 0, stdin=unread)
     assert run == Run(1, b"", "snapd: standard input: Input/output error (os error 5)\n"), run
     run = snapd("call", nobody, "put", 0, stdin=b"x" * 4_080)
-    why = "no connection to the server could be made: start snapd serve there, or try again with --tries"
-    run.gave(1, errors=f"snapd: {nobody}: {why}\n")
+    run.failed_with(1, f"snapd: {nobody}: no connection to the server could be made\n", f"snapd: {nobody}: Connection refused")
 
 
 def test_a_get_asks_for_one_segment(snapd, _):

@@ -3,7 +3,6 @@ are served, and nothing that was acknowledged is lost."""
 
 import errno
 import itertools
-import re
 
 from preload import library
 from serving import FRESH, LOOPBACK, SCAN, STATUS, Server, segments, snapshot, standings, stored, update
@@ -20,8 +19,6 @@ CALLS = {
     "send": (errno.EPIPE, errno.ENOBUFS),
     "shutdown": (errno.ENOTCONN,),
 }
-# What it says of a connection that has ended.
-NOTE = re.compile(r"snapd: 127\.0\.0\.1:\d+ (closed|ended inside a request|lost while it was (read|written))")
 # What the server ends with where a worker can't wait.
 REFUSED = "the system refused to watch the connections of a worker"
 # The calls of a start.
@@ -101,7 +98,7 @@ def test_each_call_of_a_start_fails(snapd, _):
         for number in itertools.count(1):
             sockets = Sockets(snapd, call, number, why)
             sockets.fail()
-            run = snapd("serve", LOOPBACK, *files, "--scanners", 2, "--connections", 0, env=sockets.env)
+            run = snapd("serve", LOOPBACK, *files, "--scanners", 2, "--connections", 0, "--log", "error", env=sockets.env)
             came = sockets.has_failed()
             # Where the system asks no silent peers, a peer that is gone is found at the next write.
             if call == "setsockopt" and run.status == 0:
@@ -138,22 +135,23 @@ def test_a_worker_that_cannot_wait_ends_the_server(snapd, _):
             assert [asked(server, SCAN) for _ in range(failed + 1)] == [shown] * failed + [CLOSED]
             assert told(other, request[-1:]) == stored(1)
         run = server.end()
-        # A thread of its own writes the notes, so the last of them may come behind the complaint; nothing else is said.
+        # A thread of its own writes the log, so its last line may come behind the complaint; nothing else is said.
         lines, complaint = run.errors.splitlines(), f"snapd: {LOOPBACK}: {REFUSED}"
         assert run.status == 1 and run.errors.endswith("\n") and lines.count(complaint) == 1, run
-        assert all(NOTE.fullmatch(it) for it in lines if it != complaint), run
+        assert len(lines) == 3 and server.logged("ERROR", "server") == [f"it ends: {REFUSED}"], run
     with Server(snapd, *files) as server:
         server.ask(SCAN, HELD)
 
 
 def test_each_call_of_a_request_fails(snapd, _):
-    """`call` says so in one line that names the address, and prints nothing. Tried again, an update is stored once."""
+    """`call` says so in a line that names the address, and prints nothing. Tried again, an update is stored once."""
     with Server(snapd, *segments(snapd, FRESH)) as server:
         for number, (call, why) in enumerate(REQUESTS.items(), start=1):
             sockets, words = Sockets(snapd, call, 1, why), ("call", server.address, "update", 0, number, "6869")
             sockets.fail()
             run = snapd(*words, env=sockets.env).failed_with(1, server.address)
-            assert sockets.has_failed() and run.errors.count("\n") == 1, (call, run)
+            # Where the system said why, that is a line of its own.
+            assert sockets.has_failed() and run.errors.count("\n") in (1, 2), (call, run)
             sockets.fail()
             snapd(*words, "--tries", 2, env=sockets.env).gave(0, f"stored {number}\n")
             assert sockets.has_failed() and server.scan() == [(number, b"hi")], call

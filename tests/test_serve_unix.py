@@ -28,6 +28,9 @@ ADDRESS = "unix:snapd.sock"
 EMPTY = "segment 0 number 0 value -\n"
 ALIVE = "another process listens there: end it, or give another path"
 NO_SOCKET = "it is there, and no socket: move it away, or give another path"
+FOREIGN = "a socket of another user is there: give another path, or have its owner end what listens there and remove it"
+MASKED = ("this process's umask takes bits of its mode, and others may change its folder: "
+          "start it under umask 0, or give a path in a folder of its own")
 NOBODY = 65_534
 # What a process says that may not open a socket.
 MAY_CONNECT = """
@@ -86,7 +89,8 @@ def test_a_socket_is_served_and_called(snapd, _):
         snapd("call", ADDRESS, "update", 0, 2, "-").gave(0, "stored 2\n")
         snapd("call", ADDRESS, "health", "--timeout", 5).gave(0, "healthy\n")
         snapd("call", ADDRESS, "put", 3, "--value", "x").refused(2, "NoSegment 1")
-        server.end().gave(0, "served 7\n")
+        run = server.end()
+        assert (run.status, run.output) == (0, b"served 7\n"), run
         assert not os.path.lexists(server.path)
 
 
@@ -116,6 +120,37 @@ def test_each_mode_is_what_the_file_gets(snapd, _):
             before = ("sh", "-c", f'umask {mask} && exec "$@"', "sh")
             with AtSocket(snapd, *files, more=("--socket-mode", mode), before=before) as server:
                 assert mode_of(server.path) == wanted, (mode, mask)
+
+
+def masked(mask):
+    """Starts a program under this mask."""
+    return ("sh", "-c", f'umask {mask} && exec "$@"', "sh")
+
+
+def test_no_mode_is_given_back_where_others_could_put_a_link(snapd, _):
+    """Behind a path that somebody else can change there may be a link by then, and its mode would be set to what nobody asked for."""
+    files, where, mode = fresh(snapd, 1), snapd.file(folder(snapd, "shared")), ("--socket-mode", "0660")
+    for bits in (0o777, 0o775, 0o1777, 0o1775, 0o755, 0o711):
+        os.chmod(where, bits)
+        is_kept = bits & 0o022 == 0 or bits & 0o1000 != 0
+        for mask in ("077", "0"):
+            if is_kept or mask == "0":
+                with AtSocket(snapd, *files, address="unix:shared/a", more=mode, before=masked(mask)) as server:
+                    assert mode_of(server.path) == 0o660, (oct(bits), mask)
+                os.unlink(server.path)
+                continue
+            words = (*masked(mask), snapd.path, "serve", "unix:shared/a", *files, *mode, "--connections", "0")
+            run = subprocess.run(words, cwd=snapd.folder, capture_output=True, text=True, timeout=PATIENCE)
+            assert run.returncode == 1 and "listening" not in run.stdout, run
+            assert run.stderr == f"snapd: unix:shared/a: can't listen there: {MASKED}\n", run
+            assert os.listdir(where) == [], oct(bits)
+    if os.geteuid() == 0:
+        # Who owns a folder changes it, whatever its mode says.
+        for owner in (NOBODY, 0):
+            os.chown(where, owner, -1)
+            run = subprocess.run((*masked("077"), snapd.path, "serve", "unix:shared/a", *files, *mode, "--connections", "0"),
+                                 cwd=snapd.folder, capture_output=True, text=True, timeout=PATIENCE)
+            assert (run.returncode, MASKED in run.stderr) == ((0, False) if owner == 0 else (1, True)), run
 
 
 def test_words_that_are_no_mode(snapd, _):
@@ -208,8 +243,34 @@ def test_a_socket_that_somebody_has_is_left(snapd, _):
         other = segments(snapd, FRESH, folder=folder(snapd, "other"))
         for _ in range(3):
             refused(snapd("serve", ADDRESS, *other), ADDRESS, ALIVE)
-        assert server.logged() == [] and asks(server.path) == [(0, b"")]
-        assert server.end().output == b"served 1\n" and server.logged() == ["unix closed"]
+        assert not server.logged("DEBUG") and asks(server.path) == [(0, b"")]
+        assert server.end().output == b"served 1\n" and server.logged("DEBUG") == ["unix closed"]
+
+
+def test_a_socket_of_another_user_is_left(snapd, _):
+    """It may be another user's server, which can't be asked; or what one left that this user may not remove."""
+    if os.geteuid() != 0:
+        raise Skipped("it takes root to be another user")
+    os.chmod(snapd.folder, 0o755)
+    where = snapd.file(folder(snapd, "shared"))
+    os.chmod(where, 0o1777)
+    other = fresh(snapd, 1, folder=folder(snapd, "other"))
+    os.chown(snapd.file(other[0]), NOBODY, NOBODY)
+    become = "import os, sys; os.setgroups([]); os.setgid(65534); os.setuid(65534); os.execv(sys.argv[1], sys.argv[1:])"
+    words = ("python3", "-c", become, snapd.path, "serve", "unix:shared/a", *other)
+
+    def is_left(number):
+        run = subprocess.run(words, cwd=snapd.folder, capture_output=True, text=True, timeout=PATIENCE)
+        assert run.returncode == 1 and run.stderr == f"snapd: unix:shared/a: can't listen there: {FOREIGN}\n", run
+        assert os.lstat(where / "a").st_ino == number
+
+    with AtSocket(snapd, *fresh(snapd, 1), address="unix:shared/a") as server:
+        is_left(os.lstat(server.path).st_ino)
+        assert asks(server.path) == [(0, b"")]
+    # Its server is gone. Everybody may call it now, and find that nobody listens.
+    is_left(os.lstat(server.path).st_ino)
+    os.chmod(server.path, 0o666)
+    is_left(os.lstat(server.path).st_ino)
 
 
 def folder(snapd, name):
@@ -332,7 +393,8 @@ def test_several_addresses_in_order(snapd, _):
         assert lines[1].startswith("listening 127.0.0.1:") and lines[3].startswith("listening [::1]:"), lines
         for number, line in enumerate(lines * 2, 1):
             snapd("call", line.removeprefix("listening "), "update", 0, number, "00").gave(0, f"stored {number}\n")
-        server.end().gave(0, b"".join(f"{line}\n".encode() for line in lines[1:]) + b"served 8\n")
+        run = server.end()
+        assert (run.status, run.output.decode().splitlines()) == (0, [*lines[1:], "served 8"]), run
         assert not any(os.path.lexists(snapd.folder / name) for name in "ab")
 
 
@@ -368,7 +430,7 @@ def test_each_call_of_a_start_fails(snapd, _):
         for number in itertools.count(1):
             sockets = Sockets(snapd, call, number, why)
             sockets.fail()
-            run = snapd("serve", *MIXED, *files, "--scanners", 2, "--connections", 0, env=sockets.env)
+            run = snapd("serve", *MIXED, *files, "--scanners", 2, "--connections", 0, "--log", "error", env=sockets.env)
             came = sockets.has_failed()
             # Some options of a socket may be refused, and at its end those in the queue may wait for it.
             if not (call in ("setsockopt", "ioctl") and run.status == 0):
@@ -383,7 +445,7 @@ def test_each_call_of_a_start_fails(snapd, _):
 
 def test_each_allocation_of_a_start_is_refused(snapd, _):
     """It serves, or says that memory was wanting, or a thread, and nothing else; and no socket's file is left."""
-    words = ("serve", *MIXED, *fresh(snapd, 1), "--connections", 0)
+    words = ("serve", *MIXED, *fresh(snapd, 1), "--connections", 0, "--log", "error")
     env, counted = {"LD_PRELOAD": library("allocations")}, snapd.file("count")
     snapd(*words, env={**env, "ALLOCATIONS_COUNT": str(counted)})
     refusals = 0
@@ -513,7 +575,7 @@ def test_two_thousand_connections_over_both(snapd, _):
                 stream.sendall(SCAN)
             for stream in streams:
                 assert entries_of(reply(stream)) == [(0, b"")]
-            assert server.notes() == []
+            assert len(server.notes()) == len(server.logged("INFO", "server")) == 1
     finally:
         resource.setrlimit(resource.RLIMIT_NOFILE, (soft, hard))
 

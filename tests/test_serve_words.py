@@ -1,10 +1,11 @@
 """The words by which `serve` is told what to let in and to log, and the mask of `call ADDR part MASK`: judged before any file is
 opened and before any connection, each with its own text."""
 
+import remedies
 from serving import Server, fresh
 
 ADDRESS = "127.0.0.1:0"
-MISSING = "snapd: missing: No such file or directory (os error 2)\n"
+MISSING = remedies.failed("missing", remedies.MISSING, remedies.no_file("missing"))
 
 
 def test_limits_within_their_bounds_are_taken(snapd, _):

@@ -1,5 +1,5 @@
 -- The command that a parse met, as the grammar has it.
-use Rattle.std.proofs.Common.{◌≡◌, ◌∙◌, List, None, Option, Some, [], ℕ, ap, arith, codes, inl, inr, option_map, refl, subst, sym, true}
+use Rattle.std.proofs.Common.{◌≡◌, ◌∙◌, ◌↔◌, IsTrue, List, None, Option, Some, [], ℕ, ap, arith, codes, inl, inr, option_map, refl, subst, sym, true}
 use Rattle.std.proofs.Common.{unwrap_or}
 use Rattle.std.proofs.Math.Path.{fun_ext}
 use Rattle.clap.specs.Words.{App, HasKind, HasMatchesOf, Row, Text, fault_of, first_value, found_of, is_simple, is_simple_and_free}
@@ -10,10 +10,12 @@ use Rattle.clap.specs.declared.error.kind.ErrorKind.TheVariants.{OutOfMemory}
 use Rattle.clap.specs.declared.parser.matches.Found.{Found}
 use Rattle.clap.proofs.OnLiterals.{clap_on_literals}
 use Rattle.clap.proofs.WalkLemmas.{first_value-rows, raw_values-rows}
-use Rattle.snap_args.specs.Faults.{HasWord, IsCommandName, IsFaultOf, IsLaterFault, IsMissing, IsParseFault}
+use Rattle.snap_order.specs.declared.order.FileOrder.{FileOrder}
+use Rattle.snap_order.specs.declared.order.FileOrder.TheVariants.{Check, Slot}
+use Rattle.snap_args.specs.Faults.{AreFileNumbersOf, HasWord, IsCommandName, IsFaultOf, IsLaterFault, IsMissing, IsParseFault}
 use Rattle.snap_args.specs.Grammar.{grammar_of}
-use Rattle.snap_args.specs.Numbers.{IsLargeNumberOf, IsNumberOf}
-use Rattle.snap_args.specs.Orders.{IsCommand, IsNamed, IsPair}
+use Rattle.snap_args.specs.Numbers.{IsGiven, IsLargeNumberOf, IsNumberOf}
+use Rattle.snap_args.specs.Orders.{IsCheckOf, IsCommand, IsFileAskedBy, IsNamed, IsPair}
 use Rattle.snap_args.specs.Words.{HasCommand, all_values, word_of, words_of}
 use Rattle.snap_args.specs.declared.fault.WordFault.{WordFault}
 use Rattle.snap_args.specs.declared.fault.WordFault.TheVariants.{Help, Memory, NoCommand, Words}
@@ -99,6 +101,29 @@ pub large_number_is : {words : List Text} {name : Text} {found : Found}
     → HasCommand words name found → (what : Text) (n : Option ℕ)
     → IsLargeNumberOf (first_value found what) n → IsLargeNumberOf (word_of words what) n
 large_number_is its what n is = by_words its (λ of all. IsLargeNumberOf (of what) n) is
+
+-- what is to be shown of a file that was found is what the command's words ask for
+pub check_is : (words : List Text) {name : Text} {found : Found} → HasCommand words name found
+    → (path : Text) → name ≡ codes "check" → Some path ≡ first_value found (codes "file")
+    → (order : FileOrder) → IsCheckOf path (first_value found) order → IsFileAskedBy words order
+check_is words its path is got (Check file is_json) its_own = (
+  asked its (codes "check") file.now is (ap Some its_own.0 ∙ got),
+  by_words its (λ of all. IsTrue is_json ↔ IsGiven (of (codes "json"))) its_own.1,
+  sym (word_is its (codes "slot")) ∙ its_own.2,
+)
+check_is words its path is got (Slot file slot) its_own = (
+  asked its (codes "check") file.now is (ap Some its_own.0 ∙ got),
+  number_is its (codes "slot") slot its_own.1,
+  by_words its (λ of all. IsGiven (of (codes "value"))) its_own.2,
+)
+check_is words its path is got order its_own = absurd its_own
+
+pub check_numbers : (words : List Text) {name : Text} {found : Found} → HasCommand words name found
+    → (path : Text) (order : FileOrder) → IsCheckOf path (first_value found) order
+    → AreFileNumbersOf words order
+check_numbers words its path (Check file is_json) its_own = tt
+check_numbers words its path (Slot file slot) its_own = number_is its (codes "slot") slot its_own.1
+check_numbers words its path order its_own = absurd its_own
 
 -- of an index and a count
 pub place_is : {words : List Text} {name : Text} {found : Found} → HasCommand words name found

@@ -5,12 +5,12 @@ use Rattle.clap.specs.Words.{Text, first_value}
 use Rattle.clap.specs.declared.parser.matches.Found.{Found}
 use Rattle.snap_args.specs.Faults.{HasWord, IsCallingFault, IsDumpingFault, IsExaminationFault, IsFaultOf, IsFolderFault}
 use Rattle.snap_args.specs.Faults.{IsFoundingFault, IsLoadingFault, IsMigrationFault, IsWatchingFault}
-use Rattle.snap_args.specs.Faults.{IsAnswerFault, IsPathFault, IsServiceFault, IsServingFault}
+use Rattle.snap_args.specs.Faults.{IsAnswerFault, IsPathFault, IsPatienceFault, IsServiceFault, IsServingFault, IsSlotFault}
 use Rattle.snap_args.specs.Requests.{IsRequestFault}
 use Rattle.snap_args.specs.Numbers.{IsCountFault, IsEveryFault, IsNoNumber, IsNumberFault, IsPlaceFault, IsSegmentsFault}
 use Rattle.snap_args.specs.Words.{HasCommand, OfCommand, all_values, word_of, words_of}
 use Rattle.snap_args.specs.declared.fault.WordFault.{WordFault}
-use Rattle.snap_args.specs.declared.fault.WordFault.TheVariants.{Count, Index, Memory, Missing, NoFiles, Number, Request, Scanners, Segment, Tries}
+use Rattle.snap_args.specs.declared.fault.WordFault.TheVariants.{Count, Index, Memory, Missing, NoFiles, Number, Request, Scanners, Segment, Slot, SlotAlone, Tries}
 use Rattle.snap_args.proofs.Asked.{by_words, missing, named, word_is}
 
 -- a fault of a path that the command takes
@@ -91,6 +91,19 @@ examination_fault : {words : List Text} {name : Text} {found : Found} → HasCom
 examination_fault its called why is =
     path_fault its (codes "folder") (inr (inr (inr (inl (called, refl))))) why is
 
+-- of the words for how long a server is tried, and an answer is waited for
+patience_fault : (words : List Text) (why : WordFault) → IsPatienceFault (word_of words) why
+    → IsFaultOf words why
+patience_fault words why (inl is) = rw is.0 (refl, is.1)
+patience_fault words why (inr is) = rw is.0 (refl, is.1)
+
+-- of the words for a slot
+slot_fault : (words : List Text) (why : WordFault) → IsSlotFault (word_of words) why
+    → IsFaultOf words why
+slot_fault words Slot is = is
+slot_fault words SlotAlone is = is
+slot_fault words why is = absurd is
+
 -- of the words of a dump
 dumping_fault : {words : List Text} {name : Text} {found : Found} → HasCommand words name found
     → name ≡ codes "dump" → (why : WordFault) → IsDumpingFault (word_of words) why
@@ -100,7 +113,7 @@ dumping_fault its called why (inl is) =
     path_fault its (codes "holder") (inr (inr (inr (inr (inl (inl (called, inl refl))))))) why is
 dumping_fault its called why (inr (inl is)) =
     number_fault its (codes "tries") (inr (inr (inr (inr (inl (inl (called, inr refl))))))) why is
-dumping_fault its called why (inr (inr is)) = rw is.0 (refl, is.1)
+dumping_fault {words} its called why (inr (inr is)) = patience_fault words why is
 
 -- of the words of a folder that is to be made of a dump
 loading_fault : {words : List Text} {name : Text} {found : Found} → HasCommand words name found
@@ -145,7 +158,7 @@ request_fault words why is = absurd is
 -- of the words for how long an answer is waited for, and how it is printed
 answer_fault : (words : List Text) (why : WordFault)
     → IsAnswerFault (word_of words) (words_of words) why → IsFaultOf words why
-answer_fault words why (inl is) = rw is.0 (refl, is.1)
+answer_fault words why (inl is) = patience_fault words why is
 answer_fault words why (inr (inl is)) = rw is.0 (refl, is.1, is.2)
 answer_fault words why (inr (inr is)) = rw is.0 is.1
 
@@ -228,6 +241,11 @@ pub call_fault : {name : Text} (found : Found) → name ≡ codes "call" → (wh
     → OfCommand name found (λ words. IsFaultOf words why)
 call_fault found named why is = λ words its.
     calling_fault its named why (by_words its (λ of all. IsCallingFault of all why) is)
+
+pub check_fault : (name : Text) (found : Found) (why : WordFault)
+    → IsSlotFault (first_value found) why → OfCommand name found (λ words. IsFaultOf words why)
+check_fault name found why is = λ words its.
+    slot_fault words why (by_words its (λ of all. IsSlotFault of why) is)
 
 pub placed_fault : {name : Text} (found : Found) → name ≢ codes "script" → name ≢ codes "serve"
     → name ≢ codes "call" → name ≢ codes "init" → name ≢ codes "doctor" → name ≢ codes "dump"

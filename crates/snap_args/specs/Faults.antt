@@ -4,13 +4,13 @@ use Rattle.clap.specs.Words.{IsAmong, Row, Text, fault_of, kind_of, subcommand_o
 use Rattle.clap.specs.declared.error.Error.{Error}
 use Rattle.clap.specs.declared.error.kind.ErrorKind.{ErrorKind}
 use Rattle.clap.specs.declared.error.kind.ErrorKind.TheVariants.{DisplayHelp, DisplayVersion, OutOfMemory}
-use Rattle.snap_order.specs.Limits.{MAX_COUNT}
+use Rattle.snap_order.specs.Limits.{MAX_COUNT, SLOT_COUNT}
 use Rattle.snap_order.specs.Order.{lists_segments}
 use Rattle.snap_order.specs.declared.order.TheConstants.{MAX_ADDRESSES}
 use Rattle.snap_order.specs.declared.order.Order.{Order}
 use Rattle.snap_order.specs.declared.order.Order.TheVariants as order
 use Rattle.snap_order.specs.declared.order.FileOrder.{FileOrder}
-use Rattle.snap_order.specs.declared.order.FileOrder.TheVariants.{Format, Put, Get, Check}
+use Rattle.snap_order.specs.declared.order.FileOrder.TheVariants.{Format, Put, Get, Check, Slot}
 use Rattle.snap_order.specs.declared.order.Calling.{Calling}
 use Rattle.snap_order.specs.declared.order.Dumping.{Dumping}
 use Rattle.snap_order.specs.declared.order.Question.{Question}
@@ -18,7 +18,7 @@ use Rattle.snap_args.specs.Explanations.{IsShellUnknown}
 use Rattle.snap_args.specs.Grammar.{grammar_of}
 use Rattle.snap_args.specs.Numbers.{IsClientsFault, IsConnectionsFault, IsCountFault, IsEveryFault, IsGiven, IsIdleFault, IsLargeNumberOf}
 use Rattle.snap_args.specs.Numbers.{IsLayoutFault, IsLevelFault, IsModeFault, IsNoNumber, IsNumberOf, IsPlaceFault, IsScannersFault}
-use Rattle.snap_args.specs.Numbers.{IsSegmentsFault, IsTimeoutFault, IsTriesFault}
+use Rattle.snap_args.specs.Numbers.{IsNoNumberBelow, IsSegmentsFault, IsTimeoutFault, IsTriesFault, IsWaitFault}
 use Rattle.snap_args.specs.Orders.{IsNamed}
 use Rattle.snap_args.specs.Requests.{IsNoRequest, IsQuestionOf, IsRequestFault}
 use Rattle.snap_args.specs.Services.{IsServiceOf}
@@ -45,6 +45,18 @@ IsFoundingFault of why = IsPathFault (of (codes "folder")) (codes "folder") why
 -- what is wrong with the words for a folder that is to be looked at
 abbrev pub IsExaminationFault : (of : Text → Option Text) → WordFault → Type 0
 IsExaminationFault of why = IsPathFault (of (codes "folder")) (codes "folder") why
+
+-- a slot is named and its value not asked for, or the other way round, or as JSON
+abbrev pub IsSlotAlone : (slot value json : Option Text) → Type 0
+IsSlotAlone slot value json = ((slot ≡ None) × IsGiven value)
+    ⊎ ((slot ≢ None) × ((IsGiven value → ⊥) ⊎ IsGiven json))
+
+-- what is wrong with the words for a slot
+abbrev pub IsSlotFault : (of : Text → Option Text) → WordFault → Type 0
+IsSlotFault of fault.Slot = IsNoNumberBelow SLOT_COUNT (of (codes "slot"))
+IsSlotFault of fault.SlotAlone =
+    IsSlotAlone (of (codes "slot")) (of (codes "value")) (of (codes "json"))
+IsSlotFault of why = ⊥
 
 -- what is wrong with these words for files: there are none, or more than a server may have
 abbrev pub IsFilesFault : List Text → WordFault → Type 0
@@ -90,9 +102,14 @@ abbrev pub IsUnlisted : (text json : Option Text) → List Text → (value after
 IsUnlisted text json words value after = (IsGiven text ⊎ IsGiven json)
     × ((q : Question) × IsQuestionOf words value after q × (lists_segments q ≡ false))
 
+-- what is wrong with the words for how long a server is tried, and an answer is waited for
+abbrev pub IsPatienceFault : (of : Text → Option Text) → WordFault → Type 0
+IsPatienceFault of why =
+    IsWaitFault (of (codes "wait")) why ⊎ IsTimeoutFault (of (codes "timeout")) why
+
 -- what is wrong with the words for how long an answer is waited for, and how it is printed
 abbrev pub IsAnswerFault : (of : Text → Option Text) (all : Text → List Text) → WordFault → Type 0
-IsAnswerFault of all why = IsTimeoutFault (of (codes "timeout")) why
+IsAnswerFault of all why = IsPatienceFault of why
     ⊎ (IsLayoutFault (of (codes "text")) (of (codes "json")) why
     ⊎ ((why ≡ fault.NoLayout) × IsUnlisted (of (codes "text")) (of (codes "json"))
     (all (codes "request")) (of (codes "value")) (of (codes "after"))))
@@ -112,7 +129,7 @@ IsWatchingFault of all why = IsPathFault (of (codes "address")) (codes "address"
 -- what is wrong with the words of a dump
 abbrev pub IsDumpingFault : (of : Text → Option Text) → WordFault → Type 0
 IsDumpingFault of why = IsPathFault (of (codes "holder")) (codes "holder") why
-    ⊎ (IsTriesFault (of (codes "tries")) why ⊎ IsTimeoutFault (of (codes "timeout")) why)
+    ⊎ (IsTriesFault (of (codes "tries")) why ⊎ IsPatienceFault of why)
 
 -- what is wrong with the words for a folder that is to be made of a dump
 abbrev pub IsLoadingFault : (of : Text → Option Text) → WordFault → Type 0
@@ -204,6 +221,9 @@ IsFaultOf words fault.Level = IsLevelFault (word_of words (codes "log")) fault.L
 IsFaultOf words fault.Segment =
     IsSegmentsFault (words_of words (codes "segments")) fault.Segment
 IsFaultOf words fault.Every = IsEveryFault (word_of words (codes "every")) fault.Every
+IsFaultOf words fault.Slot = IsSlotFault (word_of words) fault.Slot
+IsFaultOf words fault.SlotAlone = IsSlotFault (word_of words) fault.SlotAlone
+IsFaultOf words fault.Wait = IsWaitFault (word_of words (codes "wait")) fault.Wait
 IsFaultOf words fault.Timeout = IsTimeoutFault (word_of words (codes "timeout")) fault.Timeout
 IsFaultOf words fault.TwoLayouts =
     IsLayoutFault (word_of words (codes "text")) (word_of words (codes "json")) fault.TwoLayouts
@@ -232,6 +252,9 @@ IsLaterFault (fault.Files count) = Unit {0}
 IsLaterFault fault.FilesAndFolder = Unit {0}
 IsLaterFault fault.Segment = Unit {0}
 IsLaterFault fault.Every = Unit {0}
+IsLaterFault fault.Slot = Unit {0}
+IsLaterFault fault.SlotAlone = Unit {0}
+IsLaterFault fault.Wait = Unit {0}
 IsLaterFault fault.Timeout = Unit {0}
 IsLaterFault fault.TwoLayouts = Unit {0}
 IsLaterFault fault.NoLayout = Unit {0}
@@ -259,15 +282,18 @@ AreFileNumbersOf words (Put file i n) = IsNumberOf (word_of words (codes "index"
 AreFileNumbersOf words (Get file i n) = IsNumberOf (word_of words (codes "index")) i
     × IsNumberOf (word_of words (codes "count")) n
 AreFileNumbersOf words (Check file is_json) = Unit {0}
+AreFileNumbersOf words (Slot file slot) = IsNumberOf (word_of words (codes "slot")) slot
 
 -- the numbers of a call are those of their words
 pub record AreCallingNumbersOf (words : List Text) (c : Calling) : Type 0 where
   pub tries : IsNumberOf (word_of words (codes "tries")) c.tries
+  pub wait : IsLargeNumberOf (word_of words (codes "wait")) c.wait
   pub timeout : IsLargeNumberOf (word_of words (codes "timeout")) c.timeout
 
 -- and those of a dump
 pub record AreDumpingNumbersOf (words : List Text) (d : Dumping) : Type 0 where
   pub tries : IsNumberOf (word_of words (codes "tries")) d.tries
+  pub wait : IsLargeNumberOf (word_of words (codes "wait")) d.wait
   pub timeout : IsLargeNumberOf (word_of words (codes "timeout")) d.timeout
 
 abbrev pub AreNumbersOf : List Text → Order → Type 0

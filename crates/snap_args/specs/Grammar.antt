@@ -67,9 +67,10 @@ flag_rule name = record (new_rule name) { long = Some name; action = Some SetTru
 abbrev pub filed : App → App
 filed app = with_rule app (word_rule (codes "file"))
 
--- with a file, and whether what it holds is printed as JSON
+-- with a file, whether what it holds is printed as JSON, and a slot whose value is printed
 abbrev pub checked : App → App
-checked app = with_rule (filed app) (flag_rule (codes "json"))
+checked app = with_rule (with_rule (with_rule (filed app) (flag_rule (codes "json")))
+    (text_rule (codes "slot"))) (flag_rule (codes "value"))
 
 -- with the place of a segment
 abbrev pub placed : App → App
@@ -80,10 +81,10 @@ placed app = with_rule (with_rule app (number_rule (codes "index") (codes "0")))
 abbrev pub paired : App → App
 paired app = placed (with_rule (with_rule app (word_rule (codes "old"))) (word_rule (codes "new")))
 
--- with a folder and how many segments it is to have
+-- with a folder, how many segments it is to have, and whether a missing one is made all the same
 abbrev pub founded : App → App
-founded app = with_rule (with_rule app (word_rule (codes "folder")))
-    (number_rule (codes "count") (codes "1"))
+founded app = with_rule (with_rule (with_rule app (word_rule (codes "folder")))
+    (number_rule (codes "count") (codes "1"))) (flag_rule (codes "missing-empty"))
 
 -- with a folder, and whether its disk is measured
 abbrev pub examined : App → App
@@ -122,8 +123,8 @@ printed app = with_rule (with_rule app (flag_rule (codes "text"))) (flag_rule (c
 
 -- with how often and how long an answer is waited for
 abbrev pub tried : App → App
-tried app = with_rule (with_rule app (number_rule (codes "tries") (codes "1")))
-    (large_number_rule (codes "timeout"))
+tried app = with_rule (with_rule (with_rule app (number_rule (codes "tries") (codes "1")))
+    (large_number_rule (codes "wait"))) (large_number_rule (codes "timeout"))
 
 -- with an address, the words of a request, the tries, a put's options, and how the answer is printed
 abbrev pub called : App → App

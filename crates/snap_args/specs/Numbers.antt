@@ -109,6 +109,10 @@ IsClientsFault word why = (why ≡ fault.Clients) × IsNoNumberTo MAX_CLIENTS wo
 abbrev pub IsIdleFault : Option Text → WordFault → Type 0
 IsIdleFault word why = (why ≡ fault.Idle) × IsNoNumberTo MAX_IDLE word
 
+-- what is wrong with this word for the seconds that a call connects again
+abbrev pub IsWaitFault : Option Text → WordFault → Type 0
+IsWaitFault word why = (why ≡ fault.Wait) × IsNoNumberTo MAX_TIMEOUT word
+
 -- what is wrong with this word for the seconds that an answer is waited for
 abbrev pub IsTimeoutFault : Option Text → WordFault → Type 0
 IsTimeoutFault word why = (why ≡ fault.Timeout) × IsNoNumberTo MAX_TIMEOUT word

@@ -4,7 +4,7 @@ use Rattle.clap.specs.Words.{Row, Text, first_of, subcommand_of}
 use Rattle.snap_order.specs.declared.order.Order.{Order}
 use Rattle.snap_order.specs.declared.order.Order.TheVariants as order
 use Rattle.snap_order.specs.declared.order.FileOrder.{FileOrder}
-use Rattle.snap_order.specs.declared.order.FileOrder.TheVariants.{Format, Put, Get, Check}
+use Rattle.snap_order.specs.declared.order.FileOrder.TheVariants.{Format, Put, Get, Check, Slot}
 use Rattle.snap_order.specs.declared.order.Founding.{Founding}
 use Rattle.snap_order.specs.declared.order.Examination.{Examination}
 use Rattle.snap_order.specs.declared.order.Serving.{Serving}
@@ -15,7 +15,7 @@ use Rattle.snap_order.specs.declared.order.Watching.{Watching}
 use Rattle.snap_args.specs.Dumps.{IsHolderOf}
 use Rattle.snap_args.specs.Explanations.{IsExplanationOf}
 use Rattle.snap_args.specs.Grammar.{grammar_of}
-use Rattle.snap_args.specs.Numbers.{AreSegmentsOf, IsGiven, IsLayoutOf}
+use Rattle.snap_args.specs.Numbers.{AreSegmentsOf, IsGiven, IsLayoutOf, IsNumberOf}
 use Rattle.snap_args.specs.Requests.{IsQuestionOf}
 use Rattle.snap_args.specs.Services.{IsServiceOf}
 use Rattle.snap_args.specs.Words.{word_of, words_of}
@@ -51,11 +51,24 @@ IsFileAskedBy words (Get file index count) =
 IsFileAskedBy words (Check file is_json) =
     IsCommand (subcommand_of grammar_of words) (codes "check") file.now
     × (IsTrue is_json ↔ IsGiven (word_of words (codes "json")))
+    × (word_of words (codes "slot") ≡ None)
+IsFileAskedBy words (Slot file slot) =
+    IsCommand (subcommand_of grammar_of words) (codes "check") file.now
+    × IsNumberOf (word_of words (codes "slot")) slot × IsGiven (word_of words (codes "value"))
+
+-- the words ask to show this of this file: all of it, or the value of a slot
+abbrev pub IsCheckOf : Text → (of : Text → Option Text) → FileOrder → Type 0
+IsCheckOf path of (Check file is_json) = (file.now ≡ path)
+    × (IsTrue is_json ↔ IsGiven (of (codes "json"))) × (of (codes "slot") ≡ None)
+IsCheckOf path of (Slot file slot) = (file.now ≡ path) × IsNumberOf (of (codes "slot")) slot
+    × IsGiven (of (codes "value"))
+IsCheckOf path of order = ⊥
 
 -- the words are those of the making of this folder
 pub record IsFoundingOf (words : List Text) (f : Founding) : Type 0 where
   pub command : IsNamed words (codes "init")
   pub folder : word_of words (codes "folder") ≡ Some f.folder.now
+  pub missing_empty : IsTrue f.is_missing_empty ↔ IsGiven (word_of words (codes "missing-empty"))
 
 -- the words are those of a look at this folder
 pub record IsExaminationOf (words : List Text) (e : Examination) : Type 0 where

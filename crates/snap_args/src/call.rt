@@ -27,6 +27,8 @@ pub(crate) fn calling<'a>(alloc: Global, matches: &ArgMatches<'a>) -> Result<Cal
         (first_value (found_of matches.now) (codes "after")) c.question) }
     ensures tries { IfOk result
         (λ c. IsNumberOf (first_value (found_of matches.now) (codes "tries")) c.tries) }
+    ensures wait { IfOk result
+        (λ c. IsLargeNumberOf (first_value (found_of matches.now) (codes "wait")) c.wait) }
     ensures timeout { IfOk result
         (λ c. IsLargeNumberOf (first_value (found_of matches.now) (codes "timeout")) c.timeout) }
     ensures layout { IfOk result (λ c. IsLayoutOf (first_value (found_of matches.now) (codes "text"))
@@ -38,6 +40,7 @@ pub(crate) fn calling<'a>(alloc: Global, matches: &ArgMatches<'a>) -> Result<Cal
         return Err(WordFault::Missing { what: "address" });
     };
     let tries = tries_of(matches)?;
+    let wait = limit_of(matches, "wait", MAX_TIMEOUT, WordFault::Wait)?;
     let timeout = limit_of(matches, "timeout", MAX_TIMEOUT, WordFault::Timeout)?;
     let layout = layout_of(matches)?;
     let question = question_of(alloc, matches)?;
@@ -48,6 +51,7 @@ pub(crate) fn calling<'a>(alloc: Global, matches: &ArgMatches<'a>) -> Result<Cal
         address,
         question,
         tries,
+        wait,
         timeout,
         layout,
     })

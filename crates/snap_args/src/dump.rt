@@ -19,6 +19,8 @@ pub(crate) fn dumping<'a>(matches: &ArgMatches<'a>) -> Result<Dumping<'a>, WordF
         (λ d. IsHolderOf (first_value (found_of matches.now) (codes "holder")) d.holder) }
     ensures tries { IfOk result
         (λ d. IsNumberOf (first_value (found_of matches.now) (codes "tries")) d.tries) }
+    ensures wait { IfOk result
+        (λ d. IsLargeNumberOf (first_value (found_of matches.now) (codes "wait")) d.wait) }
     ensures timeout { IfOk result
         (λ d. IsLargeNumberOf (first_value (found_of matches.now) (codes "timeout")) d.timeout) }
     ensures fault { IfErr result (IsDumpingFault (first_value (found_of matches.now))) }
@@ -27,10 +29,12 @@ pub(crate) fn dumping<'a>(matches: &ArgMatches<'a>) -> Result<Dumping<'a>, WordF
         return Err(WordFault::Missing { what: "holder" });
     };
     let tries = tries_of(matches)?;
+    let wait = limit_of(matches, "wait", MAX_TIMEOUT, WordFault::Wait)?;
     let timeout = limit_of(matches, "timeout", MAX_TIMEOUT, WordFault::Timeout)?;
     Ok(Dumping {
         holder: holder_of(word),
         tries,
+        wait,
         timeout,
     })
 }

@@ -96,6 +96,15 @@ pub enum WordFault {
     /// The tries are none, or more than there may be.
     #[error("error: the number of tries {tries} is not from 1 to 10{more}", more = MORE)]
     Tries { tries: u8 },
+    /// The word for the slot of a file is none of its slots.
+    #[error("error: the slot is not a number from 0 to 2{more}", more = MORE)]
+    Slot,
+    /// A slot is named and its value not asked for, or the other way round, or as JSON.
+    #[error("error: --slot S and --value are given together, and without --json{more}", more = MORE)]
+    SlotAlone,
+    /// The word for how long a call connects again is no number of seconds that it may have.
+    #[error("error: the seconds of the wait are not from 1 to {max}{more}", max = MAX_TIMEOUT, more = MORE)]
+    Wait,
     /// The word for how long an answer is waited for is no number of seconds that a call may have.
     #[error("error: the seconds of the timeout are not from 1 to {max}{more}", max = MAX_TIMEOUT, more = MORE)]
     Timeout,

@@ -103,7 +103,11 @@ fn check_command<'a>(alloc: Global) -> Result<Command<'a>, AllocError>
     let file = required_word(alloc, "file", "FILE", "The path of the segment's file");
     let command = described_command(alloc, "check", about, CHECK_HELP);
     let made = with_arg(Ok(command), file);
-    with_arg(made, flag(alloc, "json", "Print it as JSON, on one line"))
+    let made = with_arg(made, flag(alloc, "json", "Print it as JSON, on one line"));
+    let help = "The slot whose value is printed, 0 to 2";
+    let made = with_arg(made, text_option(alloc, "slot", "S", help));
+    let help = "Print the value in slot S, and nothing else";
+    with_arg(made, flag(alloc, "value", help))
 }
 
 fn migrate_command<'a>(alloc: Global) -> Result<Command<'a>, AllocError>
@@ -126,7 +130,9 @@ fn init_command<'a>(alloc: Global) -> Result<Command<'a>, AllocError>
     let command = described_command(alloc, "init", about, INIT_HELP);
     let made = with_arg(Ok(command), folder);
     let help = "How many segments there are to be, 1 to 16";
-    with_arg(made, number_option(alloc, "count", "1", "N", help))
+    let made = with_arg(made, number_option(alloc, "count", "1", "N", help));
+    let help = "Make a missing file, empty, where another one holds a value";
+    with_arg(made, flag(alloc, "missing-empty", help))
 }
 
 fn doctor_command<'a>(alloc: Global) -> Result<Command<'a>, AllocError>
@@ -336,6 +342,8 @@ fn with_patience<'a>(
 {
     let help = "The most connections that are made, 1 to 10";
     let command = with_arg(made, number_option(alloc, "tries", "1", "T", help));
+    let help = "Connect again for so long where no answer came, 1 to 86400";
+    let command = with_arg(command, large_number_option(alloc, "wait", "SECONDS", help));
     let help = "End where no answer came for so long, 1 to 86400";
     with_arg(
         command,

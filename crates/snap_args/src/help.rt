@@ -38,9 +38,14 @@ pub(crate) const CHECK_HELP: &str = "\
 Prints the header, the three slots, and `answer number K` or `answer none`. Ends with status 3
 where there is no answer. With --json it prints the same as one JSON object.
 
+With --slot S --value it prints the value that lies in slot S, byte for byte, whether that slot is
+open or closed, and whatever the others hold: for a file that has no answer. A slot whose length,
+number or zeros are wrong holds no value, and ends it with status 3.
+
 Example:
   snapd check manifest.seg
-  snapd check manifest.seg --json";
+  snapd check manifest.seg --json
+  snapd check damaged.seg --slot 1 --value > saved";
 
 pub(crate) const MIGRATE_HELP: &str = "\
 OLD is a file of the old format, 20,480 bytes that begin `SNAPSEG1`; it is only read. NEW is made
@@ -57,8 +62,11 @@ DIR gets the files segment-00.seg, segment-01.seg and so on, each formatted as o
 is made where it isn't there; the folder above it has to be. Prints `formatted I of N` for each.
 
 It may be run again, above all where it was cut off: a file that is whole is left as it is, which
-prints `kept I of N number K`, and what is missing is made, empty: where a file was lost, bring it
-back before (`snapd doctor DIR` says which). A file that is neither is refused, and keeps its bytes.
+prints `kept I of N number K`, and what is missing is made, empty. Where a file that is there holds a
+number above 0, a missing one was lost: nothing is made then. Bring it back from a copy, or say
+--missing-empty, and it is made all the same. An empty file, or one without a header and a value, counts
+as missing, and a segment whose file has another name in .seg is kept there. A file that is neither is
+refused, and keeps its bytes.
 Nothing is made in a folder of another count: a folder of more segments is made by `snapd load`.
 
 Example:
@@ -68,8 +76,9 @@ Example:
 pub(crate) const DOCTOR_HELP: &str = "\
 Reads the header and slots of each file of DIR whose name ends in .seg, and changes nothing. Prints a
 line for each with its segment and number, or with what is wrong and the command that helps; then
-whether they are all the segments of one server, and whether the file system there keeps locks. A
-file that a server has is left alone.
+whether they are all the segments of one server, and whether the file system there keeps locks. It
+opens each file as a server would, so it says too where you can't serve it, and why. A file that a
+server has is left alone.
 
 With --measure it makes a file of its own there, stores 200 values of 1,000 bytes in it, removes it,
 and prints how long a store took. Where that is too short for a disk to have been waited for, it says
@@ -105,7 +114,8 @@ served with a warning.
 
 With --http it answers browsers and monitors at one more ADDR, a HOST:PORT, which is in the log with
 the port that it got. There / is a page that shows all segments live, /metrics is what Prometheus
-reads, /health has status 503 where a segment is fenced, and /scan, /status and /stats are JSON.
+reads, /health has status 503 where a segment is fenced, /livez and /readyz say whether it answers and can
+store at all, and /scan, /status, /stats and /history are JSON.
 Whoever reaches it may look at all segments and change none. It has a scanner of its own, so that
 nobody waits for it, and --scanners is 15 at most.
 
@@ -113,8 +123,10 @@ A unix:PATH is a socket of this machine. Its file gets MODE, and who may write i
 nobody else. The file of a server that was killed is replaced. Where a process listens at PATH, or
 what is there is no socket, the server doesn't start. At its own end it removes the file.
 
-Killing it is a proper stop, with any signal and at any time: what was acknowledged or shown is in
-the files, and the next start gives it back.
+Killing it is a proper stop, by SIGTERM or any other signal that ends it, at any time: what was
+acknowledged or shown is in the files, and the next start gives it back. What a script starts with `&`
+ignores SIGINT: use `kill`. Never copy onto a file while it is served, and move or
+remove none: its next update is refused. `snapd load` makes a new folder of a copy.
 
 Exit status:
   0  K connections were served
@@ -155,7 +167,10 @@ the put is refused as 4 Conflict or 5 OutOfStep, and isn't tried again. A get ta
 
 A connection that fails is tried again up to T times in all, with the same request. That is safe:
 an update whose number is stored already isn't stored twice. A put asks twice, each up to T times.
-A call has SECONDS for its answer, all tries together; without it waits for as long as it takes.
+Between two tries it rests, a little longer each time. With --wait it goes on for so many seconds,
+however many tries that takes, which bridges a server's restart: each request of a put for so many, and
+one that was sent is waited for. With --timeout a call has so many seconds for its answer, all tries
+together; without it waits for as long as it takes. Looking up a name isn't cut short.
 
 With --text, scan and part print `text \"..\"` in place of `value HEX` where a value is printable:
 UTF-8 without control characters but tabs and line ends. It is quoted as in JSON, so each value is
@@ -176,14 +191,15 @@ Examples:
   snapd call 127.0.0.1:7070 get 0
   snapd call 127.0.0.1:7070 update 0 1 6869
   snapd call 127.0.0.1:7070 scan --text
-  snapd call 127.0.0.1:7070 scan --tries 3 --timeout 5
+  snapd call 127.0.0.1:7070 scan --wait 30 --timeout 60
   snapd call 127.0.0.1:7070 part 0009
   snapd call 127.0.0.1:7070 health";
 
 pub(crate) const WATCH_HELP: &str = "\
 Prints a line for each SEGMENT, or for all, and from then on one more at each change: where a segment
-has another number, and where it is fenced or no longer is. In a terminal each segment has one line
-instead, drawn anew in place and cut to the width. A line says
+has another number, and where it is fenced or no longer is. In a terminal it draws a board instead, in
+place and anew at each look: segment, number, age, updates a second, state and value in columns, cut
+to the terminal, and in colours unless NO_COLOR is set. A line says
 
   segment I number K fenced 0 text \"..\"
 
@@ -195,9 +211,9 @@ It keeps one connection. Each look asks for the numbers alone, which costs the s
 the values where one of them is another. So nothing is printed twice, and of the values between two
 looks the last one is.
 
-It runs until it is interrupted or its output fails. Where the server goes away it says so on standard
-error, tries again at each look, and says when the server is back. Where there is no server at its
-start it ends.
+It runs until it is interrupted or its output fails. Where the server goes away, or gives a look no
+answer for ten seconds, it says so on standard error, tries again at each look, and says when the
+server is back. Where there is no server at its start it ends.
 
 Exit status:
   1  no connection gave a first answer, or standard output failed
@@ -223,7 +239,7 @@ there are, a line with the number and the value of each, and the SHA-256 of all 
 whoever carries it can check it: the last line of DUMP has what `head -n -1 DUMP | sha256sum` prints.
 Nothing is printed of a dump that fails; but a shell has emptied the file behind `>` by then.
 
-T and SECONDS are for a server, as in `snapd call`.
+T, --wait and --timeout are for a server, as in `snapd call`.
 
 Examples:
   snapd dump 127.0.0.1:7070 > new.dump && mv new.dump board.dump
@@ -237,6 +253,7 @@ DIR gets a file for each segment, as `snapd init` makes them, with the number an
 has; the folder above DIR has to be there. With M there are M segments, and those behind the dump's are
 new ones. The files are made in
 DIR.loading, which becomes DIR once all are on the disk for good: so DIR is there whole, or not at all.
+An empty DIR that is there is replaced; its owner, group and mode are kept, access lists and labels not.
 Cut off before, it can be run again, and replaces what was left in DIR.loading.
 
 Prints `loaded I of M number K` for each file, and `ready DIR` at the end.

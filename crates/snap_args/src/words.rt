@@ -9,10 +9,10 @@ ghost use Rattle.snap_order.specs.declared.order.Order.TheVariants as order;
 ghost use Rattle.snap_args.specs.Explanations.{IsExplanationOf, IsShellUnknown};
 ghost use Rattle.snap_args.specs.Faults.{AreFileNumbersOf, AreNumbersOf, IsFaultOf};
 ghost use Rattle.snap_args.specs.Faults.{IsExaminationFault, IsFoundingFault, IsLaterFault, IsMigrationFault};
-ghost use Rattle.snap_args.specs.Faults.{IsParseFault};
+ghost use Rattle.snap_args.specs.Faults.{IsParseFault, IsSlotFault};
 ghost use Rattle.snap_args.specs.Numbers.{IsGiven, IsNumberOf};
 ghost use Rattle.snap_args.specs.Grammar.{grammar_of};
-ghost use Rattle.snap_args.specs.Orders.{IsAskedBy, IsFileAskedBy, IsOtherCommand};
+ghost use Rattle.snap_args.specs.Orders.{IsAskedBy, IsCheckOf, IsFileAskedBy, IsOtherCommand};
 ghost use Rattle.snap_args.specs.Words.{OfCommand};
 ghost use Rattle.snap_args.specs.declared.fault.WordFault.TheVariants as fault;
 
@@ -26,7 +26,7 @@ use crate::serve::{folder_serving, serving};
 use crate::watch::watching;
 use clap::ArgMatches;
 use clap::error::ErrorKind;
-use snap_order::{Examination, FileOrder, Founding, Migration, Order};
+use snap_order::{Examination, FileOrder, Founding, Migration, Order, SLOT_COUNT};
 use std::alloc::Global;
 use std::convert::AsStr;
 
@@ -160,8 +160,7 @@ fn file_order<'a>(command: &str, matches: &ArgMatches<'a>) -> Result<FileOrder<'
         return Err(WordFault::Missing { what: "file" });
     };
     if is(command, "check") {
-        let is_json = is_given(matches, "json");
-        return Ok(FileOrder::Check { file, is_json });
+        return Ok(checking(file, matches)?);
     }
     let (index, count) = place(matches)?;
     let order = match command {
@@ -171,6 +170,29 @@ fn file_order<'a>(command: &str, matches: &ArgMatches<'a>) -> Result<FileOrder<'
         _ => return Err(WordFault::NoCommand),
     };
     Ok(order)
+}
+
+/// What is to be shown of this file.
+fn checking<'a>(file: &'a str, matches: &ArgMatches<'a>) -> Result<FileOrder<'a>, WordFault>
+    ensures limits { IfOk result IsFileWithinLimits }
+    ensures asked { IfOk result (IsCheckOf file.now (first_value (found_of matches.now))) }
+    ensures fault { IfErr result (IsSlotFault (first_value (found_of matches.now))) }
+{
+    let is_json = is_given(matches, "json");
+    let is_value = is_given(matches, "value");
+    let Some(word) = matches.get_str("slot") else {
+        if is_value {
+            return Err(WordFault::SlotAlone);
+        }
+        return Ok(FileOrder::Check { file, is_json });
+    };
+    if !is_value || is_json {
+        return Err(WordFault::SlotAlone);
+    }
+    match word.parse::<u8>() {
+        Ok(slot) if u64::from(slot) < SLOT_COUNT => Ok(FileOrder::Slot { file, slot }),
+        _ => Err(WordFault::Slot),
+    }
 }
 
 /// The command has this name.
@@ -187,13 +209,20 @@ fn founding<'a>(matches: &ArgMatches<'a>) -> Result<Founding<'a>, WordFault>
         (λ f. Some f.folder.now ≡ first_value (found_of matches.now) (codes "folder")) }
     ensures number { IfOk result
         (λ f. IsNumberOf (first_value (found_of matches.now) (codes "count")) f.count) }
+    ensures missing_empty { IfOk result (λ f. IsTrue f.is_missing_empty
+        ↔ IsGiven (first_value (found_of matches.now) (codes "missing-empty"))) }
     ensures fault { IfErr result (IsFoundingFault (first_value (found_of matches.now))) }
 {
     let Some(folder) = matches.get_str("folder") else {
         return Err(WordFault::Missing { what: "folder" });
     };
     let count = count_of(matches)?;
-    Ok(Founding { folder, count })
+    let is_missing_empty = is_given(matches, "missing-empty");
+    Ok(Founding {
+        folder,
+        count,
+        is_missing_empty,
+    })
 }
 
 /// The folder that is to be looked at, and whether its disk is measured.

@@ -1,7 +1,8 @@
 -- What was counted, as a JSON document (docs/FORMATS.md, "HTTP"), by its tokens.
-use Rattle.std.specs.Prelude.{ℕ, zero, suc, List, [], ◌∷◌, ◌++◌, codes, flat_map, slice_get, Option, Some, None}
+use Rattle.std.specs.Prelude.{ℕ, zero, suc, List, [], ◌∷◌, ◌++◌, codes, flat_map, option_and_then, slice_get, Option, Some, None}
 use Rattle.std.specs.Option.{option_map, option_map_or}
 use Rattle.std.specs.Fmt.{decimal}
+use Rattle.std.specs.Path.{path_file_stem}
 use Rattle.json.specs.Token.{Token, begin_object, end_object, begin_array, end_array, key, string, number, boolean, null}
 use Rattle.snap_disk.specs.Refusal.{code_of, name_of}
 use Rattle.snap_disk.specs.declared.refusal.Refusal.{Refusal}
@@ -75,10 +76,14 @@ unfoldable pub times_tokens : Distribution → List Token
 times_tokens d = list_member (codes "counts") (flat_map number_tokens d.counts)
     ++ count_member (codes "total_nanoseconds") d.total
 
--- the path of a segment's file
-unfoldable pub file_member : Option (List ℕ) → List Token
-file_member None = key (codes "file") ∷ null ∷ []
-file_member (Some file) = key (codes "file") ∷ string file ∷ []
+-- a member that is a text, where it is known
+unfoldable pub text_member : List ℕ → Option (List ℕ) → List Token
+text_member name None = key name ∷ null ∷ []
+text_member name (Some text) = key name ∷ string text ∷ []
+
+-- the path of a segment's file, and the segment's name: that of the file without its ending
+unfoldable pub file_members : Option (List ℕ) → List Token
+file_members file = text_member (codes "file") file ++ text_member (codes "name") (option_and_then path_file_stem file)
 
 -- the number and the fence of a segment
 unfoldable pub status_members : Option SegmentStatus → List Token
@@ -87,7 +92,7 @@ status_members (Some s) = count_member (codes "number") s.number ++ key (codes "
 
 -- which segment it is, and how it stands
 unfoldable pub name_members : ℕ → Option (List ℕ) → Option SegmentStatus → List Token
-name_members i file status = count_member (codes "segment") i ++ (file_member file ++ status_members status)
+name_members i file status = count_member (codes "segment") i ++ (file_members file ++ status_members status)
 
 -- what was counted of it
 unfoldable pub counted_members : Option ℕ → SegmentReading → List Token

@@ -1,6 +1,6 @@
 -- What a board answers.
-use Rattle.std.specs.Prelude.{◌≡◌, ◌⊎◌, ◌||◌, ℕ, List, Option, Some, None, Bool, MatchBool, bytes_eq, codes, option_and_then, if◌then◌else◌}
-use Rattle.std.specs.List.{list_any}
+use Rattle.std.specs.Prelude.{◌≡◌, ◌⊎◌, ◌||◌, ◌++◌, ℕ, List, Option, Some, None, Bool, MatchBool, bytes_eq, codes, option_and_then, if◌then◌else◌}
+use Rattle.std.specs.List.{list_all, list_any}
 use Rattle.http.specs.declared.request.Request as http
 use Rattle.http.specs.Request.{head_of}
 use Rattle.http.specs.Uri.{uri_path}
@@ -33,17 +33,21 @@ asked_of pages.Style = None
 asked_of pages.Script = None
 asked_of pages.Metrics = Some requests.Status
 asked_of pages.Health = Some requests.Status
+asked_of pages.Live = None
+asked_of pages.Ready = Some requests.Status
 asked_of pages.Scan = Some requests.Scan
 asked_of pages.Status = Some requests.Status
 asked_of pages.Stats = Some requests.Status
+asked_of pages.History = None
 
--- the text tells what was counted, as it may be read, and these statuses
+-- the text tells what was counted, as it may be read, and these statuses, and more behind that
 pub record IsMetrics (reads : Reading → Type 0) (version : List ℕ) (statuses : List SegmentStatus) (text : List ℕ) : Type 0 where
   pub facts : Facts
+  pub more : List ℕ
   pub reading : reads facts.reading.now
   pub program : facts.version.now ≡ version
   pub segments : facts.statuses.now ≡ statuses
-  pub is : text ≡ metrics_text facts
+  pub is : text ≡ metrics_text facts ++ more
 
 -- the text is the document of what was counted, as it may be read, and of these statuses; with any addresses and files
 pub record IsStats (reads : Reading → Type 0) (version : List ℕ) (statuses : List SegmentStatus) (text : List ℕ) : Type 0 where
@@ -61,11 +65,12 @@ abbrev pub ShowsValues : Page → List SegmentValue → Response → Type 0
 ShowsValues pages.Scan values r = HasContent 200 (list_text (each_from value_tokens 0 values)) r
 ShowsValues page values r = ⊥
 
--- what a page tells of these statuses: the health is told by 503 too, where a segment is fenced
+-- what a page tells of these statuses: the health is told by 503 too, where a segment is fenced, and the readiness, where each is
 abbrev pub ShowsStatuses : (reads : Reading → Type 0) (version : List ℕ) → Page → List SegmentStatus → Response → Type 0
 ShowsStatuses reads version pages.Metrics statuses r = (r.status ≡ 200) × IsMetrics reads version statuses r.body.items
 ShowsStatuses reads version pages.Health statuses r =
     HasContent (if list_any (λ s. s.is_fenced) statuses then 503 else 200) (health_text statuses) r
+ShowsStatuses reads version pages.Ready statuses r = r.status ≡ (if list_all (λ s. s.is_fenced) statuses then 503 else 200)
 ShowsStatuses reads version pages.Status statuses r = HasContent 200 (list_text (each_from status_tokens 0 statuses)) r
 ShowsStatuses reads version pages.Stats statuses r = (r.status ≡ 200) × IsStats reads version statuses r.body.items
 ShowsStatuses reads version page statuses r = ⊥

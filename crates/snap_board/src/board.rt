@@ -1,7 +1,6 @@
 //! The answers to HTTP requests.
-ghost use Rattle.std.specs.Prelude.{◌≡◌, OnOk, OnErr, if◌then◌else◌};
-ghost use Rattle.std.specs.List.{list_any};
-ghost use Rattle.http_server.specs.Response.{IsBlank};
+ghost use Rattle.std.specs.Prelude.{◌≡◌, [], OnOk, OnErr, if◌then◌else◌};
+ghost use Rattle.std.specs.List.{list_all, list_any};
 ghost use Rattle.snap_board.specs.Pages as pages;
 ghost use Rattle.snap_json.specs.Each.{each_from};
 ghost use Rattle.snap_json.specs.Documents.{health_text, list_text, status_tokens};
@@ -11,6 +10,7 @@ use crate::figures::figures_document;
 use crate::home::HOME;
 use crate::metrics::metrics_text;
 use crate::page::Page;
+use crate::process::process_text;
 use crate::reply::{Kind, fill, fill_with, give_up};
 use crate::script::SCRIPT;
 use crate::style::STYLE;
@@ -18,6 +18,7 @@ use crate::surroundings::Surroundings;
 use bytes::Bytes;
 use http::{HeaderName, HeaderValue, Request, StatusCode, header};
 use http_server::Response;
+use httpdate::HttpDate;
 use snap_figures::Reading;
 use snap_frame::{Reply, SegmentStatus};
 use snap_json::{health_document, scan_document, status_document};
@@ -25,10 +26,17 @@ use snap_session::Service;
 use std::alloc::{AllocError, Global};
 
 /// What is said where no page is.
-const PATHS: &[u8] = b"Nothing is here. There is: / /metrics /health /scan /status /stats\n";
+const PATHS: &[u8] =
+    b"Nothing is here. There is: / /metrics /health /livez /readyz /scan /status /stats /history\n";
 
 /// What is said of a method that might change something.
 const METHODS: &[u8] = b"Only GET and HEAD are answered.\n";
+
+/// What is said where all is well.
+const WELL: &[u8] = b"ok\n";
+
+/// What is said where no segment takes an update.
+const ALL_FENCED: &[u8] = b"each segment is fenced\n";
 
 /// What is said where the service gave no answer.
 const NO_ANSWER: &[u8] = b"no answer\n";
@@ -66,7 +74,7 @@ impl<S: Service + Drop, X: Surroundings + Drop> Board<S, X> {
         request: &Request<Bytes>,
         response: &mut Response,
     ) -> Result<(), AllocError>
-        requires { IsBlank response.old }
+        requires { response.old.body.items ≡ [] }
         ensures answers { OnOk result (pages.Answers S.gives (X.reads self.old.surroundings)
             (X.version_of self.old.surroundings) self.old.service request.now response.new self.new.service) }
         ensures asks { OnErr result (pages.MayAskFor S.gives self.old.service request.now self.new.service) }
@@ -84,7 +92,7 @@ impl<S: Service + Drop, X: Surroundings + Drop> Board<S, X> {
 
     /// Shows a page.
     fn show(&mut self, page: Page, response: &mut Response) -> Result<(), AllocError>
-        requires { IsBlank response.old }
+        requires { response.old.body.items ≡ [] }
         ensures answers { OnOk result (pages.AnswersPage S.gives (X.reads self.old.surroundings)
             (X.version_of self.old.surroundings) page self.old.service response.new self.new.service) }
         ensures asks { OnErr result (pages.MayAsk S.gives (pages.asked_of page) self.old.service self.new.service) }
@@ -94,9 +102,12 @@ impl<S: Service + Drop, X: Surroundings + Drop> Board<S, X> {
             Page::Home => show_home(response),
             Page::Style => show_file(response, Kind::Css, STYLE),
             Page::Script => show_file(response, Kind::Script, SCRIPT),
+            Page::Live => show_file(response, Kind::Text, WELL),
+            Page::History => self.show_history(response),
             Page::Scan => self.show_scan(response),
             Page::Metrics => self.show_metrics(response),
             Page::Health => self.show_health(response),
+            Page::Ready => self.show_ready(response),
             Page::Status => self.show_status(response),
             Page::Stats => self.show_stats(response),
         }
@@ -104,7 +115,7 @@ impl<S: Service + Drop, X: Surroundings + Drop> Board<S, X> {
 
     /// Shows a scan.
     fn show_scan(&mut self, response: &mut Response) -> Result<(), AllocError>
-        requires { IsBlank response.old }
+        requires { response.old.body.items ≡ [] }
         ensures answers { OnOk result (pages.AnswersPage S.gives (X.reads self.old.surroundings)
             (X.version_of self.old.surroundings) Page.Scan self.old.service response.new self.new.service) }
         ensures asks { OnErr result (pages.MayAsk S.gives (pages.asked_of Page.Scan)
@@ -122,7 +133,7 @@ impl<S: Service + Drop, X: Surroundings + Drop> Board<S, X> {
 
     /// Shows what was counted, for Prometheus.
     fn show_metrics(&mut self, response: &mut Response) -> Result<(), AllocError>
-        requires { IsBlank response.old }
+        requires { response.old.body.items ≡ [] }
         ensures answers { OnOk result (pages.AnswersPage S.gives (X.reads self.old.surroundings)
             (X.version_of self.old.surroundings) Page.Metrics self.old.service response.new self.new.service) }
         ensures asks { OnErr result (pages.MayAsk S.gives (pages.asked_of Page.Metrics)
@@ -139,7 +150,7 @@ impl<S: Service + Drop, X: Surroundings + Drop> Board<S, X> {
 
     /// Shows whether no segment is fenced.
     fn show_health(&mut self, response: &mut Response) -> Result<(), AllocError>
-        requires { IsBlank response.old }
+        requires { response.old.body.items ≡ [] }
         ensures answers { OnOk result (pages.AnswersPage S.gives (X.reads self.old.surroundings)
             (X.version_of self.old.surroundings) Page.Health self.old.service response.new self.new.service) }
         ensures asks { OnErr result (pages.MayAsk S.gives (pages.asked_of Page.Health)
@@ -152,9 +163,24 @@ impl<S: Service + Drop, X: Surroundings + Drop> Board<S, X> {
         }
     }
 
+    /// Shows whether some segment takes updates.
+    fn show_ready(&mut self, response: &mut Response) -> Result<(), AllocError>
+        requires { response.old.body.items ≡ [] }
+        ensures answers { OnOk result (pages.AnswersPage S.gives (X.reads self.old.surroundings)
+            (X.version_of self.old.surroundings) Page.Ready self.old.service response.new self.new.service) }
+        ensures asks { OnErr result (pages.MayAsk S.gives (pages.asked_of Page.Ready)
+            self.old.service self.new.service) }
+        ensures same { self.new.surroundings ≡ self.old.surroundings }
+    {
+        match self.service.answer(&snap_frame::Request::Status, 0) {
+            Some(Reply::Status(statuses)) => ready_page(&statuses, response),
+            reply => refuse(self.alloc, response, &reply),
+        }
+    }
+
     /// Shows the number and the fence of each segment.
     fn show_status(&mut self, response: &mut Response) -> Result<(), AllocError>
-        requires { IsBlank response.old }
+        requires { response.old.body.items ≡ [] }
         ensures answers { OnOk result (pages.AnswersPage S.gives (X.reads self.old.surroundings)
             (X.version_of self.old.surroundings) Page.Status self.old.service response.new self.new.service) }
         ensures asks { OnErr result (pages.MayAsk S.gives (pages.asked_of Page.Status)
@@ -169,7 +195,7 @@ impl<S: Service + Drop, X: Surroundings + Drop> Board<S, X> {
 
     /// Shows what was counted, as a document.
     fn show_stats(&mut self, response: &mut Response) -> Result<(), AllocError>
-        requires { IsBlank response.old }
+        requires { response.old.body.items ≡ [] }
         ensures answers { OnOk result (pages.AnswersPage S.gives (X.reads self.old.surroundings)
             (X.version_of self.old.surroundings) Page.Stats self.old.service response.new self.new.service) }
         ensures asks { OnErr result (pages.MayAsk S.gives (pages.asked_of Page.Stats)
@@ -182,6 +208,31 @@ impl<S: Service + Drop, X: Surroundings + Drop> Board<S, X> {
             }
             reply => refuse(self.alloc, response, &reply),
         }
+    }
+
+    /// Shows what was counted in the last three minutes.
+    fn show_history(&self, response: &mut Response) -> Result<(), AllocError>
+        requires { response.old.body.items ≡ [] }
+        ensures { OnOk result (response.new.status ≡ 200) }
+    {
+        let text = self.surroundings.history().document(self.alloc)?;
+        fill_with(response, StatusCode::OK, Kind::Json, text)
+    }
+
+    /// Says when the answer is made, where a clock tells and there is memory for it.
+    fn put_date(&self, response: &mut Response)
+        ensures { response.new.body ≡ response.old.body }
+    {
+        if let Some(date) = self.date() {
+            let _ = response.add_header(header::DATE, date);
+        }
+    }
+
+    /// The date, as HTTP writes it.
+    fn date(&self) -> Option<HeaderValue> {
+        let seconds = self.surroundings.now_millis()? / 1_000;
+        let date = HttpDate::from_unix_secs(seconds).ok()?;
+        HeaderValue::from_bytes(self.alloc, &date.to_bytes()).ok()
     }
 }
 
@@ -212,13 +263,15 @@ fn metrics_page<X: Surroundings>(
     statuses: &[SegmentStatus],
     response: &mut Response,
 ) -> Result<(), AllocError>
-    requires { IsBlank response.old }
+    requires { response.old.body.items ≡ [] }
     ensures { OnOk result (pages.ShowsStatuses (X.reads surroundings.now) (X.version_of surroundings.now)
         Page.Metrics statuses.now response.new) }
 {
     let reading = surroundings.reading(alloc)?;
     let facts = facts_of(&reading, surroundings, statuses);
-    let text = metrics_text(alloc, &facts)?;
+    let mut text = metrics_text(alloc, &facts)?;
+    let more = process_text(alloc, &facts, &surroundings.usage(), surroundings.files())?;
+    text.extend_from_slice(more.as_slice())?;
     fill_with(response, StatusCode::OK, Kind::Metrics, text)
 }
 
@@ -229,7 +282,7 @@ fn stats_page<X: Surroundings>(
     statuses: &[SegmentStatus],
     response: &mut Response,
 ) -> Result<(), AllocError>
-    requires { IsBlank response.old }
+    requires { response.old.body.items ≡ [] }
     ensures { OnOk result (pages.ShowsStatuses (X.reads surroundings.now) (X.version_of surroundings.now)
         Page.Stats statuses.now response.new) }
 {
@@ -250,7 +303,7 @@ fn status_page(
     statuses: &[SegmentStatus],
     response: &mut Response,
 ) -> Result<(), AllocError>
-    requires { IsBlank response.old }
+    requires { response.old.body.items ≡ [] }
     ensures { OnOk result (pages.HasContent 200 (list_text (each_from status_tokens 0 statuses.now)) response.new) }
 {
     let text = status_document(alloc, statuses)?;
@@ -263,7 +316,7 @@ fn health_page(
     statuses: &[SegmentStatus],
     response: &mut Response,
 ) -> Result<(), AllocError>
-    requires { IsBlank response.old }
+    requires { response.old.body.items ≡ [] }
     ensures { OnOk result (pages.HasContent
         (if list_any (λ s. s.is_fenced) statuses.now then 503 else 200) (health_text statuses.now) response.new) }
 {
@@ -289,9 +342,35 @@ fn is_any_fenced(statuses: &[SegmentStatus]) -> bool
     statuses.iter().any(|status| status.is_fenced)
 }
 
+/// Tells by the status whether some segment takes updates: 503 where each is fenced.
+fn ready_page(statuses: &[SegmentStatus], response: &mut Response) -> Result<(), AllocError>
+    requires { response.old.body.items ≡ [] }
+    ensures { OnOk result (response.new.status
+        ≡ (if list_all (λ s. s.is_fenced) statuses.now then 503 else 200)) }
+{
+    if are_all_fenced(statuses) {
+        let content = Bytes::from_static(ALL_FENCED);
+        fill(
+            response,
+            StatusCode::SERVICE_UNAVAILABLE,
+            Kind::Text,
+            content,
+        )
+    } else {
+        show_file(response, Kind::Text, WELL)
+    }
+}
+
+/// Whether each of the segments is fenced.
+fn are_all_fenced(statuses: &[SegmentStatus]) -> bool
+    ensures { result ≡ list_all (λ s. s.is_fenced) statuses.now }
+{
+    statuses.iter().all(|status| status.is_fenced)
+}
+
 /// Shows the page for people.
 fn show_home(response: &mut Response) -> Result<(), AllocError>
-    requires { IsBlank response.old }
+    requires { response.old.body.items ≡ [] }
     ensures { OnOk result (response.new.status ≡ 200) }
 {
     show_file(response, Kind::Html, HOME)?;
@@ -307,7 +386,7 @@ fn show_home(response: &mut Response) -> Result<(), AllocError>
 
 /// Shows what is the same each time.
 fn show_file(response: &mut Response, kind: Kind, content: &'static [u8]) -> Result<(), AllocError>
-    requires { IsBlank response.old }
+    requires { response.old.body.items ≡ [] }
     ensures { OnOk result (response.new.status ≡ 200) }
 {
     fill(response, StatusCode::OK, kind, Bytes::from_static(content))
@@ -315,7 +394,7 @@ fn show_file(response: &mut Response, kind: Kind, content: &'static [u8]) -> Res
 
 /// Says which refusal the service answered, or that it gave no answer.
 fn refuse(alloc: Global, response: &mut Response, reply: &Option<Reply>) -> Result<(), AllocError>
-    requires { IsBlank response.old }
+    requires { response.old.body.items ≡ [] }
     ensures { OnOk result (response.new.status ≡ 503) }
 {
     let text = match reply {
@@ -330,7 +409,7 @@ fn refuse(alloc: Global, response: &mut Response, reply: &Option<Reply>) -> Resu
 
 /// Refuses a method that might change something.
 fn refuse_method(response: &mut Response) -> Result<(), AllocError>
-    requires { IsBlank response.old }
+    requires { response.old.body.items ≡ [] }
     ensures { OnOk result (response.new.status ≡ 405) }
 {
     fill(
@@ -344,7 +423,7 @@ fn refuse_method(response: &mut Response) -> Result<(), AllocError>
 
 /// Says which paths there are.
 fn refuse_path(response: &mut Response) -> Result<(), AllocError>
-    requires { IsBlank response.old }
+    requires { response.old.body.items ≡ [] }
     ensures { OnOk result (response.new.status ≡ 404) }
 {
     fill(
@@ -369,6 +448,7 @@ impl<S: Service + Drop, X: Surroundings + Drop> http_server::Service for Board<S
         request: &Request<Bytes>,
         response: &mut Response,
     ) -> Result<(), AllocError> {
+        self.put_date(response);
         if self.answer(request, response).is_err() {
             give_up(response);
         }

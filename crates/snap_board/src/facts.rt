@@ -1,7 +1,10 @@
 //! What is known of a server at one moment.
+ghost use Rattle.std.specs.Prelude.{◌≡◌, option_copied};
+ghost use Rattle.std.specs.Path.{path_file_stem};
 
 use snap_figures::Reading;
 use snap_frame::SegmentStatus;
+use std::path::Path;
 use std::time::Duration;
 
 /// What a board shows of a server beside its values.
@@ -19,4 +22,11 @@ pub struct Facts<'a> {
     pub time: Option<u64>,
     /// How many bytes of memory the process has that lie in the machine's.
     pub resident: Option<u64>,
+}
+
+/// The name of a segment: that of its file without the ending. None where the path has no name at its end.
+pub(crate) fn name_of(file: &str) -> Option<&str>
+    ensures { option_copied result ≡ path_file_stem file.now }
+{
+    Path::new(file).file_stem()
 }

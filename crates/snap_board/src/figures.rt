@@ -1,13 +1,14 @@
 //! What was counted, as a document for programs and for the page.
-ghost use Rattle.std.specs.Prelude.{◌≡◌, ◌+◌, ◌++◌, ◌∷◌, [], IfOk, OnOk, codes, flat_map, slice_get, string_bytes};
+ghost use Rattle.std.specs.Prelude.{◌≡◌, ◌+◌, ◌++◌, ◌∷◌, [], IfOk, OnOk, codes, flat_map, option_and_then, option_copied, slice_get, string_bytes};
 ghost use Rattle.std.specs.Option.{option_map};
 ghost use Rattle.std.specs.Fmt.{decimal};
+ghost use Rattle.std.specs.Path.{path_file_stem};
 ghost use Rattle.json.specs.Token.{begin_array, begin_object, boolean, end_array, end_object, key, string};
 ghost use Rattle.snap_json.specs.Documents.{line_of};
 ghost use Rattle.snap_json.specs.Each.{each_from};
 ghost use Rattle.snap_board.specs.Figures as figures;
 
-use crate::facts::Facts;
+use crate::facts::{Facts, name_of};
 use crate::metrics::{age, refusal_at, uptime_millis};
 use crate::times::{all, bound};
 use json::Writer;
@@ -88,7 +89,7 @@ fn put_server(writer: &mut Writer, facts: &Facts, addresses: &[String]) -> Resul
 
 /// Writes a member that is a number.
 #[tactic(auto, unfolding(crate::specs::Figures::count_member))]
-fn put_count(writer: &mut Writer, name: &str, count: u64) -> Result<(), AllocError>
+pub(crate) fn put_count(writer: &mut Writer, name: &str, count: u64) -> Result<(), AllocError>
     ensures tokens { OnOk result (writer.new.tokens ≡ writer.old.tokens ++ figures.count_member name.now count) }
     ensures before { OnOk result (writer.new.before ≡ writer.old.before) }
 {
@@ -375,16 +376,36 @@ fn put_standing(
     put_status(writer, status)
 }
 
-/// Writes the path of a segment's file, where it is known.
-#[tactic(auto, unfolding(crate::specs::Figures::file_member))]
+/// Writes the path of a segment's file and the segment's name, where they are known.
+#[tactic(auto, unfolding(crate::specs::Figures::file_members))]
 fn put_file(writer: &mut Writer, file: Option<&str>) -> Result<(), AllocError>
-    ensures tokens { OnOk result (writer.new.tokens ≡ writer.old.tokens ++ figures.file_member (option_map (λ f. f.now) file.entry)) }
+    ensures tokens { OnOk result (writer.new.tokens ≡ writer.old.tokens ++ figures.file_members (option_copied file.entry)) }
     ensures before { OnOk result (writer.new.before ≡ writer.old.before) }
 {
-    writer.key("file")?;
-    match file {
-        Some(file) => writer.string(file),
+    put_text(writer, "file", file)?;
+    put_text(writer, "name", known_name(file))
+}
+
+/// Writes a member that is a text where it is known.
+#[tactic(auto, unfolding(crate::specs::Figures::text_member))]
+fn put_text(writer: &mut Writer, name: &str, text: Option<&str>) -> Result<(), AllocError>
+    ensures tokens { OnOk result (writer.new.tokens ≡ writer.old.tokens ++ figures.text_member name.now (option_copied text.entry)) }
+    ensures before { OnOk result (writer.new.before ≡ writer.old.before) }
+{
+    writer.key(name)?;
+    match text {
+        Some(text) => writer.string(text),
         None => writer.null(),
+    }
+}
+
+/// The name of the segment that this file is, where both are known.
+fn known_name(file: Option<&str>) -> Option<&str>
+    ensures { option_copied result ≡ option_and_then path_file_stem (option_copied file.entry) }
+{
+    match file {
+        Some(file) => name_of(file),
+        None => None,
     }
 }
 

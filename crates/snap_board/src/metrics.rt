@@ -79,7 +79,7 @@ pub(crate) fn uptime_millis(facts: &Facts) -> Option<u64>
 }
 
 /// So many milliseconds.
-fn millis_of(time: Duration) -> u64
+pub(crate) fn millis_of(time: Duration) -> u64
     ensures { result ≡ families.millis_of time }
 {
     time.as_secs()

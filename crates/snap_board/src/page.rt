@@ -15,12 +15,18 @@ pub enum Page {
     Metrics,
     /// `/health`: whether a segment is fenced.
     Health,
+    /// `/livez`: that somebody answers.
+    Live,
+    /// `/readyz`: whether some segment takes updates.
+    Ready,
     /// `/scan`: the number and the value of each segment at one moment.
     Scan,
     /// `/status`: the number and the fence of each segment.
     Status,
     /// `/stats`: what was counted, as a document.
     Stats,
+    /// `/history`: what was counted in the last three minutes.
+    History,
 }
 
 impl Page {
@@ -34,9 +40,12 @@ impl Page {
             "/board.js" => Some(Page::Script),
             "/metrics" => Some(Page::Metrics),
             "/health" => Some(Page::Health),
+            "/livez" => Some(Page::Live),
+            "/readyz" => Some(Page::Ready),
             "/scan" => Some(Page::Scan),
             "/status" => Some(Page::Status),
             "/stats" => Some(Page::Stats),
+            "/history" => Some(Page::History),
             _ => None,
         }
     }

@@ -1,6 +1,5 @@
 //! Responses: their status, their fields and their content.
 ghost use Rattle.std.specs.Prelude.{◌≡◌, [], OnOk, OnErr};
-ghost use Rattle.http_server.specs.Response.{IsBlank};
 ghost use Rattle.snap_board.specs.Pages.{HasContent};
 
 use bytes::Bytes;
@@ -41,7 +40,7 @@ pub(crate) fn fill(
     kind: Kind,
     content: Bytes,
 ) -> Result<(), AllocError>
-    requires { IsBlank response.old }
+    requires { response.old.body.items ≡ [] }
     ensures { OnOk result (HasContent status content response.new) }
 {
     response.status = status;
@@ -65,7 +64,7 @@ pub(crate) fn fill_with(
     kind: Kind,
     text: Vec<u8>,
 ) -> Result<(), AllocError>
-    requires { IsBlank response.old }
+    requires { response.old.body.items ≡ [] }
     ensures { OnOk result (HasContent status text.items response.new) }
 {
     let content = Bytes::from_vec(text)?;

@@ -159,7 +159,7 @@ fn put_kind(out: &mut Vec<u8>, kind: Kind) -> Result<(), AllocError>
 }
 
 /// Appends a text with a backslash before each backslash and quote, and with `\n` for the end of a line.
-fn put_escaped(out: &mut Vec<u8>, text: &[u8]) -> Result<(), AllocError>
+pub(crate) fn put_escaped(out: &mut Vec<u8>, text: &[u8]) -> Result<(), AllocError>
     ensures { OnOk result (out.new.items ≡ out.old.items ++ flat_map escaped_byte text.now) }
 {
     for byte in text {

@@ -1,7 +1,7 @@
 //! The script of the page.
 
-/// It asks for `/scan` and `/stats` once a second while the page is seen, and puts what came into the page: each value by
-/// `textContent` alone, and numbers without loss, which JavaScript's own are not above 2^53.
+/// It asks for `/scan` and `/stats` once a second while the page is seen, and for `/history` whenever it begins so, and puts what
+/// came into the page: each value by `textContent` alone, and numbers without loss, which JavaScript's own are not above 2^53.
 pub(crate) const SCRIPT: &[u8] = br##""use strict";
 const REST = 1000, RETRY = 3000, PATIENCE = 5000;   // milliseconds between polls, after a failed one, and for one
 const POINTS = 180;                                 // of a plot: three minutes
@@ -98,8 +98,9 @@ class Plot {
     this.most = make("span", foot);
     say(make("span", foot), "now");
   }
-  add(values, now, most) {
-    this.points.forEach((points, i) => { points.push(values[i]); if (points.length > POINTS) points.shift(); });
+  clear() { this.points = this.points.map(() => []); }
+  add(values) { this.points.forEach((points, i) => { points.push(values[i]); if (points.length > POINTS) points.shift(); }); }
+  draw(now, most) {
     const seen = this.points.flat().filter((x) => x !== null);
     const top = Math.max(...seen, 0) || 1;
     this.lines.forEach((line, i) => {
@@ -111,13 +112,15 @@ class Plot {
     this.svg.setAttribute("aria-label", this.name + ": now " + now + ", at most " + most(top));
   }
 }
-let plots = null;
+const plots = [new Plot("Updates stored a second", 1), new Plot("Scans a second", 1), new Plot("A store: half within, and 99 % (dashed)", 2)];
 
 // One segment: its row, and what was seen of it.
 class Row {
   constructor(index) {
     this.row = make("tr", byId("rows"), { role: "row" });
-    say(make("th", this.row, { role: "rowheader", scope: "row" }), String(index));
+    const head = make("th", this.row, { role: "rowheader", scope: "row" });
+    say(make("span", head), index + " ");
+    this.name = make("small", head);
     const cell = (kind) => make("td", this.row, { role: "cell", class: kind });
     this.number = cell("figure");
     this.age = cell("figure");
@@ -140,6 +143,7 @@ class Row {
     this.seen = null; this.source = null; this.rests = 0; this.rest = 0; this.moved = null; this.state = null;
   }
   show(segment, figures, at) {
+    say(this.name, figures && figures.name !== null ? visible(figures.name) : "");
     say(this.number, grouped(segment.number));
     const source = "text" in segment ? "t" + segment.text : "b" + segment.base64;
     if (source !== this.source) {
@@ -175,10 +179,10 @@ class Row {
   judge(figures, age, at) {
     const since = this.moved !== null ? at - this.moved : age;
     const most = this.rests >= STILL_RESTS ? Math.max(STILL_TIMES * this.rest, STILL_LEAST) : STILL_ELSE;
-    let state = since === null ? "quiet" : since > most ? "still" : "moves";
+    let state = since !== null && since <= most ? "moves" : age === null ? "quiet" : "still";
     if (figures && figures.fenced) state = "fenced";
     this.state = state;
-    this.mark.dataset.mark = state;
+    this.row.dataset.mark = this.mark.dataset.mark = state;
     say(this.mark, state === "still" ? "stands still" : state);
   }
 }
@@ -209,7 +213,9 @@ const state = (name, text) => {
   byId("state").dataset.state = name;
   document.body.dataset.state = name;
   say(byId("state"), text);
-  if (name !== "live") title(name);
+  if (name === "live") return;
+  title(name);
+  document.body.dataset.wrong = "";
 };
 // What an operator sees of a window that stands behind others.
 const title = (mark) => { const text = mark === "" ? "snapd" : mark + " \u2013 snapd"; if (document.title !== text) document.title = text; };
@@ -218,14 +224,16 @@ const title = (mark) => { const text = mark === "" ? "snapd" : mark + " \u2013 s
 let told = "";
 const tell = (text) => { if (text !== told) { told = text; say(byId("news"), text); } };
 const tellMarks = () => {
-  const named = (mark) => rows.map((row, i) => row.state === mark ? i : null).filter((i) => i !== null).join(", ");
-  const fenced = named("fenced"), still = named("still");
-  title([fenced && "fenced " + fenced, still && "still " + still].filter(Boolean).join(", "));
+  const listed = (mark, text) => rows.map((row, i) => row.state === mark ? text(row, i) : null).filter((it) => it !== null).join(", ");
+  const plain = (row, i) => i, named = (row, i) => i + (row.name.textContent && " (" + row.name.textContent + ")");
+  const fenced = listed("fenced", named), still = listed("still", named);
+  title([fenced && "fenced " + listed("fenced", plain), still && "still " + listed("still", plain)].filter(Boolean).join(", "));
   tell([fenced && "Fenced: segment " + fenced + ". It takes no update until a restart.", still && "Stands still: segment " + still + "."].filter(Boolean).join(" "));
+  document.body.dataset.wrong = fenced ? "fenced" : still ? "still" : "";
 };
 
 let before = null;
-const show = (scan, stats, at) => {
+const show = (scan, stats, past, at) => {
   const bounds = stats.bounds_microseconds.map((us) => Number(us) / 1000);
   say(byId("version"), stats.version);
   say(byId("where"), stats.addresses.join("  "));
@@ -238,6 +246,7 @@ const show = (scan, stats, at) => {
     while (stores.length <= i) stores.push(new Store(stores.length));
     stores[i].show(figures, bounds);
   });
+  if (past !== null) showPast(past.samples, bounds);
   showRates(stats, bounds, at);
   const refused = stats.refusals.filter((r) => r.count !== "0").map((r) => grouped(r.count) + " " + r.name);
   say(byId("refusals"), refused.length === 0 ? "none" : refused.join(", "));
@@ -246,6 +255,17 @@ const show = (scan, stats, at) => {
   tile("Memory", stats.resident_bytes === null ? "\u2013" : size(stats.resident_bytes));
   tile("Running for", stats.uptime_milliseconds === null ? "\u2013" : span(Number(stats.uptime_milliseconds)));
   tellMarks();
+};
+
+// What the server saw before this page did: each sample tells what was counted up to then.
+const showPast = (samples, bounds) => {
+  plots.forEach((plot) => plot.clear());
+  samples.slice(1).forEach((sample, i) => {
+    const seconds = Number(sample.uptime_milliseconds - samples[i].uptime_milliseconds) / 1000;
+    const counts = sample.store_counts.map((n, place) => Number(BigInt(n) - BigInt(samples[i].store_counts[place])));
+    const stores = counts.reduce((a, b) => a + b, 0);
+    add(stores / seconds, Number(BigInt(sample.scans) - BigInt(samples[i].scans)) / seconds, counts, bounds);
+  });
 };
 
 // What happened between this poll and the one before. A server that began anew has no poll before.
@@ -267,18 +287,23 @@ const showRates = (stats, bounds, at) => {
   tile("Scans/s", known(rounded(scans)));
   tile("Received/s", known(size(Math.round(rate(stats.received_bytes, old.received_bytes)))));
   tile("Sent/s", known(size(Math.round(rate(stats.sent_bytes, old.sent_bytes)))));
-  if (before !== null) draw(sum, scans, counts, bounds);
+  if (before !== null) add(sum, scans, counts, bounds);
+  draw(known(rounded(sum)), known(rounded(scans)), counts, bounds);
   before = { stats, at };
 };
 
+const add = (updates, scans, counts, bounds) => {
+  const step = (part) => { const found = quantile(counts, bounds, part); return found === null ? null : found.place + 1; };
+  plots[0].add([updates]);
+  plots[1].add([scans]);
+  plots[2].add([step(0.5), step(0.99)]);
+};
+
 const draw = (updates, scans, counts, bounds) => {
-  if (plots === null) plots = [new Plot("Updates stored a second", 1), new Plot("Scans a second", 1), new Plot("A store: half within, and 99 % (dashed)", 2)];
-  const half = quantile(counts, bounds, 0.5), most = quantile(counts, bounds, 0.99);
-  const step = (found) => found === null ? null : found.place + 1;
   const bound = (x) => x - 1 < bounds.length ? span(bounds[Math.max(Math.round(x) - 1, 0)]) : "> " + span(bounds[bounds.length - 1]);
-  plots[0].add([updates], rounded(updates), rounded);
-  plots[1].add([scans], rounded(scans), rounded);
-  plots[2].add([step(half), step(most)], within(half, bounds) + ", " + within(most, bounds), bound);
+  plots[0].draw(updates, rounded);
+  plots[1].draw(scans, rounded);
+  plots[2].draw(within(quantile(counts, bounds, 0.5), bounds) + ", " + within(quantile(counts, bounds, 0.99), bounds), bound);
 };
 
 class Refused extends Error {}
@@ -298,12 +323,14 @@ const ask = async () => {
   const end = setTimeout(() => patience.abort(), PATIENCE);
   let rest = REST;
   try {
-    const [scan, stats] = await Promise.all([fetchText("/scan", patience.signal), fetchText("/stats", patience.signal)]);
-    show(parse(scan), parse(stats), performance.now());
+    const paths = before === null ? ["/scan", "/stats", "/history"] : ["/scan", "/stats"];
+    const [scan, stats, past] = await Promise.all(paths.map((path) => fetchText(path, patience.signal)));
+    show(parse(scan), parse(stats), past === undefined ? null : parse(past), performance.now());
     since = null;
     state("live", "live");
   } catch (error) {
     rest = RETRY;
+    before = null;
     since = since || new Date();
     if (error instanceof Refused) {
       state("refused", "the server refuses");

@@ -30,11 +30,13 @@ a { color: var(--curve); }
 #state[data-state="gone"] { color: var(--bad); }
 #state[data-state="refused"] { color: var(--warn); }
 #news:not(:empty) { margin-top: 0.5rem; padding: 0.375rem 0.625rem; border-left: 3px solid var(--line); background: var(--card); }
+body[data-wrong="still"] #news, body[data-state="refused"] #news { border-color: var(--warn); background: var(--warn-paper); }
+body[data-wrong="fenced"] #news { border-color: var(--bad); background: var(--bad); color: var(--card); font-weight: 600; }
 body[data-state="gone"] #news { border-color: var(--bad); background: var(--bad-paper); }
 body[data-state="gone"] main { opacity: 0.7; }
 .notice { padding: 0.5rem; background: var(--warn-paper); }
 .hint, footer { color: var(--soft); font-size: 0.8125rem; max-width: 65rem; }
-dl { display: grid; grid-template-columns: repeat(auto-fill, minmax(7.25rem, 1fr)); gap: 1px; margin: 0; background: var(--card); border: 1px solid var(--line); overflow: hidden; }
+dl { display: grid; grid-template-columns: repeat(8, minmax(0, 1fr)); gap: 1px; margin: 0; background: var(--card); border: 1px solid var(--line); overflow: hidden; }
 dl > div { box-shadow: 0 0 0 1px var(--line); padding: 0.375rem 0.625rem; display: flex; flex-direction: column; }
 dt { color: var(--soft); font-size: 0.75rem; }
 dd { margin: 0; font-size: 1.125rem; }
@@ -49,6 +51,8 @@ svg line { stroke: var(--line); vector-effect: non-scaling-stroke; }
 table { width: 100%; border-collapse: collapse; background: var(--card); border: 1px solid var(--line); }
 th, td { text-align: left; vertical-align: baseline; padding: 0.25rem 0.625rem; border-top: 1px solid var(--line); white-space: nowrap; }
 thead th { color: var(--soft); font-weight: 400; font-size: 0.75rem; border-top: 0; }
+th small { color: var(--soft); font-weight: 400; font-size: 0.75rem; }
+tr[data-mark="fenced"] > * { background: var(--bad-paper); }
 .figure { text-align: right; }
 td.value { width: 100%; max-width: 0; }
 .cut { display: flex; gap: 0.5rem; align-items: baseline; }
@@ -66,11 +70,13 @@ button { font: inherit; font-size: 0.75rem; color: var(--curve); background: non
 .mark[data-mark="fenced"] { color: var(--bad); background: var(--bad-paper); border-color: var(--bad); font-weight: 600; }
 .wide { overflow-x: auto; }
 #refusals { overflow-wrap: anywhere; }
+@media (max-width: 64rem) { dl { grid-template-columns: repeat(4, minmax(0, 1fr)); } }
 @media (max-width: 40rem) {
+  dl { grid-template-columns: repeat(2, minmax(0, 1fr)); }
   body { padding: 0.5rem 0.625rem 2rem; }
   #state { margin-left: 0; flex-basis: 100%; }
   table[aria-describedby="rule"], #rows { display: block; }
-  #rows tr { display: grid; grid-template-columns: 2.25rem minmax(0, 1fr) auto 7rem; border-top: 1px solid var(--line); padding: 0.25rem 0; }
+  #rows tr { display: grid; grid-template-columns: minmax(2.25rem, auto) minmax(0, 1fr) auto 7rem; border-top: 1px solid var(--line); padding: 0.25rem 0; }
   #rows tr > * { border: 0; padding: 0.125rem 0.5rem; }
   #rows tr > :nth-child(2) { white-space: normal; overflow-wrap: anywhere; }
   #rows tr > :nth-child(4) { display: none; }

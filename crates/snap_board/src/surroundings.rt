@@ -2,6 +2,8 @@
 ghost use Rattle.std.specs.Prelude.{◌≡◌, ℕ, List, IfOk};
 ghost use Rattle.snap_figures.specs.declared.reading.Reading.{Reading};
 
+use crate::history::History;
+use crate::process::Usage;
 use snap_figures::Reading;
 use std::alloc::{AllocError, Global};
 use std::time::Duration;
@@ -26,6 +28,12 @@ pub trait Surroundings {
 
     /// How many bytes of memory the process has that lie in the machine's; `None` where the system doesn't tell.
     fn resident_bytes(&self) -> Option<u64>;
+
+    /// What else the process takes, and its bounds.
+    fn usage(&self) -> Usage;
+
+    /// What was counted in the last three minutes.
+    fn history(&self) -> &History;
 
     /// The version of the program, as `1.2.3`.
     fn version(&self) -> &str

@@ -1,6 +1,6 @@
 -- What tries leave of the connections, and what they answer.
 use Rattle.std.proofs.Common.{◌≡◌, ℕ, zero, suc, ◌+◌, ◌^◌, ◌<◌, List, All, Option, Result, Ok, Err, IfOk, inl, inr}
-use Rattle.std.proofs.Common.{get_or, refl, arith}
+use Rattle.std.proofs.Common.{Some, None, get_or, refl, arith, subst, sym}
 use Rattle.std.proofs.lemmas.List.Elements.{All-get_or}
 use Rattle.std.proofs.lemmas.Option.{get_or_from_slice_get, slice_get_within}
 use denote.Param.Always.{always_mut, mut_next}
@@ -10,7 +10,7 @@ use Rattle.snap_frame.specs.declared.entries.SegmentStatus.{SegmentStatus}
 use Rattle.snap_frame.specs.declared.request.Request.{Request}
 use Rattle.snap_frame.specs.declared.reply.Reply.{Reply}
 use Rattle.snap_client.specs.declared.fault.ClientFault.{ClientFault}
-use Rattle.snap_client.specs.Again.{Tries, TriesUpTo}
+use Rattle.snap_client.specs.Again.{Tries, TriesUpTo, TriesIn}
 use Rattle.snap_call.specs.Puts.{TellsNumber}
 
 module _ {F R W : Type 0} (connects : F → Option (R × W) → F → Type 0) (remaining : R
@@ -27,11 +27,16 @@ module _ {F R W : Type 0} (connects : F → Option (R × W) → F → Type 0) (r
   reply_says (suc n) old new r (inl (one, last)) = once_says old new r one
   reply_says (suc n) old new r (inr (fault, mid, may, one, rest)) = reply_says n mid new r rest
 
-  -- a reply is within its limits
-  pub tries_say : (n : ℕ) (old new : F) (result : Result Reply ClientFault)
+  up_to_say : (n : ℕ) (old new : F) (result : Result Reply ClientFault)
       → TriesUpTo n connects remaining contents q old result new → IfOk result IsInLimits
-  tries_say n old new (Ok r) tried = reply_says n old new r tried
-  tries_say n old new (Err fault) tried = tt
+  up_to_say n old new (Ok r) tried = reply_says n old new r tried
+  up_to_say n old new (Err fault) tried = tt
+
+  -- a reply is within its limits
+  pub tries_say : (tries : Option ℕ) (old new : F) (result : Result Reply ClientFault)
+      → TriesIn tries connects remaining contents q old result new → IfOk result IsInLimits
+  tries_say (Some n) old new result tried = up_to_say n old new result tried
+  tries_say None old new result (n, mid, tried, ended) = up_to_say n old mid result tried
 
 module _ {F R W : Type 0} (calls : Mut F (Unit {0}) (Option (R × W))) (remaining : R → Option (List ℕ))
     (contents : W → Option (List ℕ)) (q : Request) where
@@ -42,14 +47,25 @@ module _ {F R W : Type 0} (calls : Mut F (Unit {0}) (Option (R × W))) (remainin
   once_leaves old new result may (inr (reader, writer, s, is, did)) =
       mut_next calls old tt _ new new is refl may
 
-  -- where a connection may always be asked for, it may be after the tries
-  pub tries_leave : (n : ℕ) (old new : F) (result : Result Reply ClientFault) → always_mut calls old
+  up_to_leave : (n : ℕ) (old new : F) (result : Result Reply ClientFault) → always_mut calls old
       → TriesUpTo n (λ f x f'. Called calls f tt x f') remaining contents q old result new
       → always_mut calls new
-  tries_leave zero old new result may none = absurd none
-  tries_leave (suc n) old new result may (inl (one, last)) = once_leaves old new result may one
-  tries_leave (suc n) old new result may (inr (fault, mid, passes, one, rest)) =
-      tries_leave n mid new result (once_leaves old mid _ may one) rest
+  up_to_leave zero old new result may none = absurd none
+  up_to_leave (suc n) old new result may (inl (one, last)) = once_leaves old new result may one
+  up_to_leave (suc n) old new result may (inr (fault, mid, passes, one, rest)) =
+      up_to_leave n mid new result (once_leaves old mid _ may one) rest
+
+  -- where a connection may always be asked for, it may be after the tries
+  pub tries_leave : (tries : Option ℕ) (old new : F) (result : Result Reply ClientFault) → always_mut calls old
+      → TriesIn tries (λ f x f'. Called calls f tt x f') remaining contents q old result new
+      → always_mut calls new
+  tries_leave (Some n) old new result may tried = up_to_leave n old new result may tried
+  tries_leave None old new result may (n, mid, tried, inl (final, same)) =
+      subst (always_mut calls) (sym same) (up_to_leave n old mid result may tried)
+  tries_leave None old new result may (n, mid, tried, inr (inl one)) =
+      once_leaves mid new _ (up_to_leave n old mid result may tried) one
+  tries_leave None old new result may (n, mid, tried, inr (inr (many, same))) =
+      subst (always_mut calls) (sym same) (up_to_leave n old mid result may tried)
 
 -- a number that a status tells has a next one
 pub number_next : (statuses : List SegmentStatus) (i k : ℕ) → All IsStatus statuses

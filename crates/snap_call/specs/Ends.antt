@@ -2,7 +2,7 @@
 use Rattle.std.specs.Prelude.{◌≡◌, ◌⊎◌, ℕ, List, length, slice_get, Option, Some, None, Result, Ok, Err}
 use Rattle.std.specs.Prelude.{true, if◌then◌else◌}
 use Rattle.std.specs.Io.KnownBytes.{Appends, Keeps}
-use Rattle.snap_client.specs.Again.{TriesUpTo}
+use Rattle.snap_client.specs.Again.{TriesIn}
 use Rattle.snap_client.specs.declared.fault.ClientFault.{ClientFault}
 use Rattle.snap_client.specs.declared.fault.ClientFault.TheVariants.{NoMemory}
 use Rattle.snap_frame.specs.declared.named.NamedValue.{NamedValue}
@@ -10,6 +10,7 @@ use Rattle.snap_frame.specs.declared.reply.Reply.{Reply}
 use Rattle.snap_frame.specs.declared.reply.Reply.TheVariants.{Refused, Stored}
 use Rattle.snap_frame.specs.declared.reply.Reply.TheVariants as reply
 use Rattle.snap_order.specs.Order.{request_of}
+use Rattle.snap_order.specs.declared.order.Calling.{Calling}
 use Rattle.snap_order.specs.declared.order.Layout.{Layout}
 use Rattle.snap_order.specs.declared.order.Question.{Question}
 use Rattle.snap_order.specs.declared.order.Question.TheVariants.{Get, Health}
@@ -112,11 +113,20 @@ EndsAsked layout question (Err NoMemory) ended out out' errs errs' =
 EndsAsked layout question (Err fault) ended out out' errs errs' =
     GivesUp ended errs errs' × Keeps out out'
 
+-- The most connections that a request has which is tried so often, or for so long where that is said: then as many as there are.
+abbrev pub most_tries : (wait : Option ℕ) → (tries : ℕ) → Option ℕ
+most_tries None tries = Some tries
+most_tries (Some seconds) tries = None
+
+-- the same of an order's requests
+unfoldable pub tries_of : Calling → Option ℕ
+tries_of c = most_tries c.wait c.tries
+
 -- A request was sent on up to so many connections, and the end is that of the answer.
-abbrev pub Asks : {F R C : Type 0} → Layout → (tries : ℕ) → (F → Option (R × C) → F → Type 0)
+abbrev pub Asks : {F R C : Type 0} → Layout → (tries : Option ℕ) → (F → Option (R × C) → F → Type 0)
     → (R → Option (List ℕ)) → (C → Option (List ℕ)) → Question → F → Exit → F
     → (out out' errs errs' : Option (List ℕ)) → Type 0
 Asks layout tries connects remaining contents question old ended new out out' errs errs' =
     (answer : Result Reply ClientFault)
-    × TriesUpTo tries connects remaining contents (request_of question) old answer new
+    × TriesIn tries connects remaining contents (request_of question) old answer new
     × EndsAsked layout question answer ended out out' errs errs'

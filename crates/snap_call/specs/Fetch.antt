@@ -3,7 +3,7 @@ use Rattle.std.specs.Prelude.{◌≡◌, ℕ, List, Option, Result, Ok, Err}
 use Rattle.std.specs.declared.vec.Vec.{Vec}
 use Rattle.std.specs.declared.alloc.Global.{Global}
 use Rattle.std.specs.Io.KnownBytes.{Keeps}
-use Rattle.snap_client.specs.Again.{TriesUpTo}
+use Rattle.snap_client.specs.Again.{TriesIn}
 use Rattle.snap_client.specs.declared.fault.ClientFault.{ClientFault}
 use Rattle.snap_client.specs.declared.fault.ClientFault.TheVariants.{NoMemory}
 use Rattle.snap_frame.specs.segment_value.SegmentValue.{SegmentValue}
@@ -29,10 +29,10 @@ EndsFetch answer (Ok values) errs errs' = (answer ≡ Ok (Snapshot values)) × K
 EndsFetch answer (Err ended) errs errs' = EndsWithout answer ended errs errs'
 
 -- a scan was sent on up to so many connections, and these are the values of the last answer
-abbrev pub Fetches : {F R C : Type 0} → (tries : ℕ) → (F → Option (R × C) → F → Type 0)
+abbrev pub Fetches : {F R C : Type 0} → (tries : Option ℕ) → (F → Option (R × C) → F → Type 0)
     → (R → Option (List ℕ)) → (C → Option (List ℕ)) → F → Result (Vec SegmentValue Global) Exit → F
     → (errs errs' : Option (List ℕ)) → Type 0
 Fetches tries connects remaining contents old result new errs errs' =
     (answer : Result Reply ClientFault)
-    × TriesUpTo tries connects remaining contents Scan old answer new
+    × TriesIn tries connects remaining contents Scan old answer new
     × EndsFetch answer result errs errs'

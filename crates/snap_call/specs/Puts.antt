@@ -2,7 +2,7 @@
 use Rattle.std.specs.Prelude.{◌≡◌, ◌⊎◌, ℕ, ◌+◌, ◌<◌, ◌≤◌, List, length, slice_get, Option, Some, None, IfSome}
 use Rattle.std.specs.Prelude.{Result, Ok}
 use Rattle.std.specs.Io.KnownBytes.{Keeps}
-use Rattle.snap_client.specs.Again.{TriesUpTo}
+use Rattle.snap_client.specs.Again.{TriesIn}
 use Rattle.snap_client.specs.declared.fault.ClientFault.{ClientFault}
 use Rattle.snap_frame.specs.declared.entries.SegmentStatus.{SegmentStatus}
 use Rattle.snap_frame.specs.declared.reply.Reply.{Reply}
@@ -48,7 +48,7 @@ TellsNumber statuses i k =
 
 -- What follows what the server told of its segments: an update with the number behind the one that it told
 -- of this segment, or the refusal of a segment that it doesn't have; where it told nothing, that.
-abbrev pub GoesOn : {F R C : Type 0} → ℕ → (F → Option (R × C) → F → Type 0)
+abbrev pub GoesOn : {F R C : Type 0} → (tries : Option ℕ) → (F → Option (R × C) → F → Type 0)
     → (R → Option (List ℕ)) → (C → Option (List ℕ)) → (segment : ℕ) → (v : List ℕ)
     → Result Reply ClientFault → F → Exit → F → (out out' errs errs' : Option (List ℕ)) → Type 0
 GoesOn tries connects remaining contents i v (Ok (reply.Status statuses)) mid ended new
@@ -62,7 +62,7 @@ GoesOn tries connects remaining contents i v told mid ended new out out' errs er
     (new ≡ mid) × EndsAsked Lines (question.Request Status) told ended out out' errs errs'
 
 -- the value is put behind the number that is given, or behind the one that the server tells in this call
-abbrev pub Stores : {F R C : Type 0} → ℕ → (F → Option (R × C) → F → Type 0)
+abbrev pub Stores : {F R C : Type 0} → (tries : Option ℕ) → (F → Option (R × C) → F → Type 0)
     → (R → Option (List ℕ)) → (C → Option (List ℕ)) → (after : Option ℕ) → (segment : ℕ)
     → (v : List ℕ) → F → Exit → F → (out out' errs errs' : Option (List ℕ)) → Type 0
 Stores tries connects remaining contents (Some k) i v old ended new out out' errs errs' =
@@ -70,11 +70,11 @@ Stores tries connects remaining contents (Some k) i v old ended new out out' err
     out out' errs errs'
 Stores {F} tries connects remaining contents None i v old ended new out out' errs errs' =
     (told : Result Reply ClientFault) × (mid : F)
-    × TriesUpTo tries connects remaining contents Status old told mid
+    × TriesIn tries connects remaining contents Status old told mid
     × GoesOn tries connects remaining contents i v told mid ended new out out' errs errs'
 
 -- What a put does: `known` is what standard input has. Without a value no connection is made.
-abbrev pub Puts : {F R C : Type 0} → ℕ → (F → Option (R × C) → F → Type 0)
+abbrev pub Puts : {F R C : Type 0} → (tries : Option ℕ) → (F → Option (R × C) → F → Type 0)
     → (R → Option (List ℕ)) → (C → Option (List ℕ)) → Putting → (known : Option (List ℕ))
     → F → Exit → F → (out out' errs errs' : Option (List ℕ)) → Type 0
 Puts tries connects remaining contents p known old ended new out out' errs errs' =
@@ -83,7 +83,7 @@ Puts tries connects remaining contents p known old ended new out out' errs errs'
     p.segment v old ended new out out' errs errs')
 
 -- what a call does that asks this, and prints the answer so
-abbrev pub Does : {F R C : Type 0} → Layout → (tries : ℕ) → (F → Option (R × C) → F → Type 0)
+abbrev pub Does : {F R C : Type 0} → Layout → (tries : Option ℕ) → (F → Option (R × C) → F → Type 0)
     → (R → Option (List ℕ)) → (C → Option (List ℕ)) → Question → (known : Option (List ℕ))
     → F → Exit → F → (out out' errs errs' : Option (List ℕ)) → Type 0
 Does layout tries connects remaining contents (question.Put p) known old ended new out out' errs errs' =

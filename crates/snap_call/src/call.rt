@@ -1,6 +1,6 @@
 //! The order `call`, done.
-ghost use Rattle.std.specs.Prelude.{◌≡◌, ◌^◌, ◌<◌, ◌≤◌, ℕ, List, MatchOption, if◌then◌else◌, length};
-ghost use Rattle.snap_client.specs.Again.{TriesUpTo};
+ghost use Rattle.std.specs.Prelude.{◌≡◌, ◌^◌, ◌<◌, ◌≤◌, ℕ, List, IfSome, MatchOption, if◌then◌else◌, length};
+ghost use Rattle.snap_client.specs.Again.{TriesIn};
 ghost use Rattle.snap_frame.specs.Messages.{IsAskable, max_payload, payload};
 ghost use Rattle.snap_order.specs.Limits.{MAX_COUNT, MAX_TRIES};
 ghost use Rattle.snap_order.specs.Order.{IsCallable, IsWithin, request_of};
@@ -8,14 +8,14 @@ ghost use Rattle.snap_order.specs.declared.status.Status.TheVariants as status;
 ghost use Rattle.snap_stream.specs.Streams.{refused_line};
 ghost use Rattle.snap_call.specs.Ends.{Asks, EndsAsked, EndsGot, EndsRead, GivesUp, IsOnlyValue};
 ghost use Rattle.snap_call.specs.Ends.{IsRead, Prints, PrintsInPlace, SaysRefused, WantsMemory};
-ghost use Rattle.snap_call.specs.Ends.{answer_status};
+ghost use Rattle.snap_call.specs.Ends.{answer_status, tries_of};
 ghost use Rattle.snap_call.specs.Puts.{Does, ReadsInput};
 ghost use Rattle.snap_call.specs.Text.{answer_text, detailed_line, stored_line};
 
 use crate::line::{detailed_line, stored_line};
 use crate::print::{answer_of, is_any_fenced};
 use crate::put::store;
-use snap_client::{ClientFault, call_again};
+use snap_client::{ClientFault, call_again, call_while};
 use snap_frame::{NamedValue, Reply};
 use snap_order::{Calling, Exit, Layout, Question, Request, SegmentSet, Status};
 use snap_stream::{Refusal, complain, complain_of_refusal, write_whole};
@@ -27,7 +27,8 @@ use std::io::{Read, Write};
 /// ends: of a server's health as [`Status::Refused`] where a segment is fenced. `connect` gives a
 /// reader and a writer, or `None` where no connection can be made; it is called once at least for
 /// each request and as often as the order has tries at most, and only again where the same request
-/// may be answered on another connection.
+/// may be answered on another connection. Of an order that waits it is called until it gives `None`, however
+/// many tries there are, and so it is for `connect` to rest, and to say when that is over.
 ///
 /// A put of `input` reads it to its end first, and makes no connection where it fails or is longer
 /// than a value may be. Then it sends two requests, the second one an update with the number behind
@@ -58,7 +59,7 @@ pub fn ask<
     requires callable { F.IsAlwaysCallable connect.old }
 
     // Each request was sent on up to so many connections, and the end is that of the last answer.
-    ensures does { Does order.now.layout order.now.tries F.step R.remaining C.contents
+    ensures does { Does order.now.layout (tries_of order.now) F.step R.remaining C.contents
         order.now.question (I.remaining input.old) connect.old result connect.new
         (W.contents writer.old) (W.contents writer.new) (E.contents errors.old)
         (E.contents errors.new) }
@@ -91,11 +92,11 @@ pub(crate) fn ask_once<
     requires askable { IsAskable (request_of question.now) }
     requires within { IsWithin question.now }
     requires callable { F.IsAlwaysCallable connect.old }
-    ensures { Asks order.now.layout order.now.tries F.step R.remaining C.contents question.now connect.old result
+    ensures { Asks order.now.layout (tries_of order.now) F.step R.remaining C.contents question.now connect.old result
         connect.new (W.contents writer.old) (W.contents writer.new) (E.contents errors.old)
         (E.contents errors.new) }
 {
-    let answer = answer_from(alloc, question, order.tries, connect);
+    let answer = answer_from(alloc, question, tries_of(order), connect);
     end(
         alloc,
         order.address,
@@ -107,30 +108,64 @@ pub(crate) fn ask_once<
     )
 }
 
+/// The most connections for each request of the order. `None` where it waits: then there are as many as are given.
+#[tactic(auto, unfolding(crate::specs::Ends::tries_of))]
+pub(crate) fn tries_of(order: &Calling<'_>) -> Option<u8>
+    requires limits { IsCallable order.now }
+    ensures value { result ≡ tries_of order.now }
+    ensures some { IfSome result (λ n. 1 ≤ n) }
+    ensures few { IfSome result (λ n. n ≤ MAX_TRIES) }
+{
+    match order.wait {
+        Some(_) => None,
+        None => Some(order.tries),
+    }
+}
+
+/// The answer to this request, on up to so many connections, or on as many as are given.
+pub(crate) fn answer_to<R: Read + Drop, C: Write + Drop, F: FnMut() -> Option<(R, C)>>(
+    alloc: Global,
+    request: &Request,
+    tries: Option<u8>,
+    connect: &mut F,
+) -> Result<Reply, ClientFault>
+    requires fits { length (payload request.now) ≤ max_payload }
+    requires askable { IsAskable request.now }
+    requires some { IfSome tries (λ n. 1 ≤ n) }
+    requires few { IfSome tries (λ n. n ≤ MAX_TRIES) }
+    requires callable { F.IsAlwaysCallable connect.old }
+    ensures { TriesIn tries F.step R.remaining C.contents request.now connect.old result connect.new }
+{
+    match tries {
+        Some(tries) => call_again(alloc, connect, request, tries),
+        None => call_while(alloc, connect, request),
+    }
+}
+
 /// The server's answer to what is asked: of its health to a request for its status.
 pub(crate) fn answer_from<R: Read + Drop, C: Write + Drop, F: FnMut() -> Option<(R, C)>>(
     alloc: Global,
     question: &Question,
-    tries: u8,
+    tries: Option<u8>,
     connect: &mut F,
 ) -> Result<Reply, ClientFault>
     requires fits { length (payload (request_of question.now)) ≤ max_payload }
     requires askable { IsAskable (request_of question.now) }
     requires within { IsWithin question.now }
-    requires some { 1 ≤ tries }
-    requires few { tries ≤ MAX_TRIES }
+    requires some { IfSome tries (λ n. 1 ≤ n) }
+    requires few { IfSome tries (λ n. n ≤ MAX_TRIES) }
     requires callable { F.IsAlwaysCallable connect.old }
-    ensures { TriesUpTo tries F.step R.remaining C.contents (request_of question.now) connect.old
+    ensures { TriesIn tries F.step R.remaining C.contents (request_of question.now) connect.old
         result connect.new }
 {
     match question {
-        Question::Request(request) => call_again(alloc, connect, request, tries),
+        Question::Request(request) => answer_to(alloc, request, tries, connect),
         Question::Get { segment } => {
             let request = Request::Part(set_of(*segment));
-            call_again(alloc, connect, &request, tries)
+            answer_to(alloc, &request, tries, connect)
         }
-        Question::Health => call_again(alloc, connect, &Request::Status, tries),
-        Question::Put(_) => call_again(alloc, connect, &Request::Status, tries),
+        Question::Health => answer_to(alloc, &Request::Status, tries, connect),
+        Question::Put(_) => answer_to(alloc, &Request::Status, tries, connect),
     }
 }
 
@@ -355,8 +390,10 @@ pub(crate) fn give_up<E: Write>(
 ) -> Exit
     ensures { GivesUp result (E.contents errors.old) (E.contents errors.new) }
 {
-    let remedy = remedy_of(fault);
-    fail(alloc, &format_args!("{address}: {fault}: {remedy}"), errors)
+    match remedy_of(fault) {
+        Some(remedy) => fail(alloc, &format_args!("{address}: {fault}: {remedy}"), errors),
+        None => fail(alloc, &format_args!("{address}: {fault}"), errors),
+    }
 }
 
 /// Says that something failed, and ends so.
@@ -370,11 +407,11 @@ pub(crate) fn fail<T: Display, E: Write>(alloc: Global, text: &T, errors: &mut E
     }
 }
 
-/// What to do after a fault.
-fn remedy_of(fault: ClientFault) -> &'static str {
+/// What to do after a fault. Where no connection could be made who makes them knows why, and what to do.
+fn remedy_of(fault: ClientFault) -> Option<&'static str> {
     match fault {
-        ClientFault::ConnectFailed => "start snapd serve there, or try again with --tries",
-        ClientFault::BadReply => "check the address",
-        _ => "send it again, since an update is stored once",
+        ClientFault::ConnectFailed => None,
+        ClientFault::BadReply => Some("check the address"),
+        _ => Some("send it again, since an update is stored once"),
     }
 }

@@ -7,14 +7,14 @@ ghost use Rattle.snap_order.specs.declared.order.Layout.TheVariants.{Lines};
 ghost use Rattle.snap_order.specs.declared.order.Question.TheVariants as question;
 ghost use Rattle.snap_order.specs.declared.order.Source.TheVariants as sources;
 ghost use Rattle.snap_order.specs.request.Request.TheVariants.{Update};
-ghost use Rattle.snap_call.specs.Ends.{Asks, GivesUp};
+ghost use Rattle.snap_call.specs.Ends.{Asks, GivesUp, tries_of};
 ghost use Rattle.snap_call.specs.Puts.{GoesOn, HasValue, Puts, ReadsInput, Stores, TellsNumber};
 ghost use Rattle.snap_call.specs.Lacks.{MayLack, SaysLack};
 ghost use Rattle.snap_call.specs.declared.put.NoValue.TheVariants.{NoMemory};
 
-use crate::call::{answer_from, end, fail, refuse, refuse_here, stop};
+use crate::call::{answer_from, answer_to, end, fail, refuse, refuse_here, stop, tries_of};
 use bytes::Bytes;
-use snap_client::{ClientFault, call_again};
+use snap_client::ClientFault;
 use snap_frame::{Reply, SegmentStatus};
 use snap_order::{Calling, Exit, Layout, MAX_VALUE_LEN, Putting, Question, Request, Source};
 use snap_stream::{Refusal, read_up_to};
@@ -53,7 +53,7 @@ pub(crate) fn store<
     requires limits { IsCallable order.now }
     requires within { IsWithin (question.Put put.now) }
     requires callable { F.IsAlwaysCallable connect.old }
-    ensures puts { Puts order.now.tries F.step R.remaining C.contents put.now
+    ensures puts { Puts (tries_of order.now) F.step R.remaining C.contents put.now
         (I.remaining input.old) connect.old result connect.new (W.contents writer.old)
         (W.contents writer.new) (E.contents errors.old) (E.contents errors.new) }
     ensures unread { (ReadsInput (question.Put put.now) → ⊥) → input.new ≡ input.old }
@@ -131,7 +131,7 @@ fn store_value<R: Read + Drop, C: Write + Drop, F: FnMut() -> Option<(R, C)>, W:
     requires within { IsWithin (question.Put put.now) }
     requires fits { length value ≤ MAX_UPDATE_VALUE }
     requires callable { F.IsAlwaysCallable connect.old }
-    ensures { Stores order.now.tries F.step R.remaining C.contents put.now.after
+    ensures { Stores (tries_of order.now) F.step R.remaining C.contents put.now.after
         put.now.segment value connect.old result connect.new (W.contents writer.old)
         (W.contents writer.new) (E.contents errors.old) (E.contents errors.new) }
 {
@@ -163,11 +163,11 @@ fn store_next<R: Read + Drop, C: Write + Drop, F: FnMut() -> Option<(R, C)>, W: 
     requires limits { IsCallable order.now }
     requires fits { length value ≤ MAX_UPDATE_VALUE }
     requires callable { F.IsAlwaysCallable connect.old }
-    ensures { Stores order.now.tries F.step R.remaining C.contents None segment value
+    ensures { Stores (tries_of order.now) F.step R.remaining C.contents None segment value
         connect.old result connect.new (W.contents writer.old) (W.contents writer.new)
         (E.contents errors.old) (E.contents errors.new) }
 {
-    let told = call_again(alloc, connect, &Request::Status, order.tries);
+    let told = answer_to(alloc, &Request::Status, tries_of(order), connect);
     go_on(alloc, order, segment, value, told, connect, writer, errors)
 }
 
@@ -187,7 +187,7 @@ fn go_on<R: Read + Drop, C: Write + Drop, F: FnMut() -> Option<(R, C)>, W: Write
     requires told { IfOk told IsInLimits }
     requires fits { length value ≤ MAX_UPDATE_VALUE }
     requires callable { F.IsAlwaysCallable connect.old }
-    ensures { GoesOn order.now.tries F.step R.remaining C.contents segment value told
+    ensures { GoesOn (tries_of order.now) F.step R.remaining C.contents segment value told
         connect.old result connect.new (W.contents writer.old) (W.contents writer.new)
         (E.contents errors.old) (E.contents errors.new) }
 {
@@ -240,7 +240,7 @@ fn update<R: Read + Drop, C: Write + Drop, F: FnMut() -> Option<(R, C)>, W: Writ
     requires next { number + 1 < 2 ^ 64 }
     requires fits { length value ≤ MAX_UPDATE_VALUE }
     requires callable { F.IsAlwaysCallable connect.old }
-    ensures { Asks Lines order.now.tries F.step R.remaining C.contents
+    ensures { Asks Lines (tries_of order.now) F.step R.remaining C.contents
         (question.Request (Update segment (number + 1) value)) connect.old result connect.new
         (W.contents writer.old) (W.contents writer.new) (E.contents errors.old)
         (E.contents errors.new) }
@@ -250,7 +250,7 @@ fn update<R: Read + Drop, C: Write + Drop, F: FnMut() -> Option<(R, C)>, W: Writ
         number: number + 1,
         value,
     });
-    match answer_from(alloc, &question, order.tries, connect) {
+    match answer_from(alloc, &question, tries_of(order), connect) {
         Err(fault) if fault.may_pass() => give_up_behind(
             alloc,
             order.address,

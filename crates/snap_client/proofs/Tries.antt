@@ -35,3 +35,23 @@ module _ {F R W : Type 0} (connects : F → Option (R × W) → F → Type 0) (r
         one,
         subst (λ k. TriesUpTo k connects remaining contents q mid result new) less rest,
       )
+
+  tries_more : (n : ℕ) (old mid new : F) (fault : ClientFault) (result : Result Reply ClientFault)
+      → TriesUpTo n connects remaining contents q old (Err fault) mid → MayPass fault
+      → Tries connects remaining contents q mid result new
+      → TriesUpTo (suc n) connects remaining contents q old result new
+  tries_more zero old mid new fault result none may one = absurd none
+  tries_more (suc n) old mid new fault result (inl (last, inl no_other)) may one =
+      inr (fault, mid, may, last, inl (one, inl no_other))
+  tries_more (suc n) old mid new fault result (inl (last, inr final)) may one = absurd (final may)
+  tries_more (suc n) old mid new fault result (inr (first, next, passes, made, rest)) may one =
+      inr (first, next, passes, made, tries_more n next mid new fault result rest may one)
+
+  -- a try behind those that ended with a fault which may pass
+  pub tries_next : (n m : ℕ) (old mid new : F) (fault : ClientFault) (result : Result Reply ClientFault)
+      → suc n ≡ m → TriesUpTo n connects remaining contents q old (Err fault) mid → MayPass fault
+      → Tries connects remaining contents q mid result new
+      → TriesUpTo m connects remaining contents q old result new
+  tries_next n m old mid new fault result one_more tried may one =
+      subst (λ k. TriesUpTo k connects remaining contents q old result new) one_more
+      (tries_more n old mid new fault result tried may one)

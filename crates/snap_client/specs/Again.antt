@@ -1,5 +1,5 @@
 -- The same request on one connection after another.
-use Rattle.std.specs.Prelude.{◌≡◌, ℕ, zero, suc, ◌⊎◌, List, Option, Some, None, Result, Ok, Err}
+use Rattle.std.specs.Prelude.{◌≡◌, ℕ, zero, suc, ◌^◌, ◌⊎◌, List, Option, Some, None, Result, Ok, Err}
 use Rattle.snap_frame.specs.declared.request.Request.{Request}
 use Rattle.snap_frame.specs.declared.reply.Reply.{Reply}
 use Rattle.snap_client.specs.declared.fault.ClientFault.{ClientFault}
@@ -39,3 +39,31 @@ TriesUpTo {F} (suc n) connects remaining contents q old result new =
     ⊎ ((fault : ClientFault) × (mid : F) × MayPass fault
     × Tries connects remaining contents q old (Err fault) mid
     × TriesUpTo n connects remaining contents q mid result new)
+
+-- After so many tries there is no other one: the last one's outcome is for good, no connection was given for another one,
+-- or there were more than any run makes.
+abbrev pub NoneFollows : {F R W : Type 0} → ℕ → (F → Option (R × W) → F → Type 0) → (R
+    → Option (List ℕ)) → (W → Option (List ℕ)) → Request → F → Result Reply ClientFault → F
+    → Type 0
+NoneFollows n connects remaining contents q mid result new =
+    (IsFinal result × (new ≡ mid))
+    ⊎ (Tries connects remaining contents q mid (Err ConnectFailed) new
+    ⊎ ((n ≡ 2 ^ 64) × (new ≡ mid)))
+
+-- As many tries as there are connections: the last one's outcome is the answer, and each of the others ended with a fault that
+-- may pass.
+abbrev pub TriesWhile : {F R W : Type 0} → (F → Option (R × W) → F → Type 0) → (R
+    → Option (List ℕ)) → (W → Option (List ℕ)) → Request → F → Result Reply ClientFault → F
+    → Type 0
+TriesWhile {F} connects remaining contents q old result new =
+    (n : ℕ) × (mid : F) × TriesUpTo n connects remaining contents q old result mid
+    × NoneFollows n connects remaining contents q mid result new
+
+-- up to so many tries, or as many as there are connections
+abbrev pub TriesIn : {F R W : Type 0} → Option ℕ → (F → Option (R × W) → F → Type 0) → (R
+    → Option (List ℕ)) → (W → Option (List ℕ)) → Request → F → Result Reply ClientFault → F
+    → Type 0
+TriesIn (Some n) connects remaining contents q old result new =
+    TriesUpTo n connects remaining contents q old result new
+TriesIn None connects remaining contents q old result new =
+    TriesWhile connects remaining contents q old result new

@@ -2,7 +2,7 @@
 ghost use Rattle.std.specs.Prelude.{◌≤◌, length};
 ghost use Rattle.snap_frame.specs.Messages.{max_payload, payload, IsAskable};
 ghost use Rattle.snap_client.specs.declared.again.TheConstants.{MAX_TRIES};
-ghost use Rattle.snap_client.specs.Again.{Tries, TriesUpTo};
+ghost use Rattle.snap_client.specs.Again.{Tries, TriesUpTo, TriesWhile};
 
 use crate::client::Client;
 use crate::fault::ClientFault;
@@ -65,4 +65,36 @@ pub fn call_again<R: Read + Drop, W: Write + Drop, F: FnMut() -> Option<(R, W)>>
         left -= 1;
     }
     try_once(alloc, connect, request)
+}
+
+/// Sends a request as [`call_again`] does, on as many connections as `connect` gives: it goes on after each
+/// fault that may pass, until `connect` gives `None`, after which it may be asked once more. The answer is
+/// that of the last connection, and [`ClientFault::ConnectFailed`] where none was given.
+pub fn call_while<R: Read + Drop, W: Write + Drop, F: FnMut() -> Option<(R, W)>>(
+    alloc: Global,
+    connect: &mut F,
+    request: &Request,
+) -> Result<Reply, ClientFault>
+    requires fits { length (payload request.now) ≤ max_payload }
+    requires askable { IsAskable request.now }
+    requires callable { F.IsAlwaysCallable connect.old }
+    ensures { TriesWhile F.step R.remaining W.contents request.now connect.old result connect.new }
+{
+    let mut fault = match try_once(alloc, connect, request) {
+        Ok(reply) => return Ok(reply),
+        Err(fault) => fault,
+    };
+    let mut left = u64::MAX;
+    while left > 0 {
+        if !fault.may_pass() {
+            return Err(fault);
+        }
+        match try_once(alloc, connect, request) {
+            Ok(reply) => return Ok(reply),
+            Err(ClientFault::ConnectFailed) => return Err(fault),
+            Err(next) => fault = next,
+        }
+        left -= 1;
+    }
+    Err(fault)
 }

@@ -3,7 +3,7 @@
 //! A [`Client`] sends one request after another over any reader and writer, and gives the reply to
 //! each. After a fault it has failed for good: the caller connects again and sends the same
 //! request, which is safe, since an update whose number is stored already is answered as stored.
-//! [`call_again`] does so, up to ten times.
+//! [`call_again`] does so, up to ten times, and [`call_while`] for as long as connections are given.
 //!
 //! The words of the contracts stand in `specs/Calls.antt` (one call) and `specs/Again.antt` (calls
 //! on one connection after another).
@@ -14,6 +14,6 @@ mod client;
 mod exchange;
 mod fault;
 
-pub use again::{MAX_TRIES, call_again};
+pub use again::{MAX_TRIES, call_again, call_while};
 pub use client::Client;
 pub use fault::ClientFault;

@@ -3,12 +3,14 @@ use Rattle.std.specs.Prelude.{◌≡◌, ◌≢◌, ◌⊎◌, ℕ, ◌+◌, ◌
 use Rattle.std.specs.Prelude.{Ok, Err, IfSome, is_some, codes, if◌then◌else◌, Bool, true, false}
 use Rattle.std.specs.Fmt.{decimal}
 use Rattle.std.specs.Io.KnownBytes.{Appends, Keeps}
-use Rattle.snap_disk.specs.Device.{Device, IsSettled, MayLeave}
+use Rattle.snap_disk.specs.Device.{Device, IsSettled, MayLeave, part}
 use Rattle.snap_disk.specs.declared.refusal.Refusal.{Refusal}
 use Rattle.snap_disk.specs.declared.refusal.Refusal.TheVariants as refusal
-use Rattle.snap_slot.specs.declared.layout.TheConstants.{FILE_LEN}
+use Rattle.snap_slot.specs.declared.layout.TheConstants.{BLOCK_LEN, FILE_LEN, OPEN_GATE, SLOT_COUNT}
 use Rattle.snap_history.specs.declared.limits.TheConstants.{MAX_VALUE_LEN, LAST_NUMBER}
-use Rattle.snap_slot.specs.Layout.{fresh_file, Head, Holds, IsUnformatted, IsFormatted, IsFileOf}
+use Rattle.snap_slot.specs.Layout.{body_at, fresh_file, gate_block, Head, Holds, IsUnformatted, IsFormatted, IsFileOf, IsOpenSlot}
+use Rattle.snap_slot.specs.Slot.{IsFlawed}
+use Rattle.snap_slot.specs.declared.slot.Flaw.{Flaw}
 use Rattle.snap_slot.specs.States.{IsAtRest, IsEither}
 use Rattle.snap_slot.specs.Findings.{AreFindings, IsNoOpening}
 use Rattle.snap_slot.specs.Text.{findings_text}
@@ -18,9 +20,9 @@ use Rattle.snap_segment.specs.Creation.{IsFresh}
 use Rattle.snap_file_commands.specs.Failure.{status_of, SaysOf}
 use Rattle.snap_stream.specs.Streams.{AppendsBeginning, Had}
 use Rattle.snap_file_commands.specs.declared.failure.CommandFailure.{CommandFailure}
-use Rattle.snap_file_commands.specs.declared.failure.CommandFailure.TheVariants.{Refused, Input, Output, Unsaid}
+use Rattle.snap_file_commands.specs.declared.failure.CommandFailure.TheVariants.{Refused, Input, Output, Unsaid, NoValue}
 use Rattle.snap_order.specs.declared.order.FileOrder.{FileOrder}
-use Rattle.snap_order.specs.declared.order.FileOrder.TheVariants.{Format, Put, Get, Check}
+use Rattle.snap_order.specs.declared.order.FileOrder.TheVariants.{Format, Put, Get, Check, Slot}
 use Rattle.snap_order.specs.declared.status.Status.{Status}
 use Rattle.snap_order.specs.declared.status.Status.TheVariants as status
 
@@ -166,6 +168,32 @@ EndsCheck is_json honest old out out' (Err (Output error)) =
 EndsCheck is_json honest old out out' (Err (Refused why)) = IsNoCheck old.bytes why × Keeps out out'
 EndsCheck is_json honest old out out' end = ⊥
 
+-- ---- one slot
+
+-- the body block of slot s of a whole file
+abbrev pub body_of : (s : ℕ) → List ℕ → List ℕ
+body_of s b = part (body_at s) BLOCK_LEN b
+
+-- this body block has value v: behind an open gate it is slot s with some number
+abbrev pub HasBody : (s : ℕ) (v body : List ℕ) → Type 0
+HasBody s v body = (k : ℕ) × IsOpenSlot SLOT_COUNT s (gate_block OPEN_GATE) body k v
+
+-- it has none: behind an open gate slot s is bad for this reason
+abbrev pub HasBadBody : (s : ℕ) (body : List ℕ) → Flaw → Type 0
+HasBadBody s body flaw = IsFlawed SLOT_COUNT s (gate_block OPEN_GATE) body flaw
+
+-- what is printed is the value in the slot's body, whatever its gate is
+abbrev pub EndsSlot : (s : ℕ) (honest : Type 0) (old : Device) (out out' : Option (List ℕ)) → End
+    → Type 0
+EndsSlot s honest old out out' (Ok done) = (v : List ℕ) × (done ≡ status.Done)
+    × (honest → HasBody s v (body_of s old.bytes)) × Appends out out' v
+EndsSlot s honest old out out' (Err (Output error)) =
+    (v : List ℕ) × (honest → HasBody s v (body_of s old.bytes)) × AppendsBeginning out out' v
+EndsSlot s honest old out out' (Err (NoValue file slot flaw)) =
+    (honest → HasBadBody s (body_of s old.bytes) flaw) × Keeps out out'
+EndsSlot s honest old out out' (Err (Refused why)) = IsNoCheck old.bytes why × Keeps out out'
+EndsSlot s honest old out out' end = ⊥
+
 -- ---- any order
 
 -- the order ended so; `known` is what the reader had, `out` and `out'` what the writer held before
@@ -179,6 +207,7 @@ EndsOrder (Put file i n) honest known old new out out' end =
 EndsOrder (Get file i n) honest known old new out out' end = EndsGet honest i n old out out' end
 EndsOrder (Check file is_json) honest known old new out out' end =
     EndsCheck is_json honest old out out' end
+EndsOrder (Slot file slot) honest known old new out out' end = EndsSlot slot honest old out out' end
 
 -- what a crash during the order may leave
 abbrev pub OrderLeaves : FileOrder → (known : Option (List ℕ)) (old : Device) → List ℕ → Type 0
@@ -186,3 +215,4 @@ OrderLeaves (Format file i n) known old b = IsFresh i n old b
 OrderLeaves (Put file i n) known old b = PutLeaves i n known old b
 OrderLeaves (Get file i n) known old b = MayLeave old b
 OrderLeaves (Check file is_json) known old b = MayLeave old b
+OrderLeaves (Slot file slot) known old b = MayLeave old b

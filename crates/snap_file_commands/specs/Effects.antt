@@ -4,7 +4,7 @@ use Rattle.snap_disk.specs.Device.{MayLeave}
 use Rattle.snap_disk.specs.Time.{LeavesOnly}
 use Rattle.snap_disk.specs.declared.refusal.Refusal.TheVariants as refusal
 use Rattle.snap_order.specs.declared.order.FileOrder.{FileOrder}
-use Rattle.snap_order.specs.declared.order.FileOrder.TheVariants.{Format, Put, Get, Check}
+use Rattle.snap_order.specs.declared.order.FileOrder.TheVariants.{Format, Put, Get, Check, Slot}
 use Rattle.snap_file_commands.specs.Commands.{End}
 use Rattle.snap_file_commands.specs.declared.failure.CommandFailure.TheVariants.{Refused, Input}
 use Rattle.snap_disk.specs.declared.disk.Disk as Disk
@@ -45,3 +45,4 @@ OrderKeeps (Format file i n) same kept end = FormatKeeps same kept end
 OrderKeeps (Put file i n) same kept end = PutKeeps same kept end
 OrderKeeps (Get file i n) same kept end = kept
 OrderKeeps (Check file is_json) same kept end = kept
+OrderKeeps (Slot file slot) same kept end = kept

@@ -10,13 +10,14 @@ use Rattle.snap_disk.specs.declared.refusal.Refusal.TheVariants as refusal
 use Rattle.snap_file_commands.specs.Remedy.{damaged_text, failed_text, formatted_text}
 use Rattle.snap_file_commands.specs.Remedy.{unformatted_text, wrong_text}
 use Rattle.snap_file_commands.specs.declared.failure.CommandFailure.{CommandFailure}
-use Rattle.snap_file_commands.specs.declared.failure.CommandFailure.TheVariants.{Refused, Input, Output, Unsaid}
+use Rattle.snap_file_commands.specs.declared.failure.CommandFailure.TheVariants.{Refused, Input, Output, Unsaid, NoValue}
 
 abbrev pub status_of : CommandFailure → Status
 status_of (Refused why) = status.Refused
 status_of (Input error) = status.Failed
 status_of (Output error) = status.Failed
 status_of (Unsaid number error) = status.Failed
+status_of (NoValue file slot flaw) = status.Refused
 
 -- What standard error got: of a refusal its line. Of the others it got a line that begins `snapd: `,
 -- with a text of the system in it.

@@ -10,7 +10,7 @@ use Rattle.snap_order.specs.Order.{file_of}
 use Rattle.snap_order.specs.Remedy as remedy
 use Rattle.snap_order.specs.Remedy.{check_command, format_command, old_text}
 use Rattle.snap_order.specs.declared.order.FileOrder.{FileOrder}
-use Rattle.snap_order.specs.declared.order.FileOrder.TheVariants.{Format, Put, Get, Check}
+use Rattle.snap_order.specs.declared.order.FileOrder.TheVariants.{Format, Put, Get, Check, Slot}
 use Rattle.snap_order.specs.declared.order.Migration.{Migration}
 
 -- the command that formats the order's file, with letters where the order names no place
@@ -19,6 +19,7 @@ format_command_of (Format file i n) = format_command file.now (decimal i) (decim
 format_command_of (Put file i n) = format_command file.now (decimal i) (decimal n)
 format_command_of (Get file i n) = format_command file.now (decimal i) (decimal n)
 format_command_of (Check file is_json) = format_command file.now (codes "I") (codes "N")
+format_command_of (Slot file slot) = format_command file.now (codes "I") (codes "N")
 
 -- ---- any file
 

@@ -22,6 +22,7 @@ ghost use Rattle.snap_file_commands.specs.Effects.{PutKeeps, StoreKeeps};
 ghost use Rattle.snap_order.specs.Order.{IsFileWithinLimits};
 
 use crate::CommandFailure;
+use crate::slot_value::print_slot;
 use snap_disk::{Disk, Refusal};
 use snap_history::MAX_VALUE_LEN;
 use snap_json::findings_document;
@@ -103,6 +104,10 @@ fn carry_out<D: Disk, R: Read, W: Write>(
         FileOrder::Get { index, count, .. } => get(alloc, disk, index, count, writer),
         FileOrder::Check { is_json, .. } => {
             let end = check_file(alloc, &mut disk, is_json, writer);
+            (disk, end)
+        }
+        FileOrder::Slot { file, slot } => {
+            let end = print_slot(alloc, file, slot, &mut disk, writer);
             (disk, end)
         }
     }

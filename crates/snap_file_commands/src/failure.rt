@@ -5,6 +5,7 @@ ghost use Rattle.snap_file_commands.specs.Failure.{Says, SaysOf, status_of};
 use crate::second_line::line_behind;
 use snap_disk::Refusal;
 use snap_order::{Exit, FileOrder, Status};
+use snap_slot::Flaw;
 use snap_stream::{Cause, complain, complain_of_refusal, complain_twice};
 use std::alloc::{AllocError, Global};
 use std::io::{self, Write};
@@ -25,6 +26,9 @@ pub enum CommandFailure {
     /// The value is stored, and only the line that says so failed.
     #[error("stored {number}, but standard output: {error}")]
     Unsaid { number: u64, error: io::Error },
+    /// The slot that was asked for holds no value.
+    #[error("{file}: slot {slot} holds no value, bad {flaw}: try another slot")]
+    NoValue { file: String, slot: u8, flaw: Flaw },
 }
 
 impl From<Refusal> for CommandFailure {
@@ -50,12 +54,12 @@ impl From<AllocError> for CommandFailure {
 }
 
 impl CommandFailure {
-    /// A refusal has a status of its own. Each other failure is of a stream.
+    /// What the file is has a status of its own. Each other failure is of a stream.
     pub fn status(&self) -> Status
         ensures { result ≡ status_of self.now }
     {
         match self {
-            CommandFailure::Refused(_) => Status::Refused,
+            CommandFailure::Refused(_) | CommandFailure::NoValue { .. } => Status::Refused,
             _ => Status::Failed,
         }
     }
@@ -71,6 +75,10 @@ impl CommandFailure {
             CommandFailure::Refused(why) => Exit {
                 status: Status::Refused,
                 is_told: complain_of_refusal(errors, *why),
+            },
+            CommandFailure::NoValue { .. } => Exit {
+                status: Status::Refused,
+                is_told: complain(alloc, errors, self),
             },
             CommandFailure::Input(_) | CommandFailure::Output(_) | CommandFailure::Unsaid { .. } =>
                 Exit {

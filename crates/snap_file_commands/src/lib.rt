@@ -17,6 +17,7 @@ mod loads;
 mod migration;
 mod remedy;
 mod second_line;
+mod slot_value;
 
 pub use commands::act;
 pub use contents::held_value;
@@ -24,3 +25,4 @@ pub use failure::CommandFailure;
 pub use foundation::found;
 pub use loads::{LoadedFile, load};
 pub use migration::{Causes, MigrationFailure, act_pair};
+pub use remedy::words_of_format;

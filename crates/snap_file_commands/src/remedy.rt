@@ -43,7 +43,9 @@ fn of_whole(alloc: Global, order: &FileOrder<'_>) -> Result<String, AllocError>
         FileOrder::Put { file, index, count } | FileOrder::Get { file, index, count } => {
             of_another(alloc, file, index, count)
         }
-        FileOrder::Format { .. } | FileOrder::Check { .. } => of_length(alloc, FILE_LEN),
+        FileOrder::Format { .. } | FileOrder::Check { .. } | FileOrder::Slot { .. } => {
+            of_length(alloc, FILE_LEN)
+        }
     }
 }
 
@@ -121,7 +123,7 @@ pub(crate) fn of_new(
 }
 
 /// The words that format the order's file, with letters for a place that the order doesn't name.
-fn words_of_format(alloc: Global, order: &FileOrder<'_>) -> Result<String, AllocError>
+pub fn words_of_format(alloc: Global, order: &FileOrder<'_>) -> Result<String, AllocError>
     ensures { IfOk result (λ text. string_bytes text ≡ format_command_of order.now) }
 {
     match *order {
@@ -130,7 +132,7 @@ fn words_of_format(alloc: Global, order: &FileOrder<'_>) -> Result<String, Alloc
         | FileOrder::Get { file, index, count } => {
             format_command(alloc, file, index.into(), count.into())
         }
-        FileOrder::Check { file, .. } => {
+        FileOrder::Check { file, .. } | FileOrder::Slot { file, .. } => {
             format!(in alloc; "snapd format {file} --index I --count N")
         }
     }

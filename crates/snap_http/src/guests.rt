@@ -1,5 +1,5 @@
 //! The connections of a site.
-ghost use Rattle.std.specs.Prelude.{◌≡◌, ◌≤◌, ◌<◌, ◌↔◌, true};
+ghost use Rattle.std.specs.Prelude.{◌≤◌};
 ghost use Rattle.slab.specs.Slab.{slab_len};
 ghost use Rattle.snap_http.specs.Answered.{Answered};
 ghost use Rattle.snap_http.specs.declared.guests.TheConstants.{MAX_GUESTS};
@@ -36,12 +36,6 @@ impl Guests {
             keys,
             guests: Slab::new(alloc),
         }
-    }
-
-    pub(crate) fn is_empty(&self) -> bool
-        ensures { result ≡ true ↔ slab_len self.now.guests ≡ 0 }
-    {
-        self.guests.is_empty()
     }
 
     /// Takes a connection in. Where no memory is left for it, or the system refuses to watch it, it is closed, and the

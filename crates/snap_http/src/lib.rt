@@ -7,12 +7,14 @@
 //! nobody up.
 #![tactic(auto)]
 
+mod beat;
 mod bell;
 mod callers;
 mod guest;
 mod guests;
 mod site;
 
+pub use beat::Beat;
 pub use bell::Stop;
 pub use guests::MAX_GUESTS;
 pub use site::Site;

@@ -1,10 +1,9 @@
 //! A listener and its connections, served on one thread.
-ghost use Rattle.std.specs.Prelude.{◌≡◌, ◌↔◌, IsNone};
-ghost use Rattle.slab.specs.Slab.{slab_len};
 ghost use Rattle.snap_http.specs.Answered.{Answered};
 
+use crate::beat::Beat;
 use crate::bell::{Rope, Stop, hang};
-use crate::callers::{Callers, Queue};
+use crate::callers::Callers;
 use crate::guests::Guests;
 use http_server::Service;
 use mio::net::TcpListener;
@@ -29,8 +28,8 @@ const MAX_EVENTS: usize = 64;
 /// How many callers are taken in between two waits at most.
 const MAX_CALLERS: u32 = 16;
 
-/// The longest wait while some connections are there, which may have been slow for too long, in seconds.
-const LOOK_REST: u64 = 1;
+/// The seconds between two beats: so long it waits at most, and then looks which connections have been slow for too long.
+const BEAT_REST: u64 = 1;
 
 /// What answers HTTP at one address.
 #[derive(Drop)]
@@ -43,6 +42,8 @@ pub struct Site {
     rope: Rope,
     /// The time at the last wait.
     time: Instant,
+    /// The time at the last beat.
+    beaten: Instant,
 }
 
 /// Gives each connection its steps that was reported.
@@ -78,20 +79,28 @@ impl Site {
         let (rope, stop) = hang(poll.registry(), alloc, BELL)?;
         let callers = Callers::new(poll.registry(), CALLERS, listener)?;
         let keys = RandomState::new(rt)?;
+        let now = Instant::now(rt)?;
         let site = Site {
             poll,
             events,
             callers,
             guests: Guests::new(alloc, keys),
             rope,
-            time: Instant::now(rt)?,
+            time: now,
+            beaten: now,
         };
         Ok((site, stop))
     }
 
     /// Answers requests by this service until it is stopped: then `Ok`, and what wasn't written is lost. Nothing that
-    /// a peer does ends it, and no want of memory. An error is that the system lets it wait no longer.
-    pub fn serve<X: Wait + Clock, S: Service>(&mut self, rt: &X, service: &mut S) -> io::Result<()>
+    /// a peer does ends it, and no want of memory. An error is that the system lets it wait no longer. About once a second
+    /// it gives a beat.
+    pub fn serve<X: Wait + Clock, S: Service, B: Beat>(
+        &mut self,
+        rt: &X,
+        service: &mut S,
+        beat: &B,
+    ) -> io::Result<()>
         ensures { Answered S.answers service.old service.new }
     {
         for _ in rt.forever() {
@@ -100,6 +109,7 @@ impl Site {
             }
             self.wait()?;
             self.look_at_clock(rt);
+            self.keep_time(beat);
             take_events(
                 &self.events,
                 &self.poll,
@@ -117,18 +127,24 @@ impl Site {
     /// Waits until something is to be done.
     fn wait(&mut self) -> io::Result<()> {
         let most = self.longest_wait();
-        self.poll.poll(&mut self.events, most)
+        self.poll.poll(&mut self.events, Some(most))
     }
 
-    /// It waits without end only where nobody may wait in the queue and no connection is there.
-    fn longest_wait(&self) -> Option<Duration>
-        ensures { IsNone result ↔ ((self.now.callers.queue ≡ Queue.Empty)
-            × (slab_len self.now.guests.guests ≡ 0)) }
-    {
+    /// How long to wait for something to be done.
+    fn longest_wait(&self) -> Duration {
         match self.callers.rest() {
-            Some(rest) => Some(rest),
-            None if self.guests.is_empty() => None,
-            None => Some(Duration::from_secs(LOOK_REST)),
+            Some(rest) => rest,
+            None => Duration::from_secs(BEAT_REST).saturating_sub(
+                self.time.duration_since(self.beaten),
+            ),
+        }
+    }
+
+    /// Gives a beat where one is due.
+    fn keep_time<B: Beat>(&mut self, beat: &B) {
+        if self.time.duration_since(self.beaten) >= Duration::from_secs(BEAT_REST) {
+            self.beaten = self.time;
+            beat.beat();
         }
     }
 

@@ -7,12 +7,13 @@ use std::fs;
 use std::os::unix::fs::MetadataExt;
 use std::rt::{Env, Files};
 
-/// Where the lines go. That decides whether they begin with the time.
+/// Where the lines go. That decides what they begin with.
 #[derive(Clone, Copy, Debug, PartialEq, Eq)]
 pub enum Destination {
-    /// The journal of systemd, which keeps itself when each line came.
+    /// The journal of systemd, which keeps itself when each line came: a line begins with its priority,
+    /// as `<4>`, which the journal takes off.
     Journal,
-    /// A terminal, a file or a pipe.
+    /// A terminal, a file or a pipe: a line begins with the time.
     Other,
 }
 

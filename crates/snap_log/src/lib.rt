@@ -12,8 +12,9 @@
 //! warn!(lines; target: "accept", "{open} connections are open");
 //! ```
 //!
-//! writes `2026-11-25T16:47:28.123Z WARN accept: 97 connections are open`. A `&Lines` logs too, and
-//! code that needn't know the sink takes a `log: &L` under `L: Log`.
+//! writes `2026-11-25T16:47:28.123Z WARN accept: 97 connections are open`, or to the journal of systemd
+//! `<4>WARN accept: 97 connections are open`. A `&Lines` logs too, and code that needn't know the sink
+//! takes a `log: &L` under `L: Log`.
 #![tactic(auto)]
 
 mod destination;

@@ -6,7 +6,7 @@ use log::Level;
 use std::alloc::{AllocError, Global};
 use std::fmt::Write;
 
-/// The line `LEVEL target: text`, behind the stamp. Characters that would break it, or that aren't
+/// The line `LEVEL target: text`, behind what it begins with. Characters that would break it, or that aren't
 /// seen, stand in it escaped: a line feed as `\n`, others as `\u{1b}`. A backslash stays as it is.
 pub(crate) fn line_of(
     alloc: Global,

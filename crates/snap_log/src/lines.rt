@@ -6,7 +6,7 @@ ghost use Rattle.snap_log.specs.Line.{IsOneLine};
 use crate::Destination;
 use crate::line::line_of;
 use crate::message::Message;
-use crate::stamp::stamp;
+use crate::stamp::{beginning, stamp};
 use crossbeam_channel::{Receiver, Sender, unbounded};
 use log::kv::Source;
 use log::span::Spans;
@@ -84,6 +84,11 @@ impl<'a, R: Wait + Clock> Lines<'a, R> {
         Ok((log, waiting))
     }
 
+    /// How many lines were lost up to now.
+    pub fn lost(&self) -> u64 {
+        self.lost.load(Ordering::SeqCst)
+    }
+
     /// Hands the line of a record over, and says whether it did.
     fn hand_over<D: Display, K: Source, S: Spans>(&self, record: &Record<'_, D, K, S>) -> bool {
         if self.to.len() >= MAX_WAITING {
@@ -92,7 +97,7 @@ impl<'a, R: Wait + Clock> Lines<'a, R> {
         let Ok(text) = self.line(record) else {
             return false;
         };
-        let lost = self.lost.load(Ordering::SeqCst);
+        let lost = self.lost();
         self.to.send(self.rt, Line { text, lost }).is_ok()
     }
 
@@ -107,7 +112,7 @@ impl<'a, R: Wait + Clock> Lines<'a, R> {
         let text = format!(in self.alloc; "{}", Message(record))?;
         line_of(
             self.alloc,
-            stamp.as_str(),
+            beginning(self.destination, record.level(), stamp.as_str()),
             record.level(),
             record.target(),
             text.as_str(),

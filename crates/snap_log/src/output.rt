@@ -6,7 +6,7 @@ ghost use Rattle.snap_log.specs.Progress.{TellsLost};
 
 use crate::line::line_of;
 use crate::lines::Waiting;
-use crate::stamp::stamp;
+use crate::stamp::{beginning, stamp};
 use log::Level;
 use snap_stream::write_whole;
 use std::alloc::{AllocError, Global};
@@ -68,7 +68,11 @@ fn tell_lost<R: Clock, E: Write>(
         return;
     }
     let stamp = stamp(rt, waiting.destination);
-    let Ok(line) = lost_line(waiting.alloc, stamp.as_str(), lost - progress.told) else {
+    let Ok(line) = lost_line(
+        waiting.alloc,
+        beginning(waiting.destination, Level::Warn, stamp.as_str()),
+        lost - progress.told,
+    ) else {
         return;
     };
     if write_line(errors, &mut progress.is_torn, line.as_str()) {

@@ -1,16 +1,17 @@
-//! The time in front of a line.
+//! What stands in front of a line: the time, or the journal's priority.
 ghost use Rattle.std.specs.Prelude.{◌≡◌, []};
 ghost use Rattle.std.specs.Fmt.InlineText.{inline_text};
 
 use crate::Destination;
 use jiff::Timestamp;
+use log::Level;
 use std::fmt::InlineText;
 use std::rt::Clock;
 
 /// The room for a time and a space.
 const ROOM: usize = 32;
 
-/// What a line begins with: now and a space, as `2026-11-25T16:47:28.123Z `. It is empty where the line
+/// The time of a line: now and a space, as `2026-11-25T16:47:28.123Z `. It is empty where the line
 /// goes to the journal, and the clock isn't asked; and where the clock can't be read.
 pub(crate) fn stamp<R: Clock>(rt: &R, destination: Destination) -> InlineText<ROOM>
     ensures { destination ≡ Destination.Journal → inline_text result ≡ [] }
@@ -21,6 +22,24 @@ pub(crate) fn stamp<R: Clock>(rt: &R, destination: Destination) -> InlineText<RO
     match Timestamp::now(rt) {
         Ok(now) => stamp_of(now),
         Err(_) => InlineText::new(),
+    }
+}
+
+/// What a line of this level begins with, at this time: of one that goes to the journal its priority there.
+pub(crate) fn beginning<'a>(destination: Destination, level: Level, time: &'a str) -> &'a str {
+    match destination {
+        Destination::Journal => priority_of(level),
+        Destination::Other => time,
+    }
+}
+
+/// The priority of a level as the journal reads it in front of a line: a number of syslog's.
+fn priority_of(level: Level) -> &'static str {
+    match level {
+        Level::Error => "<3>",
+        Level::Warn => "<4>",
+        Level::Info => "<6>",
+        Level::Debug | Level::Trace => "<7>",
     }
 }
 

@@ -24,7 +24,7 @@ fn lines_come_in_order(rt: HostRuntime) -> Result<(), Fail> {
     write_lines(&rt, &waiting, &mut errors);
     assert_eq!(rt;
         errors.bytes.as_slice(),
-        b"WARN accept: 97 connections are open\nINFO accept: there is room again\n".as_slice()
+        b"<4>WARN accept: 97 connections are open\n<6>INFO accept: there is room again\n".as_slice()
     );
     Ok(())
 }
@@ -33,12 +33,15 @@ fn lines_come_in_order(rt: HostRuntime) -> Result<(), Fail> {
 fn a_level_has_those_above_it(rt: HostRuntime) -> Result<(), Fail> {
     for (level, text) in [
         (LevelFilter::Off, ""),
-        (LevelFilter::Error, "ERROR t: a\n"),
-        (LevelFilter::Warn, "ERROR t: a\nWARN t: b\n"),
-        (LevelFilter::Info, "ERROR t: a\nWARN t: b\nINFO t: c\n"),
+        (LevelFilter::Error, "<3>ERROR t: a\n"),
+        (LevelFilter::Warn, "<3>ERROR t: a\n<4>WARN t: b\n"),
+        (
+            LevelFilter::Info,
+            "<3>ERROR t: a\n<4>WARN t: b\n<6>INFO t: c\n",
+        ),
         (
             LevelFilter::Debug,
-            "ERROR t: a\nWARN t: b\nINFO t: c\nDEBUG t: d\n",
+            "<3>ERROR t: a\n<4>WARN t: b\n<6>INFO t: c\n<7>DEBUG t: d\n",
         ),
     ] {
         let (lines, waiting) = Lines::new(&rt, rt.alloc(), level, Destination::Journal)?;
@@ -77,9 +80,9 @@ fn what_does_not_fit_is_counted(rt: HostRuntime) -> Result<(), Fail> {
     let mut errors = stream(&rt, usize::MAX);
     write_lines(&rt, &waiting, &mut errors);
     let written = errors.bytes.as_slice();
-    let last = b"WARN log: lines lost: 4\n";
+    let last = b"<4>WARN log: lines lost: 4\n";
     assert!(rt; written.ends_with(last));
-    assert_eq!(rt; written.len(), 4_096 * 10 + last.len());
+    assert_eq!(rt; written.len(), 4_096 * 13 + last.len());
     Ok(())
 }
 
@@ -89,9 +92,9 @@ fn what_cannot_be_written_ends_nothing(rt: HostRuntime) -> Result<(), Fail> {
     warn!(lines; target: "t", "b");
     warn!(lines; target: "t", "b");
     drop(lines);
-    let mut errors = stream(&rt, 13);
+    let mut errors = stream(&rt, 16);
     write_lines(&rt, &waiting, &mut errors);
-    assert_eq!(rt; errors.bytes.as_slice(), b"WARN t: b\nWAR".as_slice());
+    assert_eq!(rt; errors.bytes.as_slice(), b"<4>WARN t: b\n<4>".as_slice());
     Ok(())
 }
 

@@ -3,7 +3,7 @@ use Rattle.std.specs.Prelude.{◌≡◌, ◌⊎◌, Bool, false, true, ℕ, ◌+
 use Rattle.snap_frame.specs.Messages.{max_payload, payload, IsAskable}
 use Rattle.snap_frame.specs.declared.request.Request.{Request}
 use Rattle.snap_frame.specs.declared.request.Request.TheVariants as request
-use Rattle.snap_order.specs.Limits.{MAX_COUNT, MAX_SCANNERS, MAX_TRIES, MAX_UPDATE_VALUE}
+use Rattle.snap_order.specs.Limits.{MAX_COUNT, MAX_SCANNERS, MAX_TRIES, MAX_UPDATE_VALUE, SLOT_COUNT}
 use Rattle.snap_order.specs.declared.order.Order.{Order}
 use Rattle.snap_order.specs.declared.order.Order.TheVariants as order
 use Rattle.snap_order.specs.declared.order.FileOrder.{FileOrder}
@@ -18,18 +18,19 @@ use Rattle.snap_order.specs.declared.order.Question.TheVariants as question
 use Rattle.snap_order.specs.declared.order.Source.{Source}
 use Rattle.snap_order.specs.declared.order.Source.TheVariants as source
 use Rattle.snap_order.specs.declared.order.TheConstants.{MAX_ADDRESSES, MAX_CLIENTS, MAX_EVERY, MAX_IDLE, MAX_TIMEOUT, MODE_BITS}
-use Rattle.snap_order.specs.declared.order.FileOrder.TheVariants.{Format, Put, Get, Check}
+use Rattle.snap_order.specs.declared.order.FileOrder.TheVariants.{Format, Put, Get, Check, Slot}
 
 -- there are 1 to 16 segments, and this is one of them
 abbrev pub IsPlace : ℕ → ℕ → Type 0
 IsPlace index count = (index < count) × (count ≤ MAX_COUNT)
 
--- its place is one
+-- its place is one, and its slot one of a file
 abbrev pub IsFileWithinLimits : FileOrder → Type 0
 IsFileWithinLimits (Format file index count) = IsPlace index count
 IsFileWithinLimits (Put file index count) = IsPlace index count
 IsFileWithinLimits (Get file index count) = IsPlace index count
 IsFileWithinLimits (Check file is_json) = Unit {0}
+IsFileWithinLimits (Slot file slot) = slot < SLOT_COUNT
 
 -- it is 1 to this many
 abbrev pub IsOneTo : ℕ → ℕ → Type 0
@@ -85,6 +86,7 @@ pub record IsCallable (c : Calling) : Type 0 where
   pub within : IsWithin c.question
   pub tries : 1 ≤ c.tries
   pub few_tries : c.tries ≤ MAX_TRIES
+  pub wait : IfSome c.wait (IsOneTo MAX_TIMEOUT)
   pub timeout : IfSome c.timeout (IsOneTo MAX_TIMEOUT)
   pub layout : (c.layout ≡ Lines) ⊎ (lists_segments c.question ≡ true)
 
@@ -92,6 +94,7 @@ pub record IsCallable (c : Calling) : Type 0 where
 pub record IsDumpable (d : Dumping) : Type 0 where
   pub tries : 1 ≤ d.tries
   pub few_tries : d.tries ≤ MAX_TRIES
+  pub wait : IfSome d.wait (IsOneTo MAX_TIMEOUT)
   pub timeout : IfSome d.timeout (IsOneTo MAX_TIMEOUT)
 
 -- each segment that is named may be one of a server's, and the time between two looks is one that may be given
@@ -123,3 +126,4 @@ file_of (Format file index count) = file.now
 file_of (Put file index count) = file.now
 file_of (Get file index count) = file.now
 file_of (Check file is_json) = file.now
+file_of (Slot file slot) = file.now

@@ -20,4 +20,5 @@ pub use snap_client::MAX_TRIES;
 pub use snap_frame::{MAX_UPDATE_VALUE, Request, SegmentSet};
 pub use snap_history::{MAX_COUNT, MAX_SCANNERS, MAX_VALUE_LEN};
 pub use snap_old_slot::OLD_FILE_LEN;
+pub use snap_slot::SLOT_COUNT;
 pub use status::{Exit, Status};

@@ -77,6 +77,8 @@ pub enum FileOrder<'a> {
     Get { file: &'a str, index: u8, count: u8 },
     /// Show what the file holds, slot by slot: in lines, or as one JSON document.
     Check { file: &'a str, is_json: bool },
+    /// Print the value in this slot, whatever the others hold: below [`snap_slot::SLOT_COUNT`].
+    Slot { file: &'a str, slot: u8 },
 }
 
 /// Carries the number and value of one file over to another: `old` is the path of a file of the old
@@ -97,6 +99,8 @@ pub struct Founding<'a> {
     pub folder: &'a str,
     /// How many segments there are to be: 1 to 16.
     pub count: u8,
+    /// Whether a file that is missing is made, empty, where another one holds a value.
+    pub is_missing_empty: bool,
 }
 
 /// Says of a folder how its files and its file system are.
@@ -160,7 +164,7 @@ pub enum Layout {
     Json,
 }
 
-/// The longest that a call can be told to wait for an answer, in seconds: a day.
+/// The longest that a call can be told to wait for an answer, and to connect again, in seconds: a day.
 pub const MAX_TIMEOUT: u32 = 86_400;
 
 /// Asks a server, and prints its answer.
@@ -172,6 +176,9 @@ pub struct Calling<'a> {
     pub question: Question,
     /// The most connections that are made for each request of it: 1 to [`snap_client::MAX_TRIES`].
     pub tries: u8,
+    /// For how many seconds it connects again where no answer came: 1 to [`MAX_TIMEOUT`]. `None` where the tries alone
+    /// say how often.
+    pub wait: Option<u32>,
     /// After how many seconds without an answer it ends, all tries together: 1 to [`MAX_TIMEOUT`].
     /// `None` where it doesn't.
     pub timeout: Option<u32>,
@@ -203,6 +210,9 @@ pub struct Dumping<'a> {
     pub holder: Holder<'a>,
     /// The most connections that are made to a server: 1 to [`snap_client::MAX_TRIES`].
     pub tries: u8,
+    /// For how many seconds it connects again where no answer came: 1 to [`MAX_TIMEOUT`]. `None` where the tries alone
+    /// say how often.
+    pub wait: Option<u32>,
     /// After how many seconds without an answer of a server it ends, all tries together: 1 to [`MAX_TIMEOUT`].
     /// `None` where it doesn't.
     pub timeout: Option<u32>,
@@ -292,7 +302,8 @@ impl<'a> FileOrder<'a> {
             FileOrder::Format { file, .. }
             | FileOrder::Put { file, .. }
             | FileOrder::Get { file, .. }
-            | FileOrder::Check { file, .. } => file,
+            | FileOrder::Check { file, .. }
+            | FileOrder::Slot { file, .. } => file,
         }
     }
 }

@@ -5,14 +5,16 @@ ghost use Rattle.snap_serve.specs.Serve.{listening_line, listening_text};
 ghost use Rattle.snap_stream.specs.Streams.{AppendsBeginning};
 
 use crate::report::print_line;
+use crate::watch::Watch;
 use snap_server::{Announce, Endpoint};
 use std::alloc::{AllocError, Global};
 use std::io::{self, Write};
 
-/// Writes lines that were made before, so that no want of memory keeps them back.
+/// Writes lines that were made before, so that no want of memory keeps them back, and tells who watches.
 #[derive(Drop)]
-pub(crate) struct Announcement {
+pub(crate) struct Announcement<H: Drop> {
     pub(crate) lines: String,
+    pub(crate) watch: H,
 }
 
 /// A line for each place at which a listener is.
@@ -34,7 +36,7 @@ fn line_of(alloc: Global, endpoint: &Endpoint) -> Result<String, AllocError>
     format!(in alloc; "listening {endpoint}\n")
 }
 
-impl<W: Write> Announce<W> for Announcement {
+impl<W: Write, H: Watch + Drop> Announce<W> for Announcement<H> {
     ghost announces = { λ announcement old new.
         Appends (W.contents old) (W.contents new) (string_bytes announcement.lines) };
 
@@ -42,6 +44,10 @@ impl<W: Write> Announce<W> for Announcement {
         AppendsBeginning (W.contents old) (W.contents new) (string_bytes announcement.lines) };
 
     fn announce(&self, to: &mut W) -> io::Result<()> {
-        print_line(&self.lines, to)
+        let said = print_line(&self.lines, to);
+        if said.is_ok() {
+            self.watch.begun(self.lines.as_str());
+        }
+        said
     }
 }

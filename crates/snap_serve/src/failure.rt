@@ -96,8 +96,12 @@ fn advice_on(address: &str, why: &BindFault) -> &'static str {
         }
         BindFault::System(_) => "give a path in a folder where this user may make files",
         BindFault::Taken => "end it, or give another path",
+        BindFault::Foreign => {
+            "give another path, or have its owner end what listens there and remove it"
+        }
         BindFault::NoSocket => "move it away, or give another path",
         BindFault::Locked => "give a path in a folder of this server's own",
+        BindFault::Masked => "start it under umask 0, or give a path in a folder of its own",
         BindFault::NoMemory => "give this process more memory",
     }
 }

@@ -42,7 +42,7 @@ pub struct Edge<'a, B, G, N, H, C, O> {
     pub gate: &'a G,
     /// Is told of each connection that has ended, and of the accepting.
     pub note: &'a N,
-    /// Is told of each update.
+    /// Is told of the start, of the end, and of each update.
     pub watch: H,
     /// What the workers count, each for itself: as many as there are scanners.
     pub figures: &'a Figures,
@@ -211,7 +211,7 @@ where
         Ok(()) => {}
         Err(failure) => return Err(failure),
     }
-    let (listener, announcement) = match listen(alloc, &order.addresses, edge.bind) {
+    let (listener, lines) = match listen(alloc, &order.addresses, edge.bind) {
         Ok(listening) => listening,
         Err(failure) => return Err(failure),
     };
@@ -231,6 +231,7 @@ where
         fault_rest: Duration::from_millis(FAULT_REST),
         idle,
     };
+    let announcement = Announcement { lines, watch };
     let ended = serve_store(
         rt,
         alloc,
@@ -246,11 +247,17 @@ where
         writer,
     );
     match ended {
-        Ok(served) => match print_served(alloc, served, writer) {
-            Ok(()) => Ok(served),
-            Err(failure) => Err(failure),
-        },
-        Err(fault) => Err(failure_of(fault)),
+        Ok(served) => {
+            watch.ended(Ok(served));
+            match print_served(alloc, served, writer) {
+                Ok(()) => Ok(served),
+                Err(failure) => Err(failure),
+            }
+        }
+        Err(fault) => {
+            watch.ended(Err(&fault));
+            Err(failure_of(fault))
+        }
     }
 }
 
@@ -280,13 +287,13 @@ fn listen<B: Bind>(
     alloc: Global,
     addresses: &Vec<&str>,
     bind: &B,
-) -> Result<(B::Listener, Announcement), HostFailure>
+) -> Result<(B::Listener, String), HostFailure>
 where
     B::Listener: Drop,
     ensures bound { IfOk result (λ made. IsNamed
         (site_at B.Bind B.Listener.Locate B.Listener.Listen bind.now
         (map (λ a. a.now) addresses.now.items))
-        made.0 (string_bytes made.1.lines)) }
+        made.0 (string_bytes made.1)) }
     ensures failed { IfErr result (ListenFails
         (site_at B.Bind B.Listener.Locate B.Listener.Listen bind.now
         (map (λ a. a.now) addresses.now.items))) }
@@ -296,7 +303,7 @@ where
         Err(unbound) => return Err(unbound_failure(unbound)),
     };
     match lines_of(alloc, listener.endpoints()) {
-        Ok(lines) => Ok((listener, Announcement { lines })),
+        Ok(lines) => Ok((listener, lines)),
         Err(_) => Err(HostFailure::NoMemory),
     }
 }

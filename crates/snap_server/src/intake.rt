@@ -20,7 +20,7 @@ const FAULT_RESTS: [u32; 16] = [
 const ROOM_REST: u64 = 10;
 
 /// There is room again once this part of the connections has ended that were open when there was
-/// none, so that one that comes for each that goes isn't told each time.
+/// none, so that one that comes for each that goes isn't told each time; and once more are open.
 const PART: usize = 8;
 
 /// Where connections come in.
@@ -83,8 +83,8 @@ impl<'a> Intake<'a> {
         for _ in rt.forever() {
             match self.try_one(listener) {
                 Ok(arrival) => {
-                    self.note_room(note);
                     self.room.enter();
+                    self.note_room(note);
                     return Some(arrival);
                 }
                 Err(Unaccepted::Gone) => {}
@@ -123,12 +123,14 @@ impl<'a> Intake<'a> {
         }
     }
 
-    /// Tells that there is room again, where it told that there was none.
+    /// Tells that there is room again, where it told that there was none. One was taken just now, and is
+    /// among those that are open.
     fn note_room<N: Fn(&Note)>(&mut self, note: &N)
         requires { N.IsAlwaysCallable note.now }
     {
         if let Some(full) = self.full_at {
-            if self.room.open() < full - full / PART {
+            let open = self.room.open();
+            if open > full || open <= full - full / PART {
                 self.full_at = None;
                 note(&Note::Room);
             }

@@ -43,12 +43,20 @@ pub enum BindFault {
     /// A socket that some process has is bound to this path.
     #[error("another process listens there")]
     Taken,
+    /// The path names a socket that this user may not call or not remove, so nobody can say whether some
+    /// process has it.
+    #[error("a socket of another user is there")]
+    Foreign,
     /// What is at the path is no socket.
     #[error("it is there, and no socket")]
     NoSocket,
     /// Another process had a lock on the path's folder for a second.
     #[error("another process has locked its folder")]
     Locked,
+    /// The process's mask took bits of the mode, and they can't be given back where others may put a link in
+    /// the file's place.
+    #[error("this process's umask takes bits of its mode, and others may change its folder")]
+    Masked,
     /// A growth of memory was refused.
     #[error("out of memory")]
     NoMemory,
@@ -124,8 +132,9 @@ impl<'a, R: Files<File = File> + Clock> UnixSocket<'a, R> {
             listener: UnixListener::from(socket),
             file: SocketFile::of(&found),
         };
-        // What the mask took.
-        fs::set_permissions(rt, path, Permissions::from_mode(mode))?;
+        if found.mode() & MODE_BITS != mode {
+            give_back(rt, &folder, path, mode)?;
+        }
         if net::listen(bound.descriptor(), BACKLOG) != 0 {
             return Err(BindFault::System(last_error()));
         }
@@ -228,6 +237,33 @@ fn lock_folder<R: Files<File = File> + Clock>(rt: &R, path: &str) -> Result<File
     Err(BindFault::Locked)
 }
 
+/// The bits of a mode that say who may read, write and run a file.
+const MODE_BITS: u32 = 0o777;
+
+/// Those of them by which others than its owner change a folder.
+const OTHERS_WRITE: u32 = 0o022;
+
+/// The bit of a folder in which nobody but its owner and the file's removes a file.
+const STICKY: u32 = 0o1000;
+
+/// Gives the file at this path in this folder what the mask took of its mode. A path follows links, so
+/// that is done only where nobody else may put one there.
+fn give_back<R: Files<File = File>>(
+    rt: &R,
+    folder: &File,
+    path: &str,
+    mode: u32,
+) -> Result<(), BindFault> {
+    let around = folder.metadata()?;
+    let is_own = around.uid() == 0 || around.uid() == libc::geteuid();
+    let is_kept = around.mode() & OTHERS_WRITE == 0 || around.mode() & STICKY != 0;
+    if !is_own || !is_kept {
+        return Err(BindFault::Masked);
+    }
+    fs::set_permissions(rt, path, Permissions::from_mode(mode))?;
+    Ok(())
+}
+
 /// Removes the file of a socket that no process has any more. Anything else stays.
 fn make_way<R: Files>(rt: &R, path: &str) -> Result<(), BindFault> {
     let found = match fs::symlink_metadata(rt, path) {
@@ -242,6 +278,7 @@ fn make_way<R: Files>(rt: &R, path: &str) -> Result<(), BindFault> {
         return Err(BindFault::Taken);
     }
     match fs::remove_file(rt, path) {
+        Err(error) if error.kind() == ErrorKind::PermissionDenied => Err(BindFault::Foreign),
         Err(error) if error.kind() != ErrorKind::NotFound => Err(BindFault::System(error)),
         _ => Ok(()),
     }
@@ -271,6 +308,7 @@ fn has_owner(path: &str) -> Result<bool, BindFault> {
         Some(WRONG_KIND) => Ok(true),
         // Or it has gone just now, with its server.
         Some(libc::ECONNREFUSED | libc::ENOENT) => Ok(false),
+        Some(libc::EACCES) => Err(BindFault::Foreign),
         _ => Err(BindFault::System(error)),
     }
 }

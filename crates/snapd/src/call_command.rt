@@ -5,7 +5,9 @@ ghost use Rattle.snap_order.specs.Order.{IsCallable};
 
 use crate::complaint::say;
 use crate::link::Link;
-use crate::time_limit::{LimitedStream, TimeLimit};
+use crate::remedy::remedy_of;
+use crate::time_limit::{Course, TimeLimit};
+use crate::tries::{Patience, Tries};
 use snap_call::ask;
 use snap_frame::SegmentValue;
 use snap_order::{Calling, Status, socket_path};
@@ -13,23 +15,27 @@ use std::io::{self, ErrorKind};
 use std::net::{Net, OpenStream, SocketAddr, TcpStream, ToSocketAddrs};
 use std::os::unix::net::UnixStream;
 use std::rt::Clock;
-use std::sync::atomic::{AtomicBool, Ordering};
+use std::sync::atomic::Ordering;
 use std::thread;
-use std::time::{Duration, Instant};
+use std::time::Duration;
 
 /// Asks the server at the order's address, and says how the program ends. An address that the
-/// system doesn't take has failed before any connection is made. A call whose time was over says so in a
-/// line of its own.
+/// system doesn't take has failed before any connection is made. Why the system made no connection, and that
+/// the time of a call was over, are said in lines of their own.
 pub fn call<N: Net + Clock>(net: &N, rt: &HostRuntime, order: &Calling<'_>) -> Status
     requires { IsCallable order.now }
 {
     let address = order.address;
-    if !is_known(net, rt, address) {
+    let patience = Patience {
+        wait: order.wait,
+        timeout: order.timeout,
+    };
+    if !is_worth_a_try(net, rt, address, patience) {
         return Status::Failed;
     }
-    let is_over = AtomicBool::new(false);
-    let mut end = None;
-    let mut connect = || limited_connection(net, address, order.timeout, &mut end, &is_over);
+    let course = Course::new();
+    let mut tries = Tries::new(net, address, patience, &course);
+    let mut connect = || tries.next();
     let status = ask(
         rt.alloc(),
         order,
@@ -39,63 +45,88 @@ pub fn call<N: Net + Clock>(net: &N, rt: &HostRuntime, order: &Calling<'_>) -> S
         &mut rt.stderr(),
     )
     .status;
-    say_if_late(rt, address, order.timeout, status, &is_over);
+    say_why(rt, address, patience, status, &course);
     status
 }
 
 /// The values of the server at this address, by one scan, or how the program ends without them: as a call
-/// of so many tries and seconds does.
+/// of so many tries, which goes on for so long, does.
 pub fn fetch<N: Net + Clock>(
     net: &N,
     rt: &HostRuntime,
     address: &str,
     tries: u8,
-    timeout: Option<u32>,
+    patience: Patience,
 ) -> Result<Vec<SegmentValue>, Status>
     requires some { 1 ≤ tries }
     requires few { tries ≤ MAX_TRIES }
 {
-    if !is_known(net, rt, address) {
+    if !is_worth_a_try(net, rt, address, patience) {
         return Err(Status::Failed);
     }
-    let is_over = AtomicBool::new(false);
-    let mut end = None;
-    let mut connect = || limited_connection(net, address, timeout, &mut end, &is_over);
-    match snap_call::fetch(rt.alloc(), address, tries, &mut connect, &mut rt.stderr()) {
+    let course = Course::new();
+    let mut tried = Tries::new(net, address, patience, &course);
+    let mut connect = || tried.next();
+    let most = match patience.wait {
+        Some(_) => None,
+        None => Some(tries),
+    };
+    match snap_call::fetch(rt.alloc(), address, most, &mut connect, &mut rt.stderr()) {
         Ok(values) => Ok(values),
         Err(ended) => {
-            say_if_late(rt, address, timeout, ended.status, &is_over);
+            say_why(rt, address, patience, ended.status, &course);
             Err(ended.status)
         }
     }
 }
 
-/// Says of a call that failed that its time was over, where it was.
-fn say_if_late(
-    rt: &HostRuntime,
-    address: &str,
-    timeout: Option<u32>,
-    status: Status,
-    is_over: &AtomicBool,
-) {
-    if status == Status::Failed && is_over.load(Ordering::Relaxed) {
-        let seconds = timeout.unwrap_or(0);
-        say(
-            rt,
-            &format_args!("{address}: there was no answer within {seconds} s (--timeout)"),
-        );
+/// Says of a call that failed what the system said of its last connection, and that its time was over, where
+/// they were so.
+fn say_why(rt: &HostRuntime, address: &str, patience: Patience, status: Status, course: &Course) {
+    if status != Status::Failed {
+        return;
+    }
+    if let Some(reason) = course.reason() {
+        match remedy_of(address, &reason) {
+            Some(remedy) => say(rt, &format_args!("{address}: {reason}: {remedy}")),
+            None => say(rt, &format_args!("{address}: {reason}")),
+        }
+    }
+    if course.is_over.load(Ordering::Relaxed) {
+        say_late(rt, address, patience.timeout, "--timeout");
+    } else if course.has_waited.load(Ordering::Relaxed) {
+        say_late(rt, address, patience.wait, "--wait");
+    }
+}
+
+/// Says that there was no answer within the seconds of this option.
+fn say_late(rt: &HostRuntime, address: &str, seconds: Option<u32>, option: &str) {
+    let seconds = seconds.unwrap_or(0);
+    say(
+        rt,
+        &format_args!("{address}: there was no answer within {seconds} s ({option})"),
+    );
+}
+
+/// The system takes the address, or may know it later where the call waits: then a name is looked up again before
+/// each connection. Says why where it isn't so.
+fn is_worth_a_try<N: Net>(net: &N, rt: &HostRuntime, address: &str, patience: Patience) -> bool {
+    match look_up(net, address) {
+        Err(error) if patience.wait.is_none() || error.kind() == ErrorKind::InvalidInput => {
+            say(rt, &format_args!("{address}: {error}"));
+            false
+        }
+        _ => true,
     }
 }
 
 /// The system takes the address. Says why where it doesn't.
 pub fn is_known<N: Net>(net: &N, rt: &HostRuntime, address: &str) -> bool {
-    match look_up(net, address) {
-        Ok(()) => true,
-        Err(error) => {
-            say(rt, &format_args!("{address}: {error}"));
-            false
-        }
-    }
+    let at_once = Patience {
+        wait: None,
+        timeout: None,
+    };
+    is_worth_a_try(net, rt, address, at_once)
 }
 
 /// The system takes the address. That of a Unix socket it takes as it is.
@@ -106,70 +137,18 @@ fn look_up<N: Net>(net: &N, address: &str) -> io::Result<()> {
     Ok(())
 }
 
-/// Until when a call may wait that has so many seconds: from the first time that this is asked, which `end`
-/// keeps.
-fn limit_of<'c, 'o, C: Clock>(
-    clock: &'c C,
-    seconds: Option<u32>,
-    end: &mut Option<Instant>,
-    is_over: &'o AtomicBool,
-) -> io::Result<TimeLimit<'c, 'o, C>> {
-    if let (Some(seconds), None) = (seconds, *end) {
-        let time = Duration::from_secs(u64::from(seconds));
-        *end = Instant::now(clock)?.checked_add(time);
-    }
-    Ok(TimeLimit {
-        clock,
-        end: *end,
-        is_over,
-    })
-}
-
-/// A connection that ends with the time of its call.
-fn limited_connection<'c, 'o, N: Net + Clock>(
-    net: &'c N,
-    address: &str,
-    seconds: Option<u32>,
-    end: &mut Option<Instant>,
-    is_over: &'o AtomicBool,
-) -> Option<
-    (
-        LimitedStream<'c, 'o, N, N::Stream>,
-        LimitedStream<'c, 'o, N, N::Stream>,
-    ),
-> {
-    let limit = limit_of(net, seconds, end, is_over).ok()?;
-    connection(net, address, &limit)
-}
-
-/// A connection as its reader and its writer. What is written goes out without delay.
-fn connection<'c, 'o, N: Net + Clock>(
-    net: &N,
-    address: &str,
-    limit: &TimeLimit<'c, 'o, N>,
-) -> Option<
-    (
-        LimitedStream<'c, 'o, N, N::Stream>,
-        LimitedStream<'c, 'o, N, N::Stream>,
-    ),
-> {
-    let writer = link_within(net, address, limit)?;
-    let reader = writer.try_clone().ok()?;
-    Some((limit.on(reader), limit.on(writer)))
-}
-
 /// A connection that was made before the time was over. What is written goes out without delay.
 pub fn link_within<N: Net + Clock>(
     net: &N,
     address: &str,
     limit: &TimeLimit<'_, '_, N>,
-) -> Option<Link<N::Stream>> {
+) -> io::Result<Link<N::Stream>> {
     if let Some(path) = socket_path(address) {
-        return Some(Link::Unix(connect_unix_within(net, path, limit).ok()?));
+        return Ok(Link::Unix(connect_unix_within(net, path, limit)?));
     }
-    let stream = connect_within(net, address, limit).ok()?;
-    stream.set_nodelay(true).ok()?;
-    Some(Link::Tcp(stream))
+    let stream = connect_within(net, address, limit)?;
+    stream.set_nodelay(true)?;
+    Ok(Link::Tcp(stream))
 }
 
 /// The rest before another try where a server's queue is full, in milliseconds.
@@ -208,30 +187,40 @@ fn connect_unix<N: Net>(net: &N, path: &str) -> io::Result<Option<UnixStream>> {
     }
 }
 
-/// A connection to the first of the address's that takes one before the time is over.
+/// A connection to the first of the address's that takes one before the time is over, of which each that is left
+/// has an equal share.
 fn connect_within<N: Net + Clock>(
     net: &N,
     address: &str,
     limit: &TimeLimit<'_, '_, N>,
 ) -> io::Result<N::Stream> {
     let mut last = io::Error::from(ErrorKind::AddrNotAvailable);
-    for found in address.to_socket_addrs(net)? {
-        match connect_to(net, found, limit.left()?) {
+    let found = address.to_socket_addrs(net)?;
+    let mut untried = u32::try_from(found.len()).unwrap_or(1);
+    for place in found {
+        match connect_to(net, place, share_of(limit.left()?, untried)) {
             Ok(stream) => return Ok(stream),
-            Err(error) => last = limit.fault_of(error),
+            Err(error) => last = error,
         }
+        untried = untried.saturating_sub(1);
     }
     Err(last)
+}
+
+/// The time that one of so many has, which is never nothing.
+fn share_of(left: Option<Duration>, among: u32) -> Option<Duration> {
+    let share = left? / among.max(1);
+    Some(share.max(Duration::from_millis(1)))
 }
 
 /// A connection that is made within this time, where there is a limit.
 fn connect_to<N: Net>(
     net: &N,
     address: SocketAddr,
-    left: Option<Duration>,
+    most: Option<Duration>,
 ) -> io::Result<N::Stream> {
-    match left {
-        Some(left) => TcpStream::connect_timeout(net, &address, left),
+    match most {
+        Some(most) => TcpStream::connect_timeout(net, &address, most),
         None => net.connect(address),
     }
 }

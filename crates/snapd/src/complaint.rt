@@ -1,5 +1,6 @@
 //! What the program says of files that it could not take.
 
+use crate::file_system::remedy_of;
 use crate::folder::FolderTrouble;
 use snap_devices::FileFault;
 use snap_disk::Refusal;
@@ -14,15 +15,31 @@ pub fn say<T: Display>(rt: &HostRuntime, text: &T) {
     let _ = complain(rt.alloc(), &mut rt.stderr(), text);
 }
 
-/// Says why the file at this path could not be taken.
+/// Says why the file at this path could not be taken, and what to do where that is known.
 pub fn fail_at(rt: &HostRuntime, file: &str, fault: &FileFault) -> Status {
-    say(rt, &format_args!("{file}: {fault}"));
+    fail_without(rt, file, fault, None)
+}
+
+/// Says the same of a path that this command makes, where it isn't there.
+pub fn fail_without(
+    rt: &HostRuntime,
+    path: &str,
+    fault: &FileFault,
+    command: Option<String>,
+) -> Status {
+    say(rt, &format_args!("{path}: {fault}"));
+    if let FileFault::System(reason) = fault {
+        if let Some(remedy) = remedy_of(rt, path, reason, command) {
+            say(rt, &remedy);
+        }
+    }
     Status::Failed
 }
 
 /// Says the same of a server's file, and what to give where it is a folder.
 pub fn fail_at_file(rt: &HostRuntime, file: &str, fault: &FileFault) -> Status {
-    let status = fail_at(rt, file, fault);
+    let command = format!(in rt.alloc(); "snapd format {file} --index I --count N");
+    let status = fail_without(rt, file, fault, command.ok());
     if let FileFault::System(reason) = fault {
         if reason.kind() == ErrorKind::IsADirectory {
             let line = format_args!("{file}: it is a folder: give it as --dir {file}");
@@ -58,7 +75,8 @@ pub fn fail_at_folder(rt: &HostRuntime, folder: &str, reason: io::Error) -> Stat
     if reason.kind() == ErrorKind::OutOfMemory {
         return stop_without_memory(rt);
     }
-    fail_at(rt, folder, &FileFault::System(reason))
+    let command = format!(in rt.alloc(); "snapd init {folder} --count N");
+    fail_without(rt, folder, &FileFault::System(reason), command.ok())
 }
 
 /// Says why the program stops.

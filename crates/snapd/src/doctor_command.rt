@@ -2,9 +2,9 @@
 ghost use Rattle.std.specs.Prelude.{◌≡◌, length};
 
 use crate::complaint::{stop, stop_without_memory};
-use crate::file_system::{file_system_of, keeps_locks};
+use crate::file_system::{file_system_of, is_taken, keeps_locks, remedy_of, try_as_server};
 use crate::folder::{FolderTrouble, SegmentContents, contents_of, order_of, segment_files};
-use crate::store_times::{STORED_LEN, STORES, measure};
+use crate::store_times::{MeasureFault, STORED_LEN, STORES, measure};
 use snap_devices::FileFault;
 use snap_file_commands::CommandFailure;
 use snap_folder::SegmentPlace;
@@ -34,21 +34,21 @@ fn report(rt: &HostRuntime, order: &Examination<'_>, files: &[String]) -> io::Re
     Ok(are_whole && are_kept && are_stored)
 }
 
-/// Says how each file is, and whether they are all segments of one server. Where another process has one of
-/// them, no further one is looked at: it has been waited for.
+/// Says how each file is, and whether they are all segments of one server. The first that another process has is
+/// waited for, and no further one.
 fn report_files(rt: &HostRuntime, folder: &str, files: &[String]) -> io::Result<bool> {
     let mut places = Vec::with_capacity(rt.alloc(), files.len())?;
-    let mut are_whole = true;
+    let (mut are_whole, mut are_free) = (true, true);
     for file in files {
-        match report_file(rt, folder, file.as_str())? {
+        match report_file(rt, folder, file.as_str(), are_free)? {
             FileState::Whole(place) => places.push(place)?,
             FileState::Ill => are_whole = false,
-            FileState::InUse => return Ok(are_whole),
+            FileState::InUse => are_free = false,
         }
     }
-    // What is wrong with a file comes first. Where all are whole, each has its place.
+    // What is wrong with a file comes first. Where all are whole and free, each has its place.
     if !are_whole || places.len() != files.len() {
-        return Ok(false);
+        return Ok(are_whole);
     }
     report_order(rt, folder, files, &places)
 }
@@ -64,8 +64,16 @@ enum FileState {
     InUse,
 }
 
-/// Says how a file is.
-fn report_file(rt: &HostRuntime, folder: &str, file: &str) -> io::Result<FileState> {
+/// Says how a file is. One that another process has is waited for only where `is_awaited`.
+fn report_file(
+    rt: &HostRuntime,
+    folder: &str,
+    file: &str,
+    is_awaited: bool,
+) -> io::Result<FileState> {
+    if !is_awaited && is_taken(rt, file) {
+        return report_use(rt, file);
+    }
     match contents_of(rt, rt.alloc(), folder, file) {
         Ok(found) => report_segment(rt, file, found),
         Err(
@@ -73,12 +81,7 @@ fn report_file(rt: &HostRuntime, folder: &str, file: &str) -> io::Result<FileSta
                 fault: FileFault::InUse(_),
                 ..
             },
-        ) => {
-            rt.print(&format_args!(
-                "{file}: a server or another command has it: ask it, as by snapd call ADDR status\n"
-            ))?;
-            Ok(FileState::InUse)
-        }
+        ) => report_use(rt, file),
         Err(trouble) => {
             report_trouble(rt, &trouble)?;
             Ok(FileState::Ill)
@@ -86,17 +89,40 @@ fn report_file(rt: &HostRuntime, folder: &str, file: &str) -> io::Result<FileSta
     }
 }
 
-/// Says what a file holds, where it holds anything.
+/// Says that another process has a file.
+fn report_use(rt: &HostRuntime, file: &str) -> io::Result<FileState> {
+    rt.print(&format_args!(
+        "{file}: a server or another command has it: ask it, as by snapd call ADDR status\n"
+    ))?;
+    Ok(FileState::InUse)
+}
+
+/// Says what a file holds, where it holds anything, and whether a server that this user starts can have it.
 fn report_segment(rt: &HostRuntime, file: &str, found: SegmentContents) -> io::Result<FileState> {
     let SegmentPlace { index, count } = found.place;
     let Some(number) = found.number else {
         rt.print(&format_args!(
-            "{file}: segment {index} of {count}, but its slots give no answer: see snapd check {file}, and bring a copy back\n"
+            "{file}: segment {index} of {count}, but its slots give no answer: see snapd check {file}, and bring a copy back, or save what a slot holds by snapd check {file} --slot S --value\n"
         ))?;
         return Ok(FileState::Ill);
     };
     rt.print(&format_args!("{file}: segment {index} of {count} number {number}\n"))?;
-    Ok(FileState::Whole(found.place))
+    match try_as_server(rt, file) {
+        Ok(()) => Ok(FileState::Whole(found.place)),
+        Err(reason) => {
+            rt.print(&format_args!("{file}: you can't serve it: {reason}\n"))?;
+            report_remedy(rt, file, &reason)?;
+            Ok(FileState::Ill)
+        }
+    }
+}
+
+/// Says what to do about this reason of the system, where that is known.
+fn report_remedy(rt: &HostRuntime, path: &str, reason: &io::Error) -> io::Result<()> {
+    match remedy_of(rt, path, reason, None) {
+        Some(remedy) => rt.print(&format_args!("{remedy}\n")),
+        None => Ok(()),
+    }
 }
 
 /// Says whether the files are all segments of one server.
@@ -125,7 +151,13 @@ fn report_order(
 /// Says what is wrong with a file or the folder.
 fn report_trouble(rt: &HostRuntime, trouble: &FolderTrouble<'_>) -> io::Result<()> {
     match trouble {
-        FolderTrouble::Path { file, fault } => rt.print(&format_args!("{file}: {fault}\n")),
+        FolderTrouble::Path { file, fault } => {
+            rt.print(&format_args!("{file}: {fault}\n"))?;
+            match fault {
+                FileFault::System(reason) => report_remedy(rt, file, reason),
+                _ => Ok(()),
+            }
+        }
         FolderTrouble::Refused(why) => rt.print(&format_args!("{why}\n")),
         FolderTrouble::NoMemory => Err(io::Error::from(ErrorKind::OutOfMemory)),
     }
@@ -170,6 +202,9 @@ fn report_stores(rt: &HostRuntime, folder: &str) -> io::Result<bool> {
         Ok(times) => times,
         Err(fault) => {
             rt.print(&format_args!("{folder}: nothing could be stored: {fault}\n"))?;
+            if let MeasureFault::System(reason) = &fault {
+                report_remedy(rt, folder, reason)?;
+            }
             return Ok(false);
         }
     };

@@ -7,6 +7,7 @@ use crate::call_command::fetch;
 use crate::complaint::{fail_at, fail_in, say, stop, stop_without_memory};
 use crate::files::{FirstFault, first_faults};
 use crate::folder::{FolderTrouble, files_in_order, segment_files};
+use crate::tries::Patience;
 use jiff::Timestamp;
 use snap_devices::{FileDisk, FileFault, Lock};
 use snap_dump::{DumpFault, document, read};
@@ -76,7 +77,11 @@ fn server_values(
 ) -> Result<Vec<SegmentValue>, Status>
     requires { IsDumpable order.now }
 {
-    fetch(rt, rt, address, order.tries, order.timeout)
+    let patience = Patience {
+        wait: order.wait,
+        timeout: order.timeout,
+    };
+    fetch(rt, rt, address, order.tries, patience)
 }
 
 /// The values of a folder's files, which are locked until all are read: so they are those of the moment at

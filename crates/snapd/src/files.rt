@@ -2,10 +2,10 @@
 ghost use Rattle.std.specs.Prelude.{◌≡◌, length, IfOk};
 ghost use Rattle.snap_devices.specs.FileDisk.{IsUncalled};
 
-use crate::complaint::{fail_at, fail_twice};
+use crate::complaint::{fail_at, fail_twice, fail_without};
 use snap_devices::{CallFault, FileDisk, FileFault, Lock};
 use snap_disk::{Disk, Refusal};
-use snap_file_commands::{Causes, CommandFailure, MigrationFailure};
+use snap_file_commands::{Causes, CommandFailure, MigrationFailure, words_of_format};
 use snap_order::{FileOrder, Migration, Status};
 use snap_segment::{OLD_FILE_LEN, Which};
 use snap_slot::FILE_LEN;
@@ -78,7 +78,10 @@ pub fn take_file<'a>(
             let ended = refused.report_of(rt.alloc(), order, len, told, &mut rt.stderr());
             Err(ended.status)
         }
-        Err(fault) => Err(fail_at(rt, file, &fault)),
+        Err(fault) => {
+            let command = words_of_format(rt.alloc(), order);
+            Err(fail_without(rt, file, &fault, command.ok()))
+        }
     }
 }
 
@@ -96,7 +99,9 @@ fn open_file<'a, R: Files<File = File> + Clock>(
     let disk = match *order {
         FileOrder::Format { .. } => FileDisk::create(rt, file)?,
         FileOrder::Put { .. } => FileDisk::open(rt, file, Lock::Exclusive)?,
-        FileOrder::Get { .. } | FileOrder::Check { .. } => FileDisk::open(rt, file, Lock::Shared)?,
+        FileOrder::Get { .. } | FileOrder::Check { .. } | FileOrder::Slot { .. } => {
+            FileDisk::open(rt, file, Lock::Shared)?
+        }
     };
     Ok(disk.telling(told.place()))
 }

@@ -97,6 +97,18 @@ pub fn segment_path(alloc: Global, folder: &str, index: u8) -> Result<String, Al
     path_in(alloc, folder, name.as_str())
 }
 
+/// Which of so many segments has a file of this name in its folder, by the names that [`segment_path`] gives.
+pub fn index_of_name(alloc: Global, name: &str, count: u8) -> Result<Option<u8>, AllocError>
+    requires { count ≤ MAX_COUNT }
+{
+    for index in 0..count {
+        if file_name(alloc, index)?.as_str() == name {
+            return Ok(Some(index));
+        }
+    }
+    Ok(None)
+}
+
 /// None of the folder's files has the name of a segment that isn't among so many.
 pub fn check_names<'f>(
     alloc: Global,
@@ -189,13 +201,25 @@ pub fn contents_of<'f>(
     folder: &'f str,
     file: &'f str,
 ) -> Result<SegmentContents, FolderTrouble<'f>> {
+    let findings = findings_of(rt, alloc, folder, file)?;
+    contents_by(folder, file, &findings)
+}
+
+/// What is found in the file at this path, where it has a segment file's length. Others may read it
+/// meanwhile.
+pub fn findings_of<'f>(
+    rt: &HostRuntime,
+    alloc: Global,
+    folder: &'f str,
+    file: &'f str,
+) -> Result<Findings, FolderTrouble<'f>> {
     let told = FirstFault::new();
     let mut disk = match FileDisk::open(rt, file, Lock::Shared) {
         Ok(disk) => disk.telling(told.place()),
         Err(fault) => return Err(FolderTrouble::Path { file, fault }),
     };
     match check(&mut disk) {
-        Ok(findings) => contents_by(folder, file, &findings),
+        Ok(findings) => Ok(findings),
         Err(Refusal::DeviceFailed) => Err(failure_of(alloc, file, &told)),
         Err(_) => Err(refused(no_segment(folder, file, disk.len()))),
     }
@@ -281,7 +305,7 @@ fn pair_of<'f>(
 }
 
 /// The path of this file of the folder.
-fn path_at<'f>(folder: &'f str, files: &'f [String], at: usize) -> &'f str {
+pub fn path_at<'f>(folder: &'f str, files: &'f [String], at: usize) -> &'f str {
     match files.get(at) {
         Some(file) => file.as_str(),
         None => folder,

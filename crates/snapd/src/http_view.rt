@@ -1,10 +1,10 @@
 //! Who looks at a server for browsers and monitors.
 
 use crate::http_place::HttpPlace;
-use crate::surroundings::Process;
+use crate::surroundings::{Process, Seen};
 use log::{info, warn};
 use snap_args::is_everywhere;
-use snap_board::Board;
+use snap_board::{Board, History};
 use snap_http::{Site, Stop};
 use snap_log::Lines;
 use snap_serve::Onlook;
@@ -54,10 +54,16 @@ impl<'a, X: Wait + Clock> HttpView<'a, X> {
         self.site.lock(rt).take()
     }
 
-    /// Answers by this service until the server ends.
+    /// Answers by this service until the server ends, and takes a sample of what is counted about once a second.
     fn answer<Y: Wait + Clock, S: Service + Drop>(&self, rt: &Y, mut site: Site, service: S) {
-        let mut board = Board::new(self.alloc, service, self.process);
-        if let Err(error) = site.serve(rt, &mut board) {
+        let history = History::new(self.alloc);
+        let seen = Seen {
+            process: self.process,
+            log: self.log,
+            history: &history,
+        };
+        let mut board = Board::new(self.alloc, service, seen);
+        if let Err(error) = site.serve(rt, &mut board, &seen) {
             warn!(self.log; target: "http", "no browser and no monitor is answered any more: {error}");
         }
     }

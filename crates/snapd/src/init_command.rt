@@ -3,42 +3,28 @@ ghost use Rattle.std.specs.Prelude.{◌<◌, ◌≤◌};
 ghost use Rattle.snap_order.specs.Limits.{MAX_COUNT};
 ghost use Rattle.snap_order.specs.Order.{IsOneTo};
 
-use crate::complaint::{fail_at_folder, fail_in, stop_without_memory};
+use crate::complaint::{fail_at_folder, fail_in, say, stop_without_memory};
 use crate::files::{FirstFault, take_file};
 use crate::folder::{
-    FolderTrouble, check_names, contents_of, make_folder, segment_files, segment_path,
+    FolderTrouble, check_names, findings_of, index_of_name, make_folder, path_at, segment_files,
+    segment_path,
 };
-use crate::folder_refusal::FolderRefusal;
+use crate::folder_refusal::{FileRefusal, FolderRefusal};
 use snap_devices::FileFault;
 use snap_file_commands::found;
+use snap_folder::sign_of_loss;
 use snap_order::{FileOrder, Founding, Status};
-use std::alloc::Global;
+use snap_segment::{Findings, Header, Slot};
+use std::alloc::{AllocError, Global};
+use std::fmt::{self, Display, Formatter, Write};
+use std::path::Path;
 
 /// Makes the folder, and in it the file of each segment in order, or leaves those that are whole already.
-/// It ends at the first that can't be made or left, with its status; a file of a further segment ends it
-/// before any is made.
+/// It ends at the first that can't be made or left, with its status. Before any is made it ends where a
+/// file is of a further segment, of another count or in use, and where one was lost, unless that is to
+/// be made all the same.
 pub fn init(rt: &HostRuntime, order: &Founding<'_>) -> Status
     requires { IsOneTo MAX_COUNT order.now.count }
-{
-    let status = prepare(rt, order);
-    if status != Status::Done {
-        return status;
-    }
-    for index in 0..order.count {
-        let Ok(file) = segment_path(rt.alloc(), order.folder, index) else {
-            return stop_without_memory(rt);
-        };
-        let status = found_at(rt, file.as_str(), index, order.count);
-        if status != Status::Done {
-            return status;
-        }
-    }
-    Status::Done
-}
-
-/// Makes the folder, and looks whether it is one of so many segments, by the names in it and by their files.
-fn prepare(rt: &HostRuntime, order: &Founding<'_>) -> Status
-    requires { order.now.count ≤ MAX_COUNT }
 {
     let folder = order.folder;
     if let Err(reason) = make_folder(rt, folder) {
@@ -48,57 +34,246 @@ fn prepare(rt: &HostRuntime, order: &Founding<'_>) -> Status
         Ok(files) => files,
         Err(status) => return status,
     };
-    match check_files(rt, folder, &files, order.count) {
-        Ok(()) => Status::Done,
-        Err(trouble) => fail_in(rt, &trouble),
-    }
-}
-
-/// The folder's files are of so many segments, by their names and by what they say.
-fn check_files<'f>(
-    rt: &HostRuntime,
-    folder: &'f str,
-    files: &'f [String],
-    count: u8,
-) -> Result<(), FolderTrouble<'f>>
-    requires { count ≤ MAX_COUNT }
-{
-    check_names(rt.alloc(), folder, files, count)?;
-    check_counts(rt, rt.alloc(), folder, count)
-}
-
-/// None of the files that are to be kept says that it is one of another count. What can't be read is left to who
-/// makes it or leaves it.
-fn check_counts<'f>(
-    rt: &HostRuntime,
-    alloc: Global,
-    folder: &'f str,
-    wanted: u8,
-) -> Result<(), FolderTrouble<'f>>
-    requires { wanted ≤ MAX_COUNT }
-{
-    for index in 0..wanted {
-        let file = segment_path(alloc, folder, index)?;
-        let count = match contents_of(rt, alloc, folder, file.as_str()) {
-            Ok(found) => found.place.count,
-            // It has been waited for.
-            Err(
-                FolderTrouble::Path {
-                    fault: FileFault::InUse(_),
-                    ..
-                },
-            ) => return Ok(()),
-            Err(_) => wanted,
-        };
-        if count != wanted {
-            return Err(FolderTrouble::Refused(FolderRefusal::AnotherCount {
-                file,
-                count,
-                wanted,
-            }));
+    let survey = match survey_of(rt, rt.alloc(), order, &files) {
+        Ok(survey) => survey,
+        Err(trouble) => return fail_in(rt, &trouble),
+    };
+    if !order.is_missing_empty {
+        if let Some(at) = sign_of_loss(survey.lacking.len(), &survey.numbers) {
+            let loss = Loss {
+                order,
+                lacking: &survey.lacking,
+                sign: path_at(folder, &files, at),
+                number: survey.numbers[at],
+            };
+            say(rt, &loss);
+            return Status::Refused;
         }
     }
-    Ok(())
+    found_all(rt, order, &survey.kept)
+}
+
+/// What the files of a folder are, before any is made.
+#[derive(Drop)]
+struct Survey<'f> {
+    /// For each segment in order its file, where that is there.
+    kept: Vec<Option<&'f str>>,
+    /// The files of the other segments, which are to be made.
+    lacking: Vec<String>,
+    /// The greatest number that each file of the folder holds.
+    numbers: Vec<u64>,
+}
+
+/// What the folder's files are.
+fn survey_of<'f>(
+    rt: &HostRuntime,
+    alloc: Global,
+    order: &Founding<'f>,
+    files: &'f [String],
+) -> Result<Survey<'f>, FolderTrouble<'f>>
+    requires { order.now.count ≤ MAX_COUNT }
+{
+    check_names(alloc, order.folder, files, order.count)?;
+    let mut kept: Vec<Option<&'f str>> = vec![in alloc; None; usize::from(order.count)]?;
+    let mut numbers = Vec::with_capacity(alloc, files.len())?;
+    for file in files {
+        let file = file.as_str();
+        let found = look_at(rt, alloc, order, file)?;
+        if numbers.push(found.number).is_err() {
+            return Err(FolderTrouble::NoMemory);
+        }
+        if let Some(index) = found.index {
+            let at = usize::from(index);
+            // Of two the one that has the segment's name is its file.
+            if at < kept.len() && (found.is_named || kept[at].is_none()) {
+                kept[at] = Some(file);
+            }
+        }
+    }
+    let lacking = lacking_files(alloc, order, &kept)?;
+    Ok(Survey {
+        kept,
+        lacking,
+        numbers,
+    })
+}
+
+/// The files of the segments that aren't kept.
+fn lacking_files(
+    alloc: Global,
+    order: &Founding<'_>,
+    kept: &[Option<&str>],
+) -> Result<Vec<String>, AllocError>
+    requires { order.now.count ≤ MAX_COUNT }
+{
+    let mut lacking = Vec::new(alloc);
+    for index in 0..order.count {
+        if file_in(kept, index).is_none() {
+            lacking.push(segment_path(alloc, order.folder, index)?)?;
+        }
+    }
+    Ok(lacking)
+}
+
+/// The file of this segment, where it is kept.
+fn file_in<'f>(kept: &[Option<&'f str>], index: u8) -> Option<&'f str> {
+    match kept.get(usize::from(index)) {
+        Some(file) => *file,
+        None => None,
+    }
+}
+
+/// What one of the folder's files is.
+#[derive(Clone, Copy)]
+struct Looked {
+    /// The segment as whose file it is kept.
+    index: Option<u8>,
+    /// Whether it has the name of one of the segments.
+    is_named: bool,
+    /// The greatest number that it holds.
+    number: u64,
+}
+
+/// What the file at this path is.
+fn look_at<'f>(
+    rt: &HostRuntime,
+    alloc: Global,
+    order: &Founding<'f>,
+    file: &'f str,
+) -> Result<Looked, FolderTrouble<'f>>
+    requires { order.now.count ≤ MAX_COUNT }
+{
+    let name = Path::new(file).file_name().unwrap_or("");
+    let named = index_of_name(alloc, name, order.count)?;
+    let (index, number) = match findings_of(rt, alloc, order.folder, file) {
+        Ok(findings) => {
+            let number = greatest_number(&findings);
+            let index = segment_by(alloc, order, file, named, findings.header, number)?;
+            (index, number)
+        }
+        Err(trouble) => (segment_in(named, trouble)?, 0),
+    };
+    Ok(Looked {
+        index,
+        is_named: named.is_some(),
+        number,
+    })
+}
+
+/// The segment as whose file it is kept, by its name, and by its header where it has none of theirs. None
+/// where it was never formatted: then it is made. One that is kept may yet be refused, when its turn
+/// comes.
+fn segment_by<'f>(
+    alloc: Global,
+    order: &Founding<'f>,
+    file: &str,
+    named: Option<u8>,
+    header: Header,
+    number: u64,
+) -> Result<Option<u8>, FolderTrouble<'f>> {
+    let wanted = order.count;
+    match header {
+        Header::Open { index, count } if named.is_none() => {
+            Ok((count == wanted).then_some(index))
+        }
+        Header::Open { count, .. } if count != wanted => {
+            Err(FolderTrouble::Refused(FolderRefusal::AnotherCount {
+                file: String::from_str(alloc, file)?,
+                count,
+                wanted,
+            }))
+        }
+        Header::Closed if number == 0 => Ok(None),
+        _ => Ok(named),
+    }
+}
+
+/// The same of a file that can't be read. What isn't kept out by another process is left to who takes it.
+fn segment_in<'f>(
+    named: Option<u8>,
+    trouble: FolderTrouble<'f>,
+) -> Result<Option<u8>, FolderTrouble<'f>> {
+    match trouble {
+        FolderTrouble::Refused(FolderRefusal::File(FileRefusal::Unformatted { .. })) => Ok(None),
+        FolderTrouble::Path {
+            file,
+            fault: FileFault::InUse(id),
+        } => Err(FolderTrouble::Path {
+            file,
+            fault: FileFault::InUse(id),
+        }),
+        FolderTrouble::NoMemory => Err(FolderTrouble::NoMemory),
+        _ => Ok(named),
+    }
+}
+
+/// The greatest number in a slot, and 0 where no slot has one.
+fn greatest_number(findings: &Findings) -> u64 {
+    let (first, second, third) = findings.slots;
+    number_in(first)
+        .max(number_in(second))
+        .max(number_in(third))
+}
+
+/// The number in a slot.
+fn number_in(slot: Slot) -> u64 {
+    match slot {
+        Slot::Open { number, .. } => number,
+        Slot::Closed | Slot::Bad(_) => 0,
+    }
+}
+
+/// Files that are lacking in a folder which was stored to.
+#[derive(Clone, Copy)]
+struct Loss<'f> {
+    order: &'f Founding<'f>,
+    lacking: &'f [String],
+    /// A file that shows it, and the number that it holds.
+    sign: &'f str,
+    number: u64,
+}
+
+impl Display for Loss<'_> {
+    fn fmt<W: Write>(&self, f: &mut Formatter<W>) -> fmt::Result {
+        let mut between = "";
+        for file in self.lacking {
+            write!(f, "{between}{file}")?;
+            between = ", ";
+        }
+        let (sign, number) = (self.sign, self.number);
+        let (folder, count) = (self.order.folder, self.order.count);
+        write!(
+            f,
+            ": missing or never formatted, though {sign} holds number {number}: restore what is missing from a backup, or make it new and empty with snapd init {folder} --count {count} --missing-empty"
+        )
+    }
+}
+
+/// Makes the files of the segments in order, or leaves those that are kept.
+fn found_all(rt: &HostRuntime, order: &Founding<'_>, kept: &[Option<&str>]) -> Status
+    requires { order.now.count ≤ MAX_COUNT }
+{
+    for index in 0..order.count {
+        let status = found_one(rt, order, file_in(kept, index), index);
+        if status != Status::Done {
+            return status;
+        }
+    }
+    Status::Done
+}
+
+/// Makes the file of a segment where none is kept, or leaves that one.
+fn found_one(rt: &HostRuntime, order: &Founding<'_>, kept: Option<&str>, index: u8) -> Status
+    requires below { index < order.now.count }
+    requires few { order.now.count ≤ MAX_COUNT }
+{
+    if let Some(file) = kept {
+        return found_at(rt, file, index, order.count);
+    }
+    match segment_path(rt.alloc(), order.folder, index) {
+        Ok(file) => found_at(rt, file.as_str(), index, order.count),
+        Err(_) => stop_without_memory(rt),
+    }
 }
 
 /// Makes the file of a segment, or leaves it where it is whole, and says so.

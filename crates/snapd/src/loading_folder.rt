@@ -1,14 +1,13 @@
 //! The folder in which `load` makes its files, until it gets the name of the one that is wanted.
 
 use crate::complaint::{fail_at, fail_at_folder, say, stop_without_memory};
-use crate::folder::make_folder;
+use crate::folder::{index_of_name, make_folder};
 use snap_devices::{FileFault, sync_folder_of};
-use snap_folder::{MAX_COUNT, file_name};
+use snap_folder::MAX_COUNT;
 use snap_order::Status;
-use std::alloc::{AllocError, Global};
-use std::fs::{self, DirEntry, File, TryLockError};
+use std::fs::{self, DirEntry, File, Metadata, TryLockError};
 use std::io::{self, ErrorKind};
-use std::os::unix::fs::MetadataExt;
+use std::os::unix::fs::{MetadataExt, fchown};
 use std::path::Path;
 use thiserror::Error;
 
@@ -16,44 +15,72 @@ use thiserror::Error;
 #[derive(Debug, Drop, Error)]
 pub enum LoadRefusal<'f> {
     #[error("{dump}: it has {found} segments, and --count is {count}: give {found} or more")]
-    TooFew { dump: &'f str, found: u8, count: u8 },
+    TooFew {
+        dump: &'f str,
+        found: u8,
+        count: u8,
+    },
     #[error("{folder}: it is not empty: give the path of a folder that isn't there yet")]
-    Taken { folder: &'f str },
+    Taken {
+        folder: &'f str,
+    },
     #[error("{folder}: it has no name of its own: give the path that the new folder is to have")]
-    NoName { folder: &'f str },
+    NoName {
+        folder: &'f str,
+    },
     #[error("{loading}/{name}: it is not what a load leaves: move it out of there")]
-    Foreign { loading: &'f str, name: String },
+    Foreign {
+        loading: &'f str,
+        name: String,
+    },
     #[error("{loading}: it has a file whose name is no text: move it out of there")]
-    OddName { loading: &'f str },
+    OddName {
+        loading: &'f str,
+    },
     #[error("{loading}: another load is at work there: wait for it, or give another folder")]
-    InUse { loading: &'f str },
+    InUse {
+        loading: &'f str,
+    },
+    #[error("{folder}: user {owner}, group {group} and mode {mode:04o} can't be given to the folder that takes its place: load as that user or as root, or give the path of a folder that isn't there yet")]
+    NotGiven {
+        folder: &'f str,
+        owner: u32,
+        group: u32,
+        mode: u32,
+    },
 }
 
 /// A folder that is being made. Nobody else who loads is at work in it while this lives.
 #[derive(Drop)]
-pub struct LoadingFolder<'f> {
+pub struct LoadingFolder {
     /// The path that it is to have.
-    folder: &'f str,
+    folder: String,
     /// The path that it has.
     path: String,
     /// Its lock.
     _lock: File,
 }
 
-impl<'f> LoadingFolder<'f> {
+impl LoadingFolder {
     /// Makes the folder beside the one that is wanted, or takes what a load left that was cut off, and removes
-    /// the files of that. Nothing is changed where the folder that is wanted is there and not empty, and
-    /// none is removed where a file isn't what a load leaves. Says why where it fails.
-    pub fn take(rt: &HostRuntime, wanted: &'f str) -> Result<LoadingFolder<'f>, Status> {
-        let folder = wanted.trim_end_matches('/');
-        if Path::new(folder).file_name().is_none() {
+    /// the files of that. It gets the owner, the group and the mode of the one that is wanted, where that is there.
+    /// Nothing is changed where that is not empty, and none is removed where a file isn't what a load leaves.
+    /// Says why where it fails.
+    pub fn take(rt: &HostRuntime, wanted: &str) -> Result<LoadingFolder, Status> {
+        let place = Path::new(wanted);
+        let Some(name) = place.file_name() else {
             return Err(refuse(rt, &LoadRefusal::NoName { folder: wanted }));
-        }
-        check_free(rt, folder)?;
+        };
+        // Without a `/` or a `/.` behind its name.
+        let Ok(folder) = place.with_file_name(rt.alloc(), name) else {
+            return Err(stop_without_memory(rt));
+        };
+        let folder = folder.into_string();
+        check_free(rt, folder.as_str())?;
         let Ok(path) = format!(in rt.alloc(); "{folder}.loading") else {
             return Err(stop_without_memory(rt));
         };
-        let lock = make_for(rt, folder, path.as_str())?;
+        let lock = make_for(rt, folder.as_str(), path.as_str())?;
         Ok(LoadingFolder {
             folder,
             path,
@@ -68,16 +95,20 @@ impl<'f> LoadingFolder<'f> {
 
     /// Gives it the path that it is to have, and makes that last.
     pub fn put_in_place(&self, rt: &HostRuntime) -> Result<(), Status> {
-        let (folder, path) = (self.folder, self.path.as_str());
+        let (folder, path) = (self.folder.as_str(), self.path.as_str());
         if let Err(reason) = fs::rename(rt, path, folder) {
             let line = format_args!("{folder}: {reason}: all files are made, in {path}");
             say(rt, &line);
             return Err(Status::Failed);
         }
-        match sync_folder_of(rt, folder) {
-            Ok(()) => Ok(()),
-            Err(reason) => Err(fail_at_folder(rt, folder, reason)),
+        if let Err(reason) = sync_folder_of(rt, folder) {
+            let line = format_args!(
+                "{folder}: {reason}: it is there whole, but a power cut may take its name: look after its disk, and load the dump elsewhere"
+            );
+            say(rt, &line);
+            return Err(Status::Failed);
         }
+        Ok(())
     }
 }
 
@@ -93,13 +124,56 @@ fn make_for(rt: &HostRuntime, wanted: &str, path: &str) -> Result<File, Status> 
         return Err(fail_at_folder(rt, path, reason));
     }
     let lock = lock_folder(rt, path)?;
-    // Another load may have been here before the lock was. Then what was made just now goes again.
-    if let Err(status) = check_free(rt, wanted) {
-        let _ = fs::remove_dir(rt, path);
-        return Err(status);
+    match prepare(rt, wanted, path, &lock) {
+        Ok(()) => Ok(lock),
+        Err(status) => {
+            // Where it is empty, as one that was made just now, it goes again.
+            let _ = fs::remove_dir(rt, path);
+            Err(status)
+        }
     }
+}
+
+/// Makes the folder, whose lock this is, ready for its files.
+fn prepare(rt: &HostRuntime, wanted: &str, path: &str, lock: &File) -> Result<(), Status> {
+    // Another load may have been here before the lock was.
+    check_free(rt, wanted)?;
     clear(rt, path)?;
-    Ok(lock)
+    carry_over(rt, wanted, lock)
+}
+
+/// Gives the folder that is being made the owner, the group and the mode of the empty one whose place it is to take,
+/// before it has a file that others could read. Nothing is changed where there is none. Says so where
+/// they can't be given.
+fn carry_over(rt: &HostRuntime, wanted: &str, loading: &File) -> Result<(), Status> {
+    let found = match fs::metadata(rt, wanted) {
+        Ok(found) => found,
+        Err(reason) if reason.kind() == ErrorKind::NotFound => return Ok(()),
+        Err(reason) => return Err(fail_at_folder(rt, wanted, reason)),
+    };
+    // What came of both is looked at: a file system may have none of them, and the system may drop a bit.
+    let _ = fchown(loading, Some(found.uid()), Some(found.gid()));
+    let _ = loading.set_permissions(found.permissions());
+    match loading.metadata() {
+        Ok(given) if is_like(&given, &found) => Ok(()),
+        Ok(_) => Err(refuse(rt, &not_given(wanted, &found))),
+        Err(reason) => Err(fail_at_folder(rt, wanted, reason)),
+    }
+}
+
+/// Both folders have the same owner, group and mode.
+fn is_like(given: &Metadata, found: &Metadata) -> bool {
+    given.uid() == found.uid() && given.gid() == found.gid() && given.mode() == found.mode()
+}
+
+/// That these can't be given to another folder.
+fn not_given<'f>(folder: &'f str, found: &Metadata) -> LoadRefusal<'f> {
+    LoadRefusal::NotGiven {
+        folder,
+        owner: found.uid(),
+        group: found.gid(),
+        mode: found.mode() & 0o7777,
+    }
 }
 
 /// The folder isn't there, or is empty. Says so where it isn't.
@@ -126,7 +200,11 @@ fn lock_folder(rt: &HostRuntime, path: &str) -> Result<File, Status> {
 /// The folder at this path, with a lock. `None` where another process has one, or has given the folder
 /// another name.
 fn try_lock_folder(rt: &HostRuntime, path: &str) -> io::Result<Option<File>> {
-    let folder = File::open(rt, path)?;
+    let folder = match File::open(rt, path) {
+        Ok(folder) => folder,
+        Err(reason) if reason.kind() == ErrorKind::NotFound => return Ok(None),
+        Err(reason) => return Err(reason),
+    };
     match folder.try_lock() {
         Ok(()) => {}
         Err(TryLockError::WouldBlock) => return Ok(None),
@@ -193,25 +271,14 @@ fn own_name_of(
 
 /// The name, where it is one that a load gives. Says so where it isn't.
 fn own_name(rt: &HostRuntime, loading: &str, name: &str) -> Result<String, Status> {
-    let Ok(is_own) = is_own_name(rt.alloc(), name) else {
+    let Ok(index) = index_of_name(rt.alloc(), name, MAX_COUNT) else {
         return Err(stop_without_memory(rt));
     };
     let Ok(name) = String::from_str(rt.alloc(), name) else {
         return Err(stop_without_memory(rt));
     };
-    if is_own {
-        Ok(name)
-    } else {
-        Err(refuse(rt, &LoadRefusal::Foreign { loading, name }))
+    match index {
+        Some(_) => Ok(name),
+        None => Err(refuse(rt, &LoadRefusal::Foreign { loading, name })),
     }
-}
-
-/// The name is that of a file that a load makes.
-fn is_own_name(alloc: Global, name: &str) -> Result<bool, AllocError> {
-    for index in 0..MAX_COUNT {
-        if file_name(alloc, index)?.as_str() == name {
-            return Ok(true);
-        }
-    }
-    Ok(false)
 }

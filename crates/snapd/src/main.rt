@@ -6,7 +6,7 @@
 //! sockets, threads and standard streams, of which the last gets a server's log too (`snap_log`).
 #![tactic(auto)]
 
-ghost use Rattle.std.specs.Prelude.{◌<◌, ◌≤◌, IfOk, length};
+ghost use Rattle.std.specs.Prelude.{◌≡◌, ◌<◌, ◌≤◌, length};
 ghost use Rattle.snap_order.specs.Limits.{MAX_COUNT};
 ghost use Rattle.snap_order.specs.Order.{IsCallable, IsDumpable, IsFileWithinLimits, IsLoadable};
 ghost use Rattle.snap_order.specs.Order.{IsOneTo, IsPlace, IsServable, IsWatchable, IsWithinLimits};
@@ -26,12 +26,15 @@ mod init_command;
 mod link;
 mod load_command;
 mod loading_folder;
+mod remedy;
 mod right_order;
+mod run_log;
 mod serve_command;
 mod store_log;
 mod store_times;
 mod surroundings;
 mod time_limit;
+mod tries;
 mod update_watch;
 mod watch_command;
 
@@ -56,7 +59,6 @@ use snap_order::{
 };
 use snap_script::play;
 use snap_slot::FILE_LEN;
-use std::alloc::AllocError;
 use std::env;
 use std::fs::File;
 use std::io::{BufWriter, ErrorKind};
@@ -71,7 +73,7 @@ use watch_command::watch;
 fn main(rt: HostRuntime) -> ExitCode {
     let status = match words_of(&rt) {
         Ok(words) => match order(rt.alloc(), words.as_slice()) {
-            Ok(order) => do_order(&rt, &rt, &order),
+            Ok(order) => do_order(&rt, &rt, order),
             Err(fault) => explain(&rt, &fault),
         },
         Err(fault) => explain(&rt, &fault),
@@ -92,22 +94,22 @@ fn words_of(rt: &HostRuntime) -> Result<Vec<String>, WordFault> {
 /// sockets.
 fn do_order<
     X: Threads + Wait + Clock + Net + Files<File = File> + RandomSource + Sync + Send + Copy,
->(threads: &X, rt: &HostRuntime, order: &Order<'_>) -> Status
-    requires { IsWithinLimits order.now }
+>(threads: &X, rt: &HostRuntime, order: Order<'_>) -> Status
+    requires { IsWithinLimits order }
 {
     match order {
-        Order::File(order) => run(rt, order),
-        Order::Migrate(order) => run_migration(rt, order),
-        Order::Init(order) => run_init(rt, order),
-        Order::Doctor(order) => run_doctor(rt, order),
-        Order::Serve(order) => run_server(threads, rt, order),
+        Order::File(order) => run(rt, &order),
+        Order::Migrate(order) => run_migration(rt, &order),
+        Order::Init(order) => run_init(rt, &order),
+        Order::Doctor(order) => run_doctor(rt, &order),
+        Order::Serve(order) => run_server(threads, rt, &order),
         Order::ServeFolder { folder, serving } => run_folder_server(threads, rt, folder, serving),
-        Order::Call(order) => run_call(rt, order),
-        Order::Watch(order) => run_watch(threads, rt, order),
-        Order::Dump(order) => run_dump(rt, order),
-        Order::Load(order) => run_load(rt, order),
+        Order::Call(order) => run_call(rt, &order),
+        Order::Watch(order) => run_watch(threads, rt, &order),
+        Order::Dump(order) => run_dump(rt, &order),
+        Order::Load(order) => run_load(rt, &order),
         Order::Script => play_script(threads, rt),
-        Order::Explain(explanation) => print_explanation(rt, *explanation),
+        Order::Explain(explanation) => print_explanation(rt, explanation),
     }
 }
 
@@ -222,7 +224,7 @@ fn run_server<
     if !may_serve(rt, order) {
         return Status::Failed;
     }
-    let status = serve_files(threads, rt, order);
+    let status = serve_files(threads, rt, order, None);
     if status == Status::Refused {
         say_right_order(rt, order);
     }
@@ -232,10 +234,10 @@ fn run_server<
 /// Finds the files of a folder, and serves them. `serving` has none.
 fn run_folder_server<
     X: Threads + Wait + Clock + Net + Files<File = File> + RandomSource + Sync + Send + Copy,
->(threads: &X, rt: &HostRuntime, folder: &str, serving: &Serving<'_>) -> Status
-    requires { KeepsLimits serving.now }
+>(threads: &X, rt: &HostRuntime, folder: &str, serving: Serving<'_>) -> Status
+    requires { KeepsLimits serving }
 {
-    if !may_serve(rt, serving) {
+    if !may_serve(rt, &serving) {
         return Status::Failed;
     }
     match segment_files(rt, folder) {
@@ -247,36 +249,26 @@ fn run_folder_server<
 /// Serves these files of the folder, in order of segment.
 fn serve_in_order<
     X: Threads + Wait + Clock + Net + Files<File = File> + RandomSource + Sync + Send + Copy,
->(threads: &X, rt: &HostRuntime, folder: &str, files: &[String], serving: &Serving<'_>) -> Status
-    requires { KeepsLimits serving.now }
+>(threads: &X, rt: &HostRuntime, folder: &str, files: &[String], serving: Serving<'_>) -> Status
+    requires { KeepsLimits serving }
 {
     match files_in_order(rt, rt.alloc(), folder, files) {
-        Ok(files) => match with_files(serving, files) {
-            Ok(order) => serve_files(threads, rt, &order),
-            Err(_) => stop_without_memory(rt),
-        },
+        Ok(files) => serve_files(threads, rt, &with_files(serving, files), Some(folder)),
         Err(trouble) => fail_in(rt, &trouble),
     }
 }
 
-/// The same order for these files.
-fn with_files<'a>(serving: &Serving<'a>, files: Vec<&'a str>) -> Result<Serving<'a>, AllocError>
-    requires limits { KeepsLimits serving.now }
+/// The same order for these files: nothing else of it is another.
+fn with_files<'a>(serving: Serving<'a>, files: Vec<&'a str>) -> Serving<'a>
+    requires limits { KeepsLimits serving }
     requires some { 0 < length files.items }
     requires few { length files.items ≤ MAX_COUNT }
-    ensures { IfOk result IsServable }
+    ensures servable { IsServable result }
+    ensures same { result ≡ record serving.entry { files = files.entry } }
 {
-    Ok(Serving {
-        addresses: serving.addresses.clone()?,
-        socket_mode: serving.socket_mode,
-        files,
-        scanners: serving.scanners,
-        connections: serving.connections,
-        clients: serving.clients,
-        idle: serving.idle,
-        log: serving.log,
-        http: serving.http,
-    })
+    let mut order = serving;
+    order.files = files;
+    order
 }
 
 /// What a server needs of the system before a file is opened is there. Says what isn't.
@@ -291,10 +283,10 @@ fn may_serve(rt: &HostRuntime, order: &Serving<'_>) -> bool {
         && may_write(rt)
 }
 
-/// Opens the files, and serves them.
+/// Opens the files, and serves them: those of a folder, where the words name one.
 fn serve_files<
     X: Threads + Wait + Clock + Net + Files<File = File> + RandomSource + Sync + Send + Copy,
->(threads: &X, rt: &HostRuntime, order: &Serving<'_>) -> Status
+>(threads: &X, rt: &HostRuntime, order: &Serving<'_>, folder: Option<&str>) -> Status
     requires { IsServable order.now }
 {
     let place = match open_http(threads, rt, order) {
@@ -305,7 +297,7 @@ fn serve_files<
         return stop_without_memory(rt);
     };
     match take_files(rt, &order.files, &told) {
-        Ok(devices) => serve(threads, rt, order, devices, &told, place),
+        Ok(devices) => serve(threads, rt, order, folder, devices, &told, place),
         Err(status) => status,
     }
 }

@@ -8,8 +8,9 @@ use crate::complaint::{fail_at_file, fail_twice, say, stop_without_memory};
 use crate::files::FirstFault;
 use crate::http_place::HttpPlace;
 use crate::http_view::HttpView;
+use crate::run_log::RunLog;
 use crate::store_log::StoreLog;
-use crate::surroundings::Process;
+use crate::surroundings::{Process, millis_since_1970, most_descriptors};
 use crate::update_watch::UpdateWatch;
 use log::{LevelFilter, warn};
 use snap_args::is_everywhere;
@@ -145,10 +146,12 @@ struct Look<'a> {
 
 /// Serves these devices, and logs on standard error what is noticed meanwhile, by a thread of its own. Where
 /// there is a place for it, browsers and monitors are answered. Says why where it can't begin.
+/// `folder` is that of the files, where the words name one.
 pub fn serve<'x, X>(
     rt: &X,
     system: &'x HostRuntime,
     order: &'x Serving<'x>,
+    folder: Option<&'x str>,
     devices: Vec<FileDisk<'_, HostRuntime>>,
     told: &Vec<FirstFault>,
     place: Option<HttpPlace>,
@@ -159,7 +162,7 @@ where
     requires devices { length devices.items ≡ length order.now.files.items }
     requires uncalled { All IsUncalled devices.items }
 {
-    match serve_counted(rt, system, order, devices, told, place) {
+    match serve_counted(rt, system, order, folder, devices, told, place) {
         Ok(ended) => ended.status,
         Err(ServerFault::NoMemory) => stop_without_memory(system),
         Err(fault) => {
@@ -175,6 +178,7 @@ fn serve_counted<'x, X>(
     rt: &X,
     system: &'x HostRuntime,
     order: &'x Serving<'x>,
+    folder: Option<&'x str>,
     devices: Vec<FileDisk<'_, HostRuntime>>,
     told: &Vec<FirstFault>,
     place: Option<HttpPlace>,
@@ -192,7 +196,10 @@ where
         rt: system,
         figures: &figures,
         began: Instant::now(system).ok(),
+        started: millis_since_1970(system),
+        most_clients: most_clients(order),
         addresses: &addresses,
+        folder,
         files: &order.files,
     };
     serve_logged(rt, order, devices, told, Look { process, place })
@@ -279,19 +286,15 @@ const OF_HTTP: u64 = MAX_GUESTS as u64 + 4;
 /// for.
 fn most_clients(order: &Serving<'_>) -> usize {
     let asked = order.clients.map_or(usize::MAX, |clients| clients as usize);
-    let mut limit = libc::types::rlimit {
-        rlim_cur: 0,
-        rlim_max: 0,
-    };
-    if libc::getrlimit(libc::RLIMIT_NOFILE, &mut limit) != 0 {
+    let Some(limit) = most_descriptors() else {
         return asked;
-    }
+    };
     let needed = OTHERS
         .saturating_add(order.files.len() as u64)
         .saturating_add((order.addresses.len() as u64).saturating_sub(1))
         .saturating_add(u64::from(order.scanners).saturating_mul(2))
         .saturating_add(if order.http.is_some() { OF_HTTP } else { 0 });
-    let left = limit.rlim_cur.saturating_sub(needed).max(1);
+    let left = limit.saturating_sub(needed).max(1);
     usize::try_from(left).unwrap_or(usize::MAX).min(asked)
 }
 
@@ -354,29 +357,19 @@ where
     requires figures { order.now.scanners ≤ look.process.figures.now.workers }
 {
     warn_of_everywhere(log, order);
-    let (system, figures) = (look.process.rt, look.process.figures);
+    let process = look.process;
     let view = view_of(log, look);
-    host_noted(
-        rt,
-        system,
-        order,
-        devices,
-        told,
-        log,
-        figures,
-        view.as_ref(),
-    )
+    host_noted(rt, order, devices, told, log, process, view.as_ref())
 }
 
 /// Serves these devices, and logs and counts what is noticed meanwhile.
 fn host_noted<'x, X, D, O>(
     rt: &X,
-    system: &HostRuntime,
     order: &'x Serving<'x>,
     devices: Vec<D>,
     told: &'x Vec<FirstFault>,
     log: &'x Lines<'x, X>,
-    figures: &'x Figures,
+    process: Process<'x>,
     onlooker: Option<&O>,
 ) -> Exit
 where
@@ -386,8 +379,9 @@ where
     requires order { IsServable order.now }
     requires devices { length devices.items ≡ length order.now.files.items }
     requires headroom { All (λ d. D.failure_count d < 2 ^ 64 - 1) devices.items }
-    requires figures { order.now.scanners ≤ figures.now.workers }
+    requires figures { order.now.scanners ≤ process.figures.now.workers }
 {
+    let (system, figures) = (process.rt, process.figures);
     let note = |told: &Note| {
         if let Note::Ended(_) = told {
             figures.end();
@@ -398,7 +392,11 @@ where
         bind: &Network::new(rt, u32::from(order.socket_mode)),
         gate: &NoGate,
         note: &note,
-        watch: UpdateWatch::new(StoreLog::new(log, &order.files, told), figures),
+        watch: UpdateWatch::new(
+            StoreLog::new(log, &order.files, told),
+            RunLog::new(log, process),
+            figures,
+        ),
         figures,
         onlooker,
         causes: told,

@@ -3,13 +3,16 @@ ghost use Rattle.snap_devices.specs.FileDisk.{IsUncalled};
 
 use crate::files::FirstFault;
 use snap_devices::{FileDisk, FileFault};
-use snap_disk::{Disk, Refusal};
+use snap_disk::Disk;
 use snap_segment::{Segment, format};
+use snap_slot::FILE_LEN;
 use snap_stream::Cause;
 use std::alloc::{AllocError, Global};
+use std::fs::{self, File};
+use std::io::{self, ErrorKind};
+use std::os::unix::fs::MetadataExt;
 use std::path::Path;
 use std::time::{Duration, Instant};
-use std::{fs, io};
 use thiserror::Error;
 
 /// How many values are stored.
@@ -18,8 +21,9 @@ pub const STORES: usize = 200;
 /// How many bytes each of them has.
 pub const STORED_LEN: usize = 1_000;
 
-/// The name of the file that they are stored in. It doesn't end as a segment's file does.
-const FILE_NAME: &str = "doctor.tmp";
+/// How many names there are for the file that they are stored in, and so how many times are taken at once. They don't
+/// end as a segment's file does.
+const NAMES: u8 = 100;
 
 /// How long stores took.
 #[derive(Clone, Copy, Debug)]
@@ -52,6 +56,9 @@ pub enum MeasureFault {
     /// The system has no clock, or the file couldn't be removed.
     #[error("{0}")]
     System(io::Error),
+    /// Each name is taken.
+    #[error("all names from doctor-0.tmp on are taken: remove what is left of them")]
+    Crowded,
     /// A growth of memory was refused.
     #[error("out of memory")]
     NoMemory,
@@ -69,38 +76,86 @@ impl From<io::Error> for MeasureFault {
     }
 }
 
-/// Stores [`STORES`] values of [`STORED_LEN`] bytes in a file of its own in the folder, which it removes,
-/// and says how long that took. One that an earlier try left behind is taken.
+/// Stores [`STORES`] values of [`STORED_LEN`] bytes in a file of its own in the folder, which it removes however it
+/// ends, and says how long that took. One that was killed leaves its file to the next.
 pub fn measure(rt: &HostRuntime, alloc: Global, folder: &str) -> Result<StoreTimes, MeasureFault> {
-    let path = Path::new(folder).join(alloc, FILE_NAME)?;
+    let own = own_path(rt, alloc, folder)?;
+    let path = own.as_str();
     let told = FirstFault::new();
-    let disk = match FileDisk::create(rt, path.as_str()) {
+    let disk = match FileDisk::create(rt, path) {
         Ok(disk) => disk.telling(told.place()),
-        Err(fault) => return Err(MeasureFault::File(fault)),
+        Err(fault) => {
+            let _ = fs::remove_file(rt, path);
+            return Err(MeasureFault::File(fault));
+        }
     };
-    let taken = match store_all(rt, alloc, disk) {
+    let (_locked, taken) = store_all(rt, alloc, disk);
+    // Its lock is held until its name is gone, so that nobody takes it for one that was left.
+    fs::remove_file(rt, path)?;
+    match taken {
         Err(MeasureFault::Store(_)) => Err(MeasureFault::Store(reason_of(alloc, &told)?)),
         taken => taken,
-    };
-    fs::remove_file(rt, path.as_str())?;
-    taken
+    }
 }
 
-/// Makes the file of a segment, and stores the values in it.
+/// The path of a file in the folder that is this process's alone, and was made just now, without a byte.
+fn own_path(rt: &HostRuntime, alloc: Global, folder: &str) -> Result<String, MeasureFault> {
+    for number in 0..NAMES {
+        let name = format!(in alloc; "doctor-{number}.tmp")?;
+        let path = Path::new(folder).join(alloc, name.as_str())?;
+        if make_own(rt, path.as_str())? {
+            return Ok(String::from_str(alloc, path.as_str())?);
+        }
+    }
+    Err(MeasureFault::Crowded)
+}
+
+/// Makes the file at this path, in place of one that was left. It isn't made where another process has it.
+fn make_own(rt: &HostRuntime, path: &str) -> io::Result<bool> {
+    remove_left(rt, path);
+    match File::options().write(true).create_new(true).open(rt, path) {
+        Ok(_) => Ok(true),
+        Err(reason) if reason.kind() == ErrorKind::AlreadyExists => Ok(false),
+        Err(reason) => Err(reason),
+    }
+}
+
+/// Removes the file at this path, where nobody has its lock and it has the length that it gets under that lock: so
+/// its process ended before it could remove it.
+fn remove_left(rt: &HostRuntime, path: &str) {
+    let Ok(left) = File::options().read(true).write(true).open(rt, path) else {
+        return;
+    };
+    if left.try_lock().is_err() {
+        return;
+    }
+    // Under the lock nobody else removes it, if it has this name still.
+    if let (Ok(found), Ok(named)) = (left.metadata(), fs::metadata(rt, path)) {
+        let is_named = found.dev() == named.dev() && found.ino() == named.ino();
+        if is_named && found.len() == FILE_LEN {
+            let _ = fs::remove_file(rt, path);
+        }
+    }
+}
+
+/// Makes the file of a segment, and stores the values in it. The file is handed back with its lock.
 fn store_all<'p>(
     rt: &'p HostRuntime,
     alloc: Global,
     mut disk: FileDisk<'p, HostRuntime>,
-) -> Result<StoreTimes, MeasureFault>
+) -> (FileDisk<'p, HostRuntime>, Result<StoreTimes, MeasureFault>)
     requires { IsUncalled disk }
 {
     match format(&mut disk, 0, 1) {
-        Ok(()) | Err(Refusal::AlreadyFormatted) => {}
-        Err(_) => return Err(MeasureFault::Store(String::new(alloc))),
+        Ok(()) => {}
+        Err(_) => return (disk, Err(MeasureFault::Store(String::new(alloc)))),
     }
     match Segment::open(alloc, disk, 0, 1) {
-        Ok(mut segment) => time_stores(rt, alloc, &mut segment),
-        Err(_) => Err(MeasureFault::Store(String::new(alloc))),
+        Ok(mut segment) => {
+            let taken = time_stores(rt, alloc, &mut segment);
+            (segment.into_device(), taken)
+        }
+        Err((_, disk)) => (disk, Err(MeasureFault::Store(String::new(alloc)))),
     }
 }
 

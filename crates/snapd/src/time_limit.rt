@@ -1,6 +1,8 @@
 //! Connections that end with the time of their call.
+ghost use Rattle.std.specs.Io.{ReadsAtMost, WritesAtMost};
 
 use crate::link::Link;
+use std::cell::Cell;
 use std::io::{self, ErrorKind, Read, Write};
 use std::net::OpenStream;
 use std::rt::Clock;
@@ -18,14 +20,18 @@ pub struct TimeLimit<'c, 'o, C> {
 }
 
 impl<'c, 'o, C: Clock> TimeLimit<'c, 'o, C> {
-    /// The stream as one that ends then.
-    pub fn on<S>(&self, stream: Link<S>) -> LimitedStream<'c, 'o, C, S> {
+    /// The connection as one that ends then, and tells this course how it goes.
+    pub fn on<'a, S>(&'a self, stream: Link<S>, course: &'a Course) -> LimitedStream<'a, C, S> {
         let limit = TimeLimit {
             clock: self.clock,
             end: self.end,
             is_over: self.is_over,
         };
-        LimitedStream { stream, limit }
+        LimitedStream {
+            stream,
+            limit,
+            course,
+        }
     }
 
     /// What is left of the time, which is never nothing; `None` where there is no limit.
@@ -35,54 +41,133 @@ impl<'c, 'o, C: Clock> TimeLimit<'c, 'o, C> {
         };
         let left = end.saturating_duration_since(Instant::now(self.clock)?);
         if left.is_zero() {
-            return Err(self.ended());
+            self.is_over.store(true, Ordering::Relaxed);
+            return Err(io::Error::from(ErrorKind::TimedOut));
         }
         Ok(Some(left))
     }
+}
 
-    /// The fault of a call of the system that had no more than the time that was left.
-    pub fn fault_of(&self, error: io::Error) -> io::Error {
-        match error.kind() {
-            ErrorKind::WouldBlock | ErrorKind::TimedOut if self.end.is_some() => self.ended(),
-            _ => error,
+/// How a call goes, as its connections tell.
+#[derive(Drop)]
+pub struct Course {
+    /// Whether something has waited until the time of the call was over.
+    pub is_over: AtomicBool,
+    /// Whether it has tried for as long as it was to.
+    pub has_waited: AtomicBool,
+    has_failed: Cell<bool>,
+    reason: Cell<Option<io::Error>>,
+}
+
+impl Course {
+    /// Nothing has happened yet.
+    pub fn new() -> Course {
+        Course {
+            is_over: AtomicBool::new(false),
+            has_waited: AtomicBool::new(false),
+            has_failed: Cell::new(false),
+            reason: Cell::new(None),
         }
     }
 
-    /// The time is over.
-    fn ended(&self) -> io::Error {
-        self.is_over.store(true, Ordering::Relaxed);
-        io::Error::from(ErrorKind::TimedOut)
+    /// A connection is made.
+    pub fn begin(&self) {
+        self.has_failed.set(false);
+        self.reason.set(None);
+    }
+
+    /// A connection couldn't be made, or failed, for this reason.
+    pub fn fail(&self, error: io::Error) {
+        self.has_failed.set(true);
+        // That the time was over is no word of the system's.
+        if error.kind() != ErrorKind::TimedOut || error.raw_os_error().is_some() {
+            self.reason.set(Some(error));
+        }
+    }
+
+    /// Whether the last connection couldn't be made, failed or ended.
+    pub fn has_failed(&self) -> bool {
+        self.has_failed.get()
+    }
+
+    /// Why the system let it fail, where it said so.
+    pub fn reason(&self) -> Option<io::Error> {
+        self.reason.get()
+    }
+
+    /// A read or a write moved so many bytes; none where the connection has ended.
+    fn take_note(&self, moved: &io::Result<usize>) {
+        match moved {
+            Ok(0) => self.has_failed.set(true),
+            Ok(_) => {}
+            Err(error) => self.fail(*error),
+        }
     }
 }
 
 /// A connection, each read and write of which ends with the time.
 #[derive(Drop)]
-pub struct LimitedStream<'c, 'o, C, S> {
-    stream: Link<S>,
-    limit: TimeLimit<'c, 'o, C>,
+pub struct LimitedStream<'a, C, S> {
+    pub stream: Link<S>,
+    pub limit: TimeLimit<'a, 'a, C>,
+    pub course: &'a Course,
 }
 
-impl<'c, 'o, C: Clock, S: Read + OpenStream> Read for LimitedStream<'c, 'o, C, S> {
-    fn read(&mut self, buf: &mut [u8]) -> io::Result<usize> {
-        if let Some(left) = self.limit.left()? {
-            self.stream.set_read_timeout(left)?;
+impl<'a, C: Clock, S: Read + OpenStream> LimitedStream<'a, C, S> {
+    /// A read, which is made again where a signal came meanwhile.
+    fn read_in_time(&mut self, buf: &mut [u8]) -> io::Result<usize>
+        ensures { ReadsAtMost result buf.new }
+    {
+        for _ in 0..u64::MAX {
+            if let Some(left) = self.limit.left()? {
+                self.stream.set_read_timeout(left)?;
+            }
+            match self.stream.read(buf) {
+                Err(error) if is_early(error) => {}
+                read => return read,
+            }
         }
-        match self.stream.read(buf) {
-            Ok(len) => Ok(len),
-            Err(error) => Err(self.limit.fault_of(error)),
-        }
+        Err(io::Error::from(ErrorKind::Interrupted))
     }
 }
 
-impl<'c, 'o, C: Clock, S: Write + OpenStream> Write for LimitedStream<'c, 'o, C, S> {
+impl<'a, C: Clock, S: Write + OpenStream> LimitedStream<'a, C, S> {
+    /// A write, which is made again where a signal came meanwhile.
+    fn write_in_time(&mut self, buf: &[u8]) -> io::Result<usize>
+        ensures { WritesAtMost result buf.now }
+    {
+        for _ in 0..u64::MAX {
+            if let Some(left) = self.limit.left()? {
+                self.stream.set_write_timeout(left)?;
+            }
+            match self.stream.write(buf) {
+                Err(error) if is_early(error) => {}
+                written => return written,
+            }
+        }
+        Err(io::Error::from(ErrorKind::Interrupted))
+    }
+}
+
+/// A read or a write moved nothing, and may be made again: a signal came, as behind a stop of the process, or
+/// the time that the system gave it is over, which its own look at the clock tells.
+fn is_early(error: io::Error) -> bool {
+    matches!(error.kind(), ErrorKind::Interrupted | ErrorKind::WouldBlock)
+}
+
+impl<'a, C: Clock, S: Read + OpenStream> Read for LimitedStream<'a, C, S> {
+    fn read(&mut self, buf: &mut [u8]) -> io::Result<usize> {
+        let read = self.read_in_time(buf);
+        self.course.take_note(&read);
+        read
+    }
+}
+
+impl<'a, C: Clock, S: Write + OpenStream> Write for LimitedStream<'a, C, S> {
     fn write(&mut self, buf: &[u8]) -> io::Result<usize> {
-        if let Some(left) = self.limit.left()? {
-            self.stream.set_write_timeout(left)?;
-        }
-        match self.stream.write(buf) {
-            Ok(len) => Ok(len),
-            Err(error) => Err(self.limit.fault_of(error)),
-        }
+        let written = self.write_in_time(buf);
+        self.course.take_note(&written);
+        written
     }
 
     fn flush(&mut self) -> io::Result<()> {

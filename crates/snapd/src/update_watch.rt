@@ -1,28 +1,43 @@
-//! Who is told of each update of a server.
+//! Who is told of a server's start and end, and of each update.
 
+use crate::run_log::RunLog;
 use crate::store_log::StoreLog;
 use snap_disk::Refusal;
 use snap_figures::Figures;
 use snap_serve::Watch;
+use snap_server::RunFault;
 use std::rt::Clock;
 use std::sync::Wait;
 
-/// Counts each update of a segment, and has those logged that could not be stored.
+/// Counts each update of a segment, and has those logged that could not be stored, and the start and the end.
 #[derive_where(Clone, Copy)]
 #[derive(Drop)]
 pub struct UpdateWatch<'a, X: Wait + Clock> {
     log: StoreLog<'a, X>,
+    run: RunLog<'a, X>,
     figures: &'a Figures,
 }
 
 impl<'a, X: Wait + Clock> UpdateWatch<'a, X> {
     /// Counts here, and logs there.
-    pub fn new(log: StoreLog<'a, X>, figures: &'a Figures) -> UpdateWatch<'a, X> {
-        UpdateWatch { log, figures }
+    pub fn new(
+        log: StoreLog<'a, X>,
+        run: RunLog<'a, X>,
+        figures: &'a Figures,
+    ) -> UpdateWatch<'a, X> {
+        UpdateWatch { log, run, figures }
     }
 }
 
 impl<X: Wait + Clock> Watch for UpdateWatch<'_, X> {
+    fn begun(&self, listening: &str) {
+        self.run.begun(listening);
+    }
+
+    fn ended(&self, served: Result<u64, &RunFault>) {
+        self.run.ended(served);
+    }
+
     fn told(&self, segment: usize, number: u64, told: Result<u64, Refusal>) {
         if segment < self.figures.segment_count() {
             self.figures.segment(segment).settle(told);

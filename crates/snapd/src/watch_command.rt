@@ -5,7 +5,7 @@ ghost use Rattle.snap_order.specs.Order.{IsWatchable};
 use crate::call_command::{is_known, link_within};
 use crate::complaint::{say, stop, stop_without_memory};
 use crate::link::Link;
-use crate::time_limit::TimeLimit;
+use crate::time_limit::{Course, TimeLimit};
 use libc::net::{POLLERR, POLLHUP, poll};
 use libc::types::pollfd;
 use snap_client::{Client, ClientFault};
@@ -139,8 +139,8 @@ fn rows_now<N: Clock + Net>(
         }
     }
     match link_within(net, address, limit) {
-        Some(open) => rows_by(alloc, open, watched, link, &[], limit),
-        None => Err(Trouble::Lost(ClientFault::ConnectFailed)),
+        Ok(open) => rows_by(alloc, open, watched, link, &[], limit),
+        Err(_) => Err(Trouble::Lost(ClientFault::ConnectFailed)),
     }
 }
 
@@ -158,7 +158,8 @@ fn rows_by<N: Clock + Net>(
     let (Ok(reader), Ok(writer)) = (open.try_clone(), open.try_clone()) else {
         return Err(Trouble::Lost(ClientFault::ConnectFailed));
     };
-    let mut client = Client::new(alloc, limit.on(reader), limit.on(writer));
+    let course = Course::new();
+    let mut client = Client::new(alloc, limit.on(reader, &course), limit.on(writer, &course));
     let rows = look(alloc, &mut client, watched, shown)?;
     *kept = Some(open);
     Ok(rows)

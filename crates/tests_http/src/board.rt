@@ -4,11 +4,12 @@ mod told;
 
 use http_server::{Config, Connection, serve};
 use json::{Scratch, is_valid};
-use snap_board::Board;
+use snap_board::{Board, History, Surroundings};
 use std::hash::RandomState;
 use std::io;
 use std::test::Fail;
-use told::{Around, FENCED, NOTHING, REFUSED, SCAN, STATUS, Teller};
+use std::time::Duration;
+use told::{ALL_FENCED, Around, FENCED, NOTHING, REFUSED, SCAN, STATUS, Teller};
 
 /// What a board says to these requests, one after another on one connection, over a service with these replies.
 fn conversation(
@@ -93,6 +94,33 @@ fn a_fence_is_told_by_the_status_too(rt: HostRuntime) -> Result<(), Fail> {
 }
 
 #[test]
+fn readiness_and_life_are_told_by_the_status(rt: HostRuntime) -> Result<(), Fail> {
+    for (status, path, first, content) in [
+        (STATUS, "/livez", "HTTP/1.1 200 OK", "ok\n"),
+        (NOTHING, "/livez", "HTTP/1.1 200 OK", "ok\n"),
+        (STATUS, "/readyz", "HTTP/1.1 200 OK", "ok\n"),
+        (FENCED, "/readyz", "HTTP/1.1 200 OK", "ok\n"),
+        (
+            ALL_FENCED,
+            "/readyz",
+            "HTTP/1.1 503 Service Unavailable",
+            "each segment is fenced\n",
+        ),
+        (
+            NOTHING,
+            "/readyz",
+            "HTTP/1.1 503 Service Unavailable",
+            "no answer\n",
+        ),
+    ] {
+        let told = get(&rt, SCAN, status, path)?;
+        assert!(rt; told.0.as_slice() == first.as_bytes());
+        assert!(rt; told.1.as_slice() == content.as_bytes());
+    }
+    Ok(())
+}
+
+#[test]
 fn a_scan_has_each_value(rt: HostRuntime) -> Result<(), Fail> {
     let (first, content) = get(&rt, SCAN, STATUS, "/scan")?;
     let told: &[u8] = b"{\"segments\":[{\"segment\":0,\"number\":5,\"text\":\"hi\"},\
@@ -115,7 +143,8 @@ fn a_status_has_each_fence(rt: HostRuntime) -> Result<(), Fail> {
 fn a_whole_response_to_the_byte(rt: HostRuntime) -> Result<(), Fail> {
     let request = b"HEAD /health HTTP/1.1\r\nHost: h\r\n\r\n";
     let said = conversation(&rt, SCAN, STATUS, request)?;
-    let told: &[u8] = b"HTTP/1.1 200 OK\r\ncontent-type: application/json\r\n\
+    let told: &[u8] = b"HTTP/1.1 200 OK\r\ndate: Thu, 01 Jan 1970 00:00:02 GMT\r\n\
+        content-type: application/json\r\n\
         cache-control: no-store\r\nx-content-type-options: nosniff\r\n\
         cross-origin-resource-policy: same-origin\r\ncontent-length: 17\r\n\r\n";
     assert!(rt; said.as_slice() == told);
@@ -269,6 +298,72 @@ fn metrics_have_buckets_that_add_up(rt: HostRuntime) -> Result<(), Fail> {
     Ok(())
 }
 
+/// What no clause states of them, to the byte.
+#[test]
+fn metrics_have_the_process_and_the_names(rt: HostRuntime) -> Result<(), Fail> {
+    let (_, text) = get(&rt, SCAN, FENCED, "/metrics")?;
+    let told: &[u8] = b"\
+        # HELP snapd_build_info The version of the program, always 1.\n\
+        # TYPE snapd_build_info gauge\n\
+        snapd_build_info{version=\"1.2\\\"3\\\\\"} 1\n\
+        # HELP snapd_connections_max Connections that may be open.\n\
+        # TYPE snapd_connections_max gauge\n\
+        snapd_connections_max 7\n\
+        # HELP snapd_log_lost_lines_total Lines of the log that were lost.\n\
+        # TYPE snapd_log_lost_lines_total counter\n\
+        snapd_log_lost_lines_total 8\n\
+        # HELP process_start_time_seconds When the process was started, since 1970.\n\
+        # TYPE process_start_time_seconds gauge\n\
+        process_start_time_seconds 1.002\n\
+        # HELP process_cpu_seconds_total Time of processors that the process took.\n\
+        # TYPE process_cpu_seconds_total counter\n\
+        process_cpu_seconds_total 1.000000003\n\
+        # HELP process_resident_memory_bytes Memory of the process that lies in the machine's.\n\
+        # TYPE process_resident_memory_bytes gauge\n\
+        process_resident_memory_bytes 4096\n\
+        # HELP process_open_fds Descriptors that are open.\n\
+        # TYPE process_open_fds gauge\n\
+        process_open_fds 5\n\
+        # HELP process_max_fds Descriptors that may be open.\n\
+        # TYPE process_max_fds gauge\n\
+        process_max_fds 6\n\
+        # HELP snapd_segment_info The name of the segment, which is its file's, always 1.\n\
+        # TYPE snapd_segment_info gauge\n\
+        snapd_segment_info{segment=\"0\",name=\"b\\\"c\"} 1\n";
+    assert!(rt; text.ends_with(told));
+    Ok(())
+}
+
+#[test]
+fn the_history_is_a_document(rt: HostRuntime) -> Result<(), Fail> {
+    let (first, content) = get(&rt, SCAN, NOTHING, "/history")?;
+    let told: &[u8] = b"{\"samples\":[{\"uptime_milliseconds\":1001,\"scans\":5,\
+        \"store_counts\":[1,2,0,0,0,0,0,0,0,0,0,0,0,0,0,0,0,0,0,0,0,3]}]}\n";
+    assert!(rt; first.as_slice() == b"HTTP/1.1 200 OK".as_slice());
+    assert!(rt; content.as_slice() == told);
+    Ok(())
+}
+
+#[test]
+fn the_history_keeps_three_minutes(rt: HostRuntime) -> Result<(), Fail> {
+    let alloc = rt.alloc();
+    let reading = Around::new(alloc)?.reading(alloc)?;
+    let history = History::new(alloc);
+    assert!(rt; history.document(alloc)?.as_slice() == b"{\"samples\":[]}\n".as_slice());
+    for number in 1..400 {
+        history.take(&reading, Duration::from_secs(number));
+    }
+    let text = history.document(alloc)?;
+    assert!(rt; text.starts_with(b"{\"samples\":[{\"uptime_milliseconds\":219000,"));
+    let samples = text.iter().filter(|byte| **byte == b'{').count() - 1;
+    assert!(rt; samples == 181);
+    for number in 219..400u64 {
+        let sample = format!(in alloc; "{{\"uptime_milliseconds\":{number}000,")?;
+        assert!(rt; has(&text, sample.as_bytes()));
+    }
+    Ok(())
+}
+
 #[test]
 fn stats_are_a_document(rt: HostRuntime) -> Result<(), Fail> {
     let (_, text) = get(&rt, SCAN, FENCED, "/stats")?;
@@ -293,7 +388,7 @@ fn stats_are_a_document(rt: HostRuntime) -> Result<(), Fail> {
     assert!(rt;
         has(
             &text,
-            b",16777216],\"segments\":[{\"segment\":0,\"file\":\"a\",\"number\":5,\"fenced\":false,"
+            b",16777216],\"segments\":[{\"segment\":0,\"file\":\"a/b\\\"c.seg\",\"name\":\"b\\\"c\",\"number\":5,\"fenced\":false,"
         )
     );
     assert!(rt;
@@ -311,7 +406,7 @@ fn stats_are_a_document(rt: HostRuntime) -> Result<(), Fail> {
     assert!(rt;
         has(
             &text,
-            b"{\"segment\":1,\"file\":null,\"number\":7,\"fenced\":true,\"updates\":0,"
+            b"{\"segment\":1,\"file\":null,\"name\":null,\"number\":7,\"fenced\":true,\"updates\":0,"
         )
     );
     Ok(())
@@ -321,7 +416,7 @@ fn stats_are_a_document(rt: HostRuntime) -> Result<(), Fail> {
 fn the_page_loads_its_own_alone(rt: HostRuntime) -> Result<(), Fail> {
     let request = b"GET / HTTP/1.1\r\nHost: h\r\n\r\n";
     let page = conversation(&rt, SCAN, STATUS, request)?;
-    assert!(rt; page.starts_with(b"HTTP/1.1 200 OK\r\ncontent-type: text/html; charset=utf-8\r\n"));
+    assert!(rt; has(&page, b"\r\ncontent-type: text/html; charset=utf-8\r\n"));
     assert!(rt;
         has(
             &page,
@@ -343,7 +438,7 @@ fn the_page_loads_its_own_alone(rt: HostRuntime) -> Result<(), Fail> {
 /// comes.
 #[test]
 fn want_of_memory_is_told_or_ends_the_connection(rt: HostRuntime) -> Result<(), Fail> {
-    for path in ["/scan", "/metrics", "/stats", "/health", "/"] {
+    for path in ["/scan", "/metrics", "/stats", "/history", "/health", "/"] {
         if let Ok((first, content)) = get(&rt, SCAN, STATUS, path) {
             let is_whole = first.as_slice() == b"HTTP/1.1 200 OK".as_slice()
                 && content.ends_with(b"\n");

@@ -77,7 +77,7 @@ fn asked<R: Threads + Wait + Clock + RandomSource + Net<Stream = TcpStream> + Al
         rt,
         move || {
             let mut site = site;
-            site.serve(rt, &mut Greeter)
+            site.serve(rt, &mut Greeter, &())
         },
         move || {
             let told = ask(rt, address, bytes, piece);
@@ -155,7 +155,7 @@ fn one_more_takes_the_place_of_the_slowest(rt: HostRuntime) -> Result<(), Fail> 
         rt,
         move || {
             let mut site = site;
-            site.serve(rt, &mut Greeter)
+            site.serve(rt, &mut Greeter, &())
         },
         move || {
             let seen = comes_last(rt, address);
@@ -188,7 +188,7 @@ fn half_a_request_is_refused(rt: HostRuntime) -> Result<(), Fail> {
         rt,
         move || {
             let mut site = site;
-            site.serve(rt, &mut Greeter)
+            site.serve(rt, &mut Greeter, &())
         },
         move || {
             let told = breaks_off(rt, address);
@@ -207,8 +207,8 @@ fn a_stop_is_kept(rt: HostRuntime) -> Result<(), Fail> {
     let (mut site, stop, _) = open(&rt)?;
     stop.stop();
     stop.stop();
-    site.serve(&rt, &mut Greeter)?;
+    site.serve(&rt, &mut Greeter, &())?;
     drop(stop);
-    site.serve(&rt, &mut Greeter)?;
+    site.serve(&rt, &mut Greeter, &())?;
     Ok(())
 }

@@ -179,6 +179,7 @@ fn ends(alloc: Global, case: &Case<'_>) -> Result<bool, AllocError> {
         address: "host:7",
         question,
         tries: case.tries.clamp(1, MAX_TRIES),
+        wait: None,
         timeout: None,
         layout,
     };
@@ -388,13 +389,12 @@ fn third_try_succeeds(rt: HostRuntime) -> Result<(), Fail> {
     Ok(all_end(&rt, &[third, patient, second])?)
 }
 
-/// No connection is made: what is said is why, and what to do.
+/// No connection is made: why is for who makes them to say.
 const UNCONNECTED: Case<'static> = Case {
     links: &[None],
     status: Status::Failed,
     printed: "",
-    said: "snapd: host:7: no connection to the server could be made: start snapd serve \
-there, or try again with --tries\n",
+    said: "snapd: host:7: no connection to the server could be made\n",
     ..UPDATE
 };
 

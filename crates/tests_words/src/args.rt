@@ -64,6 +64,10 @@ const FILE_ORDERS: [(&[&str], FileOrder<'static>); 6] = [
         },
     ),
     (
+        &["snapd", "check", "F", "--value", "--slot=2"],
+        FileOrder::Slot { file: "F", slot: 2 },
+    ),
+    (
         &["snapd", "put", "--count=16", "G", "--index", "15"],
         FileOrder::Put {
             file: "G",

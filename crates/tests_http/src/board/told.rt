@@ -2,7 +2,7 @@
 ghost use Rattle.std.specs.Prelude.{IfSome, codes};
 ghost use Rattle.snap_frame.specs.Messages.{IsInLimits};
 
-use snap_board::Surroundings;
+use snap_board::{History, Surroundings, Usage};
 use snap_disk::Refusal;
 use snap_figures::{BOUNDS, Distribution, Reading, SegmentReading, Tally};
 use snap_frame::{Reply, ReplyFeed, Request};
@@ -23,6 +23,11 @@ pub(crate) const STATUS: &[u8] = b"\x00\x00\x00\x14\x83\x02\
 /// The same, where the second is fenced.
 pub(crate) const FENCED: &[u8] = b"\x00\x00\x00\x14\x83\x02\
     \x00\x00\x00\x00\x00\x00\x00\x05\x00\
+    \x00\x00\x00\x00\x00\x00\x00\x07\x01";
+
+/// The same, where both are.
+pub(crate) const ALL_FENCED: &[u8] = b"\x00\x00\x00\x14\x83\x02\
+    \x00\x00\x00\x00\x00\x00\x00\x05\x01\
     \x00\x00\x00\x00\x00\x00\x00\x07\x01";
 
 /// A refusal for want of memory.
@@ -81,6 +86,7 @@ impl Service for Teller {
 pub(crate) struct Around {
     addresses: Vec<String>,
     files: Vec<&'static str>,
+    history: History,
 }
 
 impl Around {
@@ -88,8 +94,16 @@ impl Around {
         let mut addresses = Vec::new(alloc);
         addresses.push(String::from_str(alloc, "127.0.0.1:7")?)?;
         let mut files = Vec::new(alloc);
-        files.push("a")?;
-        Ok(Around { addresses, files })
+        files.push("a/b\"c.seg")?;
+        let around = Around {
+            addresses,
+            files,
+            history: History::new(alloc),
+        };
+        around
+            .history
+            .take(&around.reading(alloc)?, Duration::from_millis(1_001));
+        Ok(around)
     }
 }
 
@@ -161,6 +175,22 @@ impl Surroundings for Around {
 
     fn resident_bytes(&self) -> Option<u64> {
         Some(4_096)
+    }
+
+    fn usage(&self) -> Usage {
+        Usage {
+            started: Some(1_002),
+            processors: Some(1_000_000_003),
+            addresses: None,
+            descriptors: Some(5),
+            most_descriptors: Some(6),
+            most_clients: 7,
+            lost_lines: 8,
+        }
+    }
+
+    fn history(&self) -> &History {
+        &self.history
     }
 
     fn version(&self) -> &str {

@@ -65,8 +65,34 @@ const NO_TIMEOUT: &str = "error: the seconds of the timeout are not from 1 to 86
 
 const NO_LAYOUT: &str = "error: --text and --json are for scan, part, status and health\n";
 
-/// Words of calls, and how the text of what is wrong in them begins.
-const BAD: [(&[&str], &str); 8] = [
+const NO_WAIT: &str = "error: the seconds of the wait are not from 1 to 86400\n";
+
+const NO_SLOT: &str = "error: the slot is not a number from 0 to 2\n";
+
+const SLOT_ALONE: &str = "error: --slot S and --value are given together, and without --json\n";
+
+/// Words of calls and checks, and how the text of what is wrong in them begins.
+const BAD: [(&[&str], &str); 16] = [
+    (&["snapd", "call", "A", "scan", "--wait=0"], NO_WAIT),
+    (&["snapd", "dump", "A:1", "--wait=86401"], NO_WAIT),
+    (
+        &["snapd", "check", "F", "--slot=3", "--value"],
+        NO_SLOT,
+    ),
+    (
+        &["snapd", "check", "F", "--slot=", "--value"],
+        NO_SLOT,
+    ),
+    (
+        &["snapd", "check", "F", "--slot=0x1", "--value"],
+        NO_SLOT,
+    ),
+    (&["snapd", "check", "F", "--slot=1"], SLOT_ALONE),
+    (&["snapd", "check", "F", "--value"], SLOT_ALONE),
+    (
+        &["snapd", "check", "F", "--slot=1", "--value", "--json"],
+        SLOT_ALONE,
+    ),
     (&["snapd", "call", "A", "scan", "--timeout=0"], NO_TIMEOUT),
     (
         &["snapd", "call", "A", "scan", "--timeout=86401"],

@@ -5,18 +5,19 @@ use snap_order::{Dumping, Holder, Loading, Order};
 use std::alloc::Global;
 use std::test::Fail;
 
-/// Whether these words dump what this one holds, with these tries and seconds.
+/// Whether these words dump what this one holds, with these tries, and seconds of both kinds.
 fn is_dumping(
     alloc: Global,
     words: &[&str],
     holder: Holder<'_>,
     tries: u8,
-    timeout: Option<u32>,
+    seconds: Option<(u32, u32)>,
 ) -> bool {
     let wanted = Dumping {
         holder,
         tries,
-        timeout,
+        wait: seconds.map(|it| it.0),
+        timeout: seconds.map(|it| it.1),
     };
     match order(alloc, words) {
         Ok(Order::Dump(dumping)) => dumping == wanted,
@@ -53,9 +54,11 @@ fn an_address_is_told_from_a_folder(rt: HostRuntime) {
 
 #[test]
 fn a_dump_has_tries_and_a_time(rt: HostRuntime) {
-    let words = ["snapd", "dump", "--tries=10", "D", "--timeout", "86400"];
+    let words = [
+        "snapd", "dump", "--tries=10", "D", "--timeout", "86400", "--wait=1",
+    ];
     let holder = Holder::Folder { folder: "D" };
-    assert!(rt; is_dumping(rt.alloc(), &words, holder, 10, Some(86_400)));
+    assert!(rt; is_dumping(rt.alloc(), &words, holder, 10, Some((1, 86_400))));
 }
 
 /// Whether these words load this dump into the folder D, with so many segments.

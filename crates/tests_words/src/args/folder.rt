@@ -6,10 +6,15 @@ use snap_order::{Examination, Founding, Level, Order};
 use std::alloc::Global;
 use std::test::Fail;
 
-/// Whether these words make this folder with so many segments.
-fn is_founding(alloc: Global, words: &[&str], folder: &str, count: u8) -> bool {
+/// Whether these words make the folder D with so many segments, and a missing one all the same or not.
+fn is_founding(alloc: Global, words: &[&str], count: u8, is_missing_empty: bool) -> bool {
+    let wanted = Founding {
+        folder: "D",
+        count,
+        is_missing_empty,
+    };
     match order(alloc, words) {
-        Ok(Order::Init(founding)) => founding == Founding { folder, count },
+        Ok(Order::Init(founding)) => founding == wanted,
         _ => false,
     }
 }
@@ -21,8 +26,10 @@ fn folders_have_a_count(rt: HostRuntime) {
         (["snapd", "init", "--count=16", "D"], 16),
         (["snapd", "init", "--", "D"], 1),
     ] {
-        assert!(rt; is_founding(rt.alloc(), &words, "D", count), "{words:?}");
+        assert!(rt; is_founding(rt.alloc(), &words, count, false), "{words:?}");
     }
+    let words = ["snapd", "init", "D", "--missing-empty"];
+    assert!(rt; is_founding(rt.alloc(), &words, 1, true));
 }
 
 /// Whether these words look at the folder D, and measure its disk or not.

@@ -1,9 +1,8 @@
 use Rattle.std.proofs.Common.{◌∙◌, ◌↔◌, IsTrue, arith, codes, inl, inr, refl, rules, sym}
 use Rattle.std.proofs.lemmas.Grind.{common_steps}
 use Rattle.clap.specs.Words.{found_of, rows_of}
-use Rattle.snap_args.specs.Numbers.{IsGiven}
-use Rattle.snap_args.proofs.Asked.{asked, by_words, missing, no_command, place_is, word_is}
-use Rattle.snap_args.proofs.Faulted.{placed_fault}
+use Rattle.snap_args.proofs.Asked.{asked, check_is, check_numbers, missing, no_command, place_is, word_is}
+use Rattle.snap_args.proofs.Faulted.{check_fault, placed_fault}
 use Rattle.snap_args.proofs.words.file_order.Goals as goal
 use Rattle.snap_args.proofs.words.file_order.Goals.{in-format, in-put, in-get}
 
@@ -24,12 +23,20 @@ returns-in_default-clause-faults c = λ words has.
     ))))))) (codes "file")
     (refl, sym (c.in_default.ensures ∙ word_is has (codes "file")))
 
+pub returns-in_err-checking-clause-faults : goal.returns-in_err-checking-clause-faults
+returns-in_err-checking-clause-faults c =
+    let fault = check_fault c.args.command.now (found_of c.args.matches.now) c.in_err-checking.field-0.0
+    c.in_err-checking.ensures.fault in
+    search rules
+
 pub returns-then-is-clause-asked : goal.returns-then-is-clause-asked
-returns-then-is-clause-asked c = λ words has. (
-  asked has (codes "check") c.in-Some.file.now (c.is.ensures.0 c.if-is.true) c.in-Some.ensures,
-  by_words has (λ of all. IsTrue c.is_given-is_json.result ↔ IsGiven (of (codes "json")))
-      c.is_given-is_json.ensures,
-)
+returns-then-is-clause-asked c = λ words has.
+    check_is words has c.in-Some.file.now (c.is.ensures.0 c.if-is.true) c.in-Some.ensures
+    c.in_ok-checking.field-0 c.in_ok-checking.ensures.asked
+
+pub returns-then-is-clause-numbers : goal.returns-then-is-clause-numbers
+returns-then-is-clause-numbers c = λ words has.
+    check_numbers words has c.in-Some.file.now c.in_ok-checking.field-0 c.in_ok-checking.ensures.asked
 
 pub returns-in_err-index-clause-faults : goal.returns-in_err-index-clause-faults
 returns-in_err-index-clause-faults c =

@@ -33,6 +33,7 @@ pub returns-then-is-3-clause-numbers : goal.returns-then-is-3-clause-numbers
 returns-then-is-3-clause-numbers c = λ words has.
     let calling = c.in_ok-calling.ensures in record {
       tries = number_is has (codes "tries") _ calling.tries;
+      wait = large_number_is has (codes "wait") c.in_ok-calling.field-0.wait calling.wait;
       timeout = large_number_is has (codes "timeout") c.in_ok-calling.field-0.timeout calling.timeout;
     }
 
@@ -62,6 +63,8 @@ pub returns-then-is-5-clause-asked : goal.returns-then-is-5-clause-asked
 returns-then-is-5-clause-asked c = λ words has. record {
   command = named has (codes "init") (c.is-5.ensures.0 c.if-is-5.true);
   folder = sym (word_is has (codes "folder")) ∙ sym c.in_ok-founding.ensures.folder;
+  missing_empty = by_words has (λ of all. IsTrue c.in_ok-founding.field-0.is_missing_empty
+      ↔ IsGiven (of (codes "missing-empty"))) c.in_ok-founding.ensures.missing_empty;
 }
 
 pub returns-then-is-5-clause-numbers : goal.returns-then-is-5-clause-numbers
@@ -98,6 +101,7 @@ returns-then-is-7-clause-asked c = λ words has. record {
 pub returns-then-is-7-clause-numbers : goal.returns-then-is-7-clause-numbers
 returns-then-is-7-clause-numbers c = λ words has. record {
   tries = number_is has (codes "tries") _ c.in_ok-dumping.ensures.tries;
+  wait = large_number_is has (codes "wait") c.in_ok-dumping.field-0.wait c.in_ok-dumping.ensures.wait;
   timeout = large_number_is has (codes "timeout") c.in_ok-dumping.field-0.timeout
       c.in_ok-dumping.ensures.timeout;
 }

@@ -9,13 +9,13 @@ returns-then-write_line-clause-tells g c =
     let after = g.E.Write.contents c.write_line.new.errors in
     let Came : List ℕ → Type 0 =
     λ line. Appends before after (on_its_own c.args.progress.now.is_torn line) in
-    let line : List ℕ = lost_line c.as_str.result.now (c.args.lost - c.args.progress.now.told) in
+    let line : List ℕ = lost_line c.beginning.result.now (c.args.lost - c.args.progress.now.told) in
     let is : c.as_str-2.result.now ≡ line = ◌∙◌ {c = line} c.as_str-2.ensures.value c.in-Ok.ensures in
     inr (
       c.if-lost-progress.false,
       refl,
       (
-        c.as_str.result.now,
+        c.beginning.result.now,
         subst Came is (c.write_line.ensures.whole c.if-write_line.true),
       ),
     )

@@ -1,0 +1,124 @@
+//! What was counted in the last three minutes.
+
+use crate::figures::put_count;
+use crate::metrics::millis_of;
+use json::Writer;
+use snap_figures::{BOUNDS, Counter, Reading, SegmentReading};
+use std::alloc::{AllocError, Global};
+use std::array;
+use std::time::Duration;
+
+/// How many samples are kept: one for each second of three minutes, and the one that these begin at.
+const SAMPLES: u64 = 181;
+
+/// What was counted up to one moment since the server's start.
+#[derive(Drop)]
+struct Sample {
+    /// In milliseconds.
+    uptime: Counter,
+    scans: Counter,
+    /// How many stores of all segments took how long, as a [`Distribution`](snap_figures::Distribution) has them.
+    stores: [Counter; BOUNDS + 1],
+}
+
+impl Sample {
+    fn new() -> Sample {
+        Sample {
+            uptime: Counter::new(),
+            scans: Counter::new(),
+            stores: array::from_fn(|_| Counter::new()),
+        }
+    }
+
+    fn set(&self, reading: &Reading, uptime: Duration) {
+        let requests = &reading.requests;
+        self.uptime.set(millis_of(uptime));
+        self.scans
+            .set(requests.scans.saturating_add(requests.parts));
+        for (place, count) in self.stores.iter().enumerate() {
+            count.set(stored_at(&reading.segments, place));
+        }
+    }
+
+    fn put(&self, writer: &mut Writer) -> Result<(), AllocError> {
+        writer.begin_object()?;
+        put_count(writer, "uptime_milliseconds", self.uptime.get())?;
+        put_count(writer, "scans", self.scans.get())?;
+        writer.key("store_counts")?;
+        writer.begin_array()?;
+        for count in &self.stores {
+            writer.u64(count.get())?;
+        }
+        writer.end_array()?;
+        writer.end_object()
+    }
+}
+
+/// How many stores of all segments are counted at this place.
+fn stored_at(segments: &[SegmentReading], place: usize) -> u64 {
+    let mut sum: u64 = 0;
+    for segment in segments {
+        if let Some(count) = segment.stores.counts.get(place) {
+            sum = sum.saturating_add(*count);
+        }
+    }
+    sum
+}
+
+/// Samples of what a server counted in the last three minutes, about one a second. One thread takes them, and any thread reads
+/// them, at any time and without a lock.
+#[derive(Drop)]
+pub struct History {
+    samples: Vec<Sample>,
+    /// How many were taken since the start.
+    taken: Counter,
+}
+
+impl History {
+    /// No sample yet. Where there is no memory for them none is ever kept.
+    pub fn new(alloc: Global) -> History {
+        History {
+            samples: match empty_samples(alloc) {
+                Ok(samples) => samples,
+                Err(AllocError) => Vec::new(alloc),
+            },
+            taken: Counter::new(),
+        }
+    }
+
+    /// Keeps what was counted up to now, so long after the server's start, in place of the oldest sample where there are 181.
+    pub fn take(&self, reading: &Reading, uptime: Duration) {
+        let taken = self.taken.get();
+        if let Some(sample) = self.samples.get((taken % SAMPLES) as usize) {
+            sample.set(reading, uptime);
+            self.taken.add(1);
+        }
+    }
+
+    /// The samples as a JSON document on one line, the oldest first.
+    pub fn document(&self, alloc: Global) -> Result<Vec<u8>, AllocError> {
+        let mut writer = Writer::new(Vec::new(alloc));
+        writer.begin_object()?;
+        writer.key("samples")?;
+        writer.begin_array()?;
+        let taken = self.taken.get();
+        for number in taken.saturating_sub(SAMPLES)..taken {
+            if let Some(sample) = self.samples.get((number % SAMPLES) as usize) {
+                sample.put(&mut writer)?;
+            }
+        }
+        writer.end_array()?;
+        writer.end_object()?;
+        let mut text = writer.into_inner();
+        text.push(b'\n')?;
+        Ok(text)
+    }
+}
+
+fn empty_samples(alloc: Global) -> Result<Vec<Sample>, AllocError> {
+    let mut samples = Vec::with_capacity(alloc, SAMPLES as usize)?;
+    for _ in 0..SAMPLES {
+        samples.push(Sample::new())?;
+    }
+    Ok(samples)
+}

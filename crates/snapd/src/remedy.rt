@@ -1,0 +1,62 @@
+//! What to do where the system makes no connection to a server.
+
+use snap_order::socket_path;
+use std::io::{self, ErrorKind};
+
+/// Linux's ENFILE and EMFILE: no descriptor is left.
+const NO_DESCRIPTOR: [i32; 2] = [23, 24];
+
+/// Linux's ENOBUFS: it has no memory for a connection.
+const NO_BUFFERS: i32 = 105;
+
+/// Linux's EPROTOTYPE: a socket of another kind is bound there.
+const WRONG_KIND: i32 = 91;
+
+/// What to do after this reason of the system's. `None` where it was no connection that couldn't be made.
+pub fn remedy_of(address: &str, reason: &io::Error) -> Option<&'static str> {
+    match reason.raw_os_error() {
+        Some(code) if NO_DESCRIPTOR.contains(&code) => {
+            return Some("raise the limit of open files (ulimit -n, or fs.file-max)");
+        }
+        Some(NO_BUFFERS) => return Some(NO_MEMORY),
+        Some(WRONG_KIND) => return Some("the socket is another program's: check the path"),
+        _ => {}
+    }
+    match reason.kind() {
+        ErrorKind::OutOfMemory => Some(NO_MEMORY),
+        ErrorKind::ConnectionReset | ErrorKind::ConnectionAborted | ErrorKind::BrokenPipe => None,
+        kind if socket_path(address).is_some() => Some(remedy_of_socket(kind)),
+        kind => Some(remedy_of_port(kind)),
+    }
+}
+
+const NO_MEMORY: &str = "the system has no memory for a connection: free some";
+
+/// The same of a Unix socket.
+fn remedy_of_socket(kind: ErrorKind) -> &'static str {
+    match kind {
+        ErrorKind::NotFound =>
+            "there is no socket: start snapd serve there, or wait for it with --wait",
+        ErrorKind::ConnectionRefused =>
+            "nobody serves at that path: start snapd serve there, or wait for it with --wait",
+        ErrorKind::PermissionDenied =>
+            "this user may not use the socket, or not look into its folder: call as the one that \
+serves, or give that one's group the right by snapd serve --socket-mode 0660",
+        _ => "check the path",
+    }
+}
+
+/// The same of a port.
+fn remedy_of_port(kind: ErrorKind) -> &'static str {
+    match kind {
+        ErrorKind::ConnectionRefused =>
+            "nobody listens there: start snapd serve there, or wait for it with --wait",
+        ErrorKind::PermissionDenied => "a firewall or a policy of this machine forbids it",
+        ErrorKind::TimedOut =>
+            "nothing answers there: check the address, and the firewalls on the way",
+        ErrorKind::HostUnreachable | ErrorKind::NetworkUnreachable | ErrorKind::NetworkDown =>
+            "check the address, and the network on the way",
+        ErrorKind::AddrNotAvailable => "this machine has no address or no port left to call from",
+        _ => "check the address",
+    }
+}
