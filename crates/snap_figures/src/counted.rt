@@ -6,6 +6,7 @@ use crate::log::Log;
 use crate::looks::Looking;
 use crate::reading::Tally;
 use crate::worker::WorkerFigures;
+use snap_disk::Refusal;
 use snap_frame::{Reply, Request};
 use snap_session::Service;
 use std::marker::Model;
@@ -133,5 +134,9 @@ impl<S: Service + Looking + Drop> Service for Counted<'_, S> {
         let looks = self.service.looks_left();
         let reply = self.service.finish(request, outcome);
         self.count(request, reply, looks)
+    }
+
+    fn refused(&self, why: Refusal) {
+        self.figures.refuse(why);
     }
 }

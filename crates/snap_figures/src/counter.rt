@@ -34,10 +34,10 @@ impl Counter {
         self.number.load(Ordering::SeqCst)
     }
 
-    /// A number that was `before` when it was set last is `now`. Where that is the same, nothing is written.
+    /// Counts as many more as another number has grown, from `before` to `now`. Where it hasn't, nothing is written.
     pub(crate) fn follow(&self, before: u64, now: u64) {
         if now != before {
-            self.set(now);
+            self.add(now.saturating_sub(before));
         }
     }
 }

@@ -30,8 +30,8 @@ pub struct Tally {
     pub parts: u64,
     /// Statuses.
     pub statuses: u64,
-    /// Requests that were refused, by the number of the refusal: 1 at the first place. What a session refuses by itself, a frame
-    /// that is no request or is too large, isn't among them.
+    /// Requests that were refused, by the number of the refusal: 1 at the first place. In what a worker shows, frames that a
+    /// session refused by itself are among them: those that are no request or are too large.
     pub refusals: [u64; REFUSALS],
     /// The looks at registers that scans took, of all segments or of some.
     pub looks: u64,

@@ -1,6 +1,7 @@
 //! What one worker shows of its tally.
 use crate::counter::{Counter, read_each};
 use crate::reading::{REFUSALS, Tally};
+use snap_disk::Refusal;
 use std::array;
 
 /// Fills a line of a processor's cache, which has 64 bytes.
@@ -54,7 +55,12 @@ impl WorkerFigures {
         self.bytes_out.follow(before.bytes_out, now.bytes_out);
     }
 
-    /// The tally that was shown, each number as it was at some moment of this call.
+    /// Counts a frame that a session refused for this reason by itself.
+    pub fn refuse(&self, why: Refusal) {
+        self.refusals[usize::from(why.code()) - 1].add(1);
+    }
+
+    /// The tally that was shown, with the frames that were refused, each number as it was at some moment of this call.
     pub fn read(&self) -> Tally {
         Tally {
             updates: self.updates.get(),

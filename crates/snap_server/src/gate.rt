@@ -1,6 +1,7 @@
 //! A gate that every request passes.
 ghost use Rattle.std.specs.Prelude.{◌≡◌};
 
+use snap_disk::Refusal;
 use snap_frame::{Reply, Request};
 use snap_session::Service;
 
@@ -64,5 +65,9 @@ impl<S: Service + Drop, G: Gate> Service for Gated<'_, S, G> {
         let reply = self.service.finish(request, outcome);
         self.gate.leave();
         reply
+    }
+
+    fn refused(&self, why: Refusal) {
+        self.service.refused(why);
     }
 }

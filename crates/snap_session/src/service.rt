@@ -4,6 +4,7 @@ ghost use Rattle.snap_frame.specs.declared.request.Request.{Request};
 ghost use Rattle.snap_frame.specs.declared.reply.Reply.{Reply};
 ghost use Rattle.snap_frame.specs.Messages.{IsAskable, IsInLimits};
 
+use snap_disk::Refusal;
 use snap_frame::{Reply, Request};
 
 /// Answers requests, one at a time. It may hand a request over to somebody who works on it
@@ -43,4 +44,7 @@ pub trait Service {
         ensures gives { Self.gives self.old request.now result self.new }
         ensures limits { IsInLimits result }
         ensures tells { Self.tells outcome request.now result };
+
+    /// A session refused a frame for this reason by itself: it was no request, or too large.
+    fn refused(&self, _why: Refusal) {}
 }

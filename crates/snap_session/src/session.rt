@@ -234,12 +234,14 @@ impl Session {
                 }
             },
             Heard::Malformed => {
+                service.refused(Refusal::Malformed);
                 self.owe(&Reply::Refused {
                     why: Refusal::Malformed,
                     detail: 0,
                 });
             }
             Heard::TooLarge => {
+                service.refused(Refusal::TooLarge);
                 self.owe(&Reply::Refused {
                     why: Refusal::TooLarge,
                     detail: MAX_PAYLOAD as u64,
