@@ -14,7 +14,7 @@ import time
 
 from http_place import SeenServer
 from program import Skipped
-from serving import FRESH, LOOPBACK, SCAN, STATUS, Server, frame, fresh, free_port, open_files, received, refused
+from serving import FRESH, LOOPBACK, MALFORMED, OVER_THE_LIMIT, SCAN, STATUS, TOO_LARGE, Server, frame, fresh, free_port, open_files, received, refused
 from serving import segments, snapshot, standings, stored, to_its_end, update
 from test_serve_disks import TWO, Disk
 from waiting import PATIENCE, comes_to
@@ -89,6 +89,18 @@ def test_metrics_are_those_of_a_known_list_of_requests(snapd, _):
         comes_to("0", lambda: server.metrics()["snapd_connections_open"])
         # A scan of three segments that nobody writes takes two looks at each, and one of one segment two.
         assert found["snapd_scan_looks_total"] == str(6 + 6 + 2), found["snapd_scan_looks_total"]
+
+
+def test_frames_that_are_no_requests_are_among_the_refusals(snapd, _):
+    """One that is malformed and one above the limit, beside a request that is refused, and by connections of their own."""
+    no_request = frame(b"\x03\x00")
+    with SeenServer(snapd, *segments(snapd, FRESH)) as server:
+        server.ask(no_request + update(0, 9) + no_request + OVER_THE_LIMIT, MALFORMED + refused(5, 0) + MALFORMED + TOO_LARGE)
+        server.ask(OVER_THE_LIMIT, TOO_LARGE)
+        found = server.metrics()
+        refusals = {key.split('"')[1]: int(value) for key, value in found.items() if key.startswith("snapd_refusals_total")}
+        assert {number: count for number, count in refusals.items() if count} == {"1": 2, "5": 1, "15": 2}, refusals
+        assert sum(int(value) for key, value in found.items() if key.startswith("snapd_requests_total")) == 1
 
 
 def test_stores_are_timed(snapd, _):
