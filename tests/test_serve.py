@@ -18,9 +18,9 @@ from waiting import PATIENCE, comes_to, is_read
 REPORT = "segment 0 number 1 length 2 spare open\nsegment 1 number 0 length 0 spare closed\nsegments 2\n"
 HELD = [(0, b""), (1, b"hi")]
 FORMATS = (pathlib.Path(__file__).resolve().parent.parent / "docs" / "FORMATS.md").read_text()
-# What stands behind the line of a file's refusal, by the refusal: the table of docs/FORMATS.md.
-REMEDIES = dict(re.findall(r"^\| (1\d(?:, [^|]+)?) \| `snapd: FILE: ([^`]+)` \|$",
-                           FORMATS.split("\n**A server.**")[1].split("\n**A call.**")[0], re.M))
+# The line after that of a file's refusal, by the refusal: the rows of `serve` in docs/FORMATS.md, "Second lines".
+REMEDIES = dict(re.findall(r"^\| (1\d(?:, [^|]+)?) \| (?:`serve`|both) \| `([^`]+)` \|$",
+                           FORMATS.split("\n### Second lines\n")[1].split("\n### ")[0], re.M))
 
 
 def two(snapd):
