@@ -1,4 +1,4 @@
-"""What stands behind the system's reason why a path can't be taken, as docs/FORMATS.md has it."""
+"""The lines after the system's reason why a path can't be had, whose beginnings are in docs/FORMATS.md."""
 
 import os
 
