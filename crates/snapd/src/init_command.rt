@@ -34,14 +34,15 @@ pub fn init(rt: &HostRuntime, order: &Founding<'_>) -> Status
         Ok(files) => files,
         Err(status) => return status,
     };
-    let survey = match survey_of(rt, rt.alloc(), order, &files) {
+    let survey = match survey_of(rt, rt.alloc(), folder, order.count, &files) {
         Ok(survey) => survey,
         Err(trouble) => return fail_in(rt, &trouble),
     };
     if !order.is_missing_empty {
         if let Some(at) = sign_of_loss(survey.lacking.len(), &survey.numbers) {
             let loss = Loss {
-                order,
+                folder,
+                count: order.count,
                 lacking: &survey.lacking,
                 sign: path_at(folder, &files, at),
                 number: survey.numbers[at],
@@ -68,17 +69,18 @@ struct Survey<'f> {
 fn survey_of<'f>(
     rt: &HostRuntime,
     alloc: Global,
-    order: &Founding<'f>,
+    folder: &'f str,
+    count: u8,
     files: &'f [String],
 ) -> Result<Survey<'f>, FolderTrouble<'f>>
-    requires { order.now.count ≤ MAX_COUNT }
+    requires { count ≤ MAX_COUNT }
 {
-    check_names(alloc, order.folder, files, order.count)?;
-    let mut kept: Vec<Option<&'f str>> = vec![in alloc; None; usize::from(order.count)]?;
+    check_names(alloc, folder, files, count)?;
+    let mut kept: Vec<Option<&'f str>> = vec![in alloc; None; usize::from(count)]?;
     let mut numbers = Vec::with_capacity(alloc, files.len())?;
     for file in files {
         let file = file.as_str();
-        let found = look_at(rt, alloc, order, file)?;
+        let found = look_at(rt, alloc, folder, count, file)?;
         if numbers.push(found.number).is_err() {
             return Err(FolderTrouble::NoMemory);
         }
@@ -90,7 +92,7 @@ fn survey_of<'f>(
             }
         }
     }
-    let lacking = lacking_files(alloc, order, &kept)?;
+    let lacking = lacking_files(alloc, folder, count, &kept)?;
     Ok(Survey {
         kept,
         lacking,
@@ -101,15 +103,16 @@ fn survey_of<'f>(
 /// The files of the segments that aren't kept.
 fn lacking_files(
     alloc: Global,
-    order: &Founding<'_>,
+    folder: &str,
+    count: u8,
     kept: &[Option<&str>],
 ) -> Result<Vec<String>, AllocError>
-    requires { order.now.count ≤ MAX_COUNT }
+    requires { count ≤ MAX_COUNT }
 {
     let mut lacking = Vec::new(alloc);
-    for index in 0..order.count {
+    for index in 0..count {
         if file_in(kept, index).is_none() {
-            lacking.push(segment_path(alloc, order.folder, index)?)?;
+            lacking.push(segment_path(alloc, folder, index)?)?;
         }
     }
     Ok(lacking)
@@ -138,17 +141,18 @@ struct Looked {
 fn look_at<'f>(
     rt: &HostRuntime,
     alloc: Global,
-    order: &Founding<'f>,
+    folder: &'f str,
+    count: u8,
     file: &'f str,
 ) -> Result<Looked, FolderTrouble<'f>>
-    requires { order.now.count ≤ MAX_COUNT }
+    requires { count ≤ MAX_COUNT }
 {
     let name = Path::new(file).file_name().unwrap_or("");
-    let named = index_of_name(alloc, name, order.count)?;
-    let (index, number) = match findings_of(rt, alloc, order.folder, file) {
+    let named = index_of_name(alloc, name, count)?;
+    let (index, number) = match findings_of(rt, alloc, folder, file) {
         Ok(findings) => {
             let number = greatest_number(&findings);
-            let index = segment_by(alloc, order, file, named, findings.header, number)?;
+            let index = segment_by(alloc, count, file, named, findings.header, number)?;
             (index, number)
         }
         Err(trouble) => (segment_in(named, trouble)?, 0),
@@ -165,13 +169,12 @@ fn look_at<'f>(
 /// comes.
 fn segment_by<'f>(
     alloc: Global,
-    order: &Founding<'f>,
+    wanted: u8,
     file: &str,
     named: Option<u8>,
     header: Header,
     number: u64,
 ) -> Result<Option<u8>, FolderTrouble<'f>> {
-    let wanted = order.count;
     match header {
         Header::Open { index, count } if named.is_none() => {
             Ok((count == wanted).then_some(index))
@@ -226,7 +229,8 @@ fn number_in(slot: Slot) -> u64 {
 /// Files that are lacking in a folder which was stored to.
 #[derive(Clone, Copy)]
 struct Loss<'f> {
-    order: &'f Founding<'f>,
+    folder: &'f str,
+    count: u8,
     lacking: &'f [String],
     /// A file that shows it, and the number that it holds.
     sign: &'f str,
@@ -241,7 +245,7 @@ impl Display for Loss<'_> {
             between = ", ";
         }
         let (sign, number) = (self.sign, self.number);
-        let (folder, count) = (self.order.folder, self.order.count);
+        let (folder, count) = (self.folder, self.count);
         write!(
             f,
             ": missing or never formatted, though {sign} holds number {number}: restore what is missing from a backup, or make it new and empty with snapd init {folder} --count {count} --missing-empty"
