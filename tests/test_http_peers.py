@@ -115,25 +115,25 @@ def hog(server, ended):
 
 
 def test_who_asks_without_end_keeps_nobody_waiting(snapd, _):
-    """While one connection has always a request more, others are answered, each within a second; and so are clients."""
+    """While one connection has always a request more, others are answered, and so are clients; none waits for many of its answers."""
     with SeenServer(snapd, *fresh(snapd, 1)) as server:
         ended = threading.Event()
         busy = threading.Thread(target=hog, args=(server, ended))
         hog.answered = 0
         busy.start()
         try:
-            longest = 0
+            most = 0
             for number in range(1, 21):
-                began = time.monotonic()
+                before = hog.answered
                 assert server.get("/health")[0] == 200
-                longest = max(longest, time.monotonic() - began)
+                most = max(most, hog.answered - before)
                 server.ask(update(0, number, b"on"), stored(number))
                 time.sleep(0.05)
         finally:
             ended.set()
             busy.join()
         assert hog.answered > 2_000, hog.answered
-        assert longest < 1, longest
+        assert most < hog.answered / 4, (most, hog.answered)
 
 
 def test_a_server_that_nobody_looked_at_ends(snapd, _):
