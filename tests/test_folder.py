@@ -195,7 +195,7 @@ def test_init_refuses_a_folder_of_more_segments(snapd, _):
         for index in lost:
             (place / name_of(index)).unlink(missing_ok=True)
         first = f"D/{name_of(len(lost))}"
-        line = f"{first}: it is of 4 segments, and --count is 5: give --count 4; a folder of more is made of a dump, by snapd load"
+        line = f"{first}: it is of 4 segments, and --count is 5: give --count 4, or move it out of there; a folder of more is made of a dump, by snapd load"
         snapd("init", "D", "--count", 5).gave(3, errors=said(line))
         assert files_in(place) == {name: data for name, data in before.items() if (place / name).exists()}
     snapd("init", "D", "--count", 4).gave(0, made(4, kept=[(3, 0)]))

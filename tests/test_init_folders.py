@@ -140,17 +140,17 @@ def test_files_of_other_names_are_kept(snapd, _):
     # It shows that another one was lost.
     (place / name_of(2)).unlink()
     init(snapd, 3).gave(3, errors=lost([name_of(2)], "pressure.seg", 5, 3))
-    # Of two the one that has the segment's name is it. A file of other segments or of none is none of theirs, and is left.
+    # Of two the one that has the segment's name is it. A file of no segment is none of theirs, and is left.
     (place / name_of(2)).write_bytes(file_of(2, 3, 4))
     (place / name_of(0)).write_bytes(file_of(0, 3, 6))
-    for name, data in (("a.seg", file_of(1, 4, 9)), ("b.seg", b"x"), ("c.seg", bytes(layout.LENGTH))):
+    for name, data in (("b.seg", b"x"), ("c.seg", bytes(layout.LENGTH))):
         (place / name).write_bytes(data)
     before = files_in(place)
     init(snapd, 3).gave(0, made(3, kept=enumerate((6, 0, 4))))
     assert files_in(place) == before
     # And where nothing else was stored, what they hold shows a loss too.
     other = folder(snapd, (0, None), "E")
-    (other / "a.seg").write_bytes(file_of(1, 4, 9))
+    (other / "a.seg").write_bytes(file_of(0, 2, 9))
     init(snapd, 2, folder="E").gave(3, errors=lost([name_of(1)], "a.seg", 9, 2, "E"))
 
 
@@ -222,9 +222,22 @@ def test_a_file_of_another_count_in_each_place(snapd, _):
         place = folder(snapd, (3, 0, 3))
         (place / name_of(index)).write_bytes(file_of(index, 4, 0))
         before = files_in(place)
-        line = f"D/{name_of(index)}: it is of 4 segments, and --count is 3: give --count 4; a folder of more is made of a dump, by snapd load"
+        line = f"D/{name_of(index)}: it is of 4 segments, and --count is 3: give --count 4, or move it out of there; a folder of more is made of a dump, by snapd load"
         init(snapd, 3, "--missing-empty").gave(3, errors=f"snapd: {line}\n")
         assert files_in(place) == before
+        shutil.rmtree(place)
+
+
+def test_a_file_of_another_count_by_any_name(snapd, _):
+    """No folder with such a file is served, so nothing is made beside it, whether it holds a value or not."""
+    for number, there in ((0, ()), (9, ()), (0, (0, 0, 0)), (9, (0, 3, 0))):
+        place = folder(snapd, there)
+        (place / "a.seg").write_bytes(file_of(1, 4, number))
+        before = files_in(place)
+        line = "D/a.seg: it is of 4 segments, and --count is 3: give --count 4, or move it out of there; a folder of more is made of a dump, by snapd load"
+        for word in ((), ("--missing-empty",)):
+            init(snapd, 3, *word).gave(3, errors=f"snapd: {line}\n")
+            assert files_in(place) == before
         shutil.rmtree(place)
 
 

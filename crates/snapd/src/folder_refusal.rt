@@ -80,7 +80,7 @@ fn write_another_count<W: Write>(
 ) -> fmt::Result {
     write!(
         f,
-        "{file}: it is of {count} segments, and --count is {wanted}: give --count {count}; a folder of more is made of a dump, by snapd load"
+        "{file}: it is of {count} segments, and --count is {wanted}: give --count {count}, or move it out of there; a folder of more is made of a dump, by snapd load"
     )
 }
 

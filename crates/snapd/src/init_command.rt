@@ -176,9 +176,6 @@ fn segment_by<'f>(
     number: u64,
 ) -> Result<Option<u8>, FolderTrouble<'f>> {
     match header {
-        Header::Open { index, count } if named.is_none() => {
-            Ok((count == wanted).then_some(index))
-        }
         Header::Open { count, .. } if count != wanted => {
             Err(FolderTrouble::Refused(FolderRefusal::AnotherCount {
                 file: String::from_str(alloc, file)?,
@@ -186,6 +183,7 @@ fn segment_by<'f>(
                 wanted,
             }))
         }
+        Header::Open { index, .. } if named.is_none() => Ok(Some(index)),
         Header::Closed if number == 0 => Ok(None),
         _ => Ok(named),
     }
