@@ -1,4 +1,4 @@
-"""Three hosts with the volume of docs/RECIPES.md, made by the listings that stand there, and its unit on each."""
+"""Three hosts with the volume of docs/REPLICATION.md, made by the listings that stand there, and its unit on each."""
 
 import concurrent.futures
 import os
@@ -29,13 +29,13 @@ LISTING = r"^```\w+\n((?:#![^\n]*\n)?# (?:\S*/)?(%s)\b.*?)^```$"
 
 def listings(without):
     """The recipe's texts by name, less the parts that are left out."""
-    recipes = (TOP / "docs" / "RECIPES.md").read_text()
-    found = {name: re.search(LISTING % re.escape(name), recipes, re.S | re.M)[1]
+    recipe = (TOP / "docs" / "REPLICATION.md").read_text()
+    found = {name: re.search(LISTING % re.escape(name), recipe, re.S | re.M)[1]
              for name in ("volume.sh", "fstab", "files.sh", "takeover.py", "snapd-board-takeover.service")}
     for part in without:
         name, old, new = PARTS[part]
         if old not in found[name]:
-            raise ValueError(f"{name} of docs/RECIPES.md has no {old!r}")
+            raise ValueError(f"{name} of docs/REPLICATION.md has no {old!r}")
         found[name] = found[name].replace(old, new)
     return found
 

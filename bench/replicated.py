@@ -1,4 +1,4 @@
-"""Tries `docs/RECIPES.md`, "Beyond one machine", by its own listings: a server on a volume with three copies, while hosts fail.
+"""Tries `docs/REPLICATION.md` by its own listings: a server on a volume with three copies, while hosts fail.
 
     python3 bench/replicated.py [--rounds N] [--minutes M] [--only KIND].. [--program bin/snapd] [--seed N] [--folder FOLDER]
         [--without PART]..

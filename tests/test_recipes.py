@@ -1,5 +1,5 @@
-"""Every listing of docs/RECIPES.md, run as it stands there: on real files, with kills of the jobs and of the server. Those of its
-chapter on three hosts are run by bench/replicated.py, which wants root."""
+"""Every listing of docs/RECIPES.md, run as it stands there: on real files, with kills of the jobs and of the server. Those of
+docs/REPLICATION.md are run by bench/replicated.py, which wants root."""
 
 import functools
 import json
@@ -21,19 +21,28 @@ from waiting import NO_END, PATIENCE, comes_to, gets_on, moment, wait_until
 from snapd_client import Conflict, OutOfStep
 
 TOP = pathlib.Path(__file__).resolve().parent.parent
-RECIPES = (TOP / "docs" / "RECIPES.md").read_text()
-# Each listing by the name in its comment on the first line, or behind its `#!`.
-LISTINGS = {
-    pathlib.Path(name).name: text
-    for text, name in re.findall(r"^```\w+\n((?:#![^\n]*\n)?# (\S+?):?(?: [^\n]*)?\n.*?)^```$", RECIPES, re.S | re.M)
-}
+RECIPES, REPLICATION = ((TOP / "docs" / name).read_text() for name in ("RECIPES.md", "REPLICATION.md"))
+
+
+def listings(document):
+    """Each listing by the name in its comment on the first line, or after its `#!`."""
+    found = re.findall(r"^```\w+\n((?:#![^\n]*\n)?# (\S+?):?(?: [^\n]*)?\n.*?)^```$", document, re.S | re.M)
+    return {pathlib.Path(name).name: text for text, name in found}
+
+
+LISTINGS = {**listings(RECIPES), **listings(REPLICATION)}
 
 
 def test_every_listing_is_known(_, __):
-    hosts = ["files.sh", "fstab", "snapd-board-takeover.service", "takeover.py", "volume.sh"]
-    assert sorted(LISTINGS) == sorted([*hosts, "prometheus.yml", "snapd.rules.yml", "backup.sh", "board.py", "checkpoint.py", "grow.sh", "launch.sh", "lease.py",
-                                "snapd-board@.service", "socket.conf", "start.sh"])
-    assert len(re.findall(r"^```\w+$", RECIPES, re.M)) == len(LISTINGS)
+    names = {
+        RECIPES: ["backup.sh", "board.py", "checkpoint.py", "grow.sh", "launch.sh", "lease.py", "prometheus.yml", "snapd-board@.service",
+                  "snapd.rules.yml", "socket.conf", "start.sh"],
+        REPLICATION: ["files.sh", "fstab", "snapd-board-takeover.service", "takeover.py", "volume.sh"],
+    }
+    for document, wanted in names.items():
+        assert sorted(listings(document)) == wanted
+        assert len(re.findall(r"^```\w+$", document, re.M)) == len(wanted)
+    assert len(LISTINGS) == sum(map(len, names.values()))
 
 
 def test_prometheus_takes_its_files(snapd, _):
@@ -550,7 +559,7 @@ def test_unit_at_a_socket(snapd, _):
     command, = re.findall(r"^ExecStart=(\S.*)$", text, re.M)
     program, serve, address, option, mode, *words = command.split()
     assert (program, serve, words) == (PROGRAM, COMMAND, WORDS)
-    assert "/var/lib/snapd/" not in RECIPES and "/run/snapd/" not in RECIPES
+    assert not [it for it in (RECIPES, REPLICATION) if "/var/lib/snapd/" in it or "/run/snapd/" in it]
     assert (address, option, mode) == ("unix:/run/snapd-board/%i/sock", "--socket-mode", "0660")
     # A list begins anew with an empty one; and the unit makes nothing that others may read but what is said.
     assert "ExecStart=\nExecStart=/" in text and "RestrictAddressFamilies=\nRestrictAddressFamilies=AF_UNIX\n" in text
