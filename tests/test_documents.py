@@ -4,7 +4,7 @@ import pathlib
 import re
 
 TOP = pathlib.Path(__file__).resolve().parent.parent
-DOCUMENTS = [TOP / "README.md", *sorted((TOP / "docs").glob("*.md"))]
+DOCUMENTS = [TOP / "README.md", TOP / "CHANGELOG.md", *sorted((TOP / "docs").glob("*.md"))]
 LINK = re.compile(r"\[([^\]]*)\]\(([^)\s]+)\)")
 # [`store`](../crates/snap_segment/src/segment.rt): `any_moment`, `last`
 CITED = re.compile(r"\[`([\w:]+)`\]\(([^)\s]+\.rt)\)((?::|,|, and| and)(?: `[a-z_]+`(?:,| and)?)+)?")
