@@ -2,8 +2,13 @@
 
 import pathlib
 import re
+import sys
 
 TOP = pathlib.Path(__file__).resolve().parent.parent
+sys.path.insert(0, str(TOP / "verification"))
+
+import contracts_table  # noqa: E402
+
 DOCUMENTS = [TOP / "README.md", TOP / "CHANGELOG.md", *sorted((TOP / "docs").glob("*.md"))]
 LINK = re.compile(r"\[([^\]]*)\]\(([^)\s]+)\)")
 # [`store`](../crates/snap_segment/src/segment.rt): `any_moment`, `last`
@@ -60,6 +65,12 @@ def test_definitions_stand_where_they_are_named(snapd, random):
             assert re.search(rf"^ *(?:pub )?(?:abbrev |unfoldable )?(?:pub )?(?:record |data )?{word}(?= |$)", source, re.M), (
                 f"{document.name}: {target} has no {name}"
             )
+
+
+def test_contracts_are_what_is_printed_from_the_sources(snapd, random):
+    printed = contracts_table.document()
+    assert (TOP / "docs" / "CONTRACTS.md").read_text() == printed, "python3 verification/contracts_table.py > docs/CONTRACTS.md"
+    assert len(CITED.findall(printed)) > 300
 
 
 # ---- what no clause says ----

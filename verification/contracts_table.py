@@ -1,0 +1,58 @@
+"""Prints docs/CONTRACTS.md: the public functions that have a contract, by room and crate, with the names of their clauses."""
+
+import re
+
+from source import HEAD, functions_in
+from tree import TOP, proved_crates
+
+INTRODUCTION = """# Contracts
+
+The public functions and the methods of traits that have an `ensures`, of each proved crate, with the names of their
+clauses; one without a name is `ensures`. `python3 verification/contracts_table.py` prints this document: it is never
+written by hand. What the clauses are for is in [THEOREMS.md](THEOREMS.md)."""
+
+
+def rooms():
+    """Each room of crates.txt, with its crates that are proved."""
+    proved = proved_crates(TOP)
+    for part in re.split(r"^# ", (TOP / "crates.txt").read_text(), flags=re.M)[2:]:
+        names = [line.split()[0].rstrip(":") for line in part.splitlines()[1:] if line]
+        yield part.partition(":")[0], [it for it in names if it in proved]
+
+
+def contract_of(lines, first):
+    """The head of a function with its clauses: up to its body, or to the semicolon of one that is declared alone."""
+    start = next(at for at in range(first - 1, len(lines)) if HEAD.match(lines[at]))
+    for end in range(start, len(lines)):
+        text = "\n".join(lines[start : end + 1])
+        is_declared = text.endswith(";") and text.count("{") == text.count("}")
+        if is_declared or lines[end] == HEAD.match(lines[start])[1] + "{" or text.endswith("{") and "ensures" not in text:
+            return text
+
+
+def functions_of(folder):
+    """Each function that others may call and that has a contract: with its type's name before its own, its file, its clauses."""
+    for file in sorted((folder / "src").rglob("*.rt")):
+        text = file.read_text()
+        for function in functions_in(text, file.name):
+            contract, of = contract_of(text.split("\n"), function.first) or "", function.of.replace("->", "")
+            while "<" in of:
+                of = re.sub(r"<[^<>]*>", "", of)
+            home = re.match(r"(?:.* for|impl|.*trait) (?:\w+::)*(\w+)", of)
+            clauses = [name or "ensures" for name in re.findall(r"^ *ensures (\w*)", contract, re.M)]
+            if clauses and ("trait " in of or re.match(r" *pub (?:const )?fn ", contract)):
+                yield f"{home[1]}::{function.name}" if home else function.name, file.relative_to(TOP), clauses
+
+
+def document():
+    lines = [INTRODUCTION]
+    for room, names in rooms():
+        lines += ["", f"## {room}"]
+        for name in names:
+            rows = [f"| [`{it}`](../{file}) | `{'`, `'.join(clauses)}` |" for it, file, clauses in functions_of(TOP / "crates" / name)]
+            lines += ["", f"| `{name}` | Clauses |", "|---|---|", *rows] if rows else []
+    return "\n".join(lines) + "\n"
+
+
+if __name__ == "__main__":
+    print(document(), end="")
