@@ -76,8 +76,8 @@ def test_contracts_are_what_is_printed_from_the_sources(snapd, random):
 # ---- what no clause says ----
 
 def unsaid():
-    """The rows of the table in docs/THEOREMS.md: what, where, what would pass, and the tests."""
-    chapter = (TOP / "docs" / "THEOREMS.md").read_text().split("\n## What no clause says\n")[1].split("\n## ")[0]
+    """The rows of the table in docs/UNPROVED.md: what, where, what would pass, and the tests."""
+    chapter = (TOP / "docs" / "UNPROVED.md").read_text().split("\n## What no clause says\n")[1].split("\n## ")[0]
     rows = [line.strip("| ").split(" | ") for line in chapter.splitlines() if line.startswith("| ")]
     assert rows[0][0] == "What" and len(rows) > 50, rows[0]
     return rows[1:]

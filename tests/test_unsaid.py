@@ -1,4 +1,4 @@
-"""What `snapd serve` does that no contract asks for, and no other test looks at (docs/THEOREMS.md, "What no clause says")."""
+"""What `snapd serve` does that no contract asks for, and no other test looks at (docs/UNPROVED.md, "What no clause says")."""
 
 import collections
 import contextlib
