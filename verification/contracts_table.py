@@ -9,7 +9,7 @@ INTRODUCTION = """# Contracts
 
 The public functions and the methods of traits that have an `ensures`, of each proved crate, with the names of their
 clauses; one without a name is `ensures`. `python3 verification/contracts_table.py` prints this document: it is never
-written by hand. What the clauses are for is in [THEOREMS.md](THEOREMS.md)."""
+written by hand. What the clauses are for is in [PROMISES.md](PROMISES.md)."""
 
 
 def rooms():
