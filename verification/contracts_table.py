@@ -8,8 +8,9 @@ from tree import TOP, proved_crates
 INTRODUCTION = """# Contracts
 
 The public functions and the methods of traits that have an `ensures`, of each proved crate, with the names of their
-clauses; one without a name is `ensures`. `python3 verification/contracts_table.py` prints this document: it is never
-written by hand. What the clauses are for is in [PROMISES.md](PROMISES.md)."""
+clauses; one without a name is `ensures`. `refusals` says which refusals may come, `calls` and `counts` how many calls
+of a device are made, `honest` that a device which is honest now was so before. What they are for is in
+[PROMISES.md](PROMISES.md). `python3 verification/contracts_table.py` prints this document."""
 
 
 def rooms():
