@@ -8,6 +8,7 @@ TOP = pathlib.Path(__file__).resolve().parent.parent
 sys.path.insert(0, str(TOP / "verification"))
 
 import contracts_table  # noqa: E402
+import crates_table  # noqa: E402
 
 DOCUMENTS = [TOP / "README.md", TOP / "CHANGELOG.md", *sorted((TOP / "docs").glob("*.md"))]
 LINK = re.compile(r"\[([^\]]*)\]\(([^)\s]+)\)")
@@ -187,6 +188,13 @@ def test_each_crate_stands_in_one_room(snapd, random):
     assert list(told.items()) == list(listed.items())
     crates = sum(listed.values(), [])
     assert sorted(crates) == sorted(it.parent.name for it in (TOP / "crates").glob("*/src")), "a crate twice or in no room"
+
+
+def test_the_table_of_crates_is_as_its_script_writes_it(snapd, random):
+    text = ARCHITECTURE.read_text()
+    assert crates_table.written(text) == text, "run: python3 verification/crates_table.py"
+    listed = re.findall(r"^\| \[(\w+)\]", crates_table.table(), re.M)
+    assert sorted(listed) == sorted(it.parent.name for it in (TOP / "crates").glob("*/src"))
 
 
 def constant(name, file):
