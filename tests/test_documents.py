@@ -74,6 +74,17 @@ def test_contracts_are_what_is_printed_from_the_sources(snapd, random):
     assert len(CITED.findall(printed)) > 300
 
 
+def test_what_is_quoted_is_in_the_source(snapd, random):
+    document = TOP / "docs" / "READING.md"
+    text, quoted = document.read_text(), []
+    for block in re.finditer(r"^```(\w*)\n(.*?)^```$", text, re.S | re.M):
+        # It is of the file that was linked last before it.
+        target = LINK.findall(text[: block.start()])[-1][1]
+        assert block[2] in (document.parent / target).read_text(), f"{target} has no such lines:\n{block[2]}"
+        quoted.append(block[1])
+    assert quoted.count("rust") >= 3 and quoted.count("antt") >= 2, quoted
+
+
 # ---- what no clause says ----
 
 def unsaid():
@@ -168,9 +179,9 @@ def test_each_function_without_a_clause_is_in_a_row(snapd, random):
 ARCHITECTURE = TOP / "docs" / "ARCHITECTURE.md"
 
 
-def table(heading):
+def table(heading, document=ARCHITECTURE):
     """The rows of the first table below this heading, without its head."""
-    chapter = ARCHITECTURE.read_text().split(f"\n## {heading}\n")[1].split("\n## ")[0]
+    chapter = document.read_text().split(f"\n## {heading}\n")[1].split("\n## ")[0]
     rows = [[cell.strip() for cell in line.strip("|").split(" | ")] for line in chapter.splitlines() if line.startswith("|")]
     assert len(rows) > 2 and all(len(row) == len(rows[0]) for row in rows[2:]), heading
     return rows[2:]
@@ -218,7 +229,8 @@ def test_limits_are_those_of_the_code(snapd, random):
 
 
 def test_words_stand_for_what_is_there(snapd, random):
-    rows = table("Words")
+    rows = table("Words", TOP / "docs" / "TOUR.md")
+    assert len(rows) <= 20, "a newcomer reads them all"
     assert [word for word, _, _ in rows] == sorted({word for word, _, _ in rows}), "a word twice, or not in order"
     for word, meaning, where in rows:
         assert named_in(where), f"{word} names no code"
