@@ -10,7 +10,7 @@ sys.path.insert(0, str(TOP / "verification"))
 import contracts_table  # noqa: E402
 import crates_table  # noqa: E402
 
-DOCUMENTS = [TOP / "README.md", TOP / "CHANGELOG.md", *sorted((TOP / "docs").glob("*.md"))]
+DOCUMENTS = [*(TOP / it for it in ("README.md", "CHANGELOG.md", "CONTRIBUTING.md")), *sorted((TOP / "docs").glob("*.md"))]
 LINK = re.compile(r"\[([^\]]*)\]\(([^)\s]+)\)")
 # [`store`](../crates/snap_segment/src/segment.rt): `any_moment`, `last`
 CITED = re.compile(r"\[`([\w:]+)`\]\(([^)\s]+\.rt)\)((?::|,|, and| and)(?: `[a-z_]+`(?:,| and)?)+)?")
@@ -72,6 +72,12 @@ def test_contracts_are_what_is_printed_from_the_sources(snapd, random):
     printed = contracts_table.document()
     assert (TOP / "docs" / "CONTRACTS.md").read_text() == printed, "python3 verification/contracts_table.py > docs/CONTRACTS.md"
     assert len(CITED.findall(printed)) > 300
+
+
+def test_files_that_a_step_names_are_there(snapd, random):
+    named = re.findall(r"`(\w+/(?:src|specs|proofs)/[\w/]+\.\w+)`", (TOP / "CONTRIBUTING.md").read_text())
+    assert len(named) > 50
+    assert not [it for it in named if not (TOP / "crates" / it).exists()]
 
 
 def test_what_is_quoted_is_in_the_source(snapd, random):

@@ -1,9 +1,9 @@
-"""Writes the table of crates in docs/ARCHITECTURE.md: of each what the head of its source says first, and what crates.txt says it uses."""
+"""Writes the table of crates in docs/ARCHITECTURE.md: of each what its source says of it first, and what crates.txt says it uses."""
 
-import pathlib
 import re
 
-TOP = pathlib.Path(__file__).resolve().parent.parent
+from tree import TOP, crates_of
+
 DOCUMENT = TOP / "docs" / "ARCHITECTURE.md"
 BEGIN = "<!-- the table of crates, written by verification/crates_table.py -->\n"
 END = "<!-- the end of the table of crates -->\n"
@@ -12,7 +12,7 @@ END = "<!-- the end of the table of crates -->\n"
 def head_of(crate):
     """The path of the crate's first file, and the first paragraph of what it says of itself, on one line."""
     [file] = [it for it in (TOP / "crates" / crate / "src" / name for name in ("lib.rt", "main.rt")) if it.exists()]
-    head = re.match(r"(?://!(.*)\n)+", file.read_text())[0]
+    head = re.match(r"(?://!.*\n)+", file.read_text())[0]
     text = " ".join(line[3:].strip() for line in head.split("\n//!\n")[0].splitlines())
     # What it links by a name alone, a document can't.
     return file.relative_to(TOP), re.sub(r"\[(`[^`]+`)\](?:\([^)]*\))?", r"\1", text)
@@ -21,12 +21,10 @@ def head_of(crate):
 def table():
     """A row for each crate, in the order of crates.txt."""
     rows = ["| Crate | What it is | What it uses |", "|---|---|---|"]
-    for line in (TOP / "crates.txt").read_text().splitlines():
-        if line and not line.startswith("#"):
-            words, _, used = line.partition(":")
-            crate = words.split()[0]
-            file, head = head_of(crate)
-            rows.append(f"| [{crate}](../{file}) | {head} | {', '.join(f'`{it}`' for it in used.split()) or 'none'} |")
+    for crate in crates_of(TOP).values():
+        file, head = head_of(crate.name)
+        uses = ", ".join(f"`{it}`" for it in crate.uses) or "none"
+        rows.append(f"| [{crate.name}](../{file}) | {head} | {uses} |")
     return "".join(f"{row}\n" for row in rows)
 
 
