@@ -1,4 +1,4 @@
-"""Writes the table of crates in docs/ARCHITECTURE.md: of each what its source says of it first, and what crates.txt says it uses."""
+"""Writes the table of crates in docs/ARCHITECTURE.md: of each what its source says of it first."""
 
 import re
 
@@ -20,11 +20,10 @@ def head_of(crate):
 
 def table():
     """A row for each crate, in the order of crates.txt."""
-    rows = ["| Crate | What it is | What it uses |", "|---|---|---|"]
-    for crate in crates_of(TOP).values():
-        file, head = head_of(crate.name)
-        uses = ", ".join(f"`{it}`" for it in crate.uses) or "none"
-        rows.append(f"| [{crate.name}](../{file}) | {head} | {uses} |")
+    rows = ["| Crate | What it is |", "|---|---|"]
+    for crate in crates_of(TOP):
+        file, head = head_of(crate)
+        rows.append(f"| [{crate}](../{file}) | {head} |")
     return "".join(f"{row}\n" for row in rows)
 
 
