@@ -297,3 +297,23 @@ def test_files_are_called_by_nouns(snapd, random):
     files = [it for part in ("src", "specs", "proofs") for it in TOP.glob(f"crates/*/{part}/**/*") if it.suffix in (".rt", ".antt")]
     assert len(files) > 500
     assert {it.name for it in files if it.stem.lower().endswith("ing")} == {"standing.rt", "reading.rt"}
+
+
+# ---- how long the documents are ----
+
+# The most words that a document may have, or several together: what one reads in an evening. What is added to one is cut in it.
+MOST_WORDS = {
+    "README.md": 1_500, "docs/TOUR.md": 1_900, "docs/READING.md": 1_300, "docs/PROMISES.md": 4_100, "docs/UNPROVED.md": 4_600,
+    "docs/FORMATS.md": 7_400, "docs/RECIPES.md docs/REPLICATION.md": 6_800, "docs/PERFORMANCE.md docs/COMPARISON.md": 3_100,
+    "docs/DECISIONS.md": 7_300, "docs/ARCHITECTURE.md": 3_100, "docs/CONTRACTS.md": 3_000, "CONTRIBUTING.md CHANGELOG.md": 2_000,
+    "clients/c/README.md clients/python/README.md": 1_750,
+}
+
+
+def test_documents_stay_short(snapd, random):
+    named = {TOP / file for files in MOST_WORDS for file in files.split()}
+    assert set(DOCUMENTS) <= named, sorted(map(str, set(DOCUMENTS) - named))
+    for files, most in MOST_WORDS.items():
+        words = sum(len((TOP / file).read_text().split()) for file in files.split())
+        print(f"{files}: {words} words of {most}")
+        assert words <= most, f"{files}: {words} words, and {most} are the most"
