@@ -20,6 +20,7 @@ from clients import BOTH, ask
 from preload import library
 from program import Skipped
 from serving import FRESH, LOOPBACK, SCAN, at_socket, entries_of, fresh, free_port, received, reply, segments, snapshot
+from test_load_folders import for_all
 from test_serve_memory import NO_THREAD
 from test_serve_sockets import STARTS, Sockets
 from waiting import PATIENCE, comes_to, wait_until
@@ -249,15 +250,13 @@ def test_a_socket_that_somebody_has_is_left(snapd, _):
 
 def test_a_socket_of_another_user_is_left(snapd, _):
     """It may be another user's server, which can't be asked; or what one left that this user may not remove."""
-    if os.geteuid() != 0:
-        raise Skipped("it takes root to be another user")
-    os.chmod(snapd.folder, 0o755)
+    program = for_all(snapd)
     where = snapd.file(folder(snapd, "shared"))
     os.chmod(where, 0o1777)
     other = fresh(snapd, 1, folder=folder(snapd, "other"))
     os.chown(snapd.file(other[0]), NOBODY, NOBODY)
     become = "import os, sys; os.setgroups([]); os.setgid(65534); os.setuid(65534); os.execv(sys.argv[1], sys.argv[1:])"
-    words = ("python3", "-c", become, snapd.path, "serve", "unix:shared/a", *other)
+    words = ("python3", "-c", become, str(program.path), "serve", "unix:shared/a", *other)
 
     def is_left(number):
         run = subprocess.run(words, cwd=snapd.folder, capture_output=True, text=True, timeout=PATIENCE)

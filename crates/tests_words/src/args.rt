@@ -24,7 +24,7 @@ fn is_order(alloc: Global, words: &[&str], wanted: &Order<'_>) -> bool {
 }
 
 /// Words of commands on one file.
-const FILE_ORDERS: [(&[&str], FileOrder<'static>); 6] = [
+const FILE_ORDERS: [(&[&str], FileOrder<'static>); 7] = [
     (
         &["snapd", "format", "F"],
         FileOrder::Format {
