@@ -15,7 +15,7 @@ from tree import TOP
 
 def closing(record):
     """What was proved of such a build, and what proves it."""
-    return (f"This build isn't proved here. {record.told()}", "What proves it, with all that it stands on: make prove (about 45 minutes on four processors)")
+    return (f"This build isn't proved here. {record.told()}", "What proves it, with all that it stands on: make prove (about 50 minutes on four processors)")
 
 
 def main():
