@@ -3,6 +3,7 @@
 import os
 import pathlib
 import re
+import shutil
 import subprocess
 import sys
 import types
@@ -10,6 +11,7 @@ import types
 TOP = pathlib.Path(__file__).resolve().parent.parent
 sys.path.insert(0, str(TOP / "verification"))
 
+import archive  # noqa: E402
 import demo  # noqa: E402
 import kit  # noqa: E402
 import quick  # noqa: E402
@@ -236,9 +238,50 @@ def test_a_prover_that_fails_is_never_taken_for_one_that_passed(snapd, _):
 
 def test_each_proof_is_told_as_it_ends(snapd, _):
     progress = Progress(["low", "middle", "high"], 2)
-    for line in ("took low 12\n", "rt: low proved\n", "rt: middle is kept: an earlier run\n", "took high 3\n", "rt: high NOT PROVED\n", "rt: high: note\n"):
+    for line in ("took low 12\n", "rt: low proved\n", "kept middle\n", "rt: middle proved\n", "took high 3\n", "rt: high NOT PROVED\n", "rt: high: note\n"):
         progress.take(line)
-    assert (progress.done, progress.kept, progress.seconds, progress.bad, progress.left) == (3, 1, {"low": 12, "high": 3}, ["high"], {})
+    assert (progress.done, progress.kept, progress.seconds, progress.bad, progress.left) == (3, {"middle"}, {"low": 12, "high": 3}, ["high"], {})
+
+
+def test_a_proof_is_kept_as_long_as_all_that_it_read_is_the_same(snapd, _):
+    top, folder = tree(snapd.folder), snapd.folder / "archive"
+    folder.mkdir()
+    for name in LOWER:
+        built = top / "crates" / name / "out" / "rlib" / f"{name}.rlib" / "statements"
+        built.parent.mkdir(parents=True)
+        built.write_text(name)
+
+    def taken(name="middle"):
+        """Whether the archive gives the crate's library, once it is gone."""
+        built = top / "crates" / name / "out" / "rlib"
+        shutil.rmtree(built, ignore_errors=True)
+        is_taken = archive.Archive(top, folder).take(name)
+        assert (built / f"{name}.rlib" / "statements").exists() == is_taken
+        return is_taken
+
+    assert not taken("high")
+    archive.Archive(top, folder).keep("middle")
+    assert taken() and taken()
+    for path in ("crates/middle/src/lib.rt", "crates/middle/specs/Words.antt", "crates/low/out/rlib/low.rlib/statements", "HANDLES", "crates.txt"):
+        file = top / path
+        text = file.read_text()
+        file.write_text(text.replace("middle: low", "middle: low bytes") if path == "crates.txt" else text + " ")
+        assert not taken(), path
+        file.write_text(text)
+        assert taken(), path
+    for kept in folder.rglob("statements"):
+        kept.write_text("another")
+    assert not taken()
+
+
+def test_an_archive_that_others_can_write_to_is_refused(snapd, _):
+    words = [sys.executable, "-c", "import archive; print(archive.place())"]
+    kept, how = snapd.folder / "snapd-proofs", {"cwd": TOP / "verification", "capture_output": True, "text": True, "timeout": PATIENCE}
+    how["env"] = {**os.environ, "XDG_CACHE_HOME": str(snapd.folder)}
+    assert subprocess.run(words, **how).stdout == f"{kept}\n" and kept.stat().st_mode & 0o777 == 0o700
+    kept.chmod(0o770)
+    run = subprocess.run(words, **how)
+    assert run.returncode == 1 and run.stderr.startswith(f"{kept} isn't yours alone") and "Traceback" not in run.stderr, run
 
 
 def test_the_longest_chain_goes_by_what_was_measured(snapd, _):

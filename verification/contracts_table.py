@@ -1,4 +1,4 @@
-"""Prints docs/CONTRACTS.md: the public functions that have a contract, by room and crate, with the names of their clauses."""
+"""Prints the table of contracts: the public functions that have one, by room and crate, with the names of their clauses."""
 
 import re
 
@@ -10,7 +10,7 @@ INTRODUCTION = """# Contracts
 The public functions and the methods of traits that have an `ensures`, of each proved crate, with the names of their
 clauses; one without a name is `ensures`. `refusals` says which refusals may come, `calls` and `counts` how many calls
 of a device are made, `honest` that a device which is honest now was so before. What they are for is in
-[PROMISES.md](PROMISES.md). `python3 verification/contracts_table.py` prints this document."""
+[PROMISES.md](docs/PROMISES.md)."""
 
 
 def rooms():
@@ -27,7 +27,9 @@ def contract_of(lines, first):
     for end in range(start, len(lines)):
         text = "\n".join(lines[start : end + 1])
         is_declared = text.endswith(";") and text.count("{") == text.count("}")
-        if is_declared or lines[end] == HEAD.match(lines[start])[1] + "{" or text.endswith("{") and "ensures" not in text:
+        # (a law has no body)
+        is_whole = lines[end].rstrip("}") == HEAD.match(lines[start])[1] + "{"
+        if is_declared or is_whole or text.endswith("{") and "ensures" not in text:
             return text
 
 
@@ -50,7 +52,7 @@ def document():
     for room, names in rooms():
         lines += ["", f"## {room}"]
         for name in names:
-            rows = [f"| [`{it}`](../{file}) | `{'`, `'.join(clauses)}` |" for it, file, clauses in functions_of(TOP / "crates" / name)]
+            rows = [f"| [`{it}`]({file}) | `{'`, `'.join(clauses)}` |" for it, file, clauses in functions_of(TOP / "crates" / name)]
             lines += ["", f"| `{name}` | Clauses |", "|---|---|", *rows] if rows else []
     return "\n".join(lines) + "\n"
 

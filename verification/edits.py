@@ -6,10 +6,11 @@ tries what must-fail.lock doesn't have under its digest, with --every all, and r
 edits of these crates alone.
 
 `must-fail.lock` has a line for each edit that was refused: its name, the digest of what that rests on (digests.py), and the kit's
-release that refused it. The kit tries edits by `rt must-fail`, over what a proof of their crate has left.
+release that refused it. Edits are tried as the kit's `rt must-fail` does it, over what a proof of their crate has left.
 """
 
 import argparse
+import os
 import random
 import re
 import shutil
@@ -23,6 +24,7 @@ import kit
 from digests import Digests
 from libraries import lay_all
 from proofs import UNKNOWN, prove
+from record import read_lock as read_record
 from tree import LOGS, TOP, below, copied, crates_of, edits_of, laid, refuse_strange, rows_of, with_below
 
 LOCK = "must-fail.lock"
@@ -30,10 +32,11 @@ HEAD = """\
 # Each edit that the prover has refused: the digest of what that rests on (the edit, its function, the contracts and definitions
 # that this names, and the kit's logic), and the kit's release. Every run that tries an edit records it.
 """
-SAID = re.compile(r"rt: must-fail (\S+/\S+): (refused|NOT REFUSED|BAD EDIT|NOT TRIED)(.*)")
+SAID = re.compile(r"must-fail (\S+/\S+): (refused|NOT REFUSED|BAD EDIT|NOT TRIED)(.*)")
 # What the kit says of an edit that took a name away which a proof cites: that says nothing of the contract.
 NAMELESS = "only because a proof file names"
-PARTS = ("rtlib.crates_below", "rtlib.guarded", "rtlib.RATTLE", "rtlib.KEPT", "Crate.words", "processors", "free")
+PARTS = ("rtlib.crates_below", "rtlib.guarded", "rtlib.RATTLE", "rtlib.KEPT", "Crate.words", "must_fail", "checked", "processors", "free")
+JOBS = ["--jobs", "1"]
 # The memory that a check may take.
 EACH = 4_000_000_000
 
@@ -79,7 +82,7 @@ class Edits:
         return [it for it in self.digests if not self.is_known(it)]
 
     def take(self, chosen, said):
-        """Takes in what `rt must-fail` said of these edits."""
+        """Takes in what the kit said of these edits."""
         found = {name: (came, text) for name, came, text in SAID.findall(said)}
         for edit in chosen:
             name = self.name(edit)
@@ -115,9 +118,20 @@ def drawn(names, edits, crates, seconds, missing, seed, most):
 def proved_anew(rt, crate):
     """Proves a crate from nothing, and leaves in its out/ what its edits begin with; why it isn't proved, or None."""
     shutil.rmtree(f"{crate.folder}/out/incremental", ignore_errors=True)
-    words = [*rt.rtlib.guarded(), rt.rtlib.RATTLE, "check", *crate.words(["--jobs", "1"], keeps=False), *rt.rtlib.KEPT]
+    words = [*rt.rtlib.guarded(), rt.rtlib.RATTLE, "check", *crate.words(JOBS, keeps=False), *rt.rtlib.KEPT]
     ran = subprocess.run(words, cwd=crate.folder, stdin=subprocess.DEVNULL, stdout=subprocess.PIPE, stderr=subprocess.STDOUT, text=True, errors="replace")
     return None if ran.returncode == 0 else f"{crate.name} isn't proved:\n{ran.stdout[-1000:]}"
+
+
+def tried(rt, crate, paths):
+    """Proves a crate anew, and tries these edits of it in turn, each over what was proved before: what the kit says of each, and why the
+    crate isn't proved, if it isn't. It has to be proved as it is before the first edit, and after the last one."""
+    if why := proved_anew(rt, crate):
+        return [], why
+    kept = os.path.join(crate.folder, rt.rtlib.KEPT[1])
+    said = [rt.must_fail(crate, str(it), JOBS, kept)[1] for it in paths]
+    is_sound = not paths or rt.checked(crate, {}, JOBS, kept).returncode == 0
+    return said, None if is_sound else f"{crate.name} isn't proved after its edits were tried"
 
 
 def try_over(copy, names, edits, chosen, tell=lambda it: print(it, flush=True)):
@@ -125,24 +139,21 @@ def try_over(copy, names, edits, chosen, tell=lambda it: print(it, flush=True)):
     What was refused is recorded."""
     laid(TOP, copy, names)
     _, missing = lay_all(copy)
-    rt = kit.load(*PARTS)
-    crates = [it for it in rt.rtlib.crates_below(str(copy)) if it.name in names]
-    lacking = [it for crate in crates for it in crate.below() if it.name in missing]
-    began, lanes = time.monotonic(), max(1, min(rt.processors(), rt.free() // EACH))
-    with ThreadPoolExecutor(lanes) as pool:
-        for crate, why in zip(crates, pool.map(lambda it: "a library below it isn't proved" if lacking else proved_anew(rt, it), crates)):
-            edits.failures += [f"{crate.name}: {why}"] * bool(why)
-    tell(f"{len(crates)} crates proved anew in {time.monotonic() - began:.0f} s")
-    if edits.failures or not chosen:
+    rt, seconds = kit.load(*PARTS), {name: it.seconds for name, it in read_record(TOP).items()}
+    crates = sorted((it for it in rt.rtlib.crates_below(str(copy)) if it.name in names), key=lambda it: -seconds.get(it.name, UNKNOWN))
+    if lacking := {it.name for crate in crates for it in crate.below() if it.name in missing}:
+        edits.failures += [f"{it} isn't proved, so no edit above it was tried" for it in sorted(lacking)]
         return
-    for name, path in chosen:
-        (copy / "crates" / name / "must-fail").mkdir(exist_ok=True)
-        shutil.copy(path, copy / "crates" / name / "must-fail")
-    with (LOGS / "edits.log").open("w") as log:
-        ran = subprocess.run(["rt", "must-fail", *sorted({it[0] for it in chosen})], cwd=copy, stdin=subprocess.DEVNULL, stdout=log, stderr=subprocess.STDOUT)
+    # (the first call sets a signal's handler, which only the main thread may)
+    rt.rtlib.guarded()
+    began, lanes = time.monotonic(), max(1, min(rt.processors(), rt.free() // EACH))
+    with ThreadPoolExecutor(lanes) as pool, (LOGS / "edits.log").open("w") as log:
+        for said, why in pool.map(lambda crate: tried(rt, crate, [path for name, path in chosen if name == crate.name]), crates):
+            edits.failures += [why] * bool(why)
+            log.write("".join(f"{it}\n" for it in said))
     edits.take(chosen, (LOGS / "edits.log").read_text(errors="replace"))
     edits.record(TOP)
-    tell(f"edits: {edits.refused} of {len(chosen)} refused in {time.monotonic() - began:.0f} s" + ("" if ran.returncode == 0 else ", see out/edits.log"))
+    tell(f"edits: {len(crates)} crates proved anew, and {edits.refused} of {len(chosen)} edits refused, in {time.monotonic() - began:.0f} s")
 
 
 def main():

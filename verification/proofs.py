@@ -2,12 +2,13 @@
 
     python3 proofs.py ci [--anew]
 
-is the kit's `rt ci` in this folder, but for three things: tests aren't proved, since nobody relies on a theorem about a test; the
-crates come in the order of the times that the record has, the longest chain first; and it says how long each took. What the
-kit keeps of what it has proved on this machine it takes, with --anew nothing.
+is the kit's `rt ci` in this folder, but for four things: tests aren't proved, since nobody relies on a theorem about a test; the
+crates come in the order of the times that the record has, the longest chain first; it says how long each took; and what this
+machine has proved before is taken from its archive (archive.py), with --anew nothing.
 """
 
 import os
+import pathlib
 import re
 import subprocess
 import sys
@@ -15,13 +16,15 @@ import time
 from dataclasses import dataclass, field
 
 import kit
+from archive import Archive
 from record import read_lock
 from tree import TOP, crates_of
 
 PARTS = ("in_lanes", "main", "Crate.ci", "rtlib.Crate.has_tests", "processors")
 COUNT = re.compile(r"(\d+) passed, (\d+) failed")
-SAID = re.compile(r"rt: (\w+) (proved|NOT PROVED|is kept\b)")
+SAID = re.compile(r"rt: (\w+) (proved|NOT PROVED)")
 TOOK = re.compile(r"took (\w+) (\d+)")
+KEPT = re.compile(r"kept (\w+)")
 # What a crate takes that the record doesn't have: by each of its lines, and where these aren't known.
 EACH_LINE, UNKNOWN = 0.12, 60
 # How many lines of a failed run are shown again.
@@ -50,21 +53,22 @@ class Progress:
     def __init__(self, names, lanes):
         lines = read_lock(TOP)
         self.left, self.lanes = {it: (lines[it].seconds if it in lines else 0) or UNKNOWN for it in names}, lanes
-        self.all, self.done, self.kept, self.seconds, self.bad = len(names), 0, 0, {}, []
+        self.all, self.done, self.kept, self.seconds, self.bad = len(names), 0, set(), {}, []
 
     def take(self, line):
         if took := TOOK.match(line):
             self.seconds[took[1]] = int(took[2])
+        if kept := KEPT.match(line):
+            self.kept.add(kept[1])
         said = SAID.match(line)
         if not said:
             return
         name, came = said.groups()
         self.done += 1
         self.left.pop(name, None)
-        self.kept += came == "is kept"
         if came == "NOT PROVED":
             self.bad.append(name)
-        if came != "is kept":
+        if name not in self.kept:
             minutes = max(1, round(sum(self.left.values()) / self.lanes / 60))
             what = f"{self.seconds.get(name, 0)} s" + (" NOT PROVED" if came == "NOT PROVED" else "")
             print(f"[{self.done} of {self.all}] {name} {what}" + (f", about {minutes} min left" if self.left else ""), flush=True)
@@ -83,7 +87,7 @@ def prove(copy, log, anew=False):
             lines.append(line.rstrip())
             progress.take(line)
     came = judged(lines, run.returncode)
-    came.kept, came.seconds, came.took = progress.kept, progress.seconds, time.monotonic() - began
+    came.kept, came.seconds, came.took = len(progress.kept), progress.seconds, time.monotonic() - began
     if came.failed:
         came.failures.append(f"the whole log: {os.path.relpath(log)}")
     return came
@@ -105,20 +109,27 @@ def by_seconds(tasks, seconds):
 
 
 def main():
-    rt = kit.load(*PARTS)
+    rt, is_anew, archive = kit.load(*PARTS), "--anew" in sys.argv, Archive(pathlib.Path.cwd())
     seconds, in_lanes, ci = {name: it.seconds for name, it in read_lock(TOP).items()}, rt.in_lanes, rt.Crate.ci
 
-    def timed(crate, flags, tests):
+    def taken_or_proved(crate, flags, tests):
         began = time.monotonic()
+        if not is_anew and archive.take(crate.name):
+            sys.stdout.write(f"kept {crate.name}\n")
+            return 0
         status = ci(crate, flags, tests)
         # (as one piece: other threads print too)
         sys.stdout.write(f"took {crate.name} {time.monotonic() - began:.0f}\n")
+        if status == 0:
+            archive.keep(crate.name)
         return status
 
-    rt.Crate.ci = timed
+    rt.Crate.ci = taken_or_proved
     rt.in_lanes = lambda tasks: in_lanes(by_seconds(tasks, seconds))
     rt.rtlib.Crate.has_tests = lambda crate: False
-    status = rt.main(sys.argv[1:])
+    # (a kit that has an archive of its own isn't to take from it: it would leave ours without what it took)
+    status = rt.main(["ci", *["--anew"] * kit.has(rt, "Kept")])
+    archive.thin()
     sys.stdout.flush()
     return status
 
