@@ -65,10 +65,10 @@ install:
 	install -d $(FOLDERS:%='$(TO)/%')
 	install -m 755 '$(PROGRAM)' '$(TO)/bin/snapd'
 	install -m 644 $(HEADERS:%=clients/c/%) '$(TO)/include'
-	umask 022 && '$(TO)/bin/snapd' help --man > '$(TO)/share/man/man1/snapd.1'
-	umask 022 && '$(TO)/bin/snapd' help --completions bash > '$(TO)/share/bash-completion/completions/snapd'
-	umask 022 && '$(TO)/bin/snapd' help --completions zsh > '$(TO)/share/zsh/site-functions/_snapd'
-	umask 022 && '$(TO)/bin/snapd' help --completions fish > '$(TO)/share/fish/vendor_completions.d/snapd.fish'
+	install -m 644 packaging/snapd.1 '$(TO)/share/man/man1'
+	install -m 644 packaging/completions/snapd.bash '$(TO)/share/bash-completion/completions/snapd'
+	install -m 644 packaging/completions/_snapd '$(TO)/share/zsh/site-functions'
+	install -m 644 packaging/completions/snapd.fish '$(TO)/share/fish/vendor_completions.d'
 
 uninstall:
 	rm -f $(FILES:%='$(TO)/%')

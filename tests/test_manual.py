@@ -4,15 +4,18 @@ import pathlib
 import re
 import shutil
 import subprocess
+import sys
 
 from program import Program, Skipped
 from waiting import PATIENCE
 
 TOP = pathlib.Path(__file__).resolve().parent.parent
-SHELLS = ("bash", "zsh", "fish")
+PACKAGING = TOP / "packaging"
+PAGE = PACKAGING / "snapd.1"
+COMPLETIONS = {it: PACKAGING / "completions" / name for it, name in (("bash", "snapd.bash"), ("zsh", "_snapd"), ("fish", "snapd.fish"))}
 # What `call` can be asked.
 REQUESTS = "get health part put scan status update"
-UNKNOWN = "snapd: error: the shell is not `bash`, `zsh` or `fish`\n\nFor more information, try '--help'.\n"
+UNKNOWN = "snapd: error: unrecognized subcommand '{}'\n\nUsage: snapd <COMMAND>\n\nFor more information, try '--help'.\n"
 # Calls the completing function as bash does: the words, of which the last is the one to be completed.
 TRY = """
 . "$1"
@@ -50,27 +53,54 @@ def options(snapd, command):
     return re.findall(r"^ +(?:-\w, )?(--[a-z-]+)", output(snapd, command, "--help"), re.MULTILINE)
 
 
-def page(snapd):
+def page():
     """The page of the manual as it is read, without a warning."""
-    man = wanted("man")
-    file = snapd.file("snapd.1")
-    file.write_text(output(snapd, "help", "--man"))
-    words = [man, "--warnings", "-E", "UTF-8", "-l", str(file)]
+    words = [wanted("man"), "--warnings", "-E", "UTF-8", "-l", str(PAGE)]
     run = subprocess.run(words, capture_output=True, text=True, timeout=PATIENCE, env={"MANWIDTH": "140", "PATH": "/usr/bin:/bin"})
     assert run.returncode == 0 and run.stderr == "", run
     return run.stdout
 
 
+def made(script, *words):
+    """How the script that makes the page and the completions ended with these words, and what it said."""
+    run = subprocess.run([sys.executable, str(script), *words], capture_output=True, text=True, timeout=PATIENCE)
+    assert run.stdout == "", run
+    return run.returncode, run.stderr
+
+
+def test_the_files_are_what_help_makes_of_them(snapd, _):
+    assert made(PACKAGING / "manual.py", "--check", snapd.path) == (0, "")
+    version = output(snapd, "--version").replace(" (not proved)", "").strip()
+    assert PAGE.read_text().startswith(f'.TH SNAPD 1 "" "{version}" "User Commands"\n')
+
+
+def test_a_file_that_differs_is_named_and_made_anew(snapd, _):
+    folder = snapd.file("packaging")
+    folder.mkdir()
+    script = shutil.copy(PACKAGING / "manual.py", folder)
+    shutil.copy(PAGE, folder)
+    status, errors = made(script, "--check", snapd.path)
+    assert status == 1 and errors.count("\n") == 3 and "snapd.1" not in errors, errors
+    assert all(path.name in errors for path in COMPLETIONS.values()) and not (folder / "completions").exists(), errors
+    assert made(script, snapd.path) == (0, "") and made(script, "--check", snapd.path) == (0, "")
+    for path in (PAGE, *COMPLETIONS.values()):
+        assert (folder / path.relative_to(PACKAGING)).read_bytes() == path.read_bytes(), path
+    (folder / "snapd.1").write_bytes(PAGE.read_bytes() + b"\n")
+    status, errors = made(script, "--check", snapd.path)
+    assert status == 1 and errors.count("\n") == 1 and "packaging/snapd.1 " in errors, errors
+    status, errors = made(script, "--check", "no/such")
+    assert status == 1 and "no/such: run make build first" in errors, errors
+
+
 def test_the_page_has_no_warning(snapd, _):
     groff = wanted("groff")
-    page(snapd)
-    text = output(snapd, "help", "--man").encode()
-    run = subprocess.run([groff, "-man", "-ww", "-Tutf8"], input=text, capture_output=True, timeout=PATIENCE)
+    page()
+    run = subprocess.run([groff, "-man", "-ww", "-Tutf8", str(PAGE)], capture_output=True, timeout=PATIENCE)
     assert run.returncode == 0 and run.stderr == b"", run.stderr
 
 
 def test_the_page_names_all_that_help_names(snapd, _):
-    text = page(snapd)
+    text = page()
     for section in ("NAME", "SYNOPSIS", "DESCRIPTION", "OPTIONS", "COMMANDS", "EXIT STATUS"):
         assert f"\n{section}\n" in text, section
     found = commands(snapd)
@@ -92,41 +122,28 @@ def is_told_otherwise(line):
 
 def test_no_line_of_the_page_is_a_request_by_chance(snapd, _):
     requests = {".TH", ".SH", ".SS", ".PP", ".TP", ".B", ".nf", ".fi"}
-    for line in output(snapd, "help", "--man").splitlines():
+    for line in PAGE.read_text().splitlines():
         assert not line.startswith("'") and (not line.startswith(".") or line.split()[0] in requests), line
 
 
-def test_help_is_as_it_was(snapd, _):
+def test_help_names_the_page(snapd, _):
+    assert "\nAll on one page: `man snapd`.\n" in output(snapd, "help")
+
+
+def test_words_of_help(snapd, _):
     assert output(snapd, "help") == output(snapd, "--help")
     for command in commands(snapd).keys() - {"help"}:
         assert output(snapd, "help", command) == output(snapd, command, "--help")
-    snapd("help", "--man", "serve").failed_with(2, "unrecognized subcommand '--man'")
-    snapd("help", "serve", "--man").failed_with(2)
-    snapd("--man").failed_with(2)
-    snapd("help", "--completions").failed_with(2, "unrecognized subcommand '--completions'")
-    snapd("help", "--completions=bash").failed_with(2)
-
-
-def test_an_unknown_shell(snapd, _):
-    for shell in ("tcsh", "", "Bash", "bash "):
-        snapd("help", "--completions", shell).gave(2, errors=UNKNOWN)
-
-
-def test_a_full_disk_is_told(snapd, _):
-    for words in (["--man"], *(["--completions", shell] for shell in SHELLS)):
-        with open("/dev/full", "wb") as full:
-            run = snapd("help", *words, stdout=full)
-        assert run.status == 1 and run.errors.startswith("snapd: "), (words, run)
+    for words in (["--foo"], ["--man"], ["--man", "serve"], ["--completions"], ["--completions", "bash"], ["--completions=bash"], ["x"], [""]):
+        snapd("help", *words).gave(2, errors=UNKNOWN.format(words[0]))
+    snapd("help", "serve", "--man").failed_with(2, "unrecognized subcommand '--man'")
+    snapd("--man").failed_with(2, "unexpected argument '--man' found")
 
 
 def completed(snapd, *words):
     """What bash offers for the last of these words behind `snapd`."""
-    bash = wanted("bash")
-    script = snapd.file("completions.bash")
-    if not script.exists():
-        script.write_text(output(snapd, "help", "--completions", "bash"))
     run = subprocess.run(
-        [bash, "--norc", "-c", TRY, "bash", str(script), "snapd", *words],
+        [wanted("bash"), "--norc", "-c", TRY, "bash", str(COMPLETIONS["bash"]), "snapd", *words],
         cwd=snapd.folder,
         capture_output=True,
         text=True,
@@ -143,8 +160,7 @@ def test_bash_completes_commands_and_options(snapd, _):
         assert completed(snapd, command, "--") == " ".join(sorted(options(snapd, command))), command
     assert completed(snapd, "put", "F", "--i") == "--index"
     assert completed(snapd, "help", "") == " ".join(sorted(commands(snapd).keys() - {"help"}))
-    assert completed(snapd, "help", "--") == "--completions --help --man --version"
-    assert completed(snapd, "help", "--completions", "") == "bash fish zsh"
+    assert completed(snapd, "help", "--") == "--help --version"
 
 
 def test_bash_completes_files(snapd, _):
@@ -168,30 +184,27 @@ def test_bash_completes_requests_and_levels(snapd, _):
     assert completed(snapd, "serve", "ADDR", "--log", "=", "w") == "warn"
 
 
-def is_read_by(snapd, shell):
+def is_read_by(shell):
     """The shell reads its completions without a fault."""
-    path = wanted(shell)
-    script = snapd.file(f"completions.{shell}")
-    script.write_text(output(snapd, "help", "--completions", shell))
-    run = subprocess.run([path, "-n", str(script)], capture_output=True, text=True, timeout=PATIENCE)
+    run = subprocess.run([wanted(shell), "-n", str(COMPLETIONS[shell])], capture_output=True, text=True, timeout=PATIENCE)
     assert run.returncode == 0 and run.stderr == "", run
 
 
 def test_bash_reads_its_completions(snapd, _):
-    is_read_by(snapd, "bash")
+    is_read_by("bash")
 
 
 def test_zsh_reads_its_completions(snapd, _):
-    is_read_by(snapd, "zsh")
+    is_read_by("zsh")
 
 
 def test_fish_reads_its_completions(snapd, _):
-    is_read_by(snapd, "fish")
+    is_read_by("fish")
 
 
 def test_each_shell_knows_each_command_and_option(snapd, _):
-    for shell in SHELLS:
-        text = output(snapd, "help", "--completions", shell)
+    for shell, path in COMPLETIONS.items():
+        text = path.read_text()
         for command in commands(snapd):
             assert re.search(rf"\b{command}\b", text), (shell, command)
         for command in commands(snapd).keys() - {"help"}:
@@ -203,13 +216,13 @@ def test_each_shell_knows_each_command_and_option(snapd, _):
 def test_installed_and_removed(snapd, _):
     make, folder = wanted("make"), snapd.file("staged").resolve()
     place = ["PREFIX=/usr", f"DESTDIR={folder}", f"PROGRAM={snapd.path}"]
-    assert made(make, "install", *place) == (0, "")
+    assert ran(make, "install", *place) == (0, "")
     files = {
         "bin/snapd": pathlib.Path(snapd.path).read_bytes(),
-        "share/man/man1/snapd.1": output(snapd, "help", "--man").encode(),
-        "share/bash-completion/completions/snapd": output(snapd, "help", "--completions", "bash").encode(),
-        "share/zsh/site-functions/_snapd": output(snapd, "help", "--completions", "zsh").encode(),
-        "share/fish/vendor_completions.d/snapd.fish": output(snapd, "help", "--completions", "fish").encode(),
+        "share/man/man1/snapd.1": PAGE.read_bytes(),
+        "share/bash-completion/completions/snapd": COMPLETIONS["bash"].read_bytes(),
+        "share/zsh/site-functions/_snapd": COMPLETIONS["zsh"].read_bytes(),
+        "share/fish/vendor_completions.d/snapd.fish": COMPLETIONS["fish"].read_bytes(),
     }
     for header in ("snapd.h", "snapd_segment.h"):
         files[f"include/{header}"] = (TOP / "clients" / "c" / header).read_bytes()
@@ -219,17 +232,17 @@ def test_installed_and_removed(snapd, _):
         assert (root / name).stat().st_mode & 0o777 == (0o755 if name == "bin/snapd" else 0o644), name
     installed = Program(root / "bin" / "snapd", snapd.folder)
     installed("format", "F").gave(0, "formatted 0 of 1\n")
-    assert made(make, "uninstall", *place) == (0, "")
+    assert ran(make, "uninstall", *place) == (0, "")
     assert not [it for it in root.rglob("*") if it.is_file()]
 
 
 def test_nothing_is_installed_before_it_is_built(snapd, _):
     make, folder = wanted("make"), snapd.file("staged").resolve()
-    status, errors = made(make, "install", f"DESTDIR={folder}", "PROGRAM=no/such")
+    status, errors = ran(make, "install", f"DESTDIR={folder}", "PROGRAM=no/such")
     assert status != 0 and "run make build first" in errors and not folder.exists(), errors
 
 
-def made(make, *words):
+def ran(make, *words):
     """How `make` ended with these words, and what it had to say of it."""
     run = subprocess.run([make, "-s", "-C", str(TOP), *words], capture_output=True, text=True, timeout=PATIENCE)
     return run.returncode, run.stderr

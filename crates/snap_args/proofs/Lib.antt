@@ -1,6 +1,6 @@
 pub mod Asked
-pub mod Explained
 pub mod Faulted
 pub mod Masks
 pub mod Requests
+pub mod Tables
 pub mod Watched

@@ -14,7 +14,6 @@ use Rattle.snap_order.specs.declared.order.FileOrder.TheVariants.{Format, Put, G
 use Rattle.snap_order.specs.declared.order.Calling.{Calling}
 use Rattle.snap_order.specs.declared.order.Dumping.{Dumping}
 use Rattle.snap_order.specs.declared.order.Question.{Question}
-use Rattle.snap_args.specs.Explanations.{IsShellUnknown}
 use Rattle.snap_args.specs.Grammar.{grammar_of}
 use Rattle.snap_args.specs.Numbers.{IsClientsFault, IsConnectionsFault, IsCountFault, IsEveryFault, IsGiven, IsIdleFault, IsLargeNumberOf}
 use Rattle.snap_args.specs.Numbers.{IsLayoutFault, IsLevelFault, IsModeFault, IsNoNumber, IsNumberOf, IsPlaceFault, IsScannersFault}
@@ -235,7 +234,6 @@ IsFaultOf words (fault.Request why) = IsNoRequest (words_of words (codes "reques
     (word_of words (codes "value")) (word_of words (codes "after")) why
 IsFaultOf words (fault.Number name) = IsNoNumber (word_of words name.now)
 IsFaultOf words (fault.Missing name) = IsMissing words name.now
-IsFaultOf words fault.Shell = IsShellUnknown words
 IsFaultOf words fault.NoCommand =
     (name : Text) (rows : List Row) → subcommand_of grammar_of words ≡ Some (name, rows)
     → IsCommandName name → ⊥
@@ -309,4 +307,3 @@ AreNumbersOf words (order.Watch w) = IsLargeNumberOf (word_of words (codes "ever
 AreNumbersOf words (order.Dump d) = AreDumpingNumbersOf words d
 AreNumbersOf words (order.Load l) = IsLargeNumberOf (word_of words (codes "count")) l.count
 AreNumbersOf words order.Script = Unit {0}
-AreNumbersOf words (order.Explain e) = Unit {0}

@@ -1,8 +1,6 @@
 -- The commands and their words, as the parser of words reads them.
-use Rattle.std.specs.Prelude.{◌≡◌, [], ◌∷◌, Some, false, true, codes, pos}
-use Rattle.clap.specs.Words.{App, Rule, Shape, Text, app_of, new_app, new_rule, with_rule, with_subcommand}
-use Rattle.clap.specs.declared.builder.Command.{Command}
-use Rattle.clap.specs.declared.builder.Command.TheViews.{out-Command}
+use Rattle.std.specs.Prelude.{[], ◌∷◌, Some, false, true, codes, pos}
+use Rattle.clap.specs.Words.{App, Rule, Shape, Text, new_app, new_rule, with_rule, with_subcommand}
 use Rattle.clap.specs.declared.builder.ArgAction.TheVariants.{Append, Set, SetTrue}
 use Rattle.clap.specs.declared.builder.value_parser.ValueParser.TheVariants as parser
 
@@ -173,8 +171,3 @@ grammar_of = with_subcommand (with_subcommand (with_subcommand (with_subcommand 
     (watched (new_app (codes "watch"))).top)
     (dumped (new_app (codes "dump"))).top)
     (loaded (new_app (codes "load"))).top) (new_app (codes "script")).top
-
--- the command has these words, and none that holds for other commands too
-pub record IsCommandOf (words : App) (command : Command) : Type 0 where
-  pub app : app_of command ≡ words
-  pub local : (out-Command command).has_globals ≡ false

@@ -1,7 +1,7 @@
 pub mod Grammar
+pub mod Tables
 pub mod Words
 pub mod Dumps
-pub mod Explanations
 pub mod Numbers
 pub mod Requests
 pub mod Services

@@ -13,7 +13,6 @@ use Rattle.snap_order.specs.declared.order.Dumping.{Dumping}
 use Rattle.snap_order.specs.declared.order.Loading.{Loading}
 use Rattle.snap_order.specs.declared.order.Watching.{Watching}
 use Rattle.snap_args.specs.Dumps.{IsHolderOf}
-use Rattle.snap_args.specs.Explanations.{IsExplanationOf}
 use Rattle.snap_args.specs.Grammar.{grammar_of}
 use Rattle.snap_args.specs.Numbers.{AreSegmentsOf, IsGiven, IsLayoutOf, IsNumberOf}
 use Rattle.snap_args.specs.Requests.{IsQuestionOf}
@@ -129,4 +128,3 @@ IsAskedBy words (order.Watch w) = IsWatchOf words w
 IsAskedBy words (order.Dump d) = IsDumpOf words d
 IsAskedBy words (order.Load l) = IsLoadOf words l
 IsAskedBy words order.Script = IsNamed words (codes "script")
-IsAskedBy words (order.Explain e) = IsExplanationOf words e

@@ -7,7 +7,7 @@ Example:
   snapd get manifest.seg
 
 Many values for many readers: see `snapd init --help`, `snapd serve --help` and `snapd call --help`.
-All on one page: `snapd help --man | man -l -`.
+All on one page: `man snapd`.
 
 Exit status:
   0  done
@@ -325,11 +325,3 @@ Example: a crash after the gate of a stored value was written, and before it was
   called sync
   called read
   memory 6869";
-
-pub(crate) const HELP_HELP: &str = "\
-Each option stands alone. Both print what is made of the same commands and texts as help.
-
-Examples:
-  snapd help serve
-  snapd help --man | man -l -
-  . <(snapd help --completions bash)";

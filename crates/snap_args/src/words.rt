@@ -1,12 +1,9 @@
 //! Reads the words of the program.
-ghost use Rattle.std.specs.Prelude.{◌≡◌, ◌↔◌, IfErr, IfOk, IsErrAnd, IsOkAnd, IsTrue, Some, codes, map};
+ghost use Rattle.std.specs.Prelude.{◌≡◌, ◌↔◌, IfErr, IfOk, IsTrue, Some, codes, map};
 ghost use Rattle.std.specs.Prelude.{true};
 ghost use Rattle.clap.specs.Words.{first_value, found_of, takes};
 ghost use Rattle.snap_order.specs.Limits.{MAX_COUNT};
 ghost use Rattle.snap_order.specs.Order.{IsFileWithinLimits, IsOneTo, IsPlace, IsWithinLimits};
-ghost use Rattle.snap_order.specs.declared.order.Explanation.{Explanation};
-ghost use Rattle.snap_order.specs.declared.order.Order.TheVariants as order;
-ghost use Rattle.snap_args.specs.Explanations.{IsExplanationOf, IsShellUnknown};
 ghost use Rattle.snap_args.specs.Faults.{AreFileNumbersOf, AreNumbersOf, IsFaultOf};
 ghost use Rattle.snap_args.specs.Faults.{IsExaminationFault, IsFoundingFault, IsLaterFault, IsMigrationFault};
 ghost use Rattle.snap_args.specs.Faults.{IsParseFault, IsSlotFault};
@@ -14,12 +11,10 @@ ghost use Rattle.snap_args.specs.Numbers.{IsGiven, IsNumberOf};
 ghost use Rattle.snap_args.specs.Grammar.{grammar_of};
 ghost use Rattle.snap_args.specs.Orders.{IsAskedBy, IsCheckOf, IsFileAskedBy, IsOtherCommand};
 ghost use Rattle.snap_args.specs.Words.{OfCommand};
-ghost use Rattle.snap_args.specs.declared.fault.WordFault.TheVariants as fault;
 
 use crate::WordFault;
 use crate::call::{calling, is_given};
 use crate::dump::{dumping, loading};
-use crate::explanation::explanation_of;
 use crate::grammar::grammar;
 use crate::numbers::{count_of, place};
 use crate::serve::{folder_serving, serving};
@@ -34,28 +29,8 @@ use std::convert::AsStr;
 ///
 /// Where it answers Ok the order's words were given: its index and count are the numbers of their
 /// words, the count from 1 to 16 and the index below it. Each fault says what is wrong in the
-/// words, so good ones are refused for want of memory alone. Words that ask for an explanation
-/// always get it, and those of an unknown shell their fault.
+/// words, so good ones are refused for want of memory alone.
 pub fn order<'a, S: AsStr>(alloc: Global, words: &'a [S]) -> Result<Order<'a>, WordFault>
-    ensures limits { IfOk result IsWithinLimits }
-    ensures asked { IfOk result (IsAskedBy (map S.text words.entry.now)) }
-    ensures numbers { IfOk result (AreNumbersOf (map S.text words.entry.now)) }
-    ensures faults { IfErr result (IsFaultOf (map S.text words.entry.now)) }
-    ensures taken { takes grammar_of (map S.text words.entry.now) ≡ true
-        → IfErr result IsLaterFault }
-    ensures explained { (e : Explanation) → IsExplanationOf (map S.text words.entry.now) e
-        → IsOkAnd result (λ given. given ≡ order.Explain e) }
-    ensures unknown { IsShellUnknown (map S.text words.entry.now)
-        → IsErrAnd result (λ why. why ≡ fault.Shell) }
-{
-    if let Some(explanation) = explanation_of(words)? {
-        return Ok(Order::Explain(explanation));
-    }
-    command_order(alloc, words)
-}
-
-/// What words of the grammar ask for.
-fn command_order<'a, S: AsStr>(alloc: Global, words: &'a [S]) -> Result<Order<'a>, WordFault>
     ensures limits { IfOk result IsWithinLimits }
     ensures asked { IfOk result (IsAskedBy (map S.text words.entry.now)) }
     ensures numbers { IfOk result (AreNumbersOf (map S.text words.entry.now)) }

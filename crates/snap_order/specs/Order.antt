@@ -118,7 +118,6 @@ IsWithinLimits (order.Watch w) = IsWatchable w
 IsWithinLimits (order.Dump d) = IsDumpable d
 IsWithinLimits (order.Load l) = IsLoadable l
 IsWithinLimits order.Script = Unit {0}
-IsWithinLimits (order.Explain e) = Unit {0}
 
 -- the path of its file
 abbrev pub file_of : FileOrder → List ℕ

@@ -11,9 +11,9 @@ mod status;
 
 pub use address::socket_path;
 pub use order::{
-    Calling, Dumping, Examination, Explanation, FileOrder, Founding, Holder, Layout, Level,
-    Loading, MAX_ADDRESSES, MAX_CLIENTS, MAX_EVERY, MAX_IDLE, MAX_TIMEOUT, MODE_BITS, Migration,
-    Order, Putting, Question, Serving, Shell, Source, Watching,
+    Calling, Dumping, Examination, FileOrder, Founding, Holder, Layout, Level, Loading,
+    MAX_ADDRESSES, MAX_CLIENTS, MAX_EVERY, MAX_IDLE, MAX_TIMEOUT, MODE_BITS, Migration, Order,
+    Putting, Question, Serving, Source, Watching,
 };
 pub use remedy::{empty_remedy, format_command, old_format_remedy, unformatted_remedy};
 pub use snap_client::MAX_TRIES;

@@ -17,7 +17,7 @@ pub const MAX_ADDRESSES: usize = 16;
 pub const MODE_BITS: u16 = 0o777;
 
 /// What the words of the program ask for.
-#[derive(Debug, PartialEq, Eq, Drop)]
+#[derive(Drop)]
 pub enum Order<'a> {
     /// A command on one file.
     File(FileOrder<'a>),
@@ -44,30 +44,11 @@ pub enum Order<'a> {
     Load(Loading<'a>),
     /// Run the script on standard input.
     Script,
-    /// Print what explains the program.
-    Explain(Explanation),
-}
-
-/// What explains the program and its words, to a reader or to a shell.
-#[derive(Clone, Copy, Debug, PartialEq, Eq)]
-pub enum Explanation {
-    /// The page of the manual.
-    Manual,
-    /// What completes the program's words in this shell.
-    Completions(Shell),
-}
-
-/// A shell that can complete words.
-#[derive(Clone, Copy, Debug, PartialEq, Eq)]
-pub enum Shell {
-    Bash,
-    Zsh,
-    Fish,
 }
 
 /// A command on one file. `index` and `count` are the place of the file's segment among the
 /// segments that one server serves.
-#[derive(Clone, Copy, Debug, PartialEq, Eq)]
+#[derive(Clone, Copy)]
 pub enum FileOrder<'a> {
     /// Make and format the file.
     Format { file: &'a str, index: u8, count: u8 },
@@ -84,7 +65,7 @@ pub enum FileOrder<'a> {
 /// Carries the number and value of one file over to another: `old` is the path of a file of the old
 /// format, and `new` that of the file to be made. `index` and `count` are the place of their
 /// segment, which stays.
-#[derive(Clone, Copy, Debug, PartialEq, Eq)]
+#[derive(Clone, Copy)]
 pub struct Migration<'a> {
     pub old: &'a str,
     pub new: &'a str,
@@ -93,7 +74,7 @@ pub struct Migration<'a> {
 }
 
 /// Makes the file of each segment in a folder.
-#[derive(Clone, Copy, Debug, PartialEq, Eq)]
+#[derive(Clone, Copy)]
 pub struct Founding<'a> {
     /// The path of the folder, which is made where it isn't there.
     pub folder: &'a str,
@@ -104,7 +85,7 @@ pub struct Founding<'a> {
 }
 
 /// Says of a folder how its files and its file system are.
-#[derive(Clone, Copy, Debug, PartialEq, Eq)]
+#[derive(Clone, Copy)]
 pub struct Examination<'a> {
     /// The path of the folder.
     pub folder: &'a str,
@@ -113,7 +94,7 @@ pub struct Examination<'a> {
 }
 
 /// Serves the segments of some files to clients that connect.
-#[derive(Debug, PartialEq, Eq, Drop)]
+#[derive(Drop)]
 pub struct Serving<'a> {
     /// Where it listens, in order, as texts for the system, which may not take them: 1 to
     /// [`MAX_ADDRESSES`].
@@ -141,7 +122,7 @@ pub struct Serving<'a> {
 
 /// How much a line of the log matters. A log at one of these levels has the lines of that level and
 /// of those above it here.
-#[derive(Clone, Copy, Debug, PartialEq, Eq)]
+#[derive(Clone, Copy)]
 pub enum Level {
     /// Somebody has to act.
     Error,
@@ -154,7 +135,7 @@ pub enum Level {
 }
 
 /// How the answer of a call is printed.
-#[derive(Clone, Copy, Debug, PartialEq, Eq)]
+#[derive(Clone, Copy, PartialEq, Eq)]
 pub enum Layout {
     /// In lines, with each value in hexadecimal digits.
     Lines,
@@ -168,7 +149,7 @@ pub enum Layout {
 pub const MAX_TIMEOUT: u32 = 86_400;
 
 /// Asks a server, and prints its answer.
-#[derive(Debug, PartialEq, Eq, Drop)]
+#[derive(Drop)]
 pub struct Calling<'a> {
     /// Where the server listens, as text for the system, which may not take it.
     pub address: &'a str,
@@ -190,7 +171,7 @@ pub struct Calling<'a> {
 pub const MAX_EVERY: u32 = 86_400_000;
 
 /// Shows the segments of a server, and each change of them.
-#[derive(Debug, PartialEq, Eq, Drop)]
+#[derive(Drop)]
 pub struct Watching<'a> {
     /// Where the server listens, as text for the system, which may not take it.
     pub address: &'a str,
@@ -204,7 +185,7 @@ pub struct Watching<'a> {
 }
 
 /// Prints a dump of what a server or a folder holds.
-#[derive(Clone, Copy, Debug, PartialEq, Eq)]
+#[derive(Clone, Copy)]
 pub struct Dumping<'a> {
     /// Who holds it.
     pub holder: Holder<'a>,
@@ -219,7 +200,7 @@ pub struct Dumping<'a> {
 }
 
 /// Who holds what is dumped.
-#[derive(Clone, Copy, Debug, PartialEq, Eq)]
+#[derive(Clone, Copy)]
 pub enum Holder<'a> {
     /// The server that listens here. The system may not take the text.
     Server { address: &'a str },
@@ -228,7 +209,7 @@ pub enum Holder<'a> {
 }
 
 /// Makes a folder with the files of a dump's segments.
-#[derive(Clone, Copy, Debug, PartialEq, Eq)]
+#[derive(Clone, Copy)]
 pub struct Loading<'a> {
     /// The path of the folder, which isn't there or is empty.
     pub folder: &'a str,
@@ -239,7 +220,7 @@ pub struct Loading<'a> {
 }
 
 /// What a call asks of its server, and so how the answer is told.
-#[derive(Debug, PartialEq, Eq, Drop)]
+#[derive(Drop)]
 pub enum Question {
     /// This request, whose reply is printed. It fits a frame: an update's value has at most
     /// [`snap_frame::MAX_UPDATE_VALUE`] bytes. A scan of some segments names one or more.
@@ -254,7 +235,7 @@ pub enum Question {
 }
 
 /// Stores a value as the next number of a segment.
-#[derive(Debug, PartialEq, Eq, Drop)]
+#[derive(Drop)]
 pub struct Putting {
     /// The segment, which the server may not have.
     pub segment: u8,
@@ -266,7 +247,7 @@ pub struct Putting {
 }
 
 /// Where the value of a put comes from.
-#[derive(Debug, PartialEq, Eq, Drop)]
+#[derive(Drop)]
 pub enum Source {
     /// Standard input, up to its end.
     Input,

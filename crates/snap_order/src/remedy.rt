@@ -1,9 +1,8 @@
-//! What to do about a file that was refused, in the words of every command that opens one.
+//! What to do about a file that was refused, in the words of every command that opens one. Each text
+//! stands behind the name of its file.
 //!
-//! `specs/Remedy.antt` has the texts. Each stands behind the name of its file.
-ghost use Rattle.std.specs.Prelude.{◌≡◌, IfOk, string_bytes};
-ghost use Rattle.std.specs.Fmt.{decimal};
-ghost use Rattle.snap_order.specs.Remedy.{empty_text, format_command, old_text, unformatted_text};
+//! `snapd format` ends what a file may still hold. So it is advised behind the words `keep a copy
+//! first`, or where the file has no byte.
 
 use std::alloc::{AllocError, Global};
 
@@ -13,34 +12,25 @@ pub fn format_command(
     file: &str,
     index: u64,
     count: u64,
-) -> Result<String, AllocError>
-    ensures { IfOk result (λ text.
-        string_bytes text ≡ format_command file.now (decimal index) (decimal count)) }
-{
+) -> Result<String, AllocError> {
     format!(in alloc; "snapd format {file} --index {index} --count {count}")
 }
 
 /// Of a file that has no byte, and so nothing to lose: this command formats it.
-pub fn empty_remedy(alloc: Global, command: &str) -> Result<String, AllocError>
-    ensures { IfOk result (λ text. string_bytes text ≡ empty_text command.now) }
-{
+pub fn empty_remedy(alloc: Global, command: &str) -> Result<String, AllocError> {
     format!(in alloc; "it has no byte: a format that was cut off: go on with {command}")
 }
 
 /// Of a file whose header's gate is closed. Its slots may hold something all the same, which this
 /// command, a format, ends.
-pub fn unformatted_remedy(alloc: Global, command: &str) -> Result<String, AllocError>
-    ensures { IfOk result (λ text. string_bytes text ≡ unformatted_text command.now) }
-{
+pub fn unformatted_remedy(alloc: Global, command: &str) -> Result<String, AllocError> {
     format!(in alloc;
         "it was never formatted, or its header is gone: keep a copy first, then {command}"
     )
 }
 
 /// Of a file that has the length of the old format.
-pub fn old_format_remedy(alloc: Global, file: &str) -> Result<String, AllocError>
-    ensures { IfOk result (λ text. string_bytes text ≡ old_text file.now) }
-{
+pub fn old_format_remedy(alloc: Global, file: &str) -> Result<String, AllocError> {
     format!(in alloc;
         "it has the length of the old format: carry it over with snapd migrate {file} NEW"
     )

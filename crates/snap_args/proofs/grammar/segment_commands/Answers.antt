@@ -2,7 +2,8 @@ use Rattle.snap_args.proofs.grammar.segment_commands.Goals as goal
 
 pub returns : goal.returns
 returns c =
-    let one = c.with_command-commands.ensures _ _ c.program.ensures.app c.format_command.ensures in
-    let two = c.with_command-commands-2.ensures _ _ one c.put_command.ensures in
-    let three = c.with_command-commands-3.ensures _ _ two c.get_command.ensures in
-    c.with_command.ensures _ _ three c.check_command.ensures
+    let words = c.place_words-words.ensures in
+    let one = c.with_command-all.ensures _ _ c.program.ensures (words _) in
+    let two = c.with_command-all-2.ensures _ _ one (words _) in
+    let three = c.with_command-all-3.ensures _ _ two (words _) in
+    c.with_command.ensures _ _ three (c.check_words.ensures _)

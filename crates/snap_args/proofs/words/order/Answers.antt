@@ -1,17 +1,32 @@
-use Rattle.std.proofs.Common.{◌≡◌, None, rules}
-use Rattle.snap_args.proofs.Explained.{none_of, unknown_untaken}
+use Rattle.std.proofs.Common.{◌∙◌, ap, map, subst}
+use Rattle.std.proofs.lemmas.Result.{IfErr-weaker, IfOk-weaker}
+use Rattle.clap.specs.Words.{App, HasKind, fault_of, is_simple_and_free, takes}
+use Rattle.snap_args.proofs.Asked.{command_met, parse_fault, parse_later, simple_and_free}
 use Rattle.snap_args.proofs.words.order.Goals as goal
 
-pub returns-in_err-explanation-clause-taken : goal.returns-in_err-explanation-clause-taken
-returns-in_err-explanation-clause-taken g c = λ taken.
-    absurd (unknown_untaken _ c.in_err-explanation.ensures.unknown taken)
+pub returns-in-Err-clause-faults : goal.returns-in-Err-clause-faults
+returns-in-Err-clause-faults g c =
+    let words = map g.S.AsStr.text c.args.words.now in
+    parse_fault words c.in-Err.error c.fault_of.result c.fault_of.ensures.fault
+    (subst (λ (a : App). HasKind (fault_of a words) c.in-Err.error) c.in-Ok.ensures
+    (c.in-Err.ensures.kinds (ap is_simple_and_free c.in-Ok.ensures ∙ simple_and_free)))
 
-pub returns-clause-explained : goal.returns-clause-explained
-returns-clause-explained g c = λ e asked.
-    let empty : c.in_ok-explanation.field-0 ≡ None = search rules in
-    absurd (none_of _ e (c.in_ok-explanation.ensures.none empty) asked)
+pub returns-in-Err-clause-taken : goal.returns-in-Err-clause-taken
+returns-in-Err-clause-taken g c = λ taken.
+    parse_later c.in-Err.error c.fault_of.result c.fault_of.ensures.fault
+    (c.in-Err.ensures.passes (ap (λ (a : App).
+    takes a (map g.S.AsStr.text c.args.words.now)) c.in-Ok.ensures ∙ taken))
 
-pub returns-clause-unknown : goal.returns-clause-unknown
-returns-clause-unknown g c = λ unknown.
-    let empty : c.in_ok-explanation.field-0 ≡ None = search rules in
-    absurd ((c.in_ok-explanation.ensures.none empty).1 unknown.0 unknown.1)
+pub returns : goal.returns
+returns g c =
+    let words = map g.S.AsStr.text c.args.words.now in
+    let has = command_met words _ c.in-Ok.ensures c.in-Ok-try_get_matches_from.matches
+    c.in-Some.matches.now c.in-Ok-try_get_matches_from.ensures.matches c.in-Some.command.now
+    c.in-Some.ensures.name c.in-Some.ensures.rows in
+    let its = c.order_of.ensures in record {
+      limits = its.limits;
+      asked = IfOk-weaker c.order_of.result _ _ (λ order of. of words has) its.asked;
+      numbers = IfOk-weaker c.order_of.result _ _ (λ order of. of words has) its.numbers;
+      faults = IfErr-weaker c.order_of.result _ _ (λ why of. of words has) its.faults;
+      taken = λ _. its.later;
+    }

@@ -1,7 +1,0 @@
-use Rattle.snap_args.proofs.grammar.doctor_command.Goals as goal
-
-pub returns : goal.returns
-returns c = c.with_arg.ensures _ _
-    (c.with_arg-made.ensures _ _ c.described_command-command.ensures
-    c.required_word-folder.ensures.rule)
-    c.flag.ensures.rule

@@ -1,6 +1,0 @@
-use Rattle.snap_args.proofs.grammar.with_storing.Goals as goal
-
-pub returns : goal.returns
-returns c = λ words made. c.with_arg.ensures _ _
-    (c.with_arg-command.ensures words _ made c.text_option.ensures.rule)
-    c.large_number_option.ensures.rule
