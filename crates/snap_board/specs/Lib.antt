@@ -1,7 +1,2 @@
 pub mod Paths
-pub mod Amounts
-pub mod Metrics
-pub mod Samples
-pub mod Families
-pub mod Figures
 pub mod Pages

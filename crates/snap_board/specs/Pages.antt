@@ -1,11 +1,10 @@
 -- What a board answers.
-use Rattle.std.specs.Prelude.{◌≡◌, ◌⊎◌, ◌||◌, ◌++◌, ℕ, List, Option, Some, None, Bool, MatchBool, bytes_eq, codes, option_and_then, if◌then◌else◌}
+use Rattle.std.specs.Prelude.{◌≡◌, ◌⊎◌, ◌||◌, ℕ, List, Option, Some, None, Bool, MatchBool, bytes_eq, codes, option_and_then, if◌then◌else◌}
 use Rattle.std.specs.List.{list_all, list_any}
 use Rattle.http.specs.declared.request.Request as http
 use Rattle.http.specs.Request.{head_of}
 use Rattle.http.specs.Uri.{uri_path}
 use Rattle.http_server.specs.declared.response.Response.{Response}
-use Rattle.snap_figures.specs.declared.reading.Reading.{Reading}
 use Rattle.snap_frame.specs.declared.entries.SegmentStatus.{SegmentStatus}
 use Rattle.snap_frame.specs.segment_value.SegmentValue.{SegmentValue}
 use Rattle.snap_frame.specs.declared.reply.Reply.{Reply}
@@ -13,11 +12,7 @@ use Rattle.snap_frame.specs.declared.reply.Reply.TheVariants as replies
 use Rattle.snap_frame.specs.declared.request.Request.{Request}
 use Rattle.snap_frame.specs.declared.request.Request.TheVariants as requests
 use Rattle.snap_json.specs.Each.{each_from}
-use Rattle.json.specs.Token.{Token}
-use Rattle.snap_board.specs.Families.{metrics_text}
-use Rattle.snap_board.specs.Figures.{figures_text, segment_object}
 use Rattle.snap_board.specs.Paths.{page_of}
-use Rattle.snap_board.specs.declared.facts.Facts.{Facts}
 use Rattle.snap_board.specs.declared.page.Page.{Page}
 use Rattle.snap_board.specs.declared.page.Page.TheVariants as pages
 use Rattle.snap_json.specs.Documents.{health_text, list_text, status_tokens, value_tokens}
@@ -40,46 +35,27 @@ asked_of pages.Status = Some requests.Status
 asked_of pages.Stats = Some requests.Status
 asked_of pages.History = None
 
--- the text tells what was counted, as it may be read, and these statuses, and more behind that
-pub record IsMetrics (reads : Reading → Type 0) (version : List ℕ) (statuses : List SegmentStatus) (text : List ℕ) : Type 0 where
-  pub facts : Facts
-  pub more : List ℕ
-  pub reading : reads facts.reading.now
-  pub program : facts.version.now ≡ version
-  pub segments : facts.statuses.now ≡ statuses
-  pub is : text ≡ metrics_text facts ++ more
-
--- the text is the document of what was counted, as it may be read, and of these statuses; with any addresses and files
-pub record IsStats (reads : Reading → Type 0) (version : List ℕ) (statuses : List SegmentStatus) (text : List ℕ) : Type 0 where
-  pub facts : Facts
-  pub addresses : List Token
-  pub file : ℕ → Option (List ℕ)
-  pub reading : reads facts.reading.now
-  pub program : facts.version.now ≡ version
-  pub segments : facts.statuses.now ≡ statuses
-  pub is : text ≡ figures_text facts addresses
-      (each_from (λ i s. segment_object facts (file i) i s) 0 facts.reading.now.segments.items)
-
 -- what a page tells of these values
 abbrev pub ShowsValues : Page → List SegmentValue → Response → Type 0
 ShowsValues pages.Scan values r = HasContent 200 (list_text (each_from value_tokens 0 values)) r
 ShowsValues page values r = ⊥
 
--- what a page tells of these statuses: the health is told by 503 too, where a segment is fenced, and the readiness, where each is
-abbrev pub ShowsStatuses : (reads : Reading → Type 0) (version : List ℕ) → Page → List SegmentStatus → Response → Type 0
-ShowsStatuses reads version pages.Metrics statuses r = (r.status ≡ 200) × IsMetrics reads version statuses r.body.items
-ShowsStatuses reads version pages.Health statuses r =
+-- What a page tells of these statuses: the health is told by 503 too, where a segment is fenced, and the readiness, where each is.
+-- What was counted is told without a clause.
+abbrev pub ShowsStatuses : Page → List SegmentStatus → Response → Type 0
+ShowsStatuses pages.Metrics statuses r = r.status ≡ 200
+ShowsStatuses pages.Health statuses r =
     HasContent (if list_any (λ s. s.is_fenced) statuses then 503 else 200) (health_text statuses) r
-ShowsStatuses reads version pages.Ready statuses r = r.status ≡ (if list_all (λ s. s.is_fenced) statuses then 503 else 200)
-ShowsStatuses reads version pages.Status statuses r = HasContent 200 (list_text (each_from status_tokens 0 statuses)) r
-ShowsStatuses reads version pages.Stats statuses r = (r.status ≡ 200) × IsStats reads version statuses r.body.items
-ShowsStatuses reads version page statuses r = ⊥
+ShowsStatuses pages.Ready statuses r = r.status ≡ (if list_all (λ s. s.is_fenced) statuses then 503 else 200)
+ShowsStatuses pages.Status statuses r = HasContent 200 (list_text (each_from status_tokens 0 statuses)) r
+ShowsStatuses pages.Stats statuses r = r.status ≡ 200
+ShowsStatuses page statuses r = ⊥
 
 -- what a page shows of the reply to what it asks
-abbrev pub ShowsReply : (reads : Reading → Type 0) (version : List ℕ) → Page → Reply → Response → Type 0
-ShowsReply reads version page (replies.Snapshot values) r = ShowsValues page values.items r
-ShowsReply reads version page (replies.Status statuses) r = ShowsStatuses reads version page statuses.items r
-ShowsReply reads version page reply r = ⊥
+abbrev pub ShowsReply : Page → Reply → Response → Type 0
+ShowsReply page (replies.Snapshot values) r = ShowsValues page values.items r
+ShowsReply page (replies.Status statuses) r = ShowsStatuses page statuses.items r
+ShowsReply page reply r = ⊥
 
 -- the service was asked so, once at most
 abbrev pub MayAsk : {S : Type 0} → (S → Request → Reply → S → Type 0) → Option Request → S → S → Type 0
@@ -87,24 +63,19 @@ MayAsk gives None old new = new ≡ old
 MayAsk gives (Some q) old new = (new ≡ old) ⊎ ((reply : Reply) × gives old q reply new)
 
 -- a page shows the reply to what it asks, or is the same each time
-abbrev pub Shows : {S : Type 0} → (S → Request → Reply → S → Type 0) → (reads : Reading → Type 0) (version : List ℕ)
-    → Page → Option Request → S → Response → S → Type 0
-Shows gives reads version page None old r new = (new ≡ old) × (r.status ≡ 200)
-Shows gives reads version page (Some q) old r new =
-    (reply : Reply) × gives old q reply new × ShowsReply reads version page reply r
+abbrev pub Shows : {S : Type 0} → (S → Request → Reply → S → Type 0) → Page → Option Request → S → Response → S → Type 0
+Shows gives page None old r new = (new ≡ old) × (r.status ≡ 200)
+Shows gives page (Some q) old r new = (reply : Reply) × gives old q reply new × ShowsReply page reply r
 
 -- It shows the page; or the answer is 503, since the service gave no such reply or memory was wanting.
-abbrev pub AnswersPage : {S : Type 0} → (S → Request → Reply → S → Type 0) → (reads : Reading → Type 0) (version : List ℕ)
-    → Page → S → Response → S → Type 0
-AnswersPage gives reads version page old r new =
-    Shows gives reads version page (asked_of page) old r new
-    ⊎ ((r.status ≡ 503) × MayAsk gives (asked_of page) old new)
+abbrev pub AnswersPage : {S : Type 0} → (S → Request → Reply → S → Type 0) → Page → S → Response → S → Type 0
+AnswersPage gives page old r new =
+    Shows gives page (asked_of page) old r new ⊎ ((r.status ≡ 503) × MayAsk gives (asked_of page) old new)
 
 -- with a path that has no page
-abbrev pub AnswersPath : {S : Type 0} → (S → Request → Reply → S → Type 0) → (reads : Reading → Type 0) (version : List ℕ)
-    → Option Page → S → Response → S → Type 0
-AnswersPath gives reads version None old r new = (new ≡ old) × ((r.status ≡ 404) ⊎ (r.status ≡ 503))
-AnswersPath gives reads version (Some page) old r new = AnswersPage gives reads version page old r new
+abbrev pub AnswersPath : {S : Type 0} → (S → Request → Reply → S → Type 0) → Option Page → S → Response → S → Type 0
+AnswersPath gives None old r new = (new ≡ old) × ((r.status ≡ 404) ⊎ (r.status ≡ 503))
+AnswersPath gives (Some page) old r new = AnswersPage gives page old r new
 
 -- a method that only reads
 abbrev pub is_read : List ℕ → Bool
@@ -115,10 +86,9 @@ abbrev pub named : http.Request (List ℕ) → Option Page
 named request = page_of (uri_path (head_of request).uri)
 
 -- what a request is answered
-abbrev pub Answers : {S : Type 0} → (S → Request → Reply → S → Type 0) → (reads : Reading → Type 0) (version : List ℕ)
-    → S → http.Request (List ℕ) → Response → S → Type 0
-Answers gives reads version old request r new = MatchBool (is_read (head_of request).method)
-    (AnswersPath gives reads version (named request) old r new)
+abbrev pub Answers : {S : Type 0} → (S → Request → Reply → S → Type 0) → S → http.Request (List ℕ) → Response → S → Type 0
+Answers gives old request r new = MatchBool (is_read (head_of request).method)
+    (AnswersPath gives (named request) old r new)
     ((new ≡ old) × ((r.status ≡ 405) ⊎ (r.status ≡ 503)))
 
 -- what a request may ask the service

@@ -1,11 +1,12 @@
 //! The answers to HTTP requests.
-ghost use Rattle.std.specs.Prelude.{◌≡◌, [], OnOk, OnErr, if◌then◌else◌};
+ghost use Rattle.std.specs.Prelude.{◌≡◌, [], Some, OnOk, OnErr, if◌then◌else◌};
 ghost use Rattle.std.specs.List.{list_all, list_any};
 ghost use Rattle.snap_board.specs.Pages as pages;
+ghost use Rattle.snap_frame.specs.declared.request.Request.TheVariants as requests;
 ghost use Rattle.snap_json.specs.Each.{each_from};
 ghost use Rattle.snap_json.specs.Documents.{health_text, list_text, status_tokens};
 
-use crate::facts::Facts;
+use crate::facts::{Facts, millis_of};
 use crate::figures::figures_document;
 use crate::home::HOME;
 use crate::metrics::metrics_text;
@@ -75,8 +76,7 @@ impl<S: Service + Drop, X: Surroundings + Drop> Board<S, X> {
         response: &mut Response,
     ) -> Result<(), AllocError>
         requires { response.old.body.items ≡ [] }
-        ensures answers { OnOk result (pages.Answers S.gives (X.reads self.old.surroundings)
-            (X.version_of self.old.surroundings) self.old.service request.now response.new self.new.service) }
+        ensures answers { OnOk result (pages.Answers S.gives self.old.service request.now response.new self.new.service) }
         ensures asks { OnErr result (pages.MayAskFor S.gives self.old.service request.now self.new.service) }
         ensures same { self.new.surroundings ≡ self.old.surroundings }
     {
@@ -93,8 +93,7 @@ impl<S: Service + Drop, X: Surroundings + Drop> Board<S, X> {
     /// Shows a page.
     fn show(&mut self, page: Page, response: &mut Response) -> Result<(), AllocError>
         requires { response.old.body.items ≡ [] }
-        ensures answers { OnOk result (pages.AnswersPage S.gives (X.reads self.old.surroundings)
-            (X.version_of self.old.surroundings) page self.old.service response.new self.new.service) }
+        ensures answers { OnOk result (pages.AnswersPage S.gives page self.old.service response.new self.new.service) }
         ensures asks { OnErr result (pages.MayAsk S.gives (pages.asked_of page) self.old.service self.new.service) }
         ensures same { self.new.surroundings ≡ self.old.surroundings }
     {
@@ -105,20 +104,18 @@ impl<S: Service + Drop, X: Surroundings + Drop> Board<S, X> {
             Page::Live => show_file(response, Kind::Text, WELL),
             Page::History => self.show_history(response),
             Page::Scan => self.show_scan(response),
-            Page::Metrics => self.show_metrics(response),
-            Page::Health => self.show_health(response),
-            Page::Ready => self.show_ready(response),
-            Page::Status => self.show_status(response),
-            Page::Stats => self.show_stats(response),
+            Page::Metrics | Page::Health | Page::Ready | Page::Status | Page::Stats => {
+                self.show_statuses(page, response)
+            }
         }
     }
 
     /// Shows a scan.
     fn show_scan(&mut self, response: &mut Response) -> Result<(), AllocError>
         requires { response.old.body.items ≡ [] }
-        ensures answers { OnOk result (pages.AnswersPage S.gives (X.reads self.old.surroundings)
-            (X.version_of self.old.surroundings) Page.Scan self.old.service response.new self.new.service) }
-        ensures asks { OnErr result (pages.MayAsk S.gives (pages.asked_of Page.Scan)
+        ensures answers { OnOk result (pages.AnswersPage S.gives Page.Scan
+            self.old.service response.new self.new.service) }
+        ensures asks { OnErr result (pages.MayAsk S.gives (Some requests.Scan)
             self.old.service self.new.service) }
         ensures same { self.new.surroundings ≡ self.old.surroundings }
     {
@@ -131,83 +128,73 @@ impl<S: Service + Drop, X: Surroundings + Drop> Board<S, X> {
         }
     }
 
-    /// Shows what was counted, for Prometheus.
-    fn show_metrics(&mut self, response: &mut Response) -> Result<(), AllocError>
-        requires { response.old.body.items ≡ [] }
-        ensures answers { OnOk result (pages.AnswersPage S.gives (X.reads self.old.surroundings)
-            (X.version_of self.old.surroundings) Page.Metrics self.old.service response.new self.new.service) }
-        ensures asks { OnErr result (pages.MayAsk S.gives (pages.asked_of Page.Metrics)
-            self.old.service self.new.service) }
+    /// Shows a page that tells of the segments' statuses.
+    fn show_statuses(&mut self, page: Page, response: &mut Response) -> Result<(), AllocError>
+        requires begun { response.old.body.items ≡ [] }
+        requires tells { pages.asked_of page ≡ Some requests.Status }
+        ensures answers { OnOk result (pages.AnswersPage S.gives page self.old.service response.new self.new.service) }
+        ensures asks { OnErr result (pages.MayAsk S.gives (Some requests.Status) self.old.service self.new.service) }
         ensures same { self.new.surroundings ≡ self.old.surroundings }
     {
         match self.service.answer(&snap_frame::Request::Status, 0) {
-            Some(Reply::Status(statuses)) => {
-                metrics_page(self.alloc, &self.surroundings, &statuses, response)
-            }
+            Some(Reply::Status(statuses)) => self.tell(page, &statuses, response),
             reply => refuse(self.alloc, response, &reply),
         }
     }
 
-    /// Shows whether no segment is fenced.
-    fn show_health(&mut self, response: &mut Response) -> Result<(), AllocError>
-        requires { response.old.body.items ≡ [] }
-        ensures answers { OnOk result (pages.AnswersPage S.gives (X.reads self.old.surroundings)
-            (X.version_of self.old.surroundings) Page.Health self.old.service response.new self.new.service) }
-        ensures asks { OnErr result (pages.MayAsk S.gives (pages.asked_of Page.Health)
-            self.old.service self.new.service) }
-        ensures same { self.new.surroundings ≡ self.old.surroundings }
+    /// Tells what a page has of these statuses.
+    fn tell(
+        &self,
+        page: Page,
+        statuses: &[SegmentStatus],
+        response: &mut Response,
+    ) -> Result<(), AllocError>
+        requires begun { response.old.body.items ≡ [] }
+        requires tells { pages.asked_of page ≡ Some requests.Status }
+        ensures { OnOk result (pages.ShowsStatuses page statuses.now response.new) }
     {
-        match self.service.answer(&snap_frame::Request::Status, 0) {
-            Some(Reply::Status(statuses)) => { health_page(self.alloc, &statuses, response) }
-            reply => refuse(self.alloc, response, &reply),
+        match page {
+            Page::Metrics => self.tell_metrics(statuses, response),
+            Page::Health => tell_health(self.alloc, statuses, response),
+            Page::Ready => tell_readiness(statuses, response),
+            Page::Status => tell_statuses(self.alloc, statuses, response),
+            Page::Stats => self.tell_figures(statuses, response),
+            _ => unreachable!(),
         }
     }
 
-    /// Shows whether some segment takes updates.
-    fn show_ready(&mut self, response: &mut Response) -> Result<(), AllocError>
+    /// Tells what was counted, for Prometheus.
+    fn tell_metrics(
+        &self,
+        statuses: &[SegmentStatus],
+        response: &mut Response,
+    ) -> Result<(), AllocError>
         requires { response.old.body.items ≡ [] }
-        ensures answers { OnOk result (pages.AnswersPage S.gives (X.reads self.old.surroundings)
-            (X.version_of self.old.surroundings) Page.Ready self.old.service response.new self.new.service) }
-        ensures asks { OnErr result (pages.MayAsk S.gives (pages.asked_of Page.Ready)
-            self.old.service self.new.service) }
-        ensures same { self.new.surroundings ≡ self.old.surroundings }
+        ensures { OnOk result (response.new.status ≡ 200) }
     {
-        match self.service.answer(&snap_frame::Request::Status, 0) {
-            Some(Reply::Status(statuses)) => ready_page(&statuses, response),
-            reply => refuse(self.alloc, response, &reply),
-        }
+        let reading = self.surroundings.reading(self.alloc)?;
+        let facts = facts_of(&reading, &self.surroundings, statuses);
+        let mut text = metrics_text(self.alloc, &facts)?;
+        let process = process_text(self.alloc, &facts, &self.surroundings.usage())?;
+        text.push_str(&process)?;
+        fill_with(response, StatusCode::OK, Kind::Metrics, text.into_bytes())
     }
 
-    /// Shows the number and the fence of each segment.
-    fn show_status(&mut self, response: &mut Response) -> Result<(), AllocError>
+    /// Tells what was counted, as a document.
+    fn tell_figures(
+        &self,
+        statuses: &[SegmentStatus],
+        response: &mut Response,
+    ) -> Result<(), AllocError>
         requires { response.old.body.items ≡ [] }
-        ensures answers { OnOk result (pages.AnswersPage S.gives (X.reads self.old.surroundings)
-            (X.version_of self.old.surroundings) Page.Status self.old.service response.new self.new.service) }
-        ensures asks { OnErr result (pages.MayAsk S.gives (pages.asked_of Page.Status)
-            self.old.service self.new.service) }
-        ensures same { self.new.surroundings ≡ self.old.surroundings }
+        ensures { OnOk result (response.new.status ≡ 200) }
     {
-        match self.service.answer(&snap_frame::Request::Status, 0) {
-            Some(Reply::Status(statuses)) => { status_page(self.alloc, &statuses, response) }
-            reply => refuse(self.alloc, response, &reply),
-        }
-    }
-
-    /// Shows what was counted, as a document.
-    fn show_stats(&mut self, response: &mut Response) -> Result<(), AllocError>
-        requires { response.old.body.items ≡ [] }
-        ensures answers { OnOk result (pages.AnswersPage S.gives (X.reads self.old.surroundings)
-            (X.version_of self.old.surroundings) Page.Stats self.old.service response.new self.new.service) }
-        ensures asks { OnErr result (pages.MayAsk S.gives (pages.asked_of Page.Stats)
-            self.old.service self.new.service) }
-        ensures same { self.new.surroundings ≡ self.old.surroundings }
-    {
-        match self.service.answer(&snap_frame::Request::Status, 0) {
-            Some(Reply::Status(statuses)) => {
-                stats_page(self.alloc, &self.surroundings, &statuses, response)
-            }
-            reply => refuse(self.alloc, response, &reply),
-        }
+        let reading = self.surroundings.reading(self.alloc)?;
+        let text = figures_document(
+            self.alloc,
+            &facts_of(&reading, &self.surroundings, statuses),
+        )?;
+        fill_with(response, StatusCode::OK, Kind::Json, text)
     }
 
     /// Shows what was counted in the last three minutes.
@@ -241,64 +228,21 @@ fn facts_of<'a, X: Surroundings>(
     reading: &'a Reading,
     surroundings: &'a X,
     statuses: &'a [SegmentStatus],
-) -> Facts<'a>
-    ensures reading { result.reading.now ≡ reading.now }
-    ensures statuses { result.statuses.now ≡ statuses.now }
-    ensures version { result.version.now ≡ X.version_of surroundings.now }
-{
+) -> Facts<'a> {
     Facts {
         reading,
         statuses,
         version: surroundings.version(),
-        uptime: surroundings.uptime(),
+        addresses: surroundings.addresses(),
+        files: surroundings.files(),
+        uptime: surroundings.uptime().map(millis_of),
         time: surroundings.now_millis(),
         resident: surroundings.resident_bytes(),
     }
 }
 
-/// Tells what was counted, for Prometheus.
-fn metrics_page<X: Surroundings>(
-    alloc: Global,
-    surroundings: &X,
-    statuses: &[SegmentStatus],
-    response: &mut Response,
-) -> Result<(), AllocError>
-    requires { response.old.body.items ≡ [] }
-    ensures { OnOk result (pages.ShowsStatuses (X.reads surroundings.now) (X.version_of surroundings.now)
-        Page.Metrics statuses.now response.new) }
-{
-    let reading = surroundings.reading(alloc)?;
-    let facts = facts_of(&reading, surroundings, statuses);
-    let mut text = metrics_text(alloc, &facts)?;
-    let more = process_text(alloc, &facts, &surroundings.usage(), surroundings.files())?;
-    text.extend_from_slice(more.as_slice())?;
-    fill_with(response, StatusCode::OK, Kind::Metrics, text)
-}
-
-/// Tells what was counted, as a document.
-fn stats_page<X: Surroundings>(
-    alloc: Global,
-    surroundings: &X,
-    statuses: &[SegmentStatus],
-    response: &mut Response,
-) -> Result<(), AllocError>
-    requires { response.old.body.items ≡ [] }
-    ensures { OnOk result (pages.ShowsStatuses (X.reads surroundings.now) (X.version_of surroundings.now)
-        Page.Stats statuses.now response.new) }
-{
-    let reading = surroundings.reading(alloc)?;
-    let facts = facts_of(&reading, surroundings, statuses);
-    let text = figures_document(
-        alloc,
-        &facts,
-        surroundings.addresses(),
-        surroundings.files(),
-    )?;
-    fill_with(response, StatusCode::OK, Kind::Json, text)
-}
-
 /// Tells the number and the fence of each segment.
-fn status_page(
+fn tell_statuses(
     alloc: Global,
     statuses: &[SegmentStatus],
     response: &mut Response,
@@ -311,7 +255,7 @@ fn status_page(
 }
 
 /// Tells whether no segment is fenced, by the status too: 503 where one is.
-fn health_page(
+fn tell_health(
     alloc: Global,
     statuses: &[SegmentStatus],
     response: &mut Response,
@@ -343,7 +287,7 @@ fn is_any_fenced(statuses: &[SegmentStatus]) -> bool
 }
 
 /// Tells by the status whether some segment takes updates: 503 where each is fenced.
-fn ready_page(statuses: &[SegmentStatus], response: &mut Response) -> Result<(), AllocError>
+fn tell_readiness(statuses: &[SegmentStatus], response: &mut Response) -> Result<(), AllocError>
     requires { response.old.body.items ≡ [] }
     ensures { OnOk result (response.new.status
         ≡ (if list_all (λ s. s.is_fenced) statuses.now then 503 else 200)) }
@@ -440,8 +384,7 @@ impl<S: Service + Drop, X: Surroundings + Drop> http_server::Service for Board<S
 
     /// A query is ignored, and so is a body.
     ghost answers = { λ old request response new.
-        Answers S.gives (X.reads old.surroundings) (X.version_of old.surroundings)
-        old.service request response new.service × (new.surroundings ≡ old.surroundings) };
+        Answers S.gives old.service request response new.service × (new.surroundings ≡ old.surroundings) };
 
     fn call(
         &mut self,

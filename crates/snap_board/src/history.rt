@@ -1,7 +1,7 @@
 //! What was counted in the last three minutes.
 
-use crate::figures::put_count;
-use crate::metrics::millis_of;
+use crate::document::{begin, begin_list, end, put_counts};
+use crate::facts::millis_of;
 use json::Writer;
 use snap_figures::{BOUNDS, Counter, Reading, SegmentReading};
 use std::alloc::{AllocError, Global};
@@ -42,10 +42,14 @@ impl Sample {
 
     fn put(&self, writer: &mut Writer) -> Result<(), AllocError> {
         writer.begin_object()?;
-        put_count(writer, "uptime_milliseconds", self.uptime.get())?;
-        put_count(writer, "scans", self.scans.get())?;
-        writer.key("store_counts")?;
-        writer.begin_array()?;
+        put_counts(
+            writer,
+            &[
+                ("uptime_milliseconds", self.uptime.get()),
+                ("scans", self.scans.get()),
+            ],
+        )?;
+        begin_list(writer, "store_counts")?;
         for count in &self.stores {
             writer.u64(count.get())?;
         }
@@ -97,10 +101,8 @@ impl History {
 
     /// The samples as a JSON document on one line, the oldest first.
     pub fn document(&self, alloc: Global) -> Result<Vec<u8>, AllocError> {
-        let mut writer = Writer::new(Vec::new(alloc));
-        writer.begin_object()?;
-        writer.key("samples")?;
-        writer.begin_array()?;
+        let mut writer = begin(alloc)?;
+        begin_list(&mut writer, "samples")?;
         let taken = self.taken.get();
         for number in taken.saturating_sub(SAMPLES)..taken {
             if let Some(sample) = self.samples.get((number % SAMPLES) as usize) {
@@ -108,10 +110,7 @@ impl History {
             }
         }
         writer.end_array()?;
-        writer.end_object()?;
-        let mut text = writer.into_inner();
-        text.push(b'\n')?;
-        Ok(text)
+        end(writer)
     }
 }
 

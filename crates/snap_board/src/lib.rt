@@ -7,6 +7,7 @@
 
 mod amount;
 mod board;
+mod document;
 mod facts;
 mod figures;
 mod history;
@@ -23,10 +24,7 @@ mod surroundings;
 mod times;
 
 pub use board::Board;
-pub use facts::Facts;
-pub use figures::figures_document;
 pub use history::History;
-pub use metrics::metrics_text;
 pub use page::Page;
 pub use process::Usage;
 pub use surroundings::Surroundings;

@@ -1,6 +1,5 @@
 //! What a board is told beside the segments.
-ghost use Rattle.std.specs.Prelude.{◌≡◌, ℕ, List, IfOk};
-ghost use Rattle.snap_figures.specs.declared.reading.Reading.{Reading};
+ghost use Rattle.std.specs.Prelude.{◌≡◌, ℕ, List};
 
 use crate::history::History;
 use crate::process::Usage;
@@ -10,15 +9,11 @@ use std::time::Duration;
 
 /// What was counted, and what the system and the words of the command say.
 pub trait Surroundings {
-    /// That this may be read of what was counted.
-    ghost reads: { Self → Reading → Type 0 } = { λ _ _. Unit {0} };
-
     /// The version of the program.
     ghost version_of: { Self → List ℕ };
 
     /// What was counted up to now. The error is for memory alone.
-    fn reading(&self, alloc: Global) -> Result<Reading, AllocError>
-        ensures { IfOk result (λ reading. Self.reads self.now reading) };
+    fn reading(&self, alloc: Global) -> Result<Reading, AllocError>;
 
     /// How long the server has run; `None` where no clock tells.
     fn uptime(&self) -> Option<Duration>;

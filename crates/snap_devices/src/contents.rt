@@ -1,13 +1,19 @@
 //! What a device left in its file, and whether that lies there still.
 //!
 //! A lock binds only those who ask for it, so anybody may copy a file onto one in use, or cut it. The
-//! file keeps its name then, and the next store would make a mixture of both. So it is compared with a
-//! copy before the first byte of a store: its length, and the head of each block. A file with the same
-//! heads takes the store as the old one does. Its times aren't asked for, since that would cost the next
-//! write (`name.rt`): a seek tells the length.
+//! file keeps its name then, and the next store would make a mixture of both. So the file is compared with a
+//! copy before the first byte of a store: its length, its header, the slot that was stored last, all but the
+//! value, and the gate of the next one. A copy of another segment has another header. One of another time has
+//! another number in that slot, or has opened the next one. Before the first store all slots are compared. A file
+//! with the same bytes there takes the store as the old one does. Its times aren't asked for, since that would
+//! cost the next write (`name.rt`): a seek gives the length.
+
+ghost use Rattle.std.specs.Prelude.{◌≤◌, ◌<◌};
+ghost use Rattle.snap_slot.specs.declared.layout.TheConstants.{SLOT_COUNT};
+ghost use Rattle.snap_devices.specs.declared.contents.TheConstants.{SLOT_HEAD_LEN};
 
 use crate::file::{CallFault, CallKind};
-use snap_slot::{BLOCK_LEN, FILE_LEN, HEADER_LEN, VALUE_AT};
+use snap_slot::{BLOCK_LEN, FILE_LEN, OPEN_GATE, SLOT_COUNT, VALUE_AT, gate_at, next_slot};
 use std::fs::File;
 use std::io::{self, ErrorKind, Seek, SeekFrom};
 use std::os::unix::fs::FileExt;
@@ -15,12 +21,8 @@ use std::os::unix::fs::FileExt;
 /// How many bytes a segment file has.
 const LEN: usize = FILE_LEN as usize;
 
-/// How many bytes of a block are compared: the mark, the index and the count of the header, each gate,
-/// and of a body its number and length. The header's own gate is compared too.
-const HEAD_LEN: usize = VALUE_AT;
-
-/// How many bytes of a file end with its last head.
-const COMPARED: usize = LEN - BLOCK_LEN + HEAD_LEN;
+/// How many bytes of a slot are compared: the block of its gate, and its body's number and length.
+const SLOT_HEAD_LEN: usize = BLOCK_LEN + VALUE_AT;
 
 /// When the file is compared next.
 #[derive(Clone, Copy, Debug, PartialEq, Eq)]
@@ -40,6 +42,8 @@ enum Look {
 #[derive(Drop)]
 pub(crate) struct Contents {
     bytes: [u8; LEN],
+    /// The slot whose gate this device opened last, if it opened one.
+    opened: Option<u64>,
     look: Look,
 }
 
@@ -48,6 +52,7 @@ impl Contents {
     pub(crate) fn unknown() -> Contents {
         Contents {
             bytes: [0; LEN],
+            opened: None,
             look: Look::Unknown,
         }
     }
@@ -56,6 +61,7 @@ impl Contents {
     pub(crate) fn note_read(&mut self, at: u64, bytes: &[u8]) {
         if at == 0 && bytes.len() == LEN {
             self.bytes.copy_from_slice(bytes);
+            self.opened = None;
             self.look = Look::Due;
         }
     }
@@ -65,6 +71,9 @@ impl Contents {
         if bytes.len() <= LEN && at <= (LEN - bytes.len()) as u64 {
             let at = at as usize;
             self.bytes[at..at + bytes.len()].copy_from_slice(bytes);
+            if bytes == [OPEN_GATE].as_slice() {
+                self.opened = slot_of_gate(at as u64);
+            }
         }
     }
 
@@ -119,14 +128,46 @@ impl Contents {
         }
     }
 
-    /// Whether the file has the length and the heads of this.
+    /// Whether the file has the length of this, its header, and the heads of its slots.
     fn is_in(&self, file: &mut File) -> io::Result<bool> {
-        if file.seek(SeekFrom::End(0))? != FILE_LEN {
+        if file.seek(SeekFrom::End(0))? != FILE_LEN || !self.holds(file, 0, BLOCK_LEN)? {
             return Ok(false);
         }
-        let mut found = [0; COMPARED];
-        match file.read_exact_at(&mut found, 0) {
-            Ok(()) => Ok(have_equal_heads(&found, &self.bytes)),
+        match self.opened {
+            Some(slot) if slot < SLOT_COUNT => self.has_stored_last(file, slot),
+            _ => self.has_all_slots(file),
+        }
+    }
+
+    /// Whether this slot, which was stored last, is in the file, and the next one has its gate.
+    fn has_stored_last(&self, file: &File, slot: u64) -> io::Result<bool>
+        requires { slot < SLOT_COUNT }
+    {
+        let (at, next) = (gate_at(slot) as usize, gate_at(next_slot(slot)) as usize);
+        Ok(self.holds(file, at, SLOT_HEAD_LEN)? && self.holds(file, next, 1)?)
+    }
+
+    /// Whether the file has the head of each slot.
+    fn has_all_slots(&self, file: &File) -> io::Result<bool> {
+        for slot in 0..SLOT_COUNT {
+            if !self.holds(file, gate_at(slot) as usize, SLOT_HEAD_LEN)? {
+                return Ok(false);
+            }
+        }
+        Ok(true)
+    }
+
+    /// Whether the file has `count` bytes of this from `at` on.
+    fn holds(&self, file: &File, at: usize, count: usize) -> io::Result<bool>
+        requires { count ≤ SLOT_HEAD_LEN }
+    {
+        let Some(left) = self.bytes.get(at..).and_then(|rest| rest.get(..count)) else {
+            return Ok(false);
+        };
+        let mut room = [0; SLOT_HEAD_LEN];
+        let found = &mut room[..count];
+        match file.read_exact_at(found, at as u64) {
+            Ok(()) => Ok(&*found == left),
             // It was cut meanwhile.
             Err(reason) if reason.kind() == ErrorKind::UnexpectedEof => Ok(false),
             Err(reason) => Err(reason),
@@ -134,14 +175,12 @@ impl Contents {
     }
 }
 
-/// Whether what was found in a file has the heads of what was left in it, and the gate of its header.
-fn have_equal_heads(found: &[u8; COMPARED], left: &[u8; LEN]) -> bool {
-    for block in 0..LEN / BLOCK_LEN {
-        let at = block * BLOCK_LEN;
-        let (found, left) = (&found[at..at + HEAD_LEN], &left[at..at + HEAD_LEN]);
-        if found != left {
-            return false;
+/// The slot whose gate is there.
+fn slot_of_gate(at: u64) -> Option<u64> {
+    for slot in 0..SLOT_COUNT {
+        if gate_at(slot) == at {
+            return Some(slot);
         }
     }
-    found[HEADER_LEN] == left[HEADER_LEN]
+    None
 }

@@ -79,7 +79,7 @@ pub enum CallFault {
     /// file that nobody finds again. Only a sync finds that.
     #[error("sync: its path doesn't name it any more: it was moved, removed or replaced")]
     Moved,
-    /// The file has another length or other gates, numbers or lengths than this device left in it: another
+    /// The file's length, its header or its newest slot isn't what this device left in it: another
     /// program wrote it or cut it, which no lock kept out. It is left as it is. Only a write finds that.
     #[error("write: another program wrote it or cut it, and it is left so: never copy onto a file in use: snapd load makes a new folder of a dump")]
     Overwritten,
@@ -92,10 +92,10 @@ pub enum CallFault {
 ///
 /// Each method makes the call of the system that it is named for, and then notes it. A sync also
 /// asks whether the path still names the file, if the one before it didn't, and fails where it
-/// doesn't: so each store asks, which syncs twice. Once the file was read whole, the first write, and
-/// then the first one behind each second sync, compares its gates, numbers and lengths with what was read
-/// and written: so each store does, before it writes anything. Where they differ the write fails, and isn't
-/// made.
+/// doesn't: so each store asks, which syncs twice. Once the file was read whole, the first write compares
+/// its length, its header and the gate, number and length of each slot with what was read. After every second
+/// sync the next write compares the length, the header, the slot whose gate was opened last and the gate of the
+/// next one: so each store does, before it writes anything. Where they differ the write fails, and isn't made.
 ///
 /// It is honest where every noted call did what the model of [`Disk`] says, after a sync that failed
 /// too, and nobody else writes the file. Which places are open at first no contract says: those that were

@@ -2,8 +2,9 @@
 -- `Disk.Ghosts D` is what `Disk` lets one say of it.
 --
 -- What has a prime is as the act left it. `known` is what the reader had, `out` what the writer
--- holds, `errs` what standard error does, and `may_give` says what a cause may give.
-use Rattle.std.specs.Prelude.{◌≡◌, ℕ, List, length, Option}
+-- holds, and `errs` what standard error does.
+use Rattle.std.specs.Prelude.{◌≡◌, ℕ, List, Option}
+use Rattle.snap_order.specs.Order.{file_of}
 use Rattle.snap_order.specs.declared.order.FileOrder.{FileOrder}
 use Rattle.snap_order.specs.declared.order.Migration.{Migration}
 use Rattle.snap_order.specs.declared.status.Exit.{Exit}
@@ -12,7 +13,6 @@ use Rattle.snap_file_commands.specs.Commands.{CountsEnd, End, EndSays, EndsOrder
 use Rattle.snap_file_commands.specs.Effects.{LeavesNoMore, OrderKeeps}
 use Rattle.snap_file_commands.specs.Migration.{CountsMigration, EndsMigration, MigrationEnd, MigrationKeeps, MigrationReads}
 use Rattle.snap_file_commands.specs.Migration.{MigrationSays, migration_status}
-use Rattle.snap_file_commands.specs.declared.migration.Causes.{Causes}
 use Rattle.snap_disk.specs.declared.disk.Disk as Disk
 
 -- ---- an order on one file
@@ -32,14 +32,13 @@ pub record IsCarriedOut {D : Type 0} (disk : Disk.Ghosts D) (order : FileOrder) 
 
 -- the order was acted on, and the program ends so
 pub record HasActed {D : Type 0} (disk : Disk.Ghosts D) (order : FileOrder) (old new : D)
-    (known out out' : Option (List ℕ)) (may_give : Option (List ℕ) → Type 0)
-    (errs errs' : Option (List ℕ)) (ended : Exit) : Type 0 where
+    (known out out' errs errs' : Option (List ℕ)) (ended : Exit) : Type 0 where
   -- the order came to this end
   pub end : End
   -- the program's status is that of the end
   pub status : ended.status ≡ status_at end
-  -- standard error got why it came early and what to do, or nothing
-  pub says : EndSays may_give order (length (disk.device old).bytes) end ended.is_told errs errs'
+  -- standard error got why it came early, and of which file, or nothing
+  pub says : EndSays (file_of order) end ended.is_told errs errs'
   -- and what was done is what the end says
   pub done : IsCarriedOut disk order old new known out out' end
 
@@ -66,16 +65,14 @@ pub record IsCarriedOver {O N : Type 0} (old_disk : Disk.Ghosts O) (new_disk : D
       (new_disk.device new') out out' end
 
 -- the migration was acted on, and the program ends so
-pub record HasActedOnPair {O N C : Type 0} (old_disk : Disk.Ghosts O) (new_disk : Disk.Ghosts N)
-    (order : Migration) (old old' : O) (new new' : N) (out out' : Option (List ℕ))
-    (may_give : C → Option (List ℕ) → Type 0) (causes : Causes C) (errs errs' : Option (List ℕ))
+pub record HasActedOnPair {O N : Type 0} (old_disk : Disk.Ghosts O) (new_disk : Disk.Ghosts N)
+    (order : Migration) (old old' : O) (new new' : N) (out out' errs errs' : Option (List ℕ))
     (ended : Exit) : Type 0 where
   -- the migration came to this end
   pub end : MigrationEnd
   -- the program's status is that of the end
   pub status : ended.status ≡ migration_status end
-  -- standard error got why it came early, of which file, and what to do, or nothing
-  pub says : MigrationSays (may_give causes.old.now) (may_give causes.new.now) order end
-      ended.is_told errs errs'
+  -- standard error got why it came early, and of which file, or nothing
+  pub says : MigrationSays order end ended.is_told errs errs'
   -- and what was done is what the end says
   pub done : IsCarriedOver old_disk new_disk order old old' new new' out out' end

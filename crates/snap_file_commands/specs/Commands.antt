@@ -34,12 +34,10 @@ abbrev pub status_at : End → Status
 status_at (Ok s) = s
 status_at (Err failure) = status_of failure
 
--- what standard error got of an order on a file of so many bytes: nothing where it didn't end early
-abbrev pub EndSays : (may_give : Option (List ℕ) → Type 0) → FileOrder → (len : ℕ) → End
-    → (is_told : Bool) (old new : Option (List ℕ)) → Type 0
-EndSays may_give order len (Ok s) is_told old new = (is_told ≡ true) × Keeps old new
-EndSays may_give order len (Err failure) is_told old new =
-    SaysOf failure may_give order len is_told old new
+-- what standard error got of a command on this file: nothing where it didn't end early
+abbrev pub EndSays : (file : List ℕ) → End → (is_told : Bool) (old new : Option (List ℕ)) → Type 0
+EndSays file (Ok s) is_told old new = (is_told ≡ true) × Keeps old new
+EndSays file (Err failure) is_told old new = SaysOf failure file is_told old new
 
 -- the device's failure count grows by one exactly where the end is that it failed
 abbrev pub CountsEnd : End → ℕ → ℕ → Type 0

@@ -1,14 +1,11 @@
 -- What reading the value of a file for a dump tells of it.
-use Rattle.std.specs.Prelude.{◌≡◌, ℕ, List, length, Option, Result, Ok, Err}
+use Rattle.std.specs.Prelude.{◌≡◌, ℕ, List, Option, Result, Ok, Err}
 use Rattle.std.specs.Io.KnownBytes.{Keeps}
 use Rattle.snap_disk.specs.Device.{Device}
 use Rattle.snap_disk.specs.declared.refusal.Refusal.{Refusal}
-use Rattle.snap_disk.specs.declared.refusal.Refusal.TheVariants as refusal
-use Rattle.snap_slot.specs.declared.layout.TheConstants.{FILE_LEN}
 use Rattle.snap_slot.specs.Findings.{IsNoOpening}
 use Rattle.snap_slot.specs.Layout.{Head, Holds}
 use Rattle.snap_scan.specs.declared.segment_value.SegmentValue.{SegmentValue}
-use Rattle.snap_order.specs.declared.order.FileOrder.{FileOrder}
 use Rattle.snap_order.specs.declared.status.Exit.{Exit}
 use Rattle.snap_order.specs.declared.status.Status.TheVariants as status
 use Rattle.snap_file_commands.specs.Failure.{SaysOf}
@@ -23,12 +20,10 @@ abbrev pub Reads : (honest : Type 0) (i n : ℕ) (old : Device) → Result Segme
 Reads honest i n old (Ok v) = honest → IsHeld i n old v
 Reads honest i n old (Err why) = honest → IsNoOpening i n old.bytes why
 
--- the same, and the program ends early with that refusal; the order is what standard error speaks of
-abbrev pub EndsReading : (honest : Type 0) → FileOrder → (i n : ℕ) (old : Device)
-    (may_give : Option (List ℕ) → Type 0) (errs errs' : Option (List ℕ))
-    → Result SegmentValue Exit → Type 0
-EndsReading honest order i n old may_give errs errs' (Ok v) =
-    (honest → IsHeld i n old v) × Keeps errs errs'
-EndsReading honest order i n old may_give errs errs' (Err ended) = (why : Refusal)
+-- the same, and the program ends early with that refusal, which standard error tells of this file
+abbrev pub EndsReading : (honest : Type 0) (file : List ℕ) (i n : ℕ) (old : Device)
+    (errs errs' : Option (List ℕ)) → Result SegmentValue Exit → Type 0
+EndsReading honest file i n old errs errs' (Ok v) = (honest → IsHeld i n old v) × Keeps errs errs'
+EndsReading honest file i n old errs errs' (Err ended) = (why : Refusal)
     × (honest → IsNoOpening i n old.bytes why) × (ended.status ≡ status.Refused)
-    × SaysOf (Refused why) may_give order (length old.bytes) ended.is_told errs errs'
+    × SaysOf (Refused why) file ended.is_told errs errs'

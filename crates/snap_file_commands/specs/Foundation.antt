@@ -14,7 +14,6 @@ use Rattle.snap_slot.specs.declared.findings.Findings.{Findings}
 use Rattle.snap_slot.specs.declared.slot.Slot.{Slot}
 use Rattle.snap_slot.specs.declared.slot.Slot.TheVariants.{Closed, Open, Bad}
 use Rattle.snap_stream.specs.Streams.{AppendsBeginning}
-use Rattle.snap_order.specs.declared.order.FileOrder.{FileOrder}
 use Rattle.snap_order.specs.declared.status.Exit.{Exit}
 use Rattle.snap_order.specs.declared.status.Status.TheVariants as status
 use Rattle.snap_file_commands.specs.Calls.{CountsCallsOf}
@@ -99,16 +98,15 @@ pub record IsFounded {D : Type 0} (disk : Disk.Ghosts D) (i n : ℕ) (old new : 
   -- the end says what the file was and is, and what was printed
   pub ends : EndsFounding (disk.is_honest new) i n (disk.device old) (disk.device new) out out' end
 
--- the same, and the program ends so; the order is what standard error speaks of
-pub record HasFounded {D : Type 0} (disk : Disk.Ghosts D) (order : FileOrder) (i n : ℕ) (old new : D)
-    (out out' : Option (List ℕ)) (may_give : Option (List ℕ) → Type 0)
-    (errs errs' : Option (List ℕ)) (ended : Exit) : Type 0 where
+-- the same, and the program ends so; standard error speaks of this file
+pub record HasFounded {D : Type 0} (disk : Disk.Ghosts D) (file : List ℕ) (i n : ℕ) (old new : D)
+    (out out' errs errs' : Option (List ℕ)) (ended : Exit) : Type 0 where
   -- it came to this end
   pub end : End
   -- the program's status is that of the end
   pub status : ended.status ≡ status_at end
-  -- standard error got why it came early and what to do, or nothing
-  pub says : EndSays may_give order (length (disk.device old).bytes) end ended.is_told errs errs'
+  -- standard error got why it came early, and of which file, or nothing
+  pub says : EndSays file end ended.is_told errs errs'
   -- and what was done is what the end says
   pub done : IsFounded disk i n old new out out' end
 

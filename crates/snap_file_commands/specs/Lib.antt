@@ -1,4 +1,3 @@
-pub mod Remedy
 pub mod Failure
 pub mod Commands
 pub mod Effects

@@ -1,5 +1,5 @@
 -- What loading a file does to its device and its streams, by how it ends. What has a prime is as it left it.
-use Rattle.std.specs.Prelude.{◌≡◌, ℕ, List, ◌++◌, length, Option, Ok, Err, codes, false}
+use Rattle.std.specs.Prelude.{◌≡◌, ℕ, List, ◌++◌, Option, Ok, Err, codes, false}
 use Rattle.std.specs.Fmt.{decimal}
 use Rattle.std.specs.Io.KnownBytes.{Appends, Keeps}
 use Rattle.snap_disk.specs.Device.{Device}
@@ -8,7 +8,6 @@ use Rattle.snap_slot.specs.Layout.{IsUnformatted}
 use Rattle.snap_slot.specs.States.{IsAtRest}
 use Rattle.snap_segment.specs.Creation.{new_file}
 use Rattle.snap_stream.specs.Streams.{AppendsBeginning}
-use Rattle.snap_order.specs.declared.order.FileOrder.TheVariants.{Format}
 use Rattle.snap_order.specs.declared.status.Exit.{Exit}
 use Rattle.snap_order.specs.declared.status.Status.TheVariants as status
 use Rattle.snap_file_commands.specs.Calls.{CountsCallsOf}
@@ -52,16 +51,14 @@ pub record IsLoaded {D : Type 0} (disk : Disk.Ghosts D) (of : LoadedFile) (old n
   -- the end says what the file was and is, and what was printed
   pub ends : EndsLoad (disk.is_honest new) of (disk.device old) (disk.device new) out out' end
 
--- the same, and the program ends so; what standard error got is what a format of the file says
+-- the same, and the program ends so
 pub record HasLoaded {D : Type 0} (disk : Disk.Ghosts D) (of : LoadedFile) (old new : D)
-    (out out' : Option (List ℕ)) (may_give : Option (List ℕ) → Type 0)
-    (errs errs' : Option (List ℕ)) (ended : Exit) : Type 0 where
+    (out out' errs errs' : Option (List ℕ)) (ended : Exit) : Type 0 where
   -- it came to this end
   pub end : End
   -- the program's status is that of the end
   pub status : ended.status ≡ status_at end
-  -- standard error got why it came early and what to do, or nothing
-  pub says : EndSays may_give (Format of.file of.index of.count) (length (disk.device old).bytes) end
-      ended.is_told errs errs'
+  -- standard error got why it came early, and of which file, or nothing
+  pub says : EndSays of.file.now end ended.is_told errs errs'
   -- and what was done is what the end says
   pub done : IsLoaded disk of old new out out' end

@@ -18,7 +18,6 @@ use Rattle.snap_order.specs.declared.order.Migration.{Migration}
 use Rattle.snap_order.specs.declared.status.Status.{Status}
 use Rattle.snap_order.specs.declared.status.Status.TheVariants as status
 use Rattle.snap_file_commands.specs.Failure.{Says, status_of}
-use Rattle.snap_file_commands.specs.Remedy.{failed_text, new_file_text, new_role, old_file_text, old_role}
 use Rattle.snap_file_commands.specs.declared.failure.CommandFailure.TheVariants.{Output, Refused}
 use Rattle.snap_file_commands.specs.declared.migration.MigrationFailure.{MigrationFailure}
 use Rattle.snap_file_commands.specs.declared.migration.MigrationFailure.TheVariants.{OfFile, Other}
@@ -43,34 +42,33 @@ migrated_beginning i n = codes "migrated "
 abbrev pub migrated_line : ℕ → ℕ → ℕ → List ℕ
 migrated_line i n k = migrated_beginning i n ++ (decimal k ++ codes "\n")
 
--- What stands behind the line of a refusal of one of the files: a line that names it, says which of
--- the two it is, and then what to do. `may_give` says what the system may have said of its device.
-abbrev pub IsBehindRole : (role advice : List ℕ) (may_give : Option (List ℕ) → Type 0)
-    (file : List ℕ) → Refusal → List ℕ → Type 0
-IsBehindRole role advice may_give file refusal.DeviceFailed more =
-    (said : Option (List ℕ)) × may_give said × (more ≡ file_line file (role ++ failed_text said))
-IsBehindRole role advice may_give file why more = more ≡ file_line file (role ++ advice)
+-- which of the two files it is, in front of what else is said of it
+abbrev pub old_role : List ℕ
+old_role = codes "refused as the old file: "
+
+abbrev pub new_role : List ℕ
+new_role = codes "refused as the new file: "
+
+-- what stands behind the line of a refusal of one of the files: a line that names it, and says which of
+-- the two it is
+abbrev pub IsBehindRole : (role file : List ℕ) → List ℕ → Type 0
+IsBehindRole role file more = (text : List ℕ) × (more ≡ file_line file (role ++ text))
 
 -- what standard error got: nothing where the migration didn't end early
-abbrev pub SaysMigration : MigrationFailure → (old_may_give new_may_give : Option (List ℕ) → Type 0)
-    → Migration → (is_told : Bool) (old new : Option (List ℕ)) → Type 0
-SaysMigration (OfFile Old why) old_may_give new_may_give order is_told old new =
-    (more : List ℕ)
-    × IsBehindRole old_role (old_file_text order why) old_may_give order.old.now why more
+abbrev pub SaysMigration : MigrationFailure → Migration → (is_told : Bool) (old new : Option (List ℕ))
+    → Type 0
+SaysMigration (OfFile Old why) order is_told old new =
+    (more : List ℕ) × IsBehindRole old_role order.old.now more
     × SaysLines (refused_line why ++ more) is_told old new
-SaysMigration (OfFile New why) old_may_give new_may_give order is_told old new =
-    (more : List ℕ)
-    × IsBehindRole new_role (new_file_text order why) new_may_give order.new.now why more
+SaysMigration (OfFile New why) order is_told old new =
+    (more : List ℕ) × IsBehindRole new_role order.new.now more
     × SaysLines (refused_line why ++ more) is_told old new
-SaysMigration (Other failure) old_may_give new_may_give order is_told old new =
-    Says failure is_told old new
+SaysMigration (Other failure) order is_told old new = Says failure is_told old new
 
-abbrev pub MigrationSays : (old_may_give new_may_give : Option (List ℕ) → Type 0) → Migration
-    → MigrationEnd → (is_told : Bool) (old new : Option (List ℕ)) → Type 0
-MigrationSays old_may_give new_may_give order (Ok s) is_told old new =
-    (is_told ≡ true) × Keeps old new
-MigrationSays old_may_give new_may_give order (Err failure) is_told old new =
-    SaysMigration failure old_may_give new_may_give order is_told old new
+abbrev pub MigrationSays : Migration → MigrationEnd → (is_told : Bool) (old new : Option (List ℕ))
+    → Type 0
+MigrationSays order (Ok s) is_told old new = (is_told ≡ true) × Keeps old new
+MigrationSays order (Err failure) is_told old new = SaysMigration failure order is_told old new
 
 -- a failure count grows by one exactly where the end is that that device failed
 abbrev pub CountsMigration : MigrationEnd → (before after new_before new_after : ℕ) → Type 0

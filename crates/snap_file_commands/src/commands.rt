@@ -57,7 +57,7 @@ pub fn act<D: Disk, C: Cause, R: Read, W: Write, E: Write>(
     // error got, and which leaves the device as it was where it is a refusal.
     ensures ends { HasActed D.Disk order.now
         disk result.0 (R.remaining reader.old) (W.contents writer.old) (W.contents writer.new)
-        (C.may_give cause.now) (E.contents errors.old) (E.contents errors.new) result.1 }
+        (E.contents errors.old) (E.contents errors.new) result.1 }
 
     // A device of another length is left untouched.
     ensures wrong_length { length (D.device disk).bytes ≢ FILE_LEN → result.0 ≡ disk }

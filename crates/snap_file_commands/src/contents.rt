@@ -1,10 +1,8 @@
 //! Reads the number and value of one segment's file: what `dump` does with each file of a folder.
 ghost use Rattle.std.specs.Prelude.{◌≡◌, ◌≢◌, ◌-◌, ◌^◌, ◌<◌, ◌≤◌, length, IfOk};
-ghost use Rattle.snap_disk.specs.Device.{Device};
 ghost use Rattle.snap_slot.specs.declared.layout.TheConstants.{FILE_LEN};
 ghost use Rattle.snap_history.specs.declared.limits.TheConstants.{MAX_COUNT};
 ghost use Rattle.snap_history.specs.Limits.{IsNumber, IsShort};
-ghost use Rattle.snap_order.specs.declared.order.FileOrder.TheVariants.{Get};
 ghost use Rattle.snap_file_commands.specs.Effects.{LeavesNoMore};
 ghost use Rattle.snap_file_commands.specs.Contents.{EndsReading, Reads};
 
@@ -36,9 +34,8 @@ pub fn held_value<D: Disk, C: Cause, E: Write>(
     ensures honest { D.is_honest result.0 → D.is_honest disk }
 
     // It is what the file holds; or there is a refusal that says why the file can't be opened.
-    ensures ends { EndsReading (D.is_honest result.0) (Get file.entry index count) index count
-        (D.device disk) (C.may_give cause.now) (E.contents errors.old) (E.contents errors.new)
-        result.1 }
+    ensures ends { EndsReading (D.is_honest result.0) file.now index count (D.device disk)
+        (E.contents errors.old) (E.contents errors.new) result.1 }
 
     // A segment can have it.
     ensures number { IfOk result.1 (λ v. IsNumber v.number) }

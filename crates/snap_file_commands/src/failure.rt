@@ -1,5 +1,6 @@
 //! Why a command did not do what was asked.
 ghost use Rattle.std.specs.Prelude.{◌≡◌};
+ghost use Rattle.snap_order.specs.Order.{file_of};
 ghost use Rattle.snap_file_commands.specs.Failure.{Says, SaysOf, status_of};
 
 use crate::second_line::line_behind;
@@ -101,8 +102,8 @@ impl CommandFailure {
         errors: &mut E,
     ) -> Exit
         ensures status { result.status ≡ status_of self.now }
-        ensures says { SaysOf self.now (C.may_give cause.now) order.now len
-            result.is_told (E.contents errors.old) (E.contents errors.new) }
+        ensures says { SaysOf self.now (file_of order.now) result.is_told
+            (E.contents errors.old) (E.contents errors.new) }
     {
         match self {
             CommandFailure::Refused(why) => {

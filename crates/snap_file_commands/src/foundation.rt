@@ -4,19 +4,18 @@
 //! So it can be done again, also after a crash. A format takes whatever has no open header. What is here
 //! leaves a file alone that has lost its header and still has a value, since nobody looks at each file of
 //! a folder before `init` is run again.
-ghost use Rattle.std.specs.Prelude.{◌≡◌, ◌≢◌, ◌-◌, ◌^◌, ◌<◌, ◌≤◌, ◌↔◌, length, IfOk, IfErr, IsTrue};
-ghost use Rattle.snap_disk.specs.Device.{Device, IsUnchanged};
+ghost use Rattle.std.specs.Prelude.{◌≡◌, ◌≢◌, ◌-◌, ◌^◌, ◌<◌, ◌≤◌, ◌↔◌, length, IsTrue};
+ghost use Rattle.snap_disk.specs.Device.{IsUnchanged};
 ghost use Rattle.snap_slot.specs.declared.layout.TheConstants.{FILE_LEN};
 ghost use Rattle.snap_history.specs.declared.limits.TheConstants.{MAX_COUNT};
 ghost use Rattle.snap_segment.specs.Calls.{Counts};
 ghost use Rattle.snap_segment.specs.Creation.{IsFresh};
-ghost use Rattle.snap_order.specs.declared.order.FileOrder.TheVariants.{Format};
 ghost use Rattle.snap_file_commands.specs.Calls.{CountsCallsOf};
 ghost use Rattle.snap_file_commands.specs.Commands.{CountsEnd};
-ghost use Rattle.snap_file_commands.specs.Effects.{AnyCrashLeaves, LeavesNoMore, StoreKeeps};
-ghost use Rattle.snap_file_commands.specs.Foundation.{AreEmpty, CountsFounding, EndsFounding, HasFounded};
+ghost use Rattle.snap_file_commands.specs.Effects.{AnyCrashLeaves, LeavesNoMore};
+ghost use Rattle.snap_file_commands.specs.Foundation.{AreEmpty, HasFounded};
 ghost use Rattle.snap_file_commands.specs.Foundation.{EndsKeeping, IsBlank, IsEmptySlot, IsFounded};
-ghost use Rattle.snap_file_commands.specs.Foundation.{IsNotBlank, SaysBlank, refusal_of_formatted};
+ghost use Rattle.snap_file_commands.specs.Foundation.{SaysBlank, refusal_of_formatted};
 
 use crate::CommandFailure;
 use crate::commands::format_file;
@@ -55,9 +54,8 @@ pub fn found<D: Disk, C: Cause, W: Write, E: Write>(
 
     // There is an end whose status it is, which says what happened to the file and what standard error
     // got.
-    ensures ends { HasFounded D.Disk (Format file.entry index count) index count disk result.0
-        (W.contents writer.old) (W.contents writer.new) (C.may_give cause.now)
-        (E.contents errors.old) (E.contents errors.new) result.1 }
+    ensures ends { HasFounded D.Disk file.now index count disk result.0 (W.contents writer.old)
+        (W.contents writer.new) (E.contents errors.old) (E.contents errors.new) result.1 }
 
     // A device of another length is left untouched.
     ensures wrong_length { length (D.device disk).bytes ≢ FILE_LEN → result.0 ≡ disk }

@@ -4,9 +4,8 @@
 //! whole, and [`act_pair`] carries a file of the old format over to a new one. [`held_value`] reads a file
 //! for a dump, and [`load`] makes one of a dump's (`specs/Contents.antt`, `specs/Loads.antt`). `specs/Acts.antt` says
 //! what an order does in all, `specs/Commands.antt` what each end means for the device's bytes and for
-//! what was read and printed, `specs/Effects.antt` which ends leave the device as it was,
-//! `specs/Foundation.antt` all that of a folder's file, and `specs/Remedy.antt` what is said of a file
-//! that was refused.
+//! what was read and printed, `specs/Effects.antt` which ends leave the device as it was, and
+//! `specs/Foundation.antt` all that of a folder's file.
 #![tactic(auto)]
 
 mod commands;

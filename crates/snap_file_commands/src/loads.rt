@@ -1,15 +1,12 @@
 //! Makes the file of one segment of a dump: what `load` does with each of its files.
 ghost use Rattle.std.specs.Prelude.{◌≡◌, ◌≢◌, ◌-◌, ◌^◌, ◌<◌, ◌≤◌, length};
-ghost use Rattle.snap_disk.specs.Device.{Device};
 ghost use Rattle.snap_slot.specs.declared.layout.TheConstants.{FILE_LEN};
 ghost use Rattle.snap_slot.specs.Layout.{IsFormatted};
 ghost use Rattle.snap_history.specs.declared.limits.TheConstants.{MAX_COUNT};
 ghost use Rattle.snap_history.specs.Limits.{IsNumber, IsShort};
 ghost use Rattle.snap_segment.specs.Creation.{IsMadeOrLeft};
-ghost use Rattle.snap_file_commands.specs.Calls.{CountsCallsOf};
-ghost use Rattle.snap_file_commands.specs.Commands.{CountsEnd};
-ghost use Rattle.snap_file_commands.specs.Effects.{AnyCrashLeaves, FormatKeeps, LeavesNoMore};
-ghost use Rattle.snap_file_commands.specs.Loads.{EndsLoad, HasLoaded, IsLoaded};
+ghost use Rattle.snap_file_commands.specs.Effects.{AnyCrashLeaves, LeavesNoMore};
+ghost use Rattle.snap_file_commands.specs.Loads.{HasLoaded, IsLoaded};
 
 use crate::CommandFailure;
 use snap_disk::Disk;
@@ -20,7 +17,7 @@ use std::alloc::Global;
 use std::io::Write;
 
 /// A file that is to be made: that of a segment with a number and a value.
-#[derive(Clone, Copy, Debug)]
+#[derive(Clone, Copy)]
 pub struct LoadedFile<'f, 'v> {
     /// Its path.
     pub file: &'f str,
@@ -58,9 +55,8 @@ pub fn load<D: Disk, C: Cause, W: Write, E: Write>(
 
     // There is an end whose status it is, which says what happened to the file and what standard error
     // got.
-    ensures ends { HasLoaded D.Disk of.now disk result.0
-        (W.contents writer.old) (W.contents writer.new) (C.may_give cause.now)
-        (E.contents errors.old) (E.contents errors.new) result.1 }
+    ensures ends { HasLoaded D.Disk of.now disk result.0 (W.contents writer.old)
+        (W.contents writer.new) (E.contents errors.old) (E.contents errors.new) result.1 }
 
     // A device of another length is left untouched.
     ensures wrong_length { length (D.device disk).bytes ≢ FILE_LEN → result.0 ≡ disk }

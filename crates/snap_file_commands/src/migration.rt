@@ -2,13 +2,11 @@
 //!
 //! `specs/Acts.antt` says what an act on a pair does in all, and `specs/Migration.antt` what each
 //! end means for both devices and for what was printed.
-ghost use Rattle.std.specs.Prelude.{◌≡◌, ◌≢◌, ◌<◌, ◌≤◌, ◌+◌, ◌-◌, ◌^◌, ◌++◌, length, IfOk, IsOk};
+ghost use Rattle.std.specs.Prelude.{◌≡◌, ◌≢◌, ◌<◌, ◌≤◌, ◌+◌, ◌-◌, ◌^◌, ◌++◌, length, IfOk};
 ghost use Rattle.std.specs.Prelude.{codes};
 ghost use Rattle.std.specs.Fmt.{decimal};
 ghost use Rattle.std.specs.Prelude.{string_bytes, string_capacity, string_len};
-ghost use Rattle.snap_disk.specs.Device.{Device};
 ghost use Rattle.snap_slot.specs.declared.layout.TheConstants.{FILE_LEN};
-ghost use Rattle.snap_history.specs.declared.limits.TheConstants.{MAX_COUNT};
 ghost use Rattle.snap_segment.specs.layout.TheConstants.{OLD_FILE_LEN};
 ghost use Rattle.snap_order.specs.Order.{IsPlace};
 ghost use Rattle.snap_file_commands.specs.Acts.{HasActedOnPair, IsCarriedOver};
@@ -34,7 +32,7 @@ const AS_OLD: &str = "refused as the old file: ";
 const AS_NEW: &str = "refused as the new file: ";
 
 /// Why a migration ended early.
-#[derive(Debug, Drop)]
+#[derive(Drop)]
 pub enum MigrationFailure {
     /// One of its files was refused.
     OfFile { which: Which, why: Refusal },
@@ -60,8 +58,7 @@ impl MigrationFailure {
         errors: &mut E,
     ) -> Exit
         ensures status { result.status ≡ migration_status_of self.now }
-        ensures says { SaysMigration self.now (C.may_give causes.now.old.now)
-            (C.may_give causes.now.new.now) order.now result.is_told (E.contents errors.old)
+        ensures says { SaysMigration self.now order.now result.is_told (E.contents errors.old)
             (E.contents errors.new) }
     {
         match self {
@@ -111,8 +108,8 @@ pub fn act_pair<O: Disk, N: Disk, C: Cause, W: Write, E: Write>(
     // There is an end whose status it is, which says what happened to both files and what standard
     // error got, and which of the devices are as they were.
     ensures ends { HasActedOnPair O.Disk N.Disk order.now old result.0 new result.1
-        (W.contents writer.old) (W.contents writer.new) C.may_give causes.now
-        (E.contents errors.old) (E.contents errors.new) result.2 }
+        (W.contents writer.old) (W.contents writer.new) (E.contents errors.old)
+        (E.contents errors.new) result.2 }
 
     // Where a length is wrong, both devices are left untouched.
     ensures wrong_old_length { length (O.device old).bytes ≢ OLD_FILE_LEN

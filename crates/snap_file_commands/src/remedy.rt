@@ -1,11 +1,5 @@
-//! What is wrong with a file that was refused, and what to do, in words.
-//!
-//! `specs/Remedy.antt` has the texts; those that the server says too are `snap_order`'s.
-ghost use Rattle.std.specs.Prelude.{◌≡◌, IfOk, string_bytes};
-ghost use Rattle.snap_file_commands.specs.Remedy.{another_text, damaged_text, empty_text};
-ghost use Rattle.snap_file_commands.specs.Remedy.{format_command_of, formatted_text, length_text};
-ghost use Rattle.snap_file_commands.specs.Remedy.{new_file_text, old_file_text};
-ghost use Rattle.snap_file_commands.specs.Remedy.{unformatted_text, whole_text, wrong_text};
+//! What is wrong with a file that was refused, and what to do, in words. Those that the server says too
+//! are `snap_order`'s.
 
 use snap_disk::Refusal;
 use snap_order::{
@@ -16,9 +10,11 @@ use snap_slot::FILE_LEN;
 use std::alloc::{AllocError, Global};
 
 /// Of a file that isn't the order's, by its length.
-pub(crate) fn of_wrong(alloc: Global, order: &FileOrder<'_>, len: u64) -> Result<String, AllocError>
-    ensures { IfOk result (λ text. string_bytes text ≡ wrong_text order.now len) }
-{
+pub(crate) fn of_wrong(
+    alloc: Global,
+    order: &FileOrder<'_>,
+    len: u64,
+) -> Result<String, AllocError> {
     match len {
         0 => of_empty(alloc, order),
         OLD_FILE_LEN => old_format_remedy(alloc, order.file()),
@@ -28,17 +24,13 @@ pub(crate) fn of_wrong(alloc: Global, order: &FileOrder<'_>, len: u64) -> Result
 }
 
 /// Of a file that has no byte, and so nothing to lose.
-fn of_empty(alloc: Global, order: &FileOrder<'_>) -> Result<String, AllocError>
-    ensures { IfOk result (λ text. string_bytes text ≡ empty_text order.now) }
-{
+fn of_empty(alloc: Global, order: &FileOrder<'_>) -> Result<String, AllocError> {
     let words = words_of_format(alloc, order)?;
     empty_remedy(alloc, words.as_str())
 }
 
 /// Of a file that has the length of a segment's: it is that of another segment.
-fn of_whole(alloc: Global, order: &FileOrder<'_>) -> Result<String, AllocError>
-    ensures { IfOk result (λ text. string_bytes text ≡ whole_text order.now) }
-{
+fn of_whole(alloc: Global, order: &FileOrder<'_>) -> Result<String, AllocError> {
     match *order {
         FileOrder::Put { file, index, count } | FileOrder::Get { file, index, count } => {
             of_another(alloc, file, index, count)
@@ -50,39 +42,29 @@ fn of_whole(alloc: Global, order: &FileOrder<'_>) -> Result<String, AllocError>
 }
 
 /// Of a file that isn't this segment's.
-fn of_another(alloc: Global, file: &str, index: u8, count: u8) -> Result<String, AllocError>
-    ensures { IfOk result (λ text. string_bytes text ≡ another_text file.now index count) }
-{
+fn of_another(alloc: Global, file: &str, index: u8, count: u8) -> Result<String, AllocError> {
     format!(in alloc; "it isn't the file of segment {index} of {count}: see snapd check {file}")
 }
 
 /// Of a file that has the length of no format.
-fn of_length(alloc: Global, len: u64) -> Result<String, AllocError>
-    ensures { IfOk result (λ text. string_bytes text ≡ length_text len) }
-{
+fn of_length(alloc: Global, len: u64) -> Result<String, AllocError> {
     format!(in alloc; "it has {len} bytes, and a segment file has {FILE_LEN}")
 }
 
 /// Of a file whose header's gate is closed. Its slots may hold something all the same, which a
 /// format ends.
-pub(crate) fn of_unformatted(alloc: Global, order: &FileOrder<'_>) -> Result<String, AllocError>
-    ensures { IfOk result (λ text. string_bytes text ≡ unformatted_text order.now) }
-{
+pub(crate) fn of_unformatted(alloc: Global, order: &FileOrder<'_>) -> Result<String, AllocError> {
     let words = words_of_format(alloc, order)?;
     unformatted_remedy(alloc, words.as_str())
 }
 
 /// Of a file whose slots have no answer.
-pub(crate) fn of_damaged(alloc: Global, file: &str) -> Result<String, AllocError>
-    ensures { IfOk result (λ text. string_bytes text ≡ damaged_text file.now) }
-{
+pub(crate) fn of_damaged(alloc: Global, file: &str) -> Result<String, AllocError> {
     format!(in alloc; "its slots give no answer: see snapd check {file}")
 }
 
 /// Of a file that is a segment's already.
-pub(crate) fn of_formatted(alloc: Global, file: &str) -> Result<String, AllocError>
-    ensures { IfOk result (λ text. string_bytes text ≡ formatted_text file.now) }
-{
+pub(crate) fn of_formatted(alloc: Global, file: &str) -> Result<String, AllocError> {
     format!(in alloc; "it is formatted already: see snapd check {file}")
 }
 
@@ -91,9 +73,7 @@ pub(crate) fn of_old(
     alloc: Global,
     order: &Migration<'_>,
     why: Refusal,
-) -> Result<String, AllocError>
-    ensures { IfOk result (λ text. string_bytes text ≡ old_file_text order.now why) }
-{
+) -> Result<String, AllocError> {
     let (index, count) = (order.index, order.count);
     match why {
         Refusal::Damaged => format!(in alloc; "its slots give no answer: look for a backup"),
@@ -111,9 +91,7 @@ pub(crate) fn of_new(
     alloc: Global,
     order: &Migration<'_>,
     why: Refusal,
-) -> Result<String, AllocError>
-    ensures { IfOk result (λ text. string_bytes text ≡ new_file_text order.now why) }
-{
+) -> Result<String, AllocError> {
     match why {
         Refusal::AlreadyFormatted => of_formatted(alloc, order.new),
         _ => format!(in alloc;
@@ -123,9 +101,7 @@ pub(crate) fn of_new(
 }
 
 /// The words that format the order's file, with letters for a place that the order doesn't name.
-pub fn words_of_format(alloc: Global, order: &FileOrder<'_>) -> Result<String, AllocError>
-    ensures { IfOk result (λ text. string_bytes text ≡ format_command_of order.now) }
-{
+pub fn words_of_format(alloc: Global, order: &FileOrder<'_>) -> Result<String, AllocError> {
     match *order {
         FileOrder::Format { file, index, count }
         | FileOrder::Put { file, index, count }

@@ -1,11 +1,8 @@
 //! The line behind that of a refusal: which file it was, what the system said of it, and what to do.
-ghost use Rattle.std.specs.Prelude.{◌≡◌, ◌++◌, ℕ, List, Option, Some, None};
-ghost use Rattle.std.specs.Prelude.{IfOk, IfSome, string_bytes};
-ghost use Rattle.snap_stream.specs.Streams.{file_line};
+ghost use Rattle.std.specs.Prelude.{IfSome, string_bytes};
 ghost use Rattle.snap_order.specs.Order.{file_of};
 ghost use Rattle.snap_file_commands.specs.Failure.{IsBehind};
 ghost use Rattle.snap_file_commands.specs.Migration.{IsBehindRole};
-ghost use Rattle.snap_file_commands.specs.Remedy.{failed_text};
 
 use crate::remedy;
 use snap_disk::Refusal;
@@ -22,8 +19,7 @@ pub(crate) fn line_behind<C: Cause>(
     why: Refusal,
     cause: &C,
 ) -> Option<String>
-    ensures { (line : List ℕ) × IsBehind (C.may_give cause.now) order.now len why line
-        × IfSome result (λ more. string_bytes more ≡ line) }
+    ensures { IfSome result (λ line. IsBehind (file_of order.now) why (string_bytes line)) }
 {
     let file = order.file();
     match why {
@@ -47,9 +43,7 @@ pub(crate) fn line_behind_role<C: Cause>(
     cause: &C,
     text: Result<String, AllocError>,
 ) -> Option<String>
-    ensures { (advice : List ℕ) → IfOk text (λ t. string_bytes t ≡ advice) → (line : List ℕ)
-        × IsBehindRole role.now advice (C.may_give cause.now) file.now why line
-        × IfSome result (λ more. string_bytes more ≡ line) }
+    ensures { IfSome result (λ line. IsBehindRole role.now file.now (string_bytes line)) }
 {
     match why {
         Refusal::DeviceFailed => failed_line(alloc, file, role, cause),
@@ -57,35 +51,20 @@ pub(crate) fn line_behind_role<C: Cause>(
     }
 }
 
-/// The line of a file whose device failed.
+/// The line of a file whose device failed, with what the system said of that, where it is known.
 fn failed_line<C: Cause>(alloc: Global, file: &str, role: &str, cause: &C) -> Option<String>
-    ensures { (said : Option (List ℕ)) × C.may_give cause.now said × IfSome result (λ line.
-        string_bytes line ≡ file_line file.now (role.now ++ failed_text said)) }
+    ensures { IfSome result (λ line. IsBehindRole role.now file.now (string_bytes line)) }
 {
     match cause.text(alloc) {
-        Some(said) => known_line(alloc, file, role, &said),
-        None => unknown_line(alloc, file, role),
+        Some(said) => {
+            let text = format!(in alloc; "{said}: look after its disk, and try again");
+            role_line(alloc, file, role, text)
+        }
+        None => {
+            let text = "a call of its device failed: look after its disk, and try again";
+            whole_line(alloc, file, role, text)
+        }
     }
-}
-
-/// The same where the system said something of that.
-fn known_line(alloc: Global, file: &str, role: &str, said: &String) -> Option<String>
-    ensures { IfSome result (λ line. string_bytes line
-        ≡ file_line file.now (role.now ++ failed_text (Some (string_bytes said.now)))) }
-{
-    match format!(in alloc; "{said}: look after its disk, and try again") {
-        Ok(text) => whole_line(alloc, file, role, text.as_str()),
-        Err(_) => None,
-    }
-}
-
-/// The same where nothing is known of that.
-fn unknown_line(alloc: Global, file: &str, role: &str) -> Option<String>
-    ensures { IfSome result (λ line. string_bytes line
-        ≡ file_line file.now (role.now ++ failed_text None)) }
-{
-    let text = "a call of its device failed: look after its disk, and try again";
-    whole_line(alloc, file, role, text)
 }
 
 /// The line of a text about a file, where there was memory for it.
@@ -95,9 +74,7 @@ fn role_line(
     role: &str,
     text: Result<String, AllocError>,
 ) -> Option<String>
-    ensures { (advice : List ℕ) → IfOk text (λ t. string_bytes t ≡ advice)
-        → IfSome result (λ line. string_bytes line
-        ≡ file_line file.now (role.now ++ advice)) }
+    ensures { IfSome result (λ line. IsBehindRole role.now file.now (string_bytes line)) }
 {
     match text {
         Ok(text) => whole_line(alloc, file, role, text.as_str()),
@@ -106,8 +83,7 @@ fn role_line(
 }
 
 fn whole_line(alloc: Global, file: &str, role: &str, text: &str) -> Option<String>
-    ensures { IfSome result (λ line. string_bytes line
-        ≡ file_line file.now (role.now ++ text.now)) }
+    ensures { IfSome result (λ line. IsBehindRole role.now file.now (string_bytes line)) }
 {
     match format!(in alloc; "snapd: {file}: {role}{text}\n") {
         Ok(line) => Some(line),

@@ -7,7 +7,7 @@ use Rattle.snap_serve.specs.Serve.{IsRemedy, SaysFailure}
 
 pub remedied : {F : Type 0} (path : F → List ℕ) (files : List F) (segment : ℕ) (why : Refusal)
     (len : ℕ) (more : Option (String Global)) (told : Bool) (old new : Option (List ℕ))
-    → IfSome more (λ m. IsRemedy path files segment why len (string_bytes m))
+    → IfSome more (λ m. IsRemedy path files segment why (string_bytes m))
     → ((line : List ℕ) → IfSome more (λ m. string_bytes m ≡ line)
     → SaysLines (refused_line why ++ line) told old new)
     → (IsNone more → told ≡ false)

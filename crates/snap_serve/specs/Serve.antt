@@ -1,5 +1,5 @@
 -- How a server ends, and what it has written by then.
-use Rattle.std.specs.Prelude.{◌≡◌, ◌≢◌, ◌⊎◌, ◌==◌, if◌then◌else◌, ℕ, Bool, true, List, ◌++◌, flat_map, length, map, slice_get, Option, Some, None, Result, Ok, Err}
+use Rattle.std.specs.Prelude.{◌≡◌, ◌≢◌, ◌⊎◌, ℕ, Bool, true, List, ◌++◌, flat_map, length, map, slice_get, Option, Some, None, Result, Ok, Err}
 use Rattle.std.specs.Prelude.{codes}
 use Rattle.std.specs.Fmt.{decimal}
 use Rattle.std.specs.Io.KnownBytes.{Appends, Keeps}
@@ -9,10 +9,8 @@ use Rattle.snap_disk.specs.declared.refusal.Refusal.TheVariants as refusal
 use Rattle.snap_restart.specs.Pairs.{Pairs}
 use Rattle.snap_writer.specs.Segment.{SegmentState}
 use Rattle.snap_writer.specs.Writer.{WriterState}
-use Rattle.snap_stream.specs.Streams.{AppendsBeginning, Complains, SaysLines, file_line, refused_line}
-use Rattle.snap_order.specs.Remedy.{check_command, empty_text, format_command, old_text, unformatted_text}
+use Rattle.snap_stream.specs.Streams.{AppendsBeginning, Complains, NamesFile, SaysLines, refused_line}
 use Rattle.snap_order.specs.declared.order.Serving.{Serving}
-use Rattle.snap_order.specs.layout.TheConstants.{OLD_FILE_LEN}
 use Rattle.snap_order.specs.declared.status.Exit.{Exit}
 use Rattle.snap_order.specs.declared.status.Status.{Status}
 use Rattle.snap_order.specs.declared.status.Status.TheVariants as status
@@ -258,33 +256,12 @@ failure_of (run.Server fault) = Server fault
 
 -- ---- standard error
 
--- the command that formats the file of this segment of so many
-abbrev pub format_command_of : (file : List ℕ) (segment count : ℕ) → List ℕ
-format_command_of file segment count = format_command file (decimal segment) (decimal count)
-
-abbrev pub another_text : (file : List ℕ) (segment count : ℕ) → List ℕ
-another_text file segment count = codes "it isn't the file of segment " ++ (decimal segment
-    ++ (codes " of " ++ (decimal count ++ (codes ": see " ++ check_command file))))
-
--- what is said of a file of so many bytes that isn't this segment's
-abbrev pub wrong_text : (file : List ℕ) (segment count len : ℕ) → List ℕ
-wrong_text file segment count len =
-    if len == 0 then empty_text (format_command_of file segment count) else
-    (if len == OLD_FILE_LEN then old_text file else another_text file segment count)
-
--- and of one that was refused so, where a command helps
-abbrev pub IsAdvice : (file : List ℕ) (segment count : ℕ) → Refusal → (len : ℕ) → List ℕ → Type 0
-IsAdvice file segment count why len text =
-    (why ≡ refusal.WrongFile → text ≡ wrong_text file segment count len)
-    × (why ≡ refusal.Unformatted → text ≡ unformatted_text (format_command_of file segment count))
-
--- of a refusal at this segment, whose file has so many bytes, what stands behind the refusal's
--- line: a line that names the file, save for want of memory, and what to do
+-- of a refusal at this segment, what stands behind the refusal's line: a line that names the file,
+-- save for want of memory
 abbrev pub IsRemedy : {F : Type 0} (path : F → List ℕ) (files : List F) (segment : ℕ) → Refusal
-    → (len : ℕ) → List ℕ → Type 0
-IsRemedy path files segment why len more = (file : _) → slice_get files segment ≡ Some file
-    → why ≢ refusal.NoMemory → (text : List ℕ) × (more ≡ file_line (path file) text)
-    × IsAdvice (path file) segment (length files) why len text
+    → List ℕ → Type 0
+IsRemedy path files segment why more = (file : _) → slice_get files segment ≡ Some file
+    → why ≢ refusal.NoMemory → NamesFile (path file) more
 
 -- what standard error got of the failure: of a refusal its line, and the remedy where it took all.
 -- Of the others it got a line that begins `snapd: `, with a text of the system in it.
@@ -292,7 +269,7 @@ abbrev pub SaysFailure : {F : Type 0} (path : F → List ℕ) (files : List F) �
     → (is_told : Bool) (old new : Option (List ℕ)) → Type 0
 SaysFailure path files (Refused segment why len) is_told old new =
     (more : List ℕ) × SaysLines (refused_line why ++ more) is_told old new
-    × (is_told ≡ true → IsRemedy path files segment why len more)
+    × (is_told ≡ true → IsRemedy path files segment why more)
 SaysFailure path files NoMemory is_told old new =
     SaysLines (refused_line refusal.NoMemory) is_told old new
 SaysFailure path files failure is_told old new = Complains None is_told old new

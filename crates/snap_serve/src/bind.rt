@@ -11,7 +11,7 @@ use std::net::{Net, ToSocketAddrs};
 use std::rt::{Clock, Files};
 
 /// Which of some addresses could not be bound, and why.
-#[derive(Debug, Drop)]
+#[derive(Drop)]
 pub struct Unbound {
     /// Its place among them.
     pub place: usize,

@@ -1,7 +1,6 @@
 //! Why a server did not serve.
-ghost use Rattle.std.specs.Prelude.{◌≡◌, IfOk, IfSome, string_bytes};
-ghost use Rattle.snap_order.specs.Remedy.{empty_text, unformatted_text};
-ghost use Rattle.snap_serve.specs.Serve.{IsAdvice, IsRemedy, SaysFailure, another_text, format_command_of, status_of, wrong_text};
+ghost use Rattle.std.specs.Prelude.{◌≡◌, IfSome, string_bytes};
+ghost use Rattle.snap_serve.specs.Serve.{IsRemedy, SaysFailure, status_of};
 ghost use Rattle.snap_stream.specs.Streams.{file_line};
 
 use crate::bind::Unbound;
@@ -16,7 +15,7 @@ use std::alloc::{AllocError, Global};
 use std::io::{self, Write};
 
 /// Why a server ended early.
-#[derive(Debug, Drop)]
+#[derive(Drop)]
 pub enum HostFailure {
     /// The file of this segment, of so many bytes, was refused, or there was no memory at it.
     Refused {
@@ -128,7 +127,7 @@ fn remedy_line<C: Cause>(
     len: u64,
 ) -> Option<String>
     ensures { IfSome result (λ more.
-        IsRemedy (λ file. file.now) files.now.items segment why len (string_bytes more)) }
+        IsRemedy (λ file. file.now) files.now.items segment why (string_bytes more)) }
 {
     let Some(file) = files.get(segment) else {
         return Some(String::new(alloc));
@@ -162,9 +161,7 @@ fn remedy_of<C: Cause>(
     causes: &[C],
     why: Refusal,
     len: u64,
-) -> Result<String, AllocError>
-    ensures { IfOk result (λ text. IsAdvice file.now segment count why len (string_bytes text)) }
-{
+) -> Result<String, AllocError> {
     match why {
         Refusal::WrongFile => of_wrong(alloc, file, segment, count, len),
         Refusal::Unformatted => of_unformatted(alloc, file, segment, count),
@@ -180,9 +177,7 @@ fn of_wrong(
     segment: usize,
     count: usize,
     len: u64,
-) -> Result<String, AllocError>
-    ensures { IfOk result (λ text. string_bytes text ≡ wrong_text file.now segment count len) }
-{
+) -> Result<String, AllocError> {
     match len {
         0 => of_empty(alloc, file, segment, count),
         OLD_FILE_LEN => old_format_remedy(alloc, file),
@@ -191,18 +186,18 @@ fn of_wrong(
 }
 
 /// Of a file without a byte, which is what a `format` leaves that was cut off.
-fn of_empty(alloc: Global, file: &str, segment: usize, count: usize) -> Result<String, AllocError>
-    ensures { IfOk result (λ text.
-        string_bytes text ≡ empty_text (format_command_of file.now segment count)) }
-{
+fn of_empty(alloc: Global, file: &str, segment: usize, count: usize) -> Result<String, AllocError> {
     let command = words_of_format(alloc, file, segment, count)?;
     empty_remedy(alloc, command.as_str())
 }
 
 /// Of a file that is another segment's, or none.
-fn of_another(alloc: Global, file: &str, segment: usize, count: usize) -> Result<String, AllocError>
-    ensures { IfOk result (λ text. string_bytes text ≡ another_text file.now segment count) }
-{
+fn of_another(
+    alloc: Global,
+    file: &str,
+    segment: usize,
+    count: usize,
+) -> Result<String, AllocError> {
     format!(in alloc; "it isn't the file of segment {segment} of {count}: see snapd check {file}")
 }
 
@@ -212,10 +207,7 @@ fn of_unformatted(
     file: &str,
     segment: usize,
     count: usize,
-) -> Result<String, AllocError>
-    ensures { IfOk result (λ text.
-        string_bytes text ≡ unformatted_text (format_command_of file.now segment count)) }
-{
+) -> Result<String, AllocError> {
     let command = words_of_format(alloc, file, segment, count)?;
     unformatted_remedy(alloc, command.as_str())
 }
@@ -226,10 +218,7 @@ fn words_of_format(
     file: &str,
     segment: usize,
     count: usize,
-) -> Result<String, AllocError>
-    ensures { IfOk result (λ text.
-        string_bytes text ≡ format_command_of file.now segment count) }
-{
+) -> Result<String, AllocError> {
     format_command(alloc, file, segment as u64, count as u64)
 }
 

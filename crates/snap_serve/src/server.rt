@@ -34,8 +34,8 @@ use std::time::Duration;
 const FAULT_REST: u64 = 20;
 
 /// What a server meets at its edge.
-#[derive(Clone, Copy)]
-pub struct Edge<'a, B, G, N, H, C, O> {
+#[derive(Drop)]
+pub struct Edge<'a, B, G, N, H: Drop, C, O> {
     /// Binds the addresses.
     pub bind: &'a B,
     /// Is told of each request before it is answered and after.

@@ -21,8 +21,5 @@ pub returns-in-Ok : goal.returns-in-Ok
 returns-in-Ok g c =
     IfSome_then c.line_of.result c.line_of.ensures (λ line is file at other.
     let same = one_there c.deref.result.now _ _ c.in-Some.file.now file c.deref.ensures.value
-    c.in-Some.ensures.lookup.3.0 c.in-Some.ensures.lookup.1 at in (
-      string_bytes c.in-Ok.remedy,
-      rw same at is,
-      rw (same, c.len.ensures ∙ c.args.files.now.ok.0) at c.in-Ok.ensures,
-    ))
+    c.in-Some.ensures.lookup.3.0 c.in-Some.ensures.lookup.1 at in
+    (string_bytes c.in-Ok.remedy, rw same at is))
