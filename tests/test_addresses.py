@@ -14,12 +14,32 @@ LACKS = {
     ":7070": "the host is",
     "7070": "the host is",
     "127.0.0.1": "the port is",
+    "127.0.0.1:": "the port is",
     "localhost": "the port is",
     "localhost:": "the port is",
     "[::1]": "the port is",
+    "[::1]:": "the port is",
     "::1": "the port is",
+    "::": "the port is",
+    "fe80::1": "the port is",
+    "1:2:3:4:5:6:7:8": "the port is",
+    "unix": "the port is",
     "": "both are",
+    ":": "both are",
 }
+# What lacks nothing, whether the system takes it or not.
+WHOLE = (
+    "127.0.0.1:7070", "127.0.0.1:0", "0.0.0.0:0", "[::1]:7070", "[::1]:0", "localhost:7070", "::1:7070", "::1:0", "a:b", "a:b:c", "a:70707",
+    "127.0.0.1:70707", "0:0", "unix:7070", "unix:/run/a:b",
+)
+# What stands for all addresses of a machine, in any form that the system reads, and what doesn't.
+EVERYWHERE = (
+    "0.0.0.0:0", "[::]:0", "[::0]:0", "[0:0:0:0:0:0:0:0]:0", "[::ffff:0.0.0.0]:0", ":::0", "0:0", "0.0:0", "00.0x0.0.0:0", "0x00:0",
+    "0.0.0.0:70707",
+)
+SOMEWHERE = (
+    "127.0.0.1:0", "[::1]:0", "localhost:0", "10.0.0.0:0", "0.0.0.1:0", "[::ffff:127.0.0.1]:0", "::1:0", "x:0", "0x:0", ".:0",
+)
 
 
 def lacking(address):
@@ -35,7 +55,7 @@ def test_an_address_that_lacks_a_part(snapd, _):
 
 
 def test_what_lacks_nothing_goes_to_the_system(snapd, _):
-    for address in ("127.0.0.1:0", "0.0.0.0:0", "[::1]:0", "a:b", "127.0.0.1:70707", "::1:0"):
+    for address in WHOLE:
         snapd("serve", address, "missing").gave(1, errors=remedies.failed("missing", remedies.MISSING, remedies.no_file("missing")))
     for address in ("a:b", "127.0.0.1:70707"):
         snapd("call", address, "scan").gave(1, errors=f"snapd: {address}: invalid port value\n")
@@ -54,6 +74,15 @@ def test_all_addresses_are_served(snapd, _):
     with server:
         port = server.address.rpartition(":")[2]
         snapd("call", f"127.0.0.1:{port}", "scan").gave(0, "segment 0 number 0 value -\n")
+
+
+def test_each_form_of_all_addresses_is_warned_of(snapd, _):
+    """Before it is bound, so also where it can't be."""
+    files = segments(snapd, FRESH)
+    for address in EVERYWHERE + SOMEWHERE:
+        lines = snapd("serve", address, *files, "--connections", 0, "--log", "warn").errors.splitlines()
+        warnings = [it for it in lines if it.endswith(f" WARN accept: {address}: whoever reaches this machine may read and update each segment")]
+        assert len(warnings) == (address in EVERYWHERE), (address, lines)
 
 
 EMPTY = "segment 0 number 0 value -\n"

@@ -158,7 +158,8 @@ def test_unformatted(snapd, _):
     """A file of the right length may hold something behind a header that is gone, which a format ends."""
     zeros = bytes(layout.LENGTH)
     snapd.file().write_bytes(zeros)
-    snapd("get", "F").refused(11, "Unformatted", unformatted())
+    for command in ("get", "put"):
+        snapd(command, "F", stdin="hi").refused(11, "Unformatted", unformatted())
     snapd("put", "F", "--index", 2, "--count", 3, stdin="hi").refused(11, "Unformatted", unformatted("--index 2 --count 3"))
     snapd("check", "F").gave(3, "header unformatted\n")
     assert snapd.file().read_bytes() == zeros

@@ -127,6 +127,27 @@ def test_every_point_of_a_format(snapd, random):
             snapd("put", "F", stdin="hi").gave(0, "stored 1\n")
 
 
+def test_every_point_of_an_init(snapd, random):
+    """Of a file that isn't there, and of one that a crash left. The next init makes it, or keeps it."""
+    file, name = snapd.file("D/segment-00.seg"), "D/segment-00.seg"
+    snapd("init", "D").gave(0, "formatted 0 of 1\n")
+    for before in (None, bytes(layout.LENGTH), bytes([0x5A]) * layout.LENGTH):
+        file.unlink()
+        if before is not None:
+            file.write_bytes(before)
+        done, calls = recorder.run(snapd, "init", "D", file=name)
+        done.gave(0, "formatted 0 of 1\n")
+        seen = set()
+        for data, is_done in outcomes(before or bytes(layout.LENGTH), calls, random):
+            file.write_bytes(data)
+            is_kept = layout.header_of(data) == (0, 1)
+            assert is_kept or (layout.header_of(data) == "unformatted" and not is_done)
+            snapd("init", "D").gave(0, "kept 0 of 1 number 0\n" if is_kept else "formatted 0 of 1\n")
+            assert file.read_bytes() == layout.holding((0, b""))
+            seen.add(is_kept)
+        assert seen == {True, False}
+
+
 def test_crash_upon_crash(snapd, random):
     """A series of puts each of which ends in a crash, on the file that the last crash left."""
     snapd.formatted()
@@ -144,9 +165,9 @@ def test_crash_upon_crash(snapd, random):
         was = answer
 
 
-# What the file holds before a `put`, and how many calls it makes: two open the file, one looks whether it was overwritten, and the
+# What the file holds before a `put`, and how many calls it makes: two open the file, four look whether it was overwritten, and the
 # store makes four, or five where the number before is open too.
-STORES = [([(0, b"")], 7), ([(0, b""), (1, b"one")], 8), ([(2, b"two"), (1, b"one")], 8), ([(2, b"two")], 7)]
+STORES = [([(0, b"")], 10), ([(0, b""), (1, b"one")], 11), ([(2, b"two"), (1, b"one")], 11), ([(2, b"two")], 10)]
 
 
 def has_failed(run):

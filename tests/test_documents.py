@@ -2,12 +2,12 @@
 
 import pathlib
 import re
+import subprocess
 import sys
 
 TOP = pathlib.Path(__file__).resolve().parent.parent
 sys.path.insert(0, str(TOP / "verification"))
 
-import contracts_table  # noqa: E402
 import crates_table  # noqa: E402
 
 DOCUMENTS = [*(TOP / it for it in ("README.md", "CHANGELOG.md", "CONTRIBUTING.md")), *sorted((TOP / "docs").glob("*.md"))]
@@ -68,10 +68,26 @@ def test_definitions_stand_where_they_are_named(snapd, random):
             )
 
 
-def test_contracts_are_what_is_printed_from_the_sources(snapd, random):
-    printed = contracts_table.document()
-    assert (TOP / "docs" / "CONTRACTS.md").read_text() == printed, "python3 verification/contracts_table.py > docs/CONTRACTS.md"
-    assert len(CITED.findall(printed)) > 300
+def test_what_is_promised_is_in_the_printed_table_of_contracts(snapd, random):
+    """The script that PROMISES.md names prints each public function that it links, with its clauses."""
+    script = TOP / "verification" / "contracts_table.py"
+    printed = subprocess.run([sys.executable, script], capture_output=True, text=True, check=True).stdout
+    rows = {}
+    for name, file, clauses in re.findall(r"^\| \[`([\w:]+)`\]\((\S+)\) \| `(.*)` \|$", printed, re.M):
+        rows.setdefault((file, name.rpartition("::")[2]), set()).update(clauses.split("`, `"))
+    assert len(rows) > 300
+    promised, text = set(), " ".join((TOP / "docs" / "PROMISES.md").read_text().split())
+    assert f"`python3 {script.relative_to(TOP)}`" in text
+    for name, target, clauses in CITED.findall(text):
+        file, name = target.removeprefix("../"), name.rpartition("::")[2]
+        source = (TOP / file).read_text()
+        head = rf"^ *pub (?:const )?fn {name}\b.*?(?=^ *(?:pub(?:\([a-z]+\))? )?(?:const )?fn |\Z)"
+        if at := re.search(head, source, re.S | re.M):
+            promised.add((file, name))
+            # Some clauses are facts of a record that one of the head's names.
+            named = set(re.findall(r"`([a-z_]+)`", clauses)) & set(re.findall(r"\bensures (\w+) ", at[0]))
+            assert named <= rows.get((file, name), set()), (file, name, named)
+    assert promised <= rows.keys() and len(promised) > 40, sorted(promised - rows.keys())
 
 
 def test_files_that_a_step_names_are_there(snapd, random):
@@ -303,10 +319,10 @@ def test_files_are_called_by_nouns(snapd, random):
 
 # The most words that a document may have, or several together: what one reads in an evening. What is added to one is cut in it.
 MOST_WORDS = {
-    "README.md": 1_530, "docs/TOUR.md": 1_900, "docs/READING.md": 1_300, "docs/PROMISES.md": 4_150, "docs/UNPROVED.md": 4_600,
-    "docs/FORMATS.md": 7_400, "docs/RECIPES.md docs/REPLICATION.md": 6_850, "docs/PERFORMANCE.md docs/COMPARISON.md": 3_100,
-    "docs/DECISIONS.md": 7_300, "docs/ARCHITECTURE.md": 3_100, "docs/CONTRACTS.md": 3_000, "CONTRIBUTING.md CHANGELOG.md": 2_000,
-    "clients/c/README.md clients/python/README.md": 1_750,
+    "README.md": 1_570, "docs/TOUR.md": 1_500, "docs/READING.md": 1_080, "docs/PROMISES.md": 3_920, "docs/UNPROVED.md": 3_630,
+    "docs/FORMATS.md": 6_300, "docs/RECIPES.md docs/REPLICATION.md": 6_080, "docs/PERFORMANCE.md docs/COMPARISON.md": 2_430,
+    "docs/DECISIONS.md": 2_610, "docs/ARCHITECTURE.md": 2_410, "CONTRIBUTING.md CHANGELOG.md": 1_960,
+    "clients/c/README.md clients/python/README.md": 1_570,
 }
 
 

@@ -149,6 +149,13 @@ def test_round_trips_of_files(snapd, _):
 ODD_ENTRIES = [(number, value) for number, value in enumerate(ODD)]
 
 
+def test_each_number_of_segments_is_loaded(snapd, _):
+    for count in range(1, 17):
+        entries = [(1, b"x")] * count
+        snapd("load", f"E{count}", "-", stdin=document(entries)).gave(0, loaded(entries, f"E{count}"))
+        assert files_in(snapd.file(f"E{count}")) == files_of(entries)
+
+
 def test_the_largest_dump_is_loaded(snapd, _):
     """Sixteen values of 4,080 bytes that take six each: less than half of what is read."""
     entries = [(LAST - 1, LONGEST[0])] * 16
@@ -387,6 +394,9 @@ def test_documents_of_others(snapd, _):
     for text, run in zip(foreign, batch(snapd, map(sealed, foreign))):
         assert run.errors == f"snapd: standard input: {FOREIGN}\n" and run.status == 3, (text[:300], run)
     for run in batch(snapd, [sealed(lines.replace(b'"version":1', b'"version":' + it)) for it in (b"2", b"10", b"0", b"-1")]):
+        refused(run, "standard input", OTHER_VERSION)
+    # Also where it has no end.
+    for run in batch(snapd, [b'{"format":"snapd dump","version":2,']):
         refused(run, "standard input", OTHER_VERSION)
     others = [b"x", b"{}", b"\x00" * 100, b" " + SMALL, SMALL.lower().replace(b"snapd dump", b"snapd scan"), b'{"segments":[]}\n']
     for run in batch(snapd, others):

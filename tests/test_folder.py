@@ -127,10 +127,12 @@ def test_init_goes_on_where_the_slots_are_torn(snapd, _):
     """What a crash may leave of blocks that were being written."""
     place = folder(snapd, 1)
     whole = fresh_files(1)[name_of(0)]
-    for at, byte in ((0, 0x11), (4_096, 0x11), (4_097, 1), (8_200, 0xFF), (12_288, 0xA5), (20_480, 1), (28_671, 1)):
+    several = {5_000: 1, 12_288: 0xA5, 16_384: 2}
+    for places in ({0: 0x11}, {4_096: 0x11}, {4_097: 1}, {8_200: 0xFF}, {12_288: 0xA5}, {20_480: 1}, {28_671: 1}, several):
         torn = bytearray(whole)
         torn[layout.HEADER_GATE] = 0
-        torn[at] = byte
+        for at, byte in places.items():
+            torn[at] = byte
         (place / name_of(0)).write_bytes(torn)
         snapd("init", "D").gave(0, made(1))
         assert files_in(place) == fresh_files(1)

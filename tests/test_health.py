@@ -85,14 +85,3 @@ def test_who_doesnt_answer_isnt_healthy(snapd, _):
         answering.join()
     why = f"snapd: {address}: what came isn't an answer to the request: is a snapd at the other end?: check the address\n"
     assert runs == [Run(1, b"", why)] * 2, runs
-
-
-def test_words_of_health(snapd, _):
-    """It takes no other word. A wrong one is told before a connection is made."""
-    for more in (["0"], ["1", "00"], ["health"]):
-        run = snapd("call", "127.0.0.1:1", "health", *more)
-        assert (run.status, run.output) == (2, b""), run
-        assert run.errors.startswith("snapd: error: the request is not `put I`, `get I`, `update I NUMBER HEX`, `scan`, `part MASK`, `status` or `health`\n"), run
-    assert snapd("call", "127.0.0.1:1", "health", "--tries", 11).status == 2
-    shown = snapd("call", "--help").output.decode()
-    assert "health" in shown and "`fenced I`" in shown

@@ -264,44 +264,6 @@ def test_it_serves_on_behind_a_pause(snapd, _):
         assert server.scan()[1] == (3, b"3") and server.process.poll() is None
 
 
-# ---- words ----
-
-def test_words_of_serve(snapd, _):
-    """They are judged before any file is opened."""
-    address = "127.0.0.1:0"
-    for words in [
-        (), (address,), (address, *["missing"] * 17), (address, "missing", "--scanners", 0),
-        (address, "missing", "--scanners", 17), (address, "missing", "--scanners", "x"), (address, "missing", "--scanners"),
-        (address, "missing", "--connections", -1), (address, "missing", "--connections", 2**64),
-        (address, "missing", "--connections", "many"), (address, "missing", "--room", 5), (address, "missing", "--more"),
-    ]:
-        snapd("serve", *words).failed_with(2)
-    for words in (["serve", "--help"], ["serve", "-h"], ["help", "serve"], ["call", "--help"], ["call", "-h"]):
-        run = snapd(*words)
-        assert run.status == 0 and b"Usage: snapd " in run.output and not run.errors, run
-    # What a user has to know: scanners, the lock, who may connect, and that a kill is a stop.
-    shown = snapd("serve", "--help").output.decode()
-    for text in ("A scanner answers", "locked while it runs", "There is no login", "Killing it is a proper stop", "Exit status:"):
-        assert text in shown, text
-
-
-def test_words_of_call(snapd, _):
-    """They are judged before a connection is made."""
-    address = f"127.0.0.1:{free_port()}"
-    for words in [
-        (), (address,), (address, "put"), (address, "scan", "all"), (address, "status", "0"), (address, "update"),
-        (address, "update", 0, 1), (address, "update", 256, 1, "-"), (address, "update", -1, 1, "-"),
-        (address, "update", 0, 2**64, "-"), (address, "update", 0, -1, "-"), (address, "update", "x", 1, "-"),
-        (address, "update", 0, "x", "-"), (address, "update", 0, 1, "abc"), (address, "update", 0, 1, "xx"),
-        (address, "update", 0, 1, ""), (address, "update", 0, 1, "-", "-"),
-        (address, "scan", "--tries", 0), (address, "scan", "--tries", 11), (address, "scan", "--tries", "x"),
-        (address, "scan", "--tries"), (address, "scan", "--room", 1),
-    ]:
-        run = snapd("call", *words)
-        assert run.status == 2, (words, run)
-        run.failed_with(2)
-
-
 # ---- calls ----
 
 def test_what_call_prints(snapd, _):

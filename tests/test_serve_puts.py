@@ -9,8 +9,6 @@ from program import Run
 from serving import FRESH, STATUS, Server, fresh, frame, free_port, refused, segments, standings, stored, update
 from test_serve_disks import TWO, Disk
 
-NO_FORM = "the request is not `put I`, `get I`, `update I NUMBER HEX`, `scan`, `part MASK`, `status` or `health`"
-
 
 def put(snapd, server, segment, *more, stdin=b""):
     return snapd("call", server.address, "put", segment, *more, stdin=stdin)
@@ -137,26 +135,3 @@ def test_a_get_asks_for_one_segment(snapd, _):
     with peer_of((asked, THREE_OF_ONE)) as peer:
         why = "what came isn't an answer to the request: is a snapd at the other end?: check the address"
         get(snapd, peer, 2).gave(1, errors=f"snapd: {peer.address}: {why}\n")
-
-
-# ---- the words ----
-
-def test_words_of_puts_and_gets(snapd, _):
-    """The address lacks its host, and the words come first."""
-    one, alone = "a put is `put I`, and a get `get I`, of one segment", "--value and --after are for `put I` alone"
-    after = "the number after which it is stored is not from 0 to 18446744073709551614"
-    for words, why in [
-        (("put",), one), (("put", 0, "text"), one), (("get",), one), (("get", 0, 1), one), (("Put", 0), NO_FORM),
-        (("put", 256), "the segment to put is not a number from 0 to 255"), (("put", "x"), "the segment to put"),
-        (("get", 16), "the segment to get is not a number from 0 to 15"), (("get", -1), "unexpected argument"),
-        (("put", 0, "--after", 2**64 - 1), after), (("put", 0, "--after", 2**64), "for '--after <K>'"),
-        (("put", 0, "--value", "x" * 65_991), "the update's value has 65991 bytes, and a request holds at most 65990"),
-        (("scan", "--value", "x"), alone), (("status", "--after", 1), alone), (("get", 0, "--value", "x"), alone),
-        (("update", 0, 1, "00", "--after", 0), alone), (("put", "--value", "x"), alone),
-        (("put", 0, "--value", "x", "--value", "y"), "'--value <TEXT>'"),
-    ]:
-        run = snapd("call", ":0", *words).failed_with(2, why)
-        assert run.errors.startswith("snapd: error: ") and "try '--help'" in run.errors, run
-    shown = snapd("call", "--help").output.decode()
-    for text in ("put I ", "get I ", "--value <TEXT>", "--after <K>"):
-        assert text in shown, text

@@ -154,13 +154,6 @@ def test_no_mode_is_given_back_where_others_could_put_a_link(snapd, _):
             assert (run.returncode, MASKED in run.stderr) == ((0, False) if owner == 0 else (1, True)), run
 
 
-def test_words_that_are_no_mode(snapd, _):
-    for word in ("", "8", "1000", "-1", "0o600", "u+rw", "7777", "99999999999999999999"):
-        run = snapd("serve", ADDRESS, "missing", f"--socket-mode={word}")
-        assert run.status == 2 and run.output == b"", (word, run)
-        assert run.errors.startswith("snapd: error: the socket's mode is not an octal number from 0 to 777\n"), (word, run)
-
-
 def as_nobody(snapd, name):
     """The number of the error with which another user fails to connect, or None."""
     words = ["python3", "-c", MAY_CONNECT, name]

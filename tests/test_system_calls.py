@@ -10,9 +10,9 @@ from program import Skipped
 CALL = re.compile(r"^(\d+ +)?(\w+)\((.*)\) += (-?\d+)")
 
 
-def calls_of(snapd, *words, stdin=b""):
-    """The calls on the file `F`, its folder and the file `OLD` in order, as (name, offset and length), and those on the
-    standard streams."""
+def calls_of(snapd, *words, stdin=b"", file="F", folder="."):
+    """The calls on a file, its folder and the file `OLD` in order, as (name, offset and length), and those on the standard
+    streams."""
     if shutil.which("strace") is None:
         raise Skipped("strace isn't installed")
     log = snapd.file("strace.log")
@@ -21,20 +21,21 @@ def calls_of(snapd, *words, stdin=b""):
     )
     if not log.exists() or "exited with" not in log.read_text():
         raise Skipped(f"strace can't trace here: {traced.stderr.decode().strip()}")
-    names = {"F": "", ".": " of the folder", "OLD": " of the old file"}
+    names = {file: "", folder: " of the folder", "OLD": " of the old file"}
+    named = "|".join(map(re.escape, names))
     opened, on_file, on_streams = {}, [], []
     for line in log.read_text().splitlines():
         call = CALL.match(line)
         if call is None:
             continue
         name, words_of_call, result = call[2], call[3], int(call[4])
-        path = re.search(r'"(F|\.|OLD)"', words_of_call) if name in ("open", "openat") else None
+        path = re.search(rf'"({named})"', words_of_call) if name in ("open", "openat") else None
         if path is not None:
             opened[str(result)] = names[path[1]]
             on_file.append(("open" + opened[str(result)],))
             continue
         number = words_of_call.split(",")[0]
-        path = re.search(r'AT_FDCWD, "(F|\.|OLD)"', words_of_call) if name == "statx" else None
+        path = re.search(rf'AT_FDCWD, "({named})"', words_of_call) if name == "statx" else None
         if path is not None:
             on_file.append(("look at the name" + names[path[1]],))
         elif number in opened:
@@ -56,8 +57,8 @@ SYNCED = [("fdatasync",), LOOK, ("look at the name",)]
 SYNCED_ALONE = [("fdatasync",)]
 NAMED = [("open of the folder",), ("fsync of the folder",), ("close of the folder",)]
 RECOVERED = [*SYNCED, ("pread64", 0, 28_672)]
-# Before the first write of a store: whether the file has the length, gates and numbers that were left in it.
-COMPARED = [("lseek",), ("pread64", 0, 24_592)]
+# Before the first write of a process: whether the file has the length, the header, and the gates and numbers that it read.
+COMPARED = [("lseek",), ("pread64", 0, 4_096), *(("pread64", layout.gate_at(slot), 4_112) for slot in range(3))]
 # Of a file that is taken for a new segment: whether it is formatted, and the calls that format it.
 LOOKED_AT = [*SYNCED, ("pread64", 0, 4_096)]
 FILLED = [("pwrite64", 0, 4_095), ("pwrite64", 4_096, 24_576), *SYNCED_ALONE, ("pwrite64", 4_095, 1), *SYNCED]
@@ -80,7 +81,7 @@ def test_calls_of_each_command(snapd, _):
     for number in (1, 2, 3, 4):
         on_file, on_streams = calls_of(snapd, "put", "F", stdin=b"hi")
         assert on_file == OPENED + RECOVERED + store_calls(number) + [("close",)], on_file
-        assert len(store_calls(number)) == (8 if number == 1 else 9)
+        assert len(store_calls(number)) == (11 if number == 1 else 12)
         assert on_streams == [("read", 0, 2), ("read", 0, 0), ("write", 1, len("stored 1\n"))], on_streams
 
     on_file, on_streams = calls_of(snapd, "get", "F")
@@ -115,6 +116,33 @@ def test_calls_of_a_migration(snapd, _):
     assert on_file == READ + [("close",)], on_file
 
 
+WHOLE = ("pread64", 0, 28_672)
+
+
+def test_calls_of_an_init(snapd, _):
+    """It looks at all files whether one was lost, and then at each before it makes it, keeps it or refuses it."""
+    snapd("init", "D").gave(0, "formatted 0 of 1\n")
+    file = snapd.file("D/segment-00.seg")
+    whole = layout.holding((0, b""), (1, b"hi"))
+    bare, strange = bytearray(whole), bytearray(whole)
+    bare[layout.HEADER_GATE], strange[11] = 0, 1
+    for data, status, calls in (
+        (bytes(layout.LENGTH), 0, LOOKED_AT + COMPARED + FILLED),
+        (layout.holding((0, b"")), 0, RECOVERED),
+        (whole, 0, RECOVERED),
+        (bytes(strange), 3, RECOVERED),
+        (bytes(bare), 3, []),
+    ):
+        file.write_bytes(data)
+        on_file, on_streams = calls_of(snapd, "init", "D", file="D/segment-00.seg", folder="D")
+        assert on_file == [*READ, WHOLE, ("close",), *OPENED, WHOLE, *calls, ("close",)], on_file
+        assert {call[:2] for call in on_streams} == {("write", 2 if status else 1)}, on_streams
+    for length in (layout.LENGTH - 1, layout.OLD.length):
+        file.write_bytes(bytes(length))
+        on_file, _ = calls_of(snapd, "init", "D", file="D/segment-00.seg", folder="D")
+        assert ("pwrite64" not in {call[0] for call in on_file}) and on_file[-4:] == [*OPENED, ("close",)], on_file
+
+
 def test_refused_calls_make_none(snapd, _):
     """Too long a value is refused before the file is looked at, and a refused file isn't written."""
     snapd.formatted()
@@ -124,6 +152,10 @@ def test_refused_calls_make_none(snapd, _):
     assert [call[:2] for call in on_streams[1:]] == [("write", 2)], on_streams
     on_file, _ = calls_of(snapd, "format", "F")
     assert on_file == OPENED + LOOKED_AT + [("close",)], on_file
-    snapd.file().write_bytes(b"x")
-    on_file, _ = calls_of(snapd, "put", "F", stdin=b"hi")
-    assert on_file == OPENED + [("close",)], on_file
+    for data in (b"x", bytes(layout.LENGTH - 1), bytes(layout.OLD.length), b""):
+        for command in ("format", "put", "get", "check"):
+            # A format of an empty file goes on.
+            if data or command != "format":
+                snapd.file().write_bytes(data)
+                on_file, _ = calls_of(snapd, command, "F", stdin=b"hi")
+                assert on_file == (OPENED if command in ("format", "put") else READ) + [("close",)], (command, len(data), on_file)

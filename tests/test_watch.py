@@ -149,16 +149,7 @@ def test_a_segment_that_the_server_lacks_is_refused(snapd, _):
             snapd("watch", server.address, *words).gave(3, errors="snapd: refused 2 NoSegment 2\n")
 
 
-def test_words_that_can_not_be_read(snapd, _):
-    for words, why in [
-        (["16"], "a segment to show is not a number from 0 to 15"),
-        (["1", "x"], "a segment to show is not a number from 0 to 15"),
-        (["--every", "0"], "the milliseconds between looks are not from 1 to 86400000"),
-        (["--every", "86400001"], "the milliseconds between looks are not from 1 to 86400000"),
-        (["--text"], "unexpected argument '--text' found"),
-    ]:
-        snapd("watch", "127.0.0.1:1", *words).failed_with(2, why)
-    snapd("watch").failed_with(2)
+def test_addresses_that_lack_a_part(snapd, _):
     snapd("watch", "127.0.0.1").failed_with(1, "the port is missing")
     snapd("serve", "127.0.0.1:0", "F", "--http", ":7071").failed_with(1, ":7071: an address is HOST:PORT or unix:PATH, and the host is missing")
 

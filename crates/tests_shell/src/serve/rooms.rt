@@ -1,7 +1,7 @@
 //! Servers over two segments in memory.
 ghost use Rattle.std.specs.Prelude.{◌≡◌};
 
-use snap_devices::{Held, MemDisk};
+use snap_devices::MemDisk;
 use snap_disk::Disk;
 use snap_figures::Figures;
 use snap_order::{Level, Serving, Status};
@@ -14,8 +14,7 @@ use std::alloc::{AllocError, Global};
 use std::io::{self, Write};
 use std::net::{Net, SocketAddr};
 use std::rt::Clock;
-use std::sync::atomic::AtomicU64;
-use std::sync::{Arc, Wait};
+use std::sync::Wait;
 use std::test::Fail;
 use std::thread::Threads;
 
@@ -76,27 +75,11 @@ impl<'a> Bind for Ready<'a> {
     }
 }
 
-/// How a server is to serve.
-#[derive(Clone, Copy)]
-pub(crate) struct Plan {
-    scanners: u8,
-    connections: Option<u64>,
-}
-
-impl Plan {
-    pub(crate) fn of(scanners: u8, connections: Option<u64>) -> Plan {
-        Plan {
-            scanners,
-            connections,
-        }
-    }
-}
-
 /// What came of a server.
 #[derive(Drop)]
-pub(crate) struct Seen<W: Drop> {
+pub(crate) struct Seen {
     pub status: Status,
-    pub out: W,
+    pub out: Barred,
     pub errors: Vec<u8>,
 }
 
@@ -118,18 +101,6 @@ impl Write for Barred {
     }
 }
 
-/// How many turns of yielding a held store waits at most.
-const TURNS: u64 = 1_000_000;
-
-/// The new files of two segments, whose stores may begin once the flag is set.
-pub(crate) fn held_files(alloc: Global, flag: &Arc<AtomicU64, Global>) -> Result<Vec<Held>, Fail> {
-    let mut files = Vec::new(alloc);
-    for disk in new_files(alloc)? {
-        files.push(Held::new(disk, Arc::try_clone(flag)?, TURNS))?;
-    }
-    Ok(files)
-}
-
 /// The new files of two segments.
 pub(crate) fn new_files(alloc: Global) -> Result<Vec<MemDisk>, Fail> {
     let mut files = Vec::new(alloc);
@@ -141,57 +112,38 @@ pub(crate) fn new_files(alloc: Global) -> Result<Vec<MemDisk>, Fail> {
     Ok(files)
 }
 
-/// A server over these two devices, with 1 to 16 scanners.
-pub(crate) fn host_over<X, D, B, G>(
-    rt: &X,
-    alloc: Global,
-    devices: Vec<D>,
-    bind: &B,
-    plan: Plan,
-    gate: &G,
-) -> Result<Seen<Vec<u8>>, AllocError>
-where
-    X: Threads + Wait + Clock + Net + Sync + Send + Copy,
-    D: Disk + Send + Drop,
-    B: Bind,
-    B::Listener: Drop,
-    G: Gate + Sync,
-{
-    host_printing(rt, alloc, devices, bind, plan, gate, Vec::new(alloc))
-}
-
-/// The same, with this writer for what it prints.
-pub(crate) fn host_printing<'x, X, D, B, G, W>(
+/// A server over these two devices, with two scanners, which ends with so many connections.
+pub(crate) fn host_printing<'x, X, D, B, G>(
     rt: &X,
     alloc: Global,
     devices: Vec<D>,
     bind: &'x B,
-    plan: Plan,
+    connections: u64,
     gate: &'x G,
-    out: W,
-) -> Result<Seen<W>, AllocError>
+) -> Result<Seen, AllocError>
 where
     X: Threads + Wait + Clock + Net + Sync + Send + Copy,
     D: Disk + Send + Drop,
     B: Bind,
     B::Listener: Drop,
     G: Gate + Sync,
-    W: Write + Drop,
 {
     if devices.len() != 2 || !devices.iter().all(|disk| disk.failures() < 9) {
         return Err(AllocError);
     }
     let mut seen = Seen {
         status: Status::Failed,
-        out,
+        out: Barred {
+            bytes: Vec::new(alloc),
+        },
         errors: Vec::new(alloc),
     };
     let order = Serving {
         addresses: vec![in alloc; "loopback"]?,
         socket_mode: 0o600,
         files: vec![in alloc; "first", "second"]?,
-        scanners: plan.scanners.clamp(1, 16),
-        connections: plan.connections,
+        scanners: 2,
+        connections: Some(connections),
         clients: None,
         idle: None,
         http: None,

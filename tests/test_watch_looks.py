@@ -1,0 +1,110 @@
+"""What each look of `snapd watch` asks, what it prints of the answers, and how a board is drawn: to the byte, at a peer that answers as it
+is told."""
+
+import contextlib
+import re
+import shlex
+import socket
+
+from clients import Peer
+from serving import SCAN, STATUS, received, refused, snapshot, standings
+from terminal import Terminal
+from test_call_replies import named
+from test_http import part
+from test_watch import Watch, row
+from waiting import wait_until
+
+
+def answers(*replies):
+    """Answers the requests of a connection, one after the other, and hangs up behind the last one."""
+    def handle(peer, stream):
+        with contextlib.suppress(OSError):
+            for reply in replies:
+                head = received(stream, 4)
+                peer.heard[-1] += head + received(stream, int.from_bytes(head, "big"))
+                stream.sendall(reply)
+            stream.shutdown(socket.SHUT_WR)
+            stream.recv(1)
+    return handle
+
+
+NEW, FENCED = standings((1, False), (0, False)), standings((1, False), (0, True))
+HELD = snapshot((1, b"hi"), (0, b""))
+LINES = [row(0, 1, 'text "hi"'), row(1, 0, 'text ""')]
+MANY = standings(*[(1, False)] * 12, (9, True))
+# Words, the answers to the looks, what these ask, and the lines that are printed. A look asks for the numbers, and for the values where one
+# of them is another.
+LOOKS = [
+    ("A", [NEW, HELD], [STATUS, SCAN], LINES),
+    ("A", [NEW, HELD, NEW, NEW], [STATUS, SCAN, STATUS, STATUS], LINES),
+    ("A", [NEW, HELD, FENCED], [STATUS, SCAN, STATUS], [*LINES, row(1, 0, 'text ""', fenced=1)]),
+    (
+        "A", [NEW, HELD, NEW, standings((1, False), (258, False)), snapshot((1, b"hi"), (258, b"\x1b[2J"))],
+        [STATUS, SCAN, STATUS, STATUS, SCAN], [*LINES, row(1, 258, "value 1b5b324a")],
+    ),
+    ("A 1 1", [FENCED, named((1, 2, b"ok"))], [STATUS, part(0x0002)], [row(1, 2, 'text "ok"', fenced=1)]),
+    ("A 3 0 3", [MANY, named((0, 1, b""), (3, 1, b""))], [STATUS, part(0x0009)], [row(0, 1, 'text ""'), row(3, 1, 'text ""')]),
+    ("A 15", [standings(*[(1, False)] * 16), named((15, 1, b"x"))], [STATUS, part(0x8000)], [row(15, 1, 'text "x"')]),
+    (
+        "A 0 1 12 --json", [MANY, named((0, 1, b"hi"), (1, 1, b""), (12, 9, b"\xff"))], [STATUS, part(0x1003)],
+        [
+            '{"segment":0,"number":1,"fenced":false,"text":"hi"}',
+            '{"segment":1,"number":1,"fenced":false,"text":""}',
+            '{"segment":12,"number":9,"fenced":true,"base64":"/w=="}',
+        ],
+    ),
+]
+
+
+def test_what_a_look_asks_and_prints(snapd, _):
+    for words, replies, asked, printed in LOOKS:
+        with Peer(answers(*replies)) as peer:
+            with Watch(snapd, *(peer.address if it == "A" else it for it in words.split())) as watch:
+                assert watch.lines(len(printed)) == printed, words
+                # It has had all answers once it says that the connection is gone.
+                wait_until(watch.notes, "the end")
+                assert watch.is_silent(0.05) and peer.heard == [b"".join(asked)], (words, peer.heard)
+
+
+# Words, the answers, and how it ends.
+ENDS = [
+    ("watch A 5", [NEW, refused(2, 2)], 3, "refused 2 NoSegment 2"),
+    ("watch A", [refused(2, 2)], 3, "refused 2 NoSegment 2"),
+    ("watch A", [], 1, "A: the connection ended before the reply: whether the request was done isn't known: start snapd serve there"),
+    ("watch A", [NEW, NEW], 1, "A: what came isn't an answer to the request: is a snapd at the other end?: check the address"),
+]
+
+
+def test_a_first_look_that_fails_ends_it(snapd, _):
+    for words, replies, status, said in ENDS:
+        with Peer(answers(*replies)) as peer:
+            run = snapd(*(peer.address if it == "A" else it for it in shlex.split(words)))
+        run.gave(status, errors=f"snapd: {said.replace('A:', f'{peer.address}:')}\n")
+
+
+def at_last(*replies, still):
+    """The same, and then the last answer again and again."""
+    def handle(peer, stream):
+        with contextlib.suppress(OSError):
+            for reply in replies:
+                received(stream, int.from_bytes(received(stream, 4), "big"))
+                stream.sendall(reply)
+            while head := received(stream, 4):
+                received(stream, int.from_bytes(head, "big"))
+                stream.sendall(still)
+    return handle
+
+
+def test_a_board_is_drawn_in_place(snapd, _):
+    """In that of the three lines before it."""
+    fenced = standings((4, True))
+    peer = Peer(at_last(standings((1, False)), snapshot((1, b"a")), fenced, snapshot((4, b"a\tb")), still=fenced))
+    with peer, Terminal() as terminal, Watch(snapd, peer.address, output=terminal.side, env={"NO_COLOR": "1"}):
+        shown = terminal.comes_to(lambda it: it[2].split()[1] == "4" and it[2].split()[2] not in ("0s", "1s"))
+        age, rate = shown[2].split()[2:4]
+        assert re.fullmatch(r"\d+s", age) and re.fullmatch(r"\d+\.\d", rate)
+        assert terminal.told == (
+            f"\x1b[?25l\x1b[?7l\r\x1b[3A{peer.address}: connected\x1b[K\r\x1b[B"
+            "segment      number   age    rate  state   value\x1b[K\r\x1b[B"
+            f'      0           4{age:>6}{rate:>8}  fenced  "a\\tb"\x1b[K\r\x1b[B\x1b[J\x1b[?7h\x1b[?25h'
+        ), terminal.told
