@@ -51,11 +51,11 @@ use init_command::init;
 use load_command::load;
 use right_order::say_right_order;
 use serve_command::{serve, take_files};
-use snap_args::{WordFault, lack_of, order, text_of};
+use snap_args::{WordFault, lack_of, order};
 use snap_file_commands::{Causes, CommandFailure, act, act_pair};
 use snap_order::{
-    Calling, Dumping, Examination, Explanation, FileOrder, Founding, Holder, Loading, Migration,
-    Order, Serving, Status, Watching,
+    Calling, Dumping, Examination, FileOrder, Founding, Holder, Loading, Migration, Order, Serving,
+    Status, Watching,
 };
 use snap_script::play;
 use snap_slot::FILE_LEN;
@@ -109,18 +109,6 @@ fn do_order<
         Order::Dump(order) => run_dump(rt, &order),
         Order::Load(order) => run_load(rt, &order),
         Order::Script => play_script(threads, rt),
-        Order::Explain(explanation) => print_explanation(rt, explanation),
-    }
-}
-
-/// Prints what explains the program.
-fn print_explanation(rt: &HostRuntime, explanation: Explanation) -> Status {
-    match text_of(rt.alloc(), explanation) {
-        Ok(text) => match rt.print(&text) {
-            Ok(()) => Status::Done,
-            Err(error) => stop(rt, &CommandFailure::Output(error)),
-        },
-        Err(_) => stop_without_memory(rt),
     }
 }
 
