@@ -21,7 +21,7 @@ from digests import Digests  # noqa: E402
 from edits import Edits, Refusal, drawn, read_lock  # noqa: E402
 from proofs import Progress, by_seconds, judged  # noqa: E402
 from record import Proved, Record  # noqa: E402
-from source import function_of, functions_in  # noqa: E402
+from source import function_of, functions_in, uncommented  # noqa: E402
 from tree import copied, edits_of, laid, proved_crates  # noqa: E402
 from waiting import PATIENCE  # noqa: E402
 
@@ -186,9 +186,11 @@ def test_a_record_has_a_crate_as_long_as_nothing_under_its_proof_changes(snapd, 
     assert Record(made.digests, record.read_lock(top)) == made and made.missing() == []
     assert made.told() == f"proofs.lock: 3 of 3 crates were proved as they are here, by {kit.release()}, 2026-11-28"
     for path, old, new, wanted in (
-        ("crates/middle/src/lib.rt", "A crate", "The crate", ["middle", "high"]),
+        ("crates/middle/src/lib.rt", "A crate", "The crate", []),
+        ("crates/middle/src/lib.rt", "    x - 1", "    x - 2", ["middle", "high"]),
         ("crates/low/proofs/more/Answers.antt", "proof", "other", list(LOWER)),
-        ("crates/high/specs/Words.antt", "a word", "words", ["high"]),
+        ("crates/high/specs/Words.antt", "a word", "words", []),
+        ("crates/high/specs/Words.antt", "most = rest", "most = 8", ["high"]),
         ("crates.txt", "middle: low", "middle: low bytes", ["middle", "high"]),
         ("HANDLES", "none", "Wait", list(LOWER)),
         ("crates/low/must-fail/first.edit", "2", "3", []),
@@ -213,6 +215,19 @@ def test_a_build_without_proofs_ends_with_what_is_on_record(snapd, _):
 
 def test_the_readme_says_what_is_on_record(snapd, _):
     assert f"`{Record.of(TOP).told()}`" in (TOP / "README.md").read_text().split("\n")
+
+
+def test_a_proof_reads_all_but_the_lines_that_are_comments(snapd, _):
+    kept = """\
+let a = "first
+// no comment: it is within a text"; let c = '"';
+let r = r#"a "quoted"
+// one"#; let l: &'static str = "it \\
+// goes on"; // beside code a comment stays
+"""
+    assert uncommented("//! A head.\n" + kept + "    /// Said.\n    // More.\n", ".rt") == kept
+    kept = 'it = codes "\\n-- no comment" -- beside a definition\n'
+    assert uncommented("-- Said.\n" + kept + "  -- More.\n", ".antt") == kept
 
 
 def test_a_copy_has_what_the_prover_reads_and_no_edit(snapd, _):
@@ -269,6 +284,9 @@ def test_a_proof_is_kept_as_long_as_all_that_it_read_is_the_same(snapd, _):
         assert not taken(), path
         file.write_text(text)
         assert taken(), path
+    source = top / "crates" / "middle" / "src" / "lib.rt"
+    source.write_text("// A comment more.\n" + source.read_text())
+    assert taken()
     for kept in folder.rglob("statements"):
         kept.write_text("another")
     assert not taken()

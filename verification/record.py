@@ -4,8 +4,8 @@
 
 says how much of this checkout stands in `proofs.lock` as it is now. `make prove` writes a line for each crate that was proved
 from nothing, by that run or by an earlier one on that machine. Its digest (SHA-256) is of all that the proof rests on: each file
-of the crate's src/, specs/ and proofs/, byte for byte, its line of crates.txt, HANDLES, the kit's logic, and the digests of
-the crates below. A line is the word of who wrote it: what holds it to that is everybody's `make prove`, and `make test`'s sample.
+of the crate's src/, specs/ and proofs/ without its comments, its line of crates.txt, HANDLES, the kit's logic, and the digests
+of the crates below. A line is the word of who wrote it: what holds it to that is everybody's `make prove`, and `make test`'s sample.
 """
 
 import datetime
@@ -14,6 +14,7 @@ from dataclasses import dataclass
 
 import kit
 from digests import summed
+from source import proved_text
 from tree import TOP, crates_of, files_of, proved_crates, rows_of
 
 LOCK = "proofs.lock"
@@ -40,7 +41,7 @@ def digests_of(top, logic):
     def digest(name):
         if name not in found:
             folder = top / "crates" / name
-            own = [part for it in files_of(folder) for part in (str(it.relative_to(folder)), it.read_bytes())]
+            own = [part for it in files_of(folder) for part in (str(it.relative_to(folder)), proved_text(it))]
             below = [digest(it) for it in crates[name].uses if it in crates]
             found[name] = summed(logic, handles, crates[name].line, str(len(below)), *below, *own)
         return found[name]

@@ -5,16 +5,29 @@ from dataclasses import dataclass
 
 HEAD = re.compile(r"^(\s*)(?:pub(?:\([a-z]+\))? )?(?:const )?(?:unsafe )?fn (\w+)")
 IMPL = re.compile(r"^(?:pub )?(?:impl|trait)\b(.*)")
-# A line that is a comment and nothing else, by the file's kind.
-COMMENT = {".rt": re.compile(r"^[ ]*//.*\n", re.M), ".antt": re.compile(r"^[ ]*--.*\n", re.M)}
+# A line that is a comment and nothing else, by the file's kind, and a text in quotes, in which such a line is none.
+COMMENT = {
+    ".rt": re.compile(r'^ *//.*\n|"(?:\\[\s\S]|[^"\\])*"|r(#+)"[\s\S]*?"\1|\'(?:\\[^\']+|[^\\\n\'])\'|//.*', re.M),
+    ".antt": re.compile(r'^ *--.*\n|"(?:\\.|[^"\\\n])*"|--.*', re.M),
+}
 # The word that a line of a definition begins with, behind the words that say what it is.
 DEFINED = re.compile(r"^( *)(?:(?:pub|abbrev|unfoldable|record|data|unfolding) )*([A-Za-z_◌][^\s:({]*)", re.M)
 DECLARED = re.compile(r"\b(?:struct|enum|trait|type|union|const|static) (\w+)")
 VARIANTS = re.compile(r"^    (\w+)[ ,({=]", re.M)
 
 
+def uncommented(text, kind):
+    """A text without the lines that are a comment and nothing else."""
+    return COMMENT[kind].sub(lambda found: "" if found[0].endswith("\n") and found[0].lstrip(" ").startswith(("//", "--")) else found[0], text)
+
+
 def without_comments(path):
-    return COMMENT[path.suffix].sub("", path.read_text())
+    return uncommented(path.read_text(), path.suffix)
+
+
+def proved_text(path):
+    """What a proof reads of a file: all but the lines that are comments."""
+    return without_comments(path) if path.suffix in COMMENT else path.read_bytes()
 
 
 @dataclass(frozen=True)
@@ -129,4 +142,4 @@ def function_of(folder, edit):
         return path, whole
     function = found.pop()
     lines = text.split("\n")[function.first - 1 : function.last]
-    return path, function.of + "\n" + COMMENT[".rt"].sub("", "\n".join(lines))
+    return path, function.of + "\n" + uncommented("\n".join(lines), ".rt")
