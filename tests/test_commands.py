@@ -4,6 +4,7 @@ import contextlib
 import errno
 import os
 import pathlib
+import re
 import shutil
 import subprocess
 
@@ -351,10 +352,12 @@ def test_help_and_version(snapd, _):
             if command != "check":
                 assert "[default: 0]" in printed and "[default: 1]" in printed, printed
         version = snapd(command, "--version")
-        assert version.status == 0 and version.errors == "" and version.output.split()[1] == b"0.1.0", version
+        assert version.status == 0 and version.errors == "" and version.output.split()[1] == b"0.2.0", version
         assert version.output.split(b" ", 1)[1] == snapd("--version").output.split(b" ", 1)[1]
-    # A build without proofs says so.
-    assert snapd("--version").output in (b"snapd 0.1.0\n", b"snapd 0.1.0 (not proved)\n")
+    # The second line says what the program was built from, and whether this build was proved.
+    first, second, rest = snapd("--version").output.split(b"\n")
+    assert (first, rest) == (b"snapd 0.2.0", b"") and len(second) == 100, second
+    assert re.fullmatch(rb"(not )?proved; ([0-9a-f]{12}\+?|no commit), rattle-kit-\S+ logic [0-9a-f]{16} *", second), second
     snapd("-V").gave(0, snapd("--version").output)
 
 

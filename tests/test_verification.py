@@ -1,8 +1,8 @@
 """What the three commands go by: what a digest rests on, what is tried again, and what is read from the prover's output."""
 
+import contextlib
 import os
 import pathlib
-import re
 import shutil
 import subprocess
 import sys
@@ -14,9 +14,9 @@ sys.path.insert(0, str(TOP / "verification"))
 import archive  # noqa: E402
 import demo  # noqa: E402
 import kit  # noqa: E402
-import quick  # noqa: E402
 import record  # noqa: E402
 import run_tests  # noqa: E402
+import stamp  # noqa: E402
 from digests import Digests  # noqa: E402
 from edits import Edits, Refusal, drawn, read_lock  # noqa: E402
 from proofs import Progress, by_seconds, judged  # noqa: E402
@@ -315,13 +315,18 @@ def test_tests_that_end_without_a_count_have_failed(snapd, _):
     assert run_tests.judged("low", ["test it ... ok"], 0)[1] and run_tests.judged("low", [], -11)[1]
 
 
-def test_an_unproved_build_says_so_where_the_version_stands(snapd, _):
-    folder, copy = quick.unproved_version(snapd.folder)
-    name, path, _, _ = quick.VERSION
-    before, after = ((pathlib.Path(it) / path).read_text() for it in (folder, copy))
-    assert after.replace(" (not proved)", "") == before and after.count("(not proved)") == 1
-    made = re.sub(rb"^snapd ", b"", snapd("--version").output)
-    assert made in (b"0.1.0\n", b"0.1.0 (not proved)\n"), made
+def test_a_built_program_gets_a_line_on_its_build(snapd, _):
+    room, program = stamp.UNKNOWN.ljust(stamp.ROOM), snapd.folder / "program"
+    assert (TOP / "crates" / "snap_args" / "src" / "grammar.rt").read_bytes().count(room) == 1
+    program.write_bytes(b"code" + room + b"code")
+    stamp.stamp(program, "not proved")
+    data = program.read_bytes()
+    assert len(data) == stamp.ROOM + 8 and data[:4] == data[-4:] == b"code" and data[4:].startswith(b"not proved; "), data
+    for text in (b"no room", room + room):
+        program.write_bytes(text)
+        with contextlib.suppress(AssertionError):
+            stamp.stamp(program, "proved")
+        assert program.read_bytes() == text
 
 
 def test_what_is_missing_is_told_in_one_line(snapd, _):

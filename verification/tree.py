@@ -108,13 +108,3 @@ def copied(top, names):
         shutil.copy(top / "HANDLES", copy)
         laid(top, copy, names)
         yield copy
-
-
-def take_program(top, copy, name):
-    """Takes a program that was proved and built in a copy: `snapd` to bin/, others to their crate's out/. Never the one of an earlier run."""
-    built = copy / "crates" / name / "out" / name
-    to = top / "bin" / name if name == "snapd" else top / "crates" / name / "out" / name
-    to.unlink(missing_ok=True)
-    if built.is_file():
-        to.parent.mkdir(parents=True, exist_ok=True)
-        shutil.copy(built, to)

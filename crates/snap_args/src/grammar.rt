@@ -15,7 +15,12 @@ use clap::{Arg, ArgAction, Command, value_parser};
 use std::alloc::{AllocError, Global};
 
 /// The version of the program.
-pub const VERSION: &str = "0.1.0";
+pub const VERSION: &str = "0.2.0";
+
+/// What `--version` prints. Its second line is 100 bytes, over which verification/stamp.py writes in the built
+/// program what it was built from, and whether it was proved.
+const VERSION_AND_BUILD: &str = "0.2.0
+it isn't known how this was built                                                                   ";
 
 /// A word of a command: what it is, its name, what help calls its value, and its help.
 #[derive(Clone, Copy)]
@@ -122,7 +127,7 @@ fn program<'a>(alloc: Global) -> Command<'a>
     Command::new(alloc, "snapd")
         .about("Keep one value of up to 4,080 bytes in a file, safe from crashes")
         .after_help(PROGRAM_HELP)
-        .version(VERSION)
+        .version(VERSION_AND_BUILD)
         .propagate_version(true)
         .subcommand_required(true)
 }

@@ -10,8 +10,8 @@ use std::marker::Model;
 use std::sync::Wait;
 use std::thread;
 
-/// How often a storer asks for an update before it sleeps: for about half a millisecond.
-const SPINS: u32 = 2_000;
+/// Polls without sleeping before a storer blocks: for about an eighth of a millisecond.
+const SPINS: u32 = 500;
 
 /// The updates that come to a storer. Its value is how many came and how many of them were taken, each
 /// from 0 again behind the largest number: all of them, or all but one, which waits here. So a contract

@@ -31,9 +31,8 @@ const INBOX: Token = Token(usize::MAX);
 /// How many events one wait tells at most.
 const MAX_EVENTS: usize = 256;
 
-/// How often a worker asks for events before it sleeps: for some longer than a fast disk takes for the
-/// store whose outcome it waits for, about a sixth of a millisecond.
-const SPINS: u32 = 400;
+/// Polls without sleeping before a worker blocks: some 40 us, about as long as it takes to wake a thread.
+const SPINS: u32 = 100;
 
 /// What one worker owns.
 #[derive(Drop)]

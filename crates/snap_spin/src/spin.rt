@@ -23,11 +23,13 @@ impl Model for Spin {
 }
 
 impl Spin {
-    /// It spins at the first wait.
+    /// A thread that rests: a server without callers has nothing to spin for.
     pub fn new() -> Spin
-        ensures { result ≡ 0 }
+        ensures { result ≡ WAITS_IN_A_REST }
     {
-        Spin { resting: 0 }
+        Spin {
+            resting: WAITS_IN_A_REST,
+        }
     }
 
     /// Whether to spin before the sleep of this wait.
