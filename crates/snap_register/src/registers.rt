@@ -24,7 +24,6 @@ impl Registers {
     /// has seen an update yet. The registers are freed with the last of their seats.
     ///
     /// Returns the `AllocError` if memory runs out.
-    /// Where memory runs out it answers the `AllocError`, and nothing is kept.
     pub fn open(
         alloc: Global,
         values: &[(u64, Vec<u8>)],
