@@ -351,7 +351,7 @@ module _ (a b : Known) (set : ℕ) (told numbers : List ℕ) (g : Gathers a b se
     begins_first : IsBeginning first_seen (take moment.0 b.seen)
     begins_first = take-begins first_seen b.seen moment.0 g.within moment.1.after
 
-    -- the last look at a named segment found its number at that moment
+    -- the last look of a named segment found the number that it had at that moment
     last_at : (i : ℕ) → i < segments b.plan → Names set i
         → (looked b i ≡ Some (number_in b (take moment.0 b.seen) i))
         × (slice_index numbers i ≡ number_in b (take moment.0 b.seen) i)

@@ -21,9 +21,9 @@ pub record BeginsFresh (before after : Known) (part : List Update) : Type 0 wher
 abbrev pub all_of : Known → ℕ
 all_of seat = 2 ^ segments seat.plan - 1
 
--- the last looks at the named segments found their numbers after `part`, a list that begins with
--- what the seat had seen before and at the scan's first look, and that is a beginning of what it
--- has seen afterwards
+-- the named segments' last looks found the numbers after `part`, a list that begins with what the
+-- seat had seen before and at the scan's first look, and that is a beginning of what it has seen
+-- afterwards
 pub record IsCleanScan (set : ℕ) (before after : Known) : Type 0 where
   pub part : List Update
   pub begins : IsBeginning before.seen part
@@ -109,8 +109,7 @@ MayRefuse count before why after =
     ((why ≡ NoMemory) × ((after ≡ before) ⊎ (Grows before after × TakesLooksOf count before after)))
     ⊎ ((why ≡ Worn) × (before.left < most_looks count) × (after ≡ before))
 
--- the list has the number that the last look at each named segment found, and the value of its
--- record
+-- the list has the number that each named segment's last look found, and the value of its record
 pub record AreLooked (set : ℕ) (seat : Known) (memory : List (ℕ × List ℕ)) : Type 0 where
   pub size : length memory ≡ segments seat.plan
   pub each : (i : ℕ) → i < segments seat.plan → Names set i

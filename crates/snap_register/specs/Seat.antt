@@ -80,7 +80,7 @@ pub record Meets (a b : Known) : Type 0 where
   pub left : b.left ≡ a.left
   pub sights : b.sights ≡ a.sights
 
--- the last look at j found this number; the looks at other segments stay
+-- the last look of segment j found this number; those of other segments stay
 pub record Looks (a b : Known) (j number : ℕ) : Type 0 where
   pub here : looked b j ≡ Some number
   pub others : (i : ℕ) → i ≢ j → looked b i ≡ looked a i
@@ -89,14 +89,14 @@ pub record Looks (a b : Known) (j number : ℕ) : Type 0 where
 abbrev pub HasLooked : Known → ℕ → Type 0
 HasLooked a j = looked a j ≢ None
 
--- the last look at j found an update, not the start
+-- the last look of segment j found an update, not the start
 pub record HasFoundUpdate (a : Known) (j : ℕ) : Type 0 where
   pub told : ℕ
   pub is : looked a j ≡ Some told
   pub above : (starts a.plan j).0 < told
 
--- the value is that of the last look at j: the value after a beginning of what was seen in which j
--- has the number found
+-- the value is that of segment j's last look: the value after a beginning of what was seen in which
+-- j has the number found
 pub record IsValue (a : Known) (j : ℕ) (value : List ℕ) : Type 0 where
   pub part : List Update
   pub beginning : IsBeginning part a.seen
