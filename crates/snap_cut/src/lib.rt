@@ -1,4 +1,4 @@
-//! What a crash of all devices at one moment leaves, while threads update and scan: laws alone.
+//! Laws: what a crash of all devices leaves, while threads update and scan.
 //!
 //! A writer does one thing after the other, each on its device alone or on its seat alone: it sees
 //! more updates, it stores a value, and it shows what is stored. That is its life. A crash finds

@@ -1,4 +1,4 @@
-//! What clients received, compared with what a crash of all devices leaves: laws alone.
+//! Laws: a crash of all devices keeps all that clients received.
 //!
 //! A service replies from what its scanner has seen: each update that it acknowledges, and each
 //! value of a scan, is in that list. So whoever recovers a history that begins with all that
