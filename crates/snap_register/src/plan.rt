@@ -26,7 +26,7 @@ pub struct Entry {
     pub words: [u64; 0],
 }
 
-/// What a seat had seen at one of its looks.
+/// The updates that a seat had seen at one of its looks.
 pub struct Sight {
     pub seen: [Entry; 0],
 }
@@ -41,7 +41,7 @@ pub struct Plan {
     pub start: [Start; 0],
 }
 
-/// What a writer knows of its register's buffers.
+/// A writer's knowledge of its register's buffers.
 pub struct Pool {
     /// The current buffer.
     pub current: u64,
@@ -55,13 +55,13 @@ pub struct Pool {
     pub draft: [u64; 0],
 }
 
-/// What a seat knows.
+/// A seat's knowledge.
 pub struct SeatView {
     pub plan: Plan,
     /// Whether this view was joined to another's.
     pub spent: bool,
     pub seen: [Entry; 0],
-    /// What the seat whose view was joined to this one had seen; until the next look.
+    /// The updates seen by the seat whose view was joined to this one; until the next look.
     pub received: [Entry; 0],
     /// The seat writes the segments from `low` on and below `high`.
     pub low: u64,
@@ -79,6 +79,6 @@ pub struct SeatView {
     pub pins: [u64; 0],
     /// For each register which record the pinned buffer holds.
     pub records: [u64; 0],
-    /// What it had seen at each of its looks, in order.
+    /// The updates it had seen at each of its looks, in order.
     pub sights: [Sight; 0],
 }

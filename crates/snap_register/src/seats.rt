@@ -24,7 +24,7 @@ use std::marker::Model;
 /// The operations of both kinds of seat. A seat has a list of the updates that it has seen. The
 /// lists of all seats of one opening are beginnings of one history.
 pub trait Looker {
-    // What the seat knows of the registers.
+    // The seat's knowledge of the registers.
     ghost known: { Self → Known };
 
     /// How many looks it has left. Each look takes one, and nothing else does.

@@ -4,7 +4,7 @@ ghost use Rattle.snap_restart.specs.Report.{recovered_text, report_text};
 
 use std::fmt;
 
-/// What was recovered of one segment.
+/// A segment in the report: what was recovered of it.
 #[derive(Clone, Copy, Debug, PartialEq, Eq)]
 pub struct Recovered {
     /// How many values were stored since the file was formatted.
@@ -15,8 +15,8 @@ pub struct Recovered {
     pub spare_open: bool,
 }
 
-/// What was recovered of each segment, in order. `Display` gives a line for each of them, and one
-/// with their count.
+/// The report of a restart: what was recovered of each segment, in order. `Display` gives a line for
+/// each of them, and one with their count.
 #[derive(Debug, Drop)]
 pub struct Report {
     pub segments: Vec<Recovered>,

@@ -257,7 +257,7 @@ fn values_of<D: Disk>(
     Ok(values)
 }
 
-// What was recovered of each segment.
+// The report on these segments.
 fn report_of<D: Disk>(alloc: Global, segments: &Vec<Segment<D>>) -> Result<Report, AllocError>
     ensures { IfOk result (λ r. r.segments.items ≡ map recovered segments.now.items) }
 {

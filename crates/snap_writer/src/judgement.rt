@@ -5,7 +5,7 @@
 pub enum Judgement {
     /// The value is longer than a segment can hold.
     TooLong,
-    /// The same number and value were shown last.
+    /// The number and value are those shown last.
     Stored,
     /// The number was shown last, with another value.
     Conflict,
