@@ -242,7 +242,7 @@ module _ (a b c : Known) (set : ℕ) (told numbers : List ℕ) (j k : ℕ)
       (Collects-push (List ℕ) n number entry (length first) (length b.seen) told g.latest grown
       (length c.seen) place end turn (begins-length first c.seen seen_within) g.long)
 
-  -- so it isn't below the last one found
+  -- the number found isn't below the last one found for the segment
   pub told_fits : (p : ℕ) → IsAt set p j → IsNoFall (size set) told p k
   told_fits p other = subst (λ q. IsNoFall n told q k) (at_once set place p j at other)
       (subst (IsNoFall n told place) (sym now)

@@ -98,7 +98,7 @@ module _ (set : ℕ) (a b : Known) where
     };
   }
 
-  -- entries found with the numbers of such a list have its values too
+  -- entries found are those after `part` if their numbers are
   listed : (found : Found) (values : List (ℕ × List ℕ)) (part : List Update)
       → set < 2 ^ segments b.plan → AreEntries (named set) b found values
       → ((i : ℕ) → i < segments b.plan → Names set i → number_of found i ≡ number_in b part i)

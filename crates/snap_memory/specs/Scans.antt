@@ -57,7 +57,7 @@ pub record IsSnapshot (before after : Known) (memory : List (ℕ × List ℕ)) :
   pub within : IsBeginning part after.seen
   pub is_memory : IsMemory after part memory
 
--- the numbers and values of the named segments, in ascending order, after such a list
+-- the numbers and values of the named segments, in ascending order, after a list as in IsSnapshot
 pub record IsPart (set : ℕ) (before after : Known) (values : List (ℕ × List ℕ)) : Type 0 where
   pub part : List Update
   pub begins : IsBeginning before.seen part
@@ -68,7 +68,7 @@ pub record IsPart (set : ℕ) (before after : Known) (values : List (ℕ × List
       → slice_get values p ≡ Some (number_in after part i, value_in after part i)
 
 -- `memory`, which has a place for every segment, has the numbers and values of the named ones after
--- such a list
+-- a list as in IsSnapshot
 pub record HasPart (set : ℕ) (before after : Known) (memory : List (ℕ × List ℕ)) : Type 0 where
   pub part : List Update
   pub begins : IsBeginning before.seen part

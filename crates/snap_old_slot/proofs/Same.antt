@@ -78,7 +78,7 @@ wrong_old_file b (header.Open j m) i n is not_closed not_open = (
 wrong_old_file b header.Wrong i n is not_closed not_open =
     (λ unformatted. unformatted is.0, λ head. is.1 i n head)
 
--- what it returns if the header is right and the slots hold no value
+-- what reading an old file returns if its header is right and its slots hold no value
 pub old_damaged : (b : List ℕ) (i n : ℕ) (answer : Option OldFound) → length b ≡ 20480
     → OldHead b i n → MatchOption answer ((k : ℕ) (v : List ℕ) → OldHolds b k v → ⊥) (IsOldHeld b)
     → IfErr (ok_or answer Damaged) (λ why. IsNoOldOpening i n b why × IsOfBytes why)

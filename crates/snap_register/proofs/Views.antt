@@ -85,7 +85,7 @@ view_whole a j k legal updated lj lk =
     ((viewed (view_of a).plan (view_of a).seen j (get_or (view_of a).records j 0) legal updated
     (a.seated.records_are j lj)).view.each k lk).whole
 
--- and the words are few
+-- a pinned record has few words
 held_small : (a : Access) (j : ℕ) → j < segments (view_of a).plan
     → length (held (view_of a) j) ≤ 8704
 held_small a j lj = omega (

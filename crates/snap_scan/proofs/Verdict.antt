@@ -222,7 +222,7 @@ module _ (set : ℕ) (s : Machine) (L : List ℕ) (count : s.segments ≡ size s
   pub says_next : IsNext set L (next_at set s.next)
   says_next = says_at s.next st.says
 
--- and so is the step that the machine returns
+-- the step that the machine returns is what its list decides
 pub next_is : (set : ℕ) (s : Machine) (L : List ℕ) (v : Course) (next : Next) → s.segments ≡ size set
     → StandsFor s L → (record { set = set; told = L; next = next_at set s.next }) ≡ v
     → next_at set s.next ≡ next → IsNext v.set v.told next

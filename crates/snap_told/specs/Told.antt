@@ -60,6 +60,6 @@ SideBySide R [] [] = Unit {0}
 SideBySide R (x ∷ xs) (y ∷ ys) = R x y × SideBySide R xs ys
 SideBySide R xs ys = ⊥
 
--- so it is for each payload and its reply, in order
+-- IsTold holds of each payload and its reply, in order
 abbrev pub AreTold : ℕ → Start → List Update → List (List ℕ) → List (List ℕ) → Type 0
 AreTold n start h xs ys = SideBySide (λ x y. IsTold n start h x y) xs ys

@@ -32,7 +32,7 @@ take_entry-requires-clause-kept g c =
     c.requires.room c.segments-i-end.ensures.count c.loop-i-test.true c.index_mut.result.now inv.same
     inv.kept c.index_mut.ensures.value
 
--- and so was the entry cached in its stead
+-- the entry cached in its stead was seen
 pub returns-in_err-entry-clause-kept : goal.returns-in_err-entry-clause-kept
 returns-in_err-entry-clause-kept g c =
     let inv = c.loop-i.invariant in
