@@ -4,10 +4,10 @@
 //! # The rule of the pins
 //!
 //! A segment's register has n + S + 2 buffers, for n segments and S scanners. Each holds a record:
-//! an update's number, its value, and its view. One of them is *current*. The register's *current
-//! word* is its index times 2^56, plus the number of pins taken on it since it became current. Each
-//! buffer also has a *given-back count*. All of these are words of one table (`atomic_table`), and
-//! threads touch them only by the steps below.
+//! an update's number, its value, and its view. One buffer is *current*. The register's *current
+//! word* is the index of this buffer times 2^56, plus the number of pins taken on it since it
+//! became current. Each buffer also has a *given-back count*. All of these are words of one table
+//! (`atomic_table`), and threads touch them only by the steps below.
 //!
 //! A *seat* belongs to a participant, a writer or a scanner. It takes a look by one addition to the
 //! current word. This returns the index of the current buffer, and counts a pin on that buffer at

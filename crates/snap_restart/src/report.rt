@@ -15,8 +15,8 @@ pub struct Recovered {
     pub spare_open: bool,
 }
 
-/// The report of a restart: what was recovered of each segment, in order. `Display` gives a line for
-/// each of them, and one with their count.
+/// The report of a restart: what was recovered of each segment, in order. `Display` gives a line
+/// for each of them, and one with their count.
 #[derive(Debug, Drop)]
 pub struct Report {
     pub segments: Vec<Recovered>,

@@ -1,8 +1,8 @@
 //! Collects all writers and scanners of a memory when it closes.
 //!
 //! What they have seen is one history, proved by meetings: a scanner meets each writer, then each
-//! once more. After the first round it has seen all that any of them had seen. After the second no
-//! writer knows of a further update of its own segment, so there was none after the first.
+//! once more. After the first round it has seen all that any of them had seen. The second round
+//! shows that it had seen no update that its writer hadn't shown.
 ghost use Rattle.std.specs.Prelude.{
   ◌≡◌,
   ℕ,

@@ -39,8 +39,8 @@ pub enum Which {
 /// `old`, `DeviceFailed` if a device call failed, and `Unformatted`, `WrongFile` and `Damaged` as
 /// for an opening; of `new`, `AlreadyFormatted` and `DeviceFailed` as for formatting.
 ///
-/// An error of `old` leaves `new` untouched. A crash at any time leaves `old` as it was, and in
-/// `new` the old content, an unformatted file or the whole new one.
+/// An error of `old` leaves `new` untouched. A crash at any time leaves of `old` only what it could
+/// have left before, and in `new` the old content, an unformatted file or the whole new one.
 pub fn migrate<O: Disk, N: Disk>(
     old: &mut O,
     new: &mut N,

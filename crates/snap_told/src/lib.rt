@@ -56,9 +56,8 @@ pub fn client_laws<R: Read, W: Write>()
 /// replied before: what any session of this opening had replied by then, what any client over an
 /// honest connection to such a session had returned to its caller, and all earlier replies.
 ///
-/// Also over any number of crashes and starts the files keep the memory after one
-/// history, which has all that a session replied or a client returned in any opening before its
-/// crash.
+/// Also over any number of crashes and starts the files keep the memory after one history, which
+/// has all that a session replied or a client returned in any opening before its crash.
 pub fn plug_laws<D: Disk, R: Read, W: Write>()
     ensures plug { PlugLaw D.Disk R.remaining W.contents }
     ensures ever { EverLaw D.Disk R.remaining W.contents }
@@ -72,8 +71,8 @@ pub fn heard_laws()
     ensures first { FirstHeard }
 {}
 
-/// [`heard_laws`] at a real call: what a client returns came over an honest connection, if its reader has
-/// the bytes that a session gave out when it got exactly this request.
+/// [`heard_laws`] at a real call: what a client returns came over an honest connection, if its
+/// reader has the bytes that a session gave out when it got exactly this request.
 pub fn hear<R: Read + Drop, W: Write + Drop>(
     alloc: Global,
     reader: R,
