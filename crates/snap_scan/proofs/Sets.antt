@@ -12,7 +12,7 @@ use Rattle.std.proofs.lemmas.Option.{slice_get_within, slice_get-get_or, same_So
 use Rattle.snap_history.proofs.Lists.{get-push, get-append_left, get-append_last}
 use Rattle.snap_scan.specs.Sets.{Names, named_below, named, size, IsAt}
 
--- the list of named segments below k + 1, if k is named or not
+-- the list of named segments below k + 1, if k is named and if it isn't
 module _ (set k : ℕ) where
   abbrev below : List ℕ
   below = named_below set k

@@ -28,8 +28,8 @@ CleanMoment = (n : ℕ) (number : Numbers) (entry : Entries (List ℕ)) (b e : �
     → IsClean n told → ((j : ℕ) → IsBorrow n told j → ⊥)
     → (p : ℕ) × IsMoment n number b e told p × IsThen (List ℕ) n entry p latest
 
--- if a segment has risen by two since the scan's first look, each moment at which its last update
--- was still to come is a moment of the scan
+-- if a segment has risen by two since the scan's first look, each moment at which its number was one
+-- lower than now is a moment of the scan
 abbrev pub BorrowMoment : Type 0
 BorrowMoment = (n : ℕ) (number : Numbers) (entry : Entries (List ℕ)) (b e t : ℕ) (told : List ℕ)
     (latest : List (List ℕ)) (j p : ℕ)
