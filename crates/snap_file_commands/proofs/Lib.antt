@@ -3,3 +3,4 @@ pub mod Stored
 pub mod SecondLine
 pub mod Carried
 pub mod Founded
+pub mod Seats

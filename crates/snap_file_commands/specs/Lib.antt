@@ -7,3 +7,6 @@ pub mod Acts
 pub mod Foundation
 pub mod Loads
 pub mod Contents
+pub mod SegmentName
+pub mod SegmentOrder
+pub use Rattle.snap_history.specs.declared.limits

@@ -1,4 +1,4 @@
-//! The commands on one file, over any device, reader and writer.
+//! The commands on files, over any device, reader and writer, and the order and names of a folder's files.
 //!
 //! [`act`] does an order on its device, [`found`] makes a file of a folder or leaves it where it is
 //! whole, and [`act_pair`] carries a file of the old format over to a new one. [`held_value`] reads a file
@@ -6,6 +6,11 @@
 //! what an order does in all, `specs/Commands.antt` what each end means for the device's bytes and for
 //! what was read and printed, `specs/Effects.antt` which ends leave the device as it was, and
 //! `specs/Foundation.antt` all that of a folder's file.
+//!
+//! [`order_files`] puts a folder's files in order by what their headers say, whatever they are called, or
+//! says what is wrong with them (`specs/SegmentOrder.antt`). [`sign_of_loss`] finds whether files that a
+//! folder lacks were lost. [`file_name`] has the names that `init` gives, and [`is_segment_name`] and
+//! [`is_further`] tell names apart (`specs/SegmentName.antt`).
 #![tactic(auto)]
 
 mod commands;
@@ -13,9 +18,12 @@ mod contents;
 mod failure;
 mod foundation;
 mod loads;
+mod loss;
 mod migration;
 mod remedy;
 mod second_line;
+mod segment_name;
+mod segment_order;
 mod slot_value;
 
 pub use commands::act;
@@ -23,5 +31,9 @@ pub use contents::held_value;
 pub use failure::CommandFailure;
 pub use foundation::found;
 pub use loads::{LoadedFile, load};
+pub use loss::sign_of_loss;
 pub use migration::{Causes, MigrationFailure, act_pair};
 pub use remedy::words_of_format;
+pub use segment_name::{file_name, is_further, is_segment_name};
+pub use segment_order::{FolderFault, SegmentPlace, order_files};
+pub use snap_history::MAX_COUNT;

@@ -1,9 +1,9 @@
 //! A folder with the files of all segments: made by `init`, and read by `serve --dir`.
 //!
 //! Which of its files is which segment's stands in their headers alone, so they may have any names that end
-//! in `.seg`. `snap_folder` judges what the headers say; what is here reads them.
+//! in `.seg`. `snap_file_commands` judges what the headers say; what is here reads them.
 ghost use Rattle.std.specs.Prelude.{◌≡◌, ◌<◌, ◌≤◌, All, IfOk, length};
-ghost use Rattle.snap_folder.specs.Order.{IsFaultOf};
+ghost use Rattle.snap_file_commands.specs.SegmentOrder.{IsFaultOf};
 ghost use Rattle.snap_order.specs.Limits.{MAX_COUNT};
 
 use crate::complaint::fail_at_folder;
@@ -11,7 +11,9 @@ use crate::files::FirstFault;
 use crate::folder_refusal::{FileRefusal, FolderRefusal, Pair};
 use snap_devices::{FileDisk, FileFault, Lock, sync_folder_of};
 use snap_disk::{Disk, Refusal};
-use snap_folder::{FolderFault, SegmentPlace, file_name, is_further, is_segment_name, order_files};
+use snap_file_commands::{
+    FolderFault, SegmentPlace, file_name, is_further, is_segment_name, order_files,
+};
 use snap_order::{OLD_FILE_LEN, Status};
 use snap_segment::{Findings, Header, check};
 use snap_stream::Cause;

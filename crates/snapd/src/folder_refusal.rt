@@ -1,6 +1,6 @@
 //! Why the files of a folder are not those that are wanted, in words.
 
-use snap_folder::SegmentPlace;
+use snap_file_commands::SegmentPlace;
 use std::fmt::{self, Display, Formatter, Write};
 
 /// Why a folder's files are not the segments of one server, or not those that are to be made. Each text

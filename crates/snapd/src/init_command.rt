@@ -11,8 +11,7 @@ use crate::folder::{
 };
 use crate::folder_refusal::{FileRefusal, FolderRefusal};
 use snap_devices::FileFault;
-use snap_file_commands::found;
-use snap_folder::sign_of_loss;
+use snap_file_commands::{found, sign_of_loss};
 use snap_order::{FileOrder, Founding, Status};
 use snap_segment::{Findings, Header, Slot};
 use std::alloc::{AllocError, Global};
