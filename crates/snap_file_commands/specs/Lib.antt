@@ -1,11 +1,7 @@
-pub mod Failure
 pub mod Commands
 pub mod Effects
 pub mod Migration
-pub mod Calls
-pub mod Acts
 pub mod Foundation
-pub mod Loads
 pub mod Contents
 pub mod SegmentName
 pub mod SegmentOrder

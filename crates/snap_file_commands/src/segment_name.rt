@@ -5,7 +5,7 @@ ghost use Rattle.snap_file_commands.specs.SegmentName.{IsFurther, IsSegmentName,
 use std::alloc::{AllocError, Global};
 
 /// The name that the file of segment `index` gets in its folder: `segment-00.seg` and so on, with two
-/// digits. An error is want of memory.
+/// digits. Fails only if memory runs out.
 pub fn file_name(alloc: Global, index: u8) -> Result<String, AllocError>
     requires { index < 100 }
     ensures { IfOk result (λ name. string_bytes name ≡ name_of index) }
@@ -14,16 +14,16 @@ pub fn file_name(alloc: Global, index: u8) -> Result<String, AllocError>
     format!(in alloc; "segment-{tens}{ones}.seg")
 }
 
-/// The name is that of a segment's file: it ends in `.seg`.
+/// Whether the name is that of a segment's file: it ends in `.seg`.
 pub fn is_segment_name(name: &str) -> bool
     ensures { IsTrue result ↔ IsSegmentName name.now }
 {
     name.as_bytes().ends_with(b".seg")
 }
 
-/// The name has the form of those that [`file_name`] gives, and is none of the first `count` of them: it
-/// begins with `segment-` and ends in `.seg`. So there are more segments than `count` in its folder, or
-/// files that aren't segments at all. An error is want of memory.
+/// Whether the name has the form of those that [`file_name`] gives, and is none of the first `count` of them:
+/// it begins with `segment-` and ends in `.seg`. Then its folder has more segments than `count`, or files
+/// that are no segments. Fails only if memory runs out.
 pub fn is_further(alloc: Global, name: &str, count: u8) -> Result<bool, AllocError>
     requires { count ≤ 100 }
     ensures { IfOk result (λ further. IsTrue further ↔ IsFurther count name.now) }
