@@ -1,4 +1,4 @@
--- Files that sit where they say.
+-- Files in the seats of the segments that their headers say.
 use Rattle.std.proofs.Common.{◌≡◌, ◌≢◌, ◌⊎◌, ℕ, ◌+◌, ◌<◌, List, length, Option, Some, None, slice_set, slice_get, sum_by, replicate, inl, inr, sym, ◌∙◌, ap, arith}
 use Rattle.std.proofs.Common.{length-set}
 use Rattle.std.proofs.lemmas.Bool.Decides.{eqb_tells}
@@ -18,7 +18,7 @@ no_file count i file sits =
     (omega (arith, length-replicate {A = Option ℕ} count None)) in
     cc
 
--- nobody sits on new seats
+-- new seats are all free
 pub none_yet : (places : List SegmentPlace) (count : ℕ)
     → IsSeating places count 0 (replicate count None)
 none_yet places count = record {
@@ -30,7 +30,7 @@ none_yet places count = record {
 apart : (a b : ℕ) → (a ≡ b) ⊎ (a ≢ b)
 apart a b = elim (eqb_tells a b) [ inl same ↦ inl same.1 | inr other ↦ inr other.1 ]
 
--- one more file, which sits where nobody sits
+-- one more file, in a free seat
 module _ (places : List SegmentPlace) (count files : ℕ) (seats : List (Option ℕ)) (p : SegmentPlace)
     (says : Says places files p) (one : IsOneOf count p) (free : slice_get seats p.index ≡ Some None)
     (seating : IsSeating places count files seats) where

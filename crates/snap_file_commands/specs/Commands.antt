@@ -154,11 +154,11 @@ EndsCheck honest old end = ⊥
 abbrev pub body_of : (s : ℕ) → List ℕ → List ℕ
 body_of s b = part (body_at s) BLOCK_LEN b
 
--- this body block has value v: behind an open gate it is slot s with some number
+-- this body block has value v: with an open gate it is slot s with some number
 abbrev pub HasBody : (s : ℕ) (v body : List ℕ) → Type 0
 HasBody s v body = (k : ℕ) × IsOpenSlot SLOT_COUNT s (gate_block OPEN_GATE) body k v
 
--- it has none: behind an open gate slot s is bad for this reason
+-- it has none: with an open gate slot s is bad for this reason
 abbrev pub HasBadBody : (s : ℕ) (body : List ℕ) → Flaw → Type 0
 HasBadBody s body flaw = IsFlawed SLOT_COUNT s (gate_block OPEN_GATE) body flaw
 

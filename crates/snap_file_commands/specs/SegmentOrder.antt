@@ -34,7 +34,7 @@ abbrev pub file_count : Option ℕ → ℕ
 file_count None = 0
 file_count (Some file) = 1
 
--- so many files sit, each of them where it says
+-- so many files have seats, each that of the segment which its header says
 pub record IsSeating (places : List SegmentPlace) (count files : ℕ) (seats : List (Option ℕ))
     : Type 0 where
   pub size : length seats ≡ count

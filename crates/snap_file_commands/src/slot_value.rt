@@ -72,7 +72,7 @@ fn read_body<D: Disk>(disk: &mut D, slot: u8, body: &mut [u8]) -> Result<(), Ref
     }
 }
 
-/// The value in the body block of this slot, or why there is none, by the reader of slots: behind an open gate.
+/// The value in the body block of this slot, or why there is none, by the reader of slots, with an open gate.
 fn value_in(slot: u8, body: &[u8]) -> Result<&[u8], Flaw>
     requires slot { slot < SLOT_COUNT }
     requires size { length body.now ≡ BLOCK_LEN }
