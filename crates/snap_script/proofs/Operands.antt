@@ -1,4 +1,4 @@
--- What stands in a word, and what doesn't.
+-- What a word means, and what it doesn't.
 use Rattle.std.proofs.Common.{◌≡◌, ◌≢◌, ℕ, ◌+◌, ◌*◌, ◌^◌, ◌<◌, ◌≤◌, Option, Some, None, Result, Ok, Err, List, [], ◌∷◌, length, codes}
 use Rattle.std.proofs.Common.{refl, sym, ap, ◌∙◌, arith}
 use Rattle.std.specs.Prelude.{MatchOption, IfOk}
@@ -26,7 +26,7 @@ sized s bytes n few h =
     let pairs : decode_sized s n ≡ decode_pairs 0 s = grind arith in
     pairs ∙ sym (decode_of-even s (omega arith)) ∙ h
 
--- a word behind `at:` is no other fill
+-- a word after `at:` is no other fill
 module _ (word rest : List ℕ) (at : parts_at 58 word ≡ codes "at" ∷ parts_at 58 rest) where
   abbrev IsNoFillAt : Type 0
   IsNoFillAt = (o h bs : List ℕ) (p : ℕ) → parts_at 58 rest ≡ o ∷ h ∷ [] → IsNumber o p → IsHex h bs

@@ -20,7 +20,7 @@ IsFaultOf line UnknownWord =
     (BeginsWith line (codes "world") → ⊥) × ((v : Verb) → BeginsWith line (name_of v) → ⊥)
 IsFaultOf line (Form v) = BeginsWith line (name_of v)
 
--- behind these lines the line can't be read, and this is what is wrong in it
+-- after these lines the line can't be read, and this is its fault
 abbrev pub IsUnreadable : List (List ℕ) → List ℕ → LineFault → Type 0
 IsUnreadable [] line fault = ((n s : ℕ) → IsWorldLine line n s → ⊥) × (fault ≡ NoWorld)
 IsUnreadable (first ∷ lines) line fault =

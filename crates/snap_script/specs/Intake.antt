@@ -1,4 +1,4 @@
--- What was taken in of a script that comes in pieces.
+-- What was taken of a script that is read in pieces.
 use Rattle.std.specs.Prelude.{◌≡◌, ◌<◌, ℕ, ◌+◌, ◌-◌, ◌^◌, min, List, [], ◌∷◌, ◌++◌, length, Option}
 use Rattle.snap_script.specs.Progress.{HasDone}
 use Rattle.snap_script.specs.Script.{IsShort}
@@ -12,7 +12,7 @@ use Rattle.snap_world.specs.declared.world.World.{World}
 abbrev pub IsUnended : List ℕ → Type 0
 IsUnended held = (lines_of held ≡ held ∷ []) × IsShort held
 
--- these bytes came: some lines of them were done, and these bytes are left
+-- these bytes were taken: some lines of them were done, and these bytes are left
 pub record IsTaken (taken left : List ℕ) (old new : Option (List ℕ)) (world : Option World)
     (number : ℕ) : Type 0 where
   pub done : List (List ℕ)

@@ -1,4 +1,4 @@
--- How far a script came, line by line.
+-- The lines of a script that were done.
 use Rattle.std.specs.Prelude.{◌≡◌, ℕ, ◌-◌, ◌^◌, min, List, [], ◌∷◌, ◌++◌, length, Option}
 use Rattle.std.specs.Prelude.{All}
 use Rattle.std.specs.Io.KnownBytes.{Appends}
@@ -17,7 +17,7 @@ pub record HasDone (done : List (List ℕ)) (old new : Option (List ℕ)) (world
   pub played : Played (full_lines done) text world
   pub wrote : Appends old new text
 
--- why the line behind those that were done wasn't done, and what was written
+-- why the line after those that were done wasn't done, and what was written
 abbrev pub Halts : (done : List (List ℕ)) (line : List ℕ) (old new : Option (List ℕ)) → ScriptEnd
     → Type 0
 Halts done line old new (WriteFailed error) = IsShort line

@@ -1,4 +1,4 @@
--- What a script writes, for each way in which it can end.
+-- What a script writes, for each end.
 use Rattle.std.specs.Prelude.{◌≡◌, ◌≢◌, ◌<◌, ◌≤◌, ◌⊎◌, ℕ, ◌+◌, ◌-◌, ◌^◌, min, List, [], ◌∷◌, ◌++◌}
 use Rattle.std.specs.Prelude.{length, take, All, Option}
 use Rattle.std.specs.List.{AllZip}
@@ -41,7 +41,7 @@ pub record Plays (first : List ℕ) (lines : List (List ℕ)) (text : List ℕ) 
   pub devices : List Device
   pub formatted : AreFormatted n devices
   pub events : List Event
-  -- each line is the event at its place
+  -- each line is the event at its index
   pub are_events : AllZip IsEventLine lines events
   pub replies : List Reply
   pub run : Run n (start_configuration n s devices) events replies b
@@ -61,7 +61,7 @@ abbrev pub PrintsPart : Option (List ℕ) → Option (List ℕ) → List (List �
 PrintsPart old new lines =
     (text : List ℕ) × MayPrint lines text × (m : ℕ) × Appends old new (take m text)
 
--- a line may have so many bytes, without its end
+-- the line isn't too long: its bytes are counted without LF
 abbrev pub IsShort : List ℕ → Type 0
 IsShort line = length line ≤ MAX_LINE
 
@@ -70,11 +70,11 @@ pub record IsAt (text : List ℕ) (done behind : List (List ℕ)) : Type 0 where
   pub whole : lines_of text ≡ done ++ behind
   pub short : All IsShort done
 
--- the number of the line behind these, from 1, which stops at `u64::MAX`
+-- the number of the line after these, counted from 1, which stops at `u64::MAX`
 abbrev pub IsNumberBehind : List (List ℕ) → ℕ → Type 0
 IsNumberBehind done number = number ≡ min (length done + 1) (2 ^ 64 - 1)
 
--- why the line behind those that were done ends the script: it can't be read, though it isn't too
+-- why the line after those that were done ends the script: it can't be read, though it isn't too
 -- long, or it is too long, or memory ran out in it
 abbrev pub Stops : (done : List (List ℕ)) (line : List ℕ) → ScriptEnd → Type 0
 Stops done line (BadLine number fault) =
@@ -89,15 +89,13 @@ abbrev pub StopsBehind : (text : List ℕ) (done : List (List ℕ)) → ScriptEn
 StopsBehind text done end =
     (line : List ℕ) × (behind : List (List ℕ)) × IsAt text done (line ∷ behind) × Stops done line end
 
--- How a script ends behind these lines that were done, of which these bytes were read and the rest
--- wasn't.
+-- How a script ends after these lines were done. `taken` was read, and `rest` wasn't.
 abbrev pub EndsBehind : (taken rest : List ℕ) (done : List (List ℕ)) → ScriptEnd → Type 0
 -- every line was done
 EndsBehind taken rest done Done = IsAt taken done [] × (rest ≡ [])
--- memory ran out at first, or in some line
+-- memory ran out before the first line, or in some line
 EndsBehind taken rest done NoMemory = (done ≡ []) ⊎ StopsBehind (taken ++ rest) done NoMemory
--- the reader failed, and all lines were done but the last one of what was read, which has no end
--- there
+-- the reader failed, and all lines of what was read were done but the last one, which has no LF
 EndsBehind taken rest done (ReadFailed error) = (last : List ℕ) × IsAt taken done (last ∷ [])
 -- the writer failed in the text of these lines
 EndsBehind taken rest done (WriteFailed error) =

@@ -1,4 +1,4 @@
-//! Scripts that come in pieces, cut anywhere.
+//! Scripts that are read in pieces, cut anywhere.
 ghost use Rattle.std.specs.Prelude.{◌≡◌, ◌≢◌, ◌∷◌, ◌++◌, ◌≤◌, ℕ, List, [], Option, length};
 ghost use Rattle.std.specs.Prelude.{OnOk, IfErr, None};
 ghost use Rattle.snap_script.specs.Intake.{CannotHold, IsTaken, IsUnended};
@@ -12,16 +12,16 @@ use crate::words::cut;
 use std::alloc::Global;
 use std::io::Write;
 
-/// The lines of a script that were done, and the beginning of the next one.
+/// The lines of a script that were done, and the bytes of the next one that have arrived.
 #[derive(Drop)]
 pub(crate) struct Intake {
     pub(crate) progress: Progress,
-    /// What came of a line whose end hasn't come.
+    /// The bytes of the next line, whose end hasn't arrived.
     pub(crate) held: Vec<u8>,
 }
 
 impl Intake {
-    /// Nothing came.
+    /// An intake to which nothing has arrived.
     pub(crate) fn new(alloc: Global) -> Intake
         ensures held { result.held.items ≡ [] }
         ensures world { result.progress.player.world ≡ None }
@@ -33,7 +33,7 @@ impl Intake {
         }
     }
 
-    /// Takes the next piece in: does each line that ends in it, and holds what is behind.
+    /// Takes the next piece: does each line that ends in it, and holds what follows.
     pub(crate) fn take<W: Write>(&mut self, piece: &[u8], writer: &mut W) -> Result<(), ScriptEnd>
         requires fits { length piece.now ≤ MAX_LINE }
         requires held { IsUnended self.old.held.items }
@@ -63,7 +63,7 @@ impl Intake {
         Ok(())
     }
 
-    /// Does the line that this part ends.
+    /// Does the line whose last part this is.
     fn end_line<W: Write>(&mut self, part: &[u8], writer: &mut W) -> Result<(), ScriptEnd>
         requires { IsShort part.now }
         ensures held { OnOk result (self.new.held.items ≡ []) }
@@ -92,7 +92,7 @@ impl Intake {
         Ok(())
     }
 
-    /// Holds this part of a line behind what is held of it.
+    /// Adds a part to the line that is held.
     fn hold(&mut self, part: &[u8]) -> Result<(), ScriptEnd>
         requires { IsShort part.now }
         ensures held { OnOk result (self.new.held.items ≡ self.old.held.items ++ part.now) }
@@ -111,7 +111,7 @@ impl Intake {
         }
     }
 
-    /// Does the last line, which goes without an end: the reader is at its own.
+    /// Does the last line, which no LF ends: the reader has no more bytes.
     pub(crate) fn finish<W: Write>(&mut self, writer: &mut W) -> ScriptEnd
         requires { IsUnended self.old.held.items }
         ensures { (taken : List ℕ) (old : Option (List ℕ))

@@ -1,4 +1,4 @@
-//! The lines of a script, done one by one.
+//! Does the lines of a script, one by one.
 ghost use Rattle.std.specs.Prelude.{◌≡◌, ℕ, List, [], ◌∷◌, ◌++◌, IfOk, IfErr, OnOk, Some, None};
 ghost use Rattle.snap_script.specs.Player.{Played, HaltsAt};
 ghost use Rattle.snap_script.specs.declared.player.Halt.TheVariants.{NoMemory};
@@ -26,7 +26,7 @@ impl From<AllocError> for Halt {
     }
 }
 
-/// A world, once a line has made it, and the text of the line that was done last.
+/// The world, once the first line has made it, and the text of the line that was done last.
 #[derive(Drop)]
 pub(crate) struct Player {
     pub(crate) alloc: Global,
@@ -35,7 +35,7 @@ pub(crate) struct Player {
 }
 
 impl Player {
-    /// Nothing was done.
+    /// A player that has done no line.
     pub(crate) fn new(alloc: Global) -> Player
         ensures { result.world ≡ None }
     {
@@ -79,7 +79,7 @@ fn play_world(alloc: Global, line: &[u8], out: &mut Vec<u8>) -> Result<World, Ha
     Ok(world)
 }
 
-/// Does the event of a line, and makes the text of its reply.
+/// Does the event of a line, and makes its reply's text.
 fn play_event(alloc: Global, world: &mut World, line: &[u8], out: &mut Vec<u8>) -> Result<(), Halt>
     requires { out.old.items ≡ [] }
     ensures ok { OnOk result ((lines : List (List ℕ)) (text : List ℕ)

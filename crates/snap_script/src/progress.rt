@@ -1,4 +1,4 @@
-//! Lines of a script, done and counted, and their text written.
+//! Does and counts the lines of a script, and writes their text.
 ghost use Rattle.std.specs.Prelude.{◌≡◌, ◌∷◌, ◌++◌, ℕ, List, [], Option, OnOk, IfErr, None};
 ghost use Rattle.snap_script.specs.Progress.{HasDone, Halts};
 ghost use Rattle.snap_script.specs.Script.{IsShort};
@@ -9,7 +9,7 @@ use snap_stream::write_whole;
 use std::alloc::Global;
 use std::io::Write;
 
-/// How far a script came.
+/// A script's player, and how many lines it has done.
 #[derive(Drop)]
 pub(crate) struct Progress {
     pub(crate) player: Player,
@@ -18,7 +18,7 @@ pub(crate) struct Progress {
 }
 
 impl Progress {
-    /// Nothing was done.
+    /// A progress of no line.
     pub(crate) fn new(alloc: Global) -> Progress
         ensures world { result.player.world ≡ None }
         ensures number { result.number ≡ 0 }
@@ -29,7 +29,7 @@ impl Progress {
         }
     }
 
-    /// Does the next line, and writes its text by one call of the writer where that takes it whole.
+    /// Does the next line, and writes its text, by one call if the writer takes it whole.
     /// An empty line is only counted.
     pub(crate) fn line<W: Write>(&mut self, line: &[u8], writer: &mut W) -> Result<(), ScriptEnd>
         requires { IsShort line.now }

@@ -13,16 +13,16 @@ use thiserror::Error;
 /// The longest line in bytes, without the LF that ends it.
 pub const MAX_LINE: usize = 1_048_576;
 
-/// How many bytes one read may give.
+/// The most bytes of one read.
 const PIECE: usize = 65_536;
 
-/// How a script ended. Its text is what standard error gets behind `snapd: `, save at
+/// How a script ended. Its text follows `snapd: ` on standard error, except for
 /// [`ScriptEnd::Done`].
 ///
 /// A line's number counts all lines of the input from 1, empty ones too, and stops at `u64::MAX`.
 #[derive(Debug, Drop, Error)]
 pub enum ScriptEnd {
-    /// Every line was done, and the reader is at its end.
+    /// Every line was done, and the reader has no more bytes.
     #[error("every line was done")]
     Done,
     /// A line can't be read. Those before it were done.
@@ -31,7 +31,7 @@ pub enum ScriptEnd {
     /// A line has more than [`MAX_LINE`] bytes. Those before it were done.
     #[error("line {number}: a line has at most 1048576 bytes")]
     TooLong { number: u64 },
-    /// Memory ran out in a line, or at first. What was written is the text of the lines before it.
+    /// Memory ran out in a line, or before the first one. The lines before were done.
     #[error("refused 8 NoMemory")]
     NoMemory,
     /// The reader failed. The lines whose ends were read before were done.
@@ -45,18 +45,17 @@ pub enum ScriptEnd {
 /// Runs a script on a new world while it is read, and writes a line for each of its lines: what
 /// each event answered.
 ///
-/// A script is lines, each of which LF ends (the last one may go without), of words, which single
-/// spaces part. Empty lines are skipped. The first other line is `world N S`, and every other one
-/// is an event; docs/FORMATS.md has their forms, and those of what is written. What is written are
-/// replies that a new world may give to all those events, in the order of the lines.
+/// Each line ends with LF, which the last one may lack, and has words separated by single spaces.
+/// Empty lines are skipped. The first other line is `world N S`, and every later one is an event;
+/// docs/FORMATS.md has their forms, and those of what is written. What is written are replies that a
+/// new world may give to all these events, in the order of the lines.
 ///
-/// Each line whose end has come is done and its text is written and flushed before the next read,
-/// so whoever writes the script can wait for its answer. An error of the reader or of the writer
-/// ends the script with no retry.
+/// All lines whose ends were read are done, and their text is written and flushed, before the next
+/// read. So a client that writes the script can wait for the reply to a line. An error of the reader
+/// or of the writer ends the script with no retry.
 ///
-/// It takes room for one read and for the longest line, however many lines there are, and besides
-/// it what an event's own values and a reply's take. It returns only once the reader ends or
-/// something fails.
+/// It takes memory for one read, for the longest line, and for the values of one event and one reply.
+/// It returns only once the reader has no more bytes or something fails.
 pub fn script<X: Wait, R: Read, W: Write>(
     rt: &X,
     alloc: Global,
@@ -79,8 +78,8 @@ pub fn script<X: Wait, R: Read, W: Write>(
     }
 }
 
-/// Runs a script piece by piece. What was written since the last read isn't flushed yet. `piece` is
-/// where a read puts its bytes.
+/// Runs a script piece by piece, and leaves the last piece's text unflushed. `piece` is where a read
+/// puts its bytes.
 fn run_pieces<X: Wait, R: Read, W: Write>(
     rt: &X,
     alloc: Global,
@@ -112,7 +111,7 @@ fn run_pieces<X: Wait, R: Read, W: Write>(
     unreachable!()
 }
 
-/// So many zero bytes.
+/// `len` zero bytes.
 fn zero_bytes(alloc: Global, len: usize) -> Result<Vec<u8>, AllocError>
     ensures { IfOk result (λ bytes. vec_len bytes ≡ len) }
 {
