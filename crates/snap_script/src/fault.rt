@@ -1,5 +1,4 @@
 //! What can be wrong in a line of a script.
-ghost use Rattle.std.specs.Prelude.{◌≡◌, ℕ, ◌∷◌, List};
 
 use crate::verb::Verb;
 use crate::words::{cut, is};
@@ -19,12 +18,8 @@ pub enum LineFault {
 }
 
 impl LineFault {
-    ghost use Rattle.snap_script.specs.Fault.{IsFaultOf};
-
     /// The fault of a later line that is no event's.
-    pub(crate) fn of(line: &[u8]) -> LineFault
-        ensures { IsFaultOf line.now result }
-    {
+    pub(crate) fn of(line: &[u8]) -> LineFault {
         let (word, _) = cut(line, b' ');
         if is(word, "world") {
             return LineFault::SecondWorld;

@@ -8,16 +8,15 @@
 //!
 //! [`play`] is the program's command `script`.
 //!
-//! A line takes the memory of its event's values and of the reply's, and no more.
+//! A line takes the memory of its bytes, of its event's values and of the reply's, and no more.
 #![tactic(auto)]
 
 mod command;
 mod fault;
-mod intake;
+mod interpreter;
 mod line;
-mod player;
+mod line_buffer;
 mod print;
-mod progress;
 mod run;
 mod verb;
 mod words;

@@ -134,12 +134,12 @@ fn crash(alloc: Global, operands: &[u8]) -> Result<Option<Event>, AllocError>
     let mut fills = Vec::new(alloc);
     let mut rest = Some(operands);
     while let Some(text) = rest {
-        let (word, behind) = cut(text, b' ');
+        let (word, after) = cut(text, b' ');
         match fill(alloc, word)? {
             Some(fill) => fills.push(fill)?,
             None => return Ok(None),
         }
-        rest = behind;
+        rest = after;
     }
     Ok(Some(Event::Crash(fills)))
 }

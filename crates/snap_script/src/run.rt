@@ -1,10 +1,9 @@
 //! A script, run while it is read.
-ghost use Rattle.std.specs.Prelude.{◌≡◌, ◌<◌, ◌≤◌, IfOk, length, vec_len};
+ghost use Rattle.std.specs.Prelude.{◌≡◌, ◌<◌, IfOk, length, vec_len};
 ghost use Rattle.snap_script.specs.Script.{Runs};
-ghost use Rattle.snap_script.specs.declared.run.TheConstants.{MAX_LINE};
 
 use crate::fault::LineFault;
-use crate::intake::Intake;
+use crate::line_buffer::LineBuffer;
 use std::alloc::{AllocError, Global};
 use std::io::{self, Read, Write};
 use std::sync::Wait;
@@ -50,9 +49,9 @@ pub enum ScriptEnd {
 /// docs/FORMATS.md has their forms, and those of what is written. What is written are replies that a
 /// new world may give to all these events, in the order of the lines.
 ///
-/// All lines whose ends were read are done, and their text is written and flushed, before the next
-/// read. So a client that writes the script can wait for the reply to a line. An error of the reader
-/// or of the writer ends the script with no retry.
+/// Each line is done, and its text is written and flushed, before the next one. So a client that
+/// writes the script can wait for the reply to a line. An error of the reader or of the writer ends
+/// the script with no retry.
 ///
 /// It takes memory for one read, for the longest line, and for the values of one event and one reply.
 /// It returns only once the reader has no more bytes or something fails.
@@ -68,18 +67,10 @@ pub fn script<X: Wait, R: Read, W: Write>(
     let Ok(mut piece) = zero_bytes(alloc, PIECE) else {
         return ScriptEnd::NoMemory;
     };
-    let end = run_pieces(rt, alloc, reader, writer, &mut piece);
-    if let ScriptEnd::WriteFailed(_) = end {
-        return end;
-    }
-    match writer.flush() {
-        Ok(()) => end,
-        Err(error) => ScriptEnd::WriteFailed(error),
-    }
+    run_pieces(rt, alloc, reader, writer, &mut piece)
 }
 
-/// Runs a script piece by piece, and leaves the last piece's text unflushed. `piece` is where a read
-/// puts its bytes.
+/// Runs a script. `piece` is where a read puts its bytes.
 fn run_pieces<X: Wait, R: Read, W: Write>(
     rt: &X,
     alloc: Global,
@@ -87,25 +78,20 @@ fn run_pieces<X: Wait, R: Read, W: Write>(
     writer: &mut W,
     piece: &mut [u8],
 ) -> ScriptEnd
-    requires some { 0 < length piece.old }
-    requires short { length piece.old ≤ MAX_LINE }
+    requires { 0 < length piece.old }
     ensures { Runs (R.remaining reader.old) (R.remaining reader.new)
         (W.contents writer.old) (W.contents writer.new) result }
 {
-    let mut intake = Intake::new(alloc);
+    let mut lines = LineBuffer::new(alloc);
     for _ in rt.forever() {
         let len = match reader.read(piece) {
-            Ok(0) => return intake.finish(writer),
+            Ok(0) => return lines.finish(writer),
             Ok(len) => len,
             Err(error) => return ScriptEnd::ReadFailed(error),
         };
-        match intake.take(&piece[..len], writer) {
+        match lines.take(&piece[..len], writer) {
             Ok(()) => {}
             Err(end) => return end,
-        }
-        match writer.flush() {
-            Ok(()) => {}
-            Err(error) => return ScriptEnd::WriteFailed(error),
         }
     }
     unreachable!()

@@ -1,7 +1,7 @@
 //! Does the lines of a script, one by one.
 ghost use Rattle.std.specs.Prelude.{◌≡◌, ℕ, List, [], ◌∷◌, ◌++◌, IfOk, IfErr, OnOk, Some, None};
-ghost use Rattle.snap_script.specs.Player.{Played, HaltsAt};
-ghost use Rattle.snap_script.specs.declared.player.Halt.TheVariants.{NoMemory};
+ghost use Rattle.snap_script.specs.Interpreter.{Played, HaltsAt};
+ghost use Rattle.snap_script.specs.declared.interpreter.Halt.TheVariants.{NoMemory};
 
 use crate::fault::LineFault;
 use crate::line::{event_line, world_line};
@@ -28,18 +28,18 @@ impl From<AllocError> for Halt {
 
 /// The world, once the first line has made it, and the text of the line that was done last.
 #[derive(Drop)]
-pub(crate) struct Player {
+pub(crate) struct Interpreter {
     pub(crate) alloc: Global,
     pub(crate) world: Option<World>,
     pub(crate) text: Vec<u8>,
 }
 
-impl Player {
-    /// A player that has done no line.
-    pub(crate) fn new(alloc: Global) -> Player
+impl Interpreter {
+    /// An interpreter that has done no line.
+    pub(crate) fn new(alloc: Global) -> Interpreter
         ensures { result.world ≡ None }
     {
-        Player {
+        Interpreter {
             alloc,
             world: None,
             text: Vec::new(alloc),

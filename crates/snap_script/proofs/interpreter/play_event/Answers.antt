@@ -1,5 +1,5 @@
 use Rattle.snap_script.proofs.Plays.{played_on}
-use Rattle.snap_script.proofs.player.play_event.Goals as goal
+use Rattle.snap_script.proofs.interpreter.play_event.Goals as goal
 
 pub returns-clause-ok : goal.returns-clause-ok
 returns-clause-ok c = λ lines text played.

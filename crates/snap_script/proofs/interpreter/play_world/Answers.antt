@@ -1,5 +1,5 @@
 use Rattle.snap_script.proofs.Plays.{played_first}
-use Rattle.snap_script.proofs.player.play_world.Goals as goal
+use Rattle.snap_script.proofs.interpreter.play_world.Goals as goal
 
 pub returns-clause-ok : goal.returns-clause-ok
 returns-clause-ok c =

@@ -1,11 +1,9 @@
--- The lines that a player has done.
+-- The lines that an interpreter has done.
 use Rattle.std.specs.Prelude.{◌≡◌, ℕ, List, [], ◌∷◌, Option, Some, None, ⊤}
 use Rattle.snap_script.specs.Line.{IsWorldLine, IsEventLine}
-use Rattle.snap_script.specs.Fault.{IsFaultOf}
 use Rattle.snap_script.specs.Script.{Plays}
-use Rattle.snap_script.specs.declared.fault.LineFault.TheVariants.{NoWorld}
-use Rattle.snap_script.specs.declared.player.Halt.{Halt}
-use Rattle.snap_script.specs.declared.player.Halt.TheVariants.{Fault, NoMemory}
+use Rattle.snap_script.specs.declared.interpreter.Halt.{Halt}
+use Rattle.snap_script.specs.declared.interpreter.Halt.TheVariants.{Fault, NoMemory}
 use Rattle.snap_world.specs.Machine.{State}
 use Rattle.snap_world.specs.Surface.{StandsFor, configuration, segments_of}
 use Rattle.snap_world.specs.declared.event.Event.{Event}
@@ -22,5 +20,5 @@ Played (first ∷ lines) text None = ⊥
 -- why the line isn't done
 abbrev pub HaltsAt : Option World → List ℕ → Halt → Type 0
 HaltsAt world line NoMemory = ⊤
-HaltsAt None line (Fault fault) = ((n s : ℕ) → IsWorldLine line n s → ⊥) × (fault ≡ NoWorld)
-HaltsAt (Some w) line (Fault fault) = ((e : Event) → IsEventLine line e → ⊥) × IsFaultOf line fault
+HaltsAt None line (Fault fault) = (n s : ℕ) → IsWorldLine line n s → ⊥
+HaltsAt (Some w) line (Fault fault) = (e : Event) → IsEventLine line e → ⊥
