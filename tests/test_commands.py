@@ -4,6 +4,7 @@ import contextlib
 import errno
 import os
 import pathlib
+import re
 import shutil
 import subprocess
 
@@ -13,6 +14,8 @@ from program import Program, Skipped
 from test_serve_disks import Disk, file_system
 from waiting import is_read
 
+GRAMMAR = pathlib.Path(__file__).resolve().parent.parent / "crates" / "snap_args" / "src" / "grammar.rt"
+VERSION = re.search(r'VERSION: &str = "([0-9.]+)"', GRAMMAR.read_text())[1].encode()
 # What a command says behind the line of a refusal.
 DAMAGED = "F: its slots give no answer: see snapd check F"
 FORMATTED = "F: it is formatted already: see snapd check F"
@@ -351,10 +354,10 @@ def test_help_and_version(snapd, _):
             if command != "check":
                 assert "[default: 0]" in printed and "[default: 1]" in printed, printed
         version = snapd(command, "--version")
-        assert version.status == 0 and version.errors == "" and version.output.split()[1] == b"0.1.0", version
+        assert version.status == 0 and version.errors == "" and version.output.split()[1] == VERSION, version
         assert version.output.split(b" ", 1)[1] == snapd("--version").output.split(b" ", 1)[1]
     # A build without proofs says so.
-    assert snapd("--version").output in (b"snapd 0.1.0\n", b"snapd 0.1.0 (not proved)\n")
+    assert snapd("--version").output in (b"snapd %s\n" % VERSION, b"snapd %s (not proved)\n" % VERSION)
     snapd("-V").gave(0, snapd("--version").output)
 
 
