@@ -54,7 +54,7 @@ def proved(program):
         "proved": "no: a check replaces each proof" if own.endswith("(not proved)") else "yes",
         "commit": said("git", "rev-parse", "HEAD") + (", with changes that aren't committed" if is_changed else ""),
         "kit": kit.release(),
-        "logic": kit.logic(),
+        "logic": kit.logic().removeprefix("logic "),
         "proofs.lock": f"SHA-256 {digest(TOP / record.LOCK)}",
         "record": record.Record.of(TOP).told(),
     }
