@@ -272,8 +272,13 @@ def test_each_metric_that_is_asked_for_is_there(snapd, _):
 
 
 def test_prometheus_takes_its_files(snapd, _):
-    promtool = wanted("promtool")
-    for words in (("config", PROMETHEUS / "prometheus.yml"), ("rules", RULES)):
+    """And each query of the dashboard, as a rule."""
+    promtool, queried = wanted("promtool"), snapd.file("dashboard.yml")
+    panels = json.loads(DASHBOARD.read_text())["panels"]
+    exprs = [it["expr"].replace("$__rate_interval", "5m") for panel in panels for it in panel["targets"]]
+    rules = [{"record": f"query_{at}", "expr": it} for at, it in enumerate(exprs)]
+    queried.write_text(json.dumps({"groups": [{"name": "dashboard", "rules": rules}]}))
+    for words in (("config", PROMETHEUS / "prometheus.yml"), ("rules", RULES), ("rules", queried)):
         assert "FAILED" not in ran(promtool, "check", *words)
 
 
