@@ -2,9 +2,9 @@
 
     python3 packaging/dist.py [--program bin/snapd] [--to out]
 
-`SHA256SUMS` has the digests, and `PROVED` the commit, the kit, its logic, the record of proofs, and whether this
-program was proved, by its own word. Names are sorted, times are the commit's, and everything is root's: one commit and
-one program make the same bytes in each folder.
+`SHA256SUMS` has the digests, and `PROVED` the commit, the kit, its logic, the record of proofs, and by the program's
+own word whether it was proved, and of which commit. Names are sorted, times are the commit's, and everything is
+root's: one commit and one program make the same bytes in each folder.
 """
 
 import argparse
@@ -47,11 +47,12 @@ def commit_time():
 def proved(program):
     """What the program was made of, and whether it was proved."""
     is_changed = said("git", "status", "--porcelain", "--untracked-files=no")
-    own = said(program, "--version")
+    own = said(program, "--version").partition("\n")[2].strip()
     lines = {
         "version": version.version(),
         "program": f"SHA-256 {digest(program)}",
-        "proved": "no: a check replaces each proof" if own.endswith("(not proved)") else "yes",
+        "proved": "yes" if own.startswith("proved") else "no: a check replaces each proof",
+        "built": own,
         "commit": said("git", "rev-parse", "HEAD") + (", with changes that aren't committed" if is_changed else ""),
         "kit": kit.release(),
         "logic": kit.logic().removeprefix("logic "),

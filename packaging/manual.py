@@ -15,8 +15,6 @@ import sys
 from dataclasses import dataclass
 
 HERE = pathlib.Path(__file__).resolve().parent
-# What a build without proofs says behind its version.
-UNPROVED = " (not proved)"
 
 # A text of help: what the program or command does, its usage, the rows of its commands or arguments, those of its
 # options, and its long text.
@@ -134,7 +132,7 @@ def read_program(program):
     about, _, rows, options, text = read_help(program, "help")
     names = [name for name, _ in rows if name != "help"]
     commands = [*(command_of(program, it, options) for it in names), help_command(names)]
-    version = printed(program, "--version").strip().replace(UNPROVED, "")
+    version = printed(program, "--version").split("\n")[0]
     text, _, statuses = text.partition("\n\nExit status:\n")
     return Program(version, about, [Argument(*it) for it in options], commands, text, statuses)
 

@@ -82,7 +82,7 @@ def test_unit_of_the_system(snapd, _):
     assert address == "127.0.0.1:7070" and words == ["--dir", "board"]
     assert SERVICE["WorkingDirectory"] == [FOLDER] and SERVICE["StateDirectory"] == ["snapd-board/%i"]
     assert {name: environment(UNIT)[name] for name in TOLD_C} == TOLD_C
-    # It goes on trying what may come right by itself: here the files aren't there yet.
+    # It keeps trying if the fault may pass by itself: here the files don't exist yet.
     assert of_section("Unit")["StartLimitIntervalSec"] == ["0"] and SERVICE["Restart"] == ["always"]
     assert [int(it) for it in SERVICE["RestartPreventExitStatus"][0].split()] == [2, 3]
     serve = lambda *words: snapd("serve", "127.0.0.1:0", *words, env=TOLD_C)  # noqa: E731
@@ -167,7 +167,7 @@ def test_unit_at_a_socket(snapd, _):
 
 @functools.cache
 def calls_in(name):
-    """The system calls that a word of a filter stands for."""
+    """The system calls that a word of a filter means."""
     if not name.startswith("@"):
         return {name}
     words = [line.strip() for line in ran("systemd-analyze", "syscall-filter", name).splitlines()[1:]]

@@ -1,5 +1,6 @@
 """What the three commands go by: what a digest rests on, what is tried again, and what is read from the prover's output."""
 
+import contextlib
 import os
 import pathlib
 import shutil
@@ -13,14 +14,14 @@ sys.path.insert(0, str(TOP / "verification"))
 import archive  # noqa: E402
 import demo  # noqa: E402
 import kit  # noqa: E402
-import quick  # noqa: E402
 import record  # noqa: E402
 import run_tests  # noqa: E402
+import stamp  # noqa: E402
 from digests import Digests  # noqa: E402
 from edits import Edits, Refusal, drawn, read_lock  # noqa: E402
 from proofs import Progress, by_seconds, judged  # noqa: E402
 from record import Proved, Record  # noqa: E402
-from source import function_of, functions_in  # noqa: E402
+from source import function_of, functions_in, uncommented  # noqa: E402
 from tree import copied, edits_of, laid, proved_crates  # noqa: E402
 from waiting import PATIENCE  # noqa: E402
 
@@ -164,7 +165,7 @@ def test_a_sample_is_new_with_each_seed_and_keeps_to_its_bounds(snapd, _):
     draws = [drawn(LOWER, edits, crates, seconds, [], seed, (2, 5, 250)) for seed in range(40)]
     assert {name for names, _ in draws for name in names} == set(LOWER) and len({tuple(it) for _, it in draws}) > 30
     assert all(len(names) == 2 and len(chosen) == 5 and {it[0] for it in chosen} <= set(names) for names, chosen in draws)
-    # What nobody has measured isn't taken to cost nothing.
+    # A crate that wasn't measured isn't taken to cost nothing.
     assert all(len(drawn(LOWER, edits, crates, {**seconds, "low": 0}, list(LOWER), seed, (3, 5, 150))[0]) < 3 for seed in range(20))
     # Where nothing below is at hand, a high one would cost all three.
     draws = [drawn(LOWER, edits, crates, seconds, list(LOWER), seed, (3, 99, 250)) for seed in range(40)]
@@ -185,9 +186,11 @@ def test_a_record_has_a_crate_as_long_as_nothing_under_its_proof_changes(snapd, 
     assert Record(made.digests, record.read_lock(top)) == made and made.missing() == []
     assert made.told() == f"proofs.lock: 3 of 3 crates were proved as they are here, by {kit.release()}, 2026-11-28"
     for path, old, new, wanted in (
-        ("crates/middle/src/lib.rt", "A crate", "The crate", ["middle", "high"]),
+        ("crates/middle/src/lib.rt", "A crate", "The crate", []),
+        ("crates/middle/src/lib.rt", "    x - 1", "    x - 2", ["middle", "high"]),
         ("crates/low/proofs/more/Answers.antt", "proof", "other", list(LOWER)),
-        ("crates/high/specs/Words.antt", "a word", "words", ["high"]),
+        ("crates/high/specs/Words.antt", "a word", "words", []),
+        ("crates/high/specs/Words.antt", "most = rest", "most = 8", ["high"]),
         ("crates.txt", "middle: low", "middle: low bytes", ["middle", "high"]),
         ("HANDLES", "none", "Wait", list(LOWER)),
         ("crates/low/must-fail/first.edit", "2", "3", []),
@@ -197,7 +200,7 @@ def test_a_record_has_a_crate_as_long_as_nothing_under_its_proof_changes(snapd, 
         assert Record(record.digests_of(top, "logic"), made.lines).missing() == wanted, path
         (top / path).write_text(text)
     assert Record(record.digests_of(top, "another"), made.lines).missing() == list(LOWER)
-    # What was proved before keeps its day and its time, and what is gone goes.
+    # Crates that were proved before keep their day and time, and those that no longer exist are dropped.
     again = Record({**made.digests, "high": "new"}, {**made.lines, "gone": Proved("0", "old", "day", 1)})
     again.take({"high": 4}, "2026-12-01")
     assert [(it.day, it.seconds) for it in again.lines.values()] == [("2026-11-28", 7), ("2026-11-28", 5), ("2026-12-01", 4)]
@@ -212,6 +215,19 @@ def test_a_build_without_proofs_ends_with_what_is_on_record(snapd, _):
 
 def test_the_readme_says_what_is_on_record(snapd, _):
     assert f"`{Record.of(TOP).told()}`" in (TOP / "README.md").read_text().split("\n")
+
+
+def test_a_proof_reads_all_but_the_lines_that_are_comments(snapd, _):
+    kept = """\
+let a = "first
+// no comment: it is within a text"; let c = '"';
+let r = r#"a "quoted"
+// one"#; let l: &'static str = "it \\
+// goes on"; // beside code a comment stays
+"""
+    assert uncommented("//! A head.\n" + kept + "    /// Said.\n    // More.\n", ".rt") == kept
+    kept = 'it = codes "\\n-- no comment" -- beside a definition\n'
+    assert uncommented("-- Said.\n" + kept + "  -- More.\n", ".antt") == kept
 
 
 def test_a_copy_has_what_the_prover_reads_and_no_edit(snapd, _):
@@ -251,7 +267,7 @@ def test_a_proof_is_kept_as_long_as_all_that_it_read_is_the_same(snapd, _):
         built.write_text(name)
 
     def taken(name="middle"):
-        """Whether the archive gives the crate's library, once it is gone."""
+        """Whether the archive restores the crate's library after it was removed."""
         built = top / "crates" / name / "out" / "rlib"
         shutil.rmtree(built, ignore_errors=True)
         is_taken = archive.Archive(top, folder).take(name)
@@ -268,6 +284,9 @@ def test_a_proof_is_kept_as_long_as_all_that_it_read_is_the_same(snapd, _):
         assert not taken(), path
         file.write_text(text)
         assert taken(), path
+    source = top / "crates" / "middle" / "src" / "lib.rt"
+    source.write_text("// A comment more.\n" + source.read_text())
+    assert taken()
     for kept in folder.rglob("statements"):
         kept.write_text("another")
     assert not taken()
@@ -296,13 +315,18 @@ def test_tests_that_end_without_a_count_have_failed(snapd, _):
     assert run_tests.judged("low", ["test it ... ok"], 0)[1] and run_tests.judged("low", [], -11)[1]
 
 
-def test_an_unproved_build_says_so_where_the_version_stands(snapd, _):
-    folder, copy = quick.unproved_version(snapd.folder)
-    name, path, _, _ = quick.VERSION
-    before, after = ((pathlib.Path(it) / path).read_text() for it in (folder, copy))
-    assert after.replace(" (not proved)", "") == before and after.count("(not proved)") == 1
-    made = snapd("--version").output.decode().removesuffix("\n").removesuffix(" (not proved)")
-    assert f'VERSION: &str = "{made.removeprefix("snapd ")}"' in before, made
+def test_a_built_program_gets_a_line_on_its_build(snapd, _):
+    room, program = stamp.UNKNOWN.ljust(stamp.ROOM), snapd.folder / "program"
+    assert (TOP / "crates" / "snap_args" / "src" / "grammar.rt").read_bytes().count(room) == 1
+    program.write_bytes(b"code" + room + b"code")
+    stamp.stamp(program, "not proved")
+    data = program.read_bytes()
+    assert len(data) == stamp.ROOM + 8 and data[:4] == data[-4:] == b"code" and data[4:].startswith(b"not proved; "), data
+    for text in (b"no room", room + room):
+        program.write_bytes(text)
+        with contextlib.suppress(AssertionError):
+            stamp.stamp(program, "proved")
+        assert program.read_bytes() == text
 
 
 def test_what_is_missing_is_told_in_one_line(snapd, _):

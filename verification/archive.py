@@ -1,11 +1,11 @@
 """The proofs that this machine has made.
 
-A crate's proof is kept under the sum of all that it has read: the kit, HANDLES, the crate's line of crates.txt and its files,
-and the built libraries below it, byte for byte. What is kept is what the proof left in the crate's out/, with the sum of each
-file. It is taken again only where these sums still hold.
+A crate's proof is kept under the sum of all that it has read: the kit, HANDLES, the crate's line of crates.txt, its files
+without their comments, and the built libraries below it, byte for byte. What is kept is what the proof left in the
+crate's out/, with the sum of each file. It is used again only if these sums are still right.
 
-The archive is the folder $XDG_CACHE_HOME/snapd-proofs, or the same below ~/.cache. Whoever can write there can pass off a proof
-that nobody made, so it is used only where it belongs to this user and nobody else can write to it.
+The archive is the folder $XDG_CACHE_HOME/snapd-proofs, or ~/.cache/snapd-proofs. A user with write access to it can
+forge a proof, so it is used only if it belongs to this user and no other user can write to it.
 """
 
 import contextlib
@@ -18,6 +18,7 @@ import tempfile
 
 import kit
 from digests import summed
+from source import proved_text
 from tree import below, crates_of, files_of, is_program
 
 # How many bytes the archive may hold. Beyond that the proofs go that were not taken for longest.
@@ -63,7 +64,7 @@ class Archive:
     def key(self, name):
         """The sum of all that a crate's proof reads. The libraries below it have to be built."""
         folder = self.top / "crates" / name
-        texts = [part for it in files_of(folder) for part in (str(it.relative_to(folder)), it.read_bytes())]
+        texts = [part for it in files_of(folder) for part in (str(it.relative_to(folder)), proved_text(it))]
         libraries = [part for it in below(self.crates, name) for part in (it, self.library(it))]
         return summed(kit.identity(), self.handles, self.crates[name].line, str(len(libraries)), *libraries, *texts)
 

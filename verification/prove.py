@@ -1,11 +1,11 @@
-"""Proves the program with all that it stands on, builds it by two compilers, tries the edits that aren't on record, and runs the
-end-to-end tests on it.
+"""Proves the program and all crates that it uses, builds it with two compilers, tries the edits that aren't on record,
+and runs the end-to-end tests on it.
 
     python3 verification/prove.py [--fresh] [NAME ..]
 
-What this machine has proved before, of the same texts over the same libraries, is taken from its archive, with --fresh nothing.
-The program is left at bin/snapd. Where every proof passed, proofs.lock says so, and README has its line. With names these
-programs are proved and built alone, each at its crate's out/, as the benchmarks want them.
+It uses what this machine has proved before, from the same files over the same libraries, except with --fresh. The
+program is left at bin/snapd. If every proof passed, proofs.lock records that, and README has its line. With names only
+these programs are proved and built, each in its crate's out/, where the benchmarks need them.
 """
 
 import argparse
@@ -17,7 +17,8 @@ from proofs import prove
 from quick import build_all, place
 from record import LOCK as RECORD
 from record import Record
-from tree import LOGS, TOP, copied, crates_of, proved_crates, refuse_strange, take_program, with_below
+from stamp import take_program
+from tree import LOGS, TOP, copied, crates_of, proved_crates, refuse_strange, with_below
 from run_tests import programs, run_end_to_end
 
 # The line of README that says what is on record.
@@ -39,7 +40,7 @@ def prove_programs(names, fresh):
     with copied(TOP, with_below(crates_of(TOP), names)) as copy:
         proofs = prove(copy, LOGS / "proofs.log", fresh)
         for it in names:
-            take_program(TOP, copy, it)
+            take_program(copy, it)
     print(*proofs.failures, proofs.told(), sep="\n")
     return 1 if proofs.failed else 0
 
@@ -58,7 +59,7 @@ def main():
     with copied(TOP, proved_crates(TOP)) as copy:
         proofs = prove(copy, LOGS / "proofs.log", words.fresh)
         print(proofs.told(), flush=True)
-        take_program(TOP, copy, "snapd")
+        take_program(copy, "snapd")
         if not proofs.failed:
             write_record(proofs)
         if new and not proofs.failed:

@@ -1,25 +1,38 @@
-"""What stands in a source or a file of definitions, and what an edit replaces in it."""
+"""Finds the functions of a source and the definitions of a file, and what an edit replaces in it."""
 
 import re
 from dataclasses import dataclass
 
 HEAD = re.compile(r"^(\s*)(?:pub(?:\([a-z]+\))? )?(?:const )?(?:unsafe )?fn (\w+)")
 IMPL = re.compile(r"^(?:pub )?(?:impl|trait)\b(.*)")
-# A line that is a comment and nothing else, by the file's kind.
-COMMENT = {".rt": re.compile(r"^[ ]*//.*\n", re.M), ".antt": re.compile(r"^[ ]*--.*\n", re.M)}
-# The word that a line of a definition begins with, behind the words that say what it is.
+# A line that is a comment and nothing else, by the file's kind, and a text in quotes, in which such a line is none.
+COMMENT = {
+    ".rt": re.compile(r'^ *//.*\n|"(?:\\[\s\S]|[^"\\])*"|r(#+)"[\s\S]*?"\1|\'(?:\\[^\']+|[^\\\n\'])\'|//.*', re.M),
+    ".antt": re.compile(r'^ *--.*\n|"(?:\\.|[^"\\\n])*"|--.*', re.M),
+}
+# The name at the beginning of a definition's line, after its keywords.
 DEFINED = re.compile(r"^( *)(?:(?:pub|abbrev|unfoldable|record|data|unfolding) )*([A-Za-z_◌][^\s:({]*)", re.M)
 DECLARED = re.compile(r"\b(?:struct|enum|trait|type|union|const|static) (\w+)")
 VARIANTS = re.compile(r"^    (\w+)[ ,({=]", re.M)
 
 
+def uncommented(text, kind):
+    """A text without the lines that are a comment and nothing else."""
+    return COMMENT[kind].sub(lambda found: "" if found[0].endswith("\n") and found[0].lstrip(" ").startswith(("//", "--")) else found[0], text)
+
+
 def without_comments(path):
-    return COMMENT[path.suffix].sub("", path.read_text())
+    return uncommented(path.read_text(), path.suffix)
+
+
+def proved_text(path):
+    """What a proof reads of a file: all but the lines that are comments."""
+    return without_comments(path) if path.suffix in COMMENT else path.read_bytes()
 
 
 @dataclass(frozen=True)
 class Function:
-    """A function of a source file, by its first and last line, and the head of the impl that it stands in."""
+    """A function of a source file, by its first and last line, and the head of its impl."""
 
     path: str
     name: str
@@ -29,7 +42,7 @@ class Function:
 
 
 def functions_in(text, path):
-    """A file's functions. In the layout of `rt fmt` each ends at the first brace that stands where its head begins."""
+    """A file's functions. In the layout of `rt fmt` each ends at the first brace in the column of its head."""
     lines, found, of = text.split("\n"), [], ""
     for first, line in enumerate(lines):
         if IMPL.match(line):
@@ -48,7 +61,7 @@ def functions_in(text, path):
 
 
 def body_of(lines, function):
-    """The lines of a function's body, from and to, or None where it has none or can't be told apart from the head."""
+    """The first and last line of a function's body, or None if it has none or can't be told from the head."""
     head = next(at for at in range(function.first - 1, function.last) if HEAD.match(lines[at]))
     indent = HEAD.match(lines[head])[1]
     if re.match(r"\s*(pub(\([a-z]+\))? )?const fn", lines[head]):
@@ -104,7 +117,7 @@ def replacements(edit):
 
 
 def applies(folder, edit):
-    """Whether what an edit replaces still stands in its crate, once each."""
+    """Whether each text that an edit replaces is still in its crate, exactly once."""
     texts = {}
     for path, old, new in replacements(edit):
         if path not in texts and not (folder / path).exists():
@@ -129,4 +142,4 @@ def function_of(folder, edit):
         return path, whole
     function = found.pop()
     lines = text.split("\n")[function.first - 1 : function.last]
-    return path, function.of + "\n" + COMMENT[".rt"].sub("", "\n".join(lines))
+    return path, function.of + "\n" + uncommented("\n".join(lines), ".rt")

@@ -18,7 +18,8 @@ from edits import LOCK, Edits, drawn, try_over
 from libraries import lay_all
 from proofs import prove
 from record import Record
-from tree import LOGS, TOP, below, copied, crates_of, proved_crates, take_program, with_below
+from stamp import take_program
+from tree import LOGS, TOP, below, copied, crates_of, proved_crates, with_below
 from run_tests import PROGRAM, build_and_run, run_end_to_end
 
 # The sample: how many crates, how many of their edits, and what the crates' proofs may take in all, in seconds of a processor.
@@ -59,7 +60,7 @@ def prove_and_try(words):
         proofs = prove(copy, LOGS / "proofs.log", words.fresh)
         print(proofs.told(), flush=True)
         if words.all:
-            take_program(TOP, copy, "snapd")
+            take_program(copy, "snapd")
         if not proofs.failed:
             try_over(copy, names, edits, [*new, *chosen])
     tried = edits.refused, len(edits.failures), edits.failures

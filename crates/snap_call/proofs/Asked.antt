@@ -1,4 +1,4 @@
--- What is asked but a put.
+-- Calls other than puts.
 use Rattle.std.proofs.Common.{◌≡◌, ℕ, List, Option, refl}
 use Rattle.snap_order.specs.declared.order.Layout.{Layout}
 use Rattle.snap_order.specs.declared.order.Putting.{Putting}
@@ -8,7 +8,7 @@ use Rattle.snap_order.specs.declared.status.Exit.{Exit}
 use Rattle.snap_call.specs.Ends.{Asks}
 use Rattle.snap_call.specs.Puts.{Does}
 
--- it is asked once
+-- the question is asked once
 pub does_other : {F R C : Type 0} (layout : Layout) (tries : Option ℕ)
     (connects : F → Option (R × C) → F → Type 0) (remaining : R → Option (List ℕ))
     (contents : C → Option (List ℕ)) (asked : Question) (known : Option (List ℕ)) (old : F)

@@ -1,4 +1,4 @@
-//! The text of the replies to reads.
+//! The texts of the replies to reads.
 ghost use Rattle.std.specs.Prelude.{◌≡◌, ◌++◌, IfOk, OnOk, flat_map, option_map};
 ghost use Rattle.snap_json.specs.Each.{each_from};
 ghost use Rattle.snap_call.specs.Ends.{IsRead};
@@ -14,7 +14,7 @@ use snap_json::{health_document, part_document, quote, scan_document, status_doc
 use snap_order::{Layout, Question};
 use std::alloc::{AllocError, Global};
 
-/// The text of the answer to what was asked, in this layout.
+/// The text of the reply to a question, in this layout.
 pub(crate) fn answer_of(
     alloc: Global,
     question: &Question,
@@ -30,7 +30,7 @@ pub(crate) fn answer_of(
     }
 }
 
-/// The document of the answer to what was asked.
+/// The JSON document of the reply to a question.
 fn document_of(alloc: Global, question: &Question, reply: &Reply) -> Result<Vec<u8>, AllocError>
     requires { IsRead reply.now }
     ensures { IfOk result (λ text. text.items ≡ document_text question.now reply.now) }
@@ -44,7 +44,7 @@ fn document_of(alloc: Global, question: &Question, reply: &Reply) -> Result<Vec<
     }
 }
 
-/// The lines of the answer to what was asked.
+/// The lines of the reply to a question.
 fn lines_of(
     alloc: Global,
     question: &Question,
@@ -142,7 +142,7 @@ fn put_part(
     Ok(())
 }
 
-/// Appends a line for each segment's fence.
+/// Appends a line for each segment's status.
 fn put_statuses(out: &mut Vec<u8>, statuses: &[SegmentStatus]) -> Result<(), AllocError>
     ensures { OnOk result (out.new.items
         ≡ out.old.items ++ each_from status_line 0 statuses.now) }
@@ -164,7 +164,7 @@ fn put_fences(out: &mut Vec<u8>, statuses: &[SegmentStatus]) -> Result<(), Alloc
     Ok(())
 }
 
-/// Appends the line of one segment, where it is fenced.
+/// Appends the line of one segment, if it is fenced.
 fn put_fence(out: &mut Vec<u8>, index: usize, status: &SegmentStatus) -> Result<(), AllocError>
     ensures { OnOk result (out.new.items ≡ out.old.items ++ fence_line index status.now) }
 {
@@ -194,7 +194,7 @@ fn put_value(
     out.extend_from_slice(b"\n")
 }
 
-/// Appends what a line says of a value.
+/// Appends a value: as quoted text or in hexadecimal digits.
 fn put_shown(
     alloc: Global,
     out: &mut Vec<u8>,
@@ -211,7 +211,7 @@ fn put_shown(
     put_hex(out, value)
 }
 
-/// The value as quoted text, where this layout has it so.
+/// The value as quoted text, if it is printable and this layout shows text. Else `None`.
 fn text_for(alloc: Global, layout: Layout, value: &[u8]) -> Result<Option<Vec<u8>>, AllocError>
     ensures { IfOk result (λ text. option_map (λ t. t.items) text ≡ text_for layout value.now) }
 {
@@ -221,7 +221,7 @@ fn text_for(alloc: Global, layout: Layout, value: &[u8]) -> Result<Option<Vec<u8
     }
 }
 
-/// Appends the line of one segment's fence.
+/// Appends the line of one segment's status.
 fn put_status(out: &mut Vec<u8>, index: usize, status: &SegmentStatus) -> Result<(), AllocError>
     ensures { OnOk result (out.new.items ≡ out.old.items ++ status_line index status.now) }
 {

@@ -26,7 +26,7 @@ use Rattle.snap_cut.proofs.Placed.{crash_leaves}
 use Rattle.snap_cut.proofs.Lives.{life_fits}
 use Rattle.snap_disk.specs.declared.disk.Disk as Disk
 
--- ---- what all seats have seen
+-- ---- the histories that seats have seen
 
 module _ {D : Type 0} where
   seen_there : (writers : List (Place D)) (scanners : List (List Update)) (i : ℕ) (p : Place D)
@@ -36,7 +36,7 @@ module _ {D : Type 0} where
   seen_there (w ∷ ws) scanners zero p e = ap (λ (q : Place D). Some (seen_at q)) (same_Some w p e)
   seen_there (w ∷ ws) scanners (suc i) p e = seen_there ws scanners i p e
 
-  -- what holds of all that writers have seen, and of all that scanners have, holds of each of it
+  -- a property of all that writers have seen, and of all that scanners have seen, holds of each
   pub each_seen : (P : List Update → Type 0) (writers : List (Place D))
       (scanners : List (List Update))
       → ((i : ℕ) (p : Place D) → slice_get writers i ≡ Some p → P (seen_at p))
@@ -48,7 +48,7 @@ module _ {D : Type 0} where
   each_seen P (w ∷ ws) scanners theirs others (suc j) x e =
       each_seen P ws scanners (λ i p at. theirs (suc i) p at) others j x e
 
--- ---- what the rule of the registers says of a moment
+-- ---- consequences of the registers' rule at a moment
 
 seat_saw : (plan : Plan) (s : Moment) (kept : Kept plan s) (j : ℕ) (v : SeatView)
     → get_elem? s.views j ≡ some v → IsBeginning (updates v.seen) (updates kept.history)
@@ -60,7 +60,7 @@ seen_saw plan s kept seen (j, v, at, is) =
     subst (λ (y : List Update). IsBeginning y (updates kept.history)) (sym is)
     (seat_saw plan s kept j v at)
 
--- a writer that has shown all of its updates that stand in the history
+-- a writer that has shown all its updates in the history
 pub record Agrees {D : Type 0} (plan : Plan) (h : List Update) (i : ℕ) (p : Place D)
     : Type 0 where
   pub saw : IsBeginning (seen_at p) h
@@ -96,7 +96,7 @@ moment_consistent plan s kept writers scanners seats seen j x e i p at =
     omega (arith, below, whole)
 
 module _ {D : Type 0} (disk : Disk.Ghosts D) where
-  -- ---- what the devices hold
+  -- ---- the contents of the devices
 
   agreed : (plan : Plan) (h : List Update) (n i : ℕ) (p : Place D) (b : List ℕ)
       → IsPlaceOf disk plan n i p → Agrees plan h i p

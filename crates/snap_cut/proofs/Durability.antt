@@ -1,4 +1,4 @@
--- What a writer has stored stays, whatever its life brings.
+-- What a writer has stored stays, throughout its life.
 use Rattle.std.proofs.Common.{◌≡◌, ⊎_elim, ℕ, suc, ◌+◌, ◌≤◌, inl, inr, List, [], ◌∷◌, Some, slice_get, refl, ap, sym, subst, ◌∙◌, arith}
 use Rattle.snap_disk.specs.Device.{MayLeave}
 use Rattle.snap_disk.specs.Time.{LeavesOnly}
@@ -15,7 +15,7 @@ use Rattle.snap_cut.proofs.Placed.{same_file}
 use Rattle.snap_cut.proofs.Lives.{does_is}
 use Rattle.snap_disk.specs.declared.disk.Disk as Disk
 
--- a writer of a segment is one wherever its life brings it
+-- the writer of a segment stays its writer throughout its life
 pub lived_is : {D : Type 0} (disk : Disk.Ghosts D) (plan : Plan) (n i : ℕ) (a z : WriterState D)
     (life : List (WriterState D)) → IsWriterOf disk plan n i a
     → Lived disk a life z
@@ -52,14 +52,14 @@ module _ {D : Type 0} (disk : Disk.Ghosts D) (plan : Plan) (n i : ℕ) (a : Writ
   abbrev InLife : WriterState D → Type 0
   InLife w = (j : ℕ) × (slice_get (a ∷ life) j ≡ Some w)
 
-  -- it has come to here since it was at a
+  -- the state m, reached since the writer was at a
   record CameTo (m : WriterState D) : Type 0 where
     is : Is m
     at : InLife m
     no_less : a.segment.number ≤ m.segment.number
     same_value : m.segment.number ≡ a.segment.number → m.segment.value ≡ a.segment.value
 
-  -- what is stored
+  -- the file of what is stored
   stored : (m : WriterState D) → CameTo m → (x : List ℕ)
       → IsFileOf m.segment.index m.segment.count m.segment.number m.segment.value x
       → Keeps n i a life x
@@ -72,7 +72,7 @@ module _ {D : Type 0} (disk : Disk.Ghosts D) (plan : Plan) (n i : ℕ) (a : Writ
     given = (came.at.0, m, came.at.1, inl (refl, refl));
   }
 
-  -- the next number, which was given in its life
+  -- the file of the next number, which was given during the life
   begun : (m w : WriterState D) (v : List ℕ) → CameTo m → InLife w
       → Gave (m.segment.number + 1) v w → (x : List ℕ)
       → IsFileOf m.segment.index m.segment.count (m.segment.number + 1) v x → Keeps n i a life x
@@ -93,7 +93,7 @@ module _ {D : Type 0} (disk : Disk.Ghosts D) (plan : Plan) (n i : ℕ) (a : Writ
       (λ failed. begun m m failed.0 came came.at (inr (refl, failed.1)) x failed.2)
       (came.is.rests hon x left)
 
-  -- one store more
+  -- after one store more
   gave_next : (m b : WriterState D) (v : List ℕ)
       → Stores disk v m b → Gave (m.segment.number + 1) v b
   gave_next m b v s =
@@ -108,7 +108,7 @@ module _ {D : Type 0} (disk : Disk.Ghosts D) (plan : Plan) (n i : ℕ) (a : Writ
       ))
       s.ends
 
-  -- what was stored is stored still
+  -- what was stored is still stored
   still_came : (m b : WriterState D) → CameTo m → Is b → InLife b
       → b.segment.number ≡ m.segment.number → b.segment.value ≡ m.segment.value → CameTo b
   still_came m b came is there number value = record {
@@ -139,7 +139,7 @@ module _ {D : Type 0} (disk : Disk.Ghosts D) (plan : Plan) (n i : ℕ) (a : Writ
   abbrev Left : WriterState D → Type 0
   Left m = LeavesOnly disk a.segment.device m.segment.device (Keeps n i a life)
 
-  -- its segment is as it was
+  -- its segment is unchanged
   same_on : (m b : WriterState D) → CameTo m → Is b → InLife b → b.segment ≡ m.segment → Left m
       → CameTo b × Left b
   same_on m b came is there same left = (
@@ -158,7 +158,7 @@ module _ {D : Type 0} (disk : Disk.Ghosts D) (plan : Plan) (n i : ℕ) (a : Writ
       (Keeps n i a life) left (s.any_time hon) (λ x kept. kept)
       (λ x either. ⊎_elim (stored m came x) (begun m b v came there (gave_next m b v s) x) either)
 
-  -- one thing more that it did
+  -- one step more of its life
   step_left : (m b : WriterState D) → CameTo m → Is b → InLife b → disk.is_honest b.segment.device
       → Does disk m b → Left m → CameTo b × Left b
   step_left m b came is there hon (inl sees) left = same_on m b came is there sees.segment_is left

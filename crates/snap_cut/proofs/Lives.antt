@@ -1,4 +1,4 @@
--- Each place in the life of a writer is one at which its device and its seat are together.
+-- At each place in a writer's life its device and its seat agree.
 use Rattle.std.proofs.Common.{◌≡◌, ◌⊎◌, ⊎_elim, ℕ, ◌+◌, inl, inr, List, [], ◌∷◌, ◌++◌, Some, None, refl, ap, sym, subst, ◌∙◌}
 use Rattle.std.proofs.lemmas.List.{append_assoc}
 use Rattle.snap_disk.specs.Device.{MayLeave}
@@ -13,7 +13,7 @@ use Rattle.snap_writer.proofs.Shown.{same_grown, number_grown, value_grown, numb
 use Rattle.snap_writer.specs.Life.{Place, seen_at, IsShown, HoldsOf, Rests, Sees, Stores, Shows, Does, Lived, IsAt, IsInStore, IsIn, IsWriterOf, IsMidStore, IsPlaceOf}
 use Rattle.snap_disk.specs.declared.disk.Disk as Disk
 
--- an update that a seat shows stands behind what it had seen
+-- an update that a seat shows comes after all that it had seen
 shown_later : (a b : Known) (v : List ℕ) → EndsWith a b v → IsBeginning a.seen b.seen
 shown_later a b v e = (
   e.between ++ record { segment = own_of a; value = v } ∷ [],
@@ -21,7 +21,7 @@ shown_later a b v e = (
 )
 
 module _ {D : Type 0} (disk : Disk.Ghosts D) where
-  -- what rests with one segment rests with the same one
+  -- a property of a segment at rest carries over to an equal segment
   rests_same : (a b : WriterState D) → b.segment ≡ a.segment
       → Rests disk a → Rests disk b
   rests_same a b same r = subst (λ (s : SegmentState D). disk.is_honest s.device → (x : List ℕ)
@@ -39,11 +39,11 @@ module _ {D : Type 0} (disk : Disk.Ghosts D) where
     abbrev Is : WriterState D → Type 0
     Is w = IsWriterOf disk plan n i w
 
-    -- what its segment holds, where it has shown this number and this value last
+    -- what the segment has stored, if number k and value u were shown last
     abbrev HasStored : SegmentState D → ℕ → List ℕ → Type 0
     HasStored s k u = ((s.number ≡ k) × (s.value ≡ u)) ⊎ ((s.number ≡ k + 1) × (s.begun ≡ None))
 
-    -- its seat and its segment are the same ones
+    -- its seat and its segment are unchanged
     same_writer : (a b : WriterState D) (t : SegmentState D) → Is a → IsSameSeat a.seat b.seat
         → b.segment ≡ t → t.index ≡ i → t.count ≡ n → HasStored t (number_of b) (value_of b)
         → Rests disk b → Is b
@@ -58,7 +58,7 @@ module _ {D : Type 0} (disk : Disk.Ghosts D) where
       rests = rests;
     }
 
-    -- what was shown last stays so while its seat sees more
+    -- what was shown last stays so while the seat sees more
     seen_still : (P : ℕ → List ℕ → Type 0) (a b : WriterState D) → Is a → Sees disk a b
         → P (number_of a) (value_of a) → P (number_of b) (value_of b)
     seen_still P a b is s shown =

@@ -1,5 +1,4 @@
--- The begun updates that made it to the devices, put behind the history, one segment after the
--- other.
+-- The begun updates that reached the devices, appended to the history, segment by segment.
 use Rattle.std.proofs.Common.{◌≡◌, ◌≢◌, ◌⊎◌, ⊎_elim, ℕ, zero, suc, ◌+◌, ◌<◌, ◌≤◌, List, [], ◌∷◌, ◌++◌, Some, slice_get, refl, ap, sym, subst, ◌∙◌, arith, below_more}
 use mathlib.Core.Logic.{dite}
 use native.Mathlib.Decide.{ℕ_discrete}
@@ -21,15 +20,15 @@ no_update i j v ne = grind (arith, nat_tests)
 
 module _ (start : Start) (h : List Update) (begun : ℕ → List ℕ → Type 0)
     (Holds : ℕ → ℕ → List ℕ → Type 0) where
-  -- segment i has the number and the value after these updates
+  -- segment i has its number and value after the updates x
   abbrev HasAfter : List Update → ℕ → Type 0
   HasAfter x i = Holds i (number_after start x i) (value_after start x i)
 
-  -- it has those of the history, or the next number and a begun value
+  -- segment i has its number and value after the history, or the next number and a begun value
   abbrev pub Found : ℕ → Type 0
   Found i = HasAfter h i ⊎ ((v : List ℕ) × begun i v × Holds i (number_after start h i + 1) v)
 
-  -- of the first m segments
+  -- the first m segments
   pub record Merged (m : ℕ) : Type 0 where
     pub more : List Update
     pub were_begun : (j : ℕ) (u : Update) → slice_get more j ≡ Some u

@@ -1,4 +1,4 @@
--- Beginnings of one history, of which the shorter is a beginning of the longer.
+-- Of two beginnings of one history the shorter is a beginning of the longer.
 use Rattle.std.proofs.Common.{◌≡◌, ℕ, zero, suc, ◌<◌, ◌≤◌, inl, inr, List, [], ◌∷◌, ◌++◌, length, take, drop, Some, slice_get, refl, ap, sym, subst, ◌∙◌, arith}
 use Rattle.std.proofs.lemmas.Bool.{cases_lt}
 use Rattle.std.proofs.lemmas.List.{take-append-drop}
@@ -18,7 +18,7 @@ shorter a b h pa pb l =
       sym (take-append-drop (length a) b) ∙ ap (λ (x : List Update). x ++ drop (length a) b) is,
     )
 
--- the longest of some beginnings of one history: they are beginnings of it, too
+-- the longest of some beginnings of one history; the others are beginnings of it
 pub record Longest (all : List (List Update)) : Type 0 where
   pub it : List Update
   pub place : ℕ
@@ -65,7 +65,7 @@ longest (x ∷ y ∷ all) h some each =
     let r = longest (y ∷ all) h (omega arith) (λ j z e. each (suc j) z e) in
     one_more x (y ∷ all) h (each 0 x refl) r (each (suc r.place) r.it r.there)
 
--- an update of the history stands in each beginning in which the number is as high
+-- an update of the history is in each beginning whose number is high enough
 pub has_early : (start : Start) (p h : List Update) (i k : ℕ) (v : List ℕ) → IsBeginning p h
     → Has start h i k v → k ≤ number_after start p i → Has start p i k v
 has_early start p h i k v bp has low =

@@ -1,4 +1,4 @@
--- What a crash leaves of one writer's device: the number and the value shown last, or the next number
+-- What a crash leaves of one writer's device: the number and value shown last, or the next number
 -- with a value that was begun.
 use Rattle.std.proofs.Common.{◌≡◌, ◌⊎◌, ⊎_elim, ℕ, ◌+◌, inl, inr, List, Option, Some, None, refl, ap, sym, subst, ◌∙◌}
 use Rattle.snap_disk.specs.Device.{MayLeave}
@@ -9,13 +9,13 @@ use Rattle.snap_writer.specs.Writer.{WriterState, number_of, value_of}
 use Rattle.snap_writer.specs.Life.{Place, HasBegun, IsShown, IsAhead, HoldsOf, Leaves, CrashLeaves, IsWriterOf, IsMidStore, IsPlaceOf}
 use Rattle.snap_disk.specs.declared.disk.Disk as Disk
 
--- the same file, by other names
+-- a file stays the same under equal names
 pub same_file : {i j n m k l : ℕ} {v w b : List ℕ} → i ≡ j → n ≡ m → k ≡ l → v ≡ w
     → IsFileOf i n k v b → IsFileOf j m l w b
 same_file {b = b} ei en ek ev is = subst (λ (y : ℕ × ℕ × ℕ × List ℕ). IsFileOf y.0 y.1 y.2 y.3 b)
     (λ t. (ei t, en t, ek t, ev t)) is
 
--- of a segment without a fence a crash leaves just what is stored
+-- a crash leaves exactly what is stored of a segment that isn't fenced
 unfenced : {D : Type 0} (s : SegmentState D) (b : List ℕ) → s.begun ≡ None → HoldsOf s b
     → IsFileOf s.index s.count s.number s.value b
 unfenced s b none (inl is) = is
@@ -28,7 +28,7 @@ module _ {D : Type 0} (disk : Disk.Ghosts D) (plan : Plan) (n i : ℕ) where
   LeftOf p b = IsFileOf i n (number_of p.writer) (value_of p.writer) b
       ⊎ ((v : List ℕ) × HasBegun p v × IsFileOf i n (number_of p.writer + 1) v b)
 
-  -- the file with the next number
+  -- the file of the next number
   next_file : (w : WriterState D) → IsWriterOf disk plan n i w → w.segment.number ≡ number_of w
       → (v b : List ℕ) → IsFileOf w.segment.index w.segment.count (w.segment.number + 1) v b
       → IsFileOf i n (number_of w + 1) v b

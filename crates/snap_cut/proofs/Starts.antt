@@ -1,4 +1,4 @@
--- One history over a crash and the start behind it.
+-- One history across a crash and the start after it.
 use Rattle.std.specs.Prelude.{option_map}
 use Rattle.std.proofs.Common.{◌≡◌, ℕ, ◌<◌, List, ◌++◌, map, refl, ap, sym, subst, ◌∙◌, arith, append_assoc}
 use Rattle.std.proofs.lemmas.List.{length-map}
@@ -11,7 +11,7 @@ use Rattle.snap_history.proofs.Moments.{updates-append, last-append}
 use Rattle.snap_cut.specs.Crash.{IsRecovered, KeepMemory}
 use Rattle.snap_disk.specs.declared.disk.Disk as Disk
 
--- the second start is the memory of n segments after the base
+-- `next` starts with the memory of n segments after the base
 abbrev pub StartsAfter : ℕ → Start → List Update → Start → Type 0
 StartsAfter n start base next = (i : ℕ) → i < n
     → ((next i).0 ≡ number_after start base i) × ((next i).1 ≡ value_after start base i)
@@ -28,7 +28,7 @@ module _ (n : ℕ) (start : Start) (base : List Update) (next : Start)
   value_on h i low = ap (λ (v : List ℕ). last_value v i h) (after i low).1
       ∙ sym (last-append (start i).1 i base h)
 
-  -- what is recovered from there is recovered from the first start, behind the base
+  -- what is recovered from there is recovered from the first start, after the base
   pub recovered_on : (h : List Update) (begun : ℕ → List ℕ → Type 0) (files : List (List ℕ))
       → IsRecovered n next h begun files → IsRecovered n start (base ++ h) begun files
   recovered_on h begun files r = record {
@@ -51,7 +51,7 @@ module _ (n : ℕ) (start : Start) (base : List Update) (next : Start)
         (r.holds i b e));
   }
 
--- ---- what devices hold now is what a crash may leave of them
+-- ---- what a device holds now is something that a crash may leave
 
 module _ {D : Type 0} (disk : Disk.Ghosts D) where
   pub bytes_left : (devices : List D) → Pairs (λ _ d b. MayLeave (disk.device d) b) devices

@@ -7,7 +7,7 @@ use Rattle.snap_history.specs.Pairs.{Pairs}
 use Rattle.snap_writer.specs.Life.{Place, HasBegun, seen_at}
 use Rattle.snap_disk.specs.declared.disk.Disk as Disk
 
--- what each seat has seen by then: first the writers, then the scanners
+-- what each seat has seen by then: the writers', then the scanners'
 abbrev pub all_seen : {D : Type 0} → List (Place D) → List (List Update) → List (List Update)
 all_seen writers scanners = map seen_at writers ++ scanners
 
@@ -22,8 +22,7 @@ IsConsistent {D} start writers scanners =
 abbrev pub Begun : {D : Type 0} → List (Place D) → ℕ → List ℕ → Type 0
 Begun {D} writers i v = (p : Place D) × (slice_get writers i ≡ Some p) × HasBegun p v
 
--- the update of segment i with number k, to the value v, stands in the history (or the history
--- starts with them)
+-- segment i had number k and value v at some moment of the history, perhaps at its start
 abbrev pub Has : Start → List Update → ℕ → ℕ → List ℕ → Type 0
 Has start h i k v = (part : List Update) × IsBeginning part h
     × (k ≡ number_after start part i) × (v ≡ value_after start part i)
@@ -41,16 +40,16 @@ pub record IsRecovered (n : ℕ) (start : Start) (h : List Update) (begun : ℕ 
       → IsFileOf i n (number_after start (h ++ begun_too) i)
       (value_after start (h ++ begun_too) i) b
 
--- whatever a crash leaves of all these devices, they hold the memory after the history and then some
--- of the begun updates
+-- whatever a crash leaves of these devices is the memory after the history and then some begun
+-- updates
 abbrev pub KeepMemory : {D : Type 0} → Disk.Ghosts D → ℕ → Start → List Update
     → (ℕ → List ℕ → Type 0) → List D → Type 0
 KeepMemory disk n start h begun devices = (files : List (List ℕ))
     → Pairs (λ _ d b. MayLeave (disk.device d) b) devices files → IsRecovered n start h begun files
 
--- the crash is recovered as the memory after a beginning of the history, which is what somebody had
--- seen and begins with all that anybody had seen, followed by some begun updates; and each update
--- of the history stands in that beginning which its writer had shown
+-- the crash is recovered as the memory after a beginning of the history, followed by some begun
+-- updates. Somebody had seen this beginning, and it begins with all that anybody had seen. It has
+-- each update of the history that its writer had shown
 pub record Recovers {D : Type 0} (n : ℕ) (start : Start) (h : List Update)
     (writers : List (Place D)) (scanners : List (List Update)) (files : List (List ℕ))
     : Type 0 where

@@ -1,5 +1,5 @@
--- The laws of a crash of all devices. They are over any type D of device, and
--- `Disk.Ghosts D` is what `Disk` lets one say of it.
+-- Laws of a crash of all devices, for any type D of device. `Disk.Ghosts D` has the ghost items of
+-- the trait `Disk` for it.
 use Rattle.std.specs.Prelude.{◌≡◌, ℕ, ◌<◌, List, length, Some, slice_get}
 use mathlib.Core.Option.{some}
 use lib.ListN.{get_elem?}
@@ -18,7 +18,7 @@ use Rattle.snap_cut.specs.Crash.{IsConsistent, Begun, IsRecovered, Recovers}
 use Rattle.snap_disk.specs.declared.disk.Disk as Disk
 
 module _ {D : Type 0} (disk : Disk.Ghosts D) where
-  -- a writer's life keeps its device and its seat together, at each place
+  -- at each place of a writer's life its device and its seat agree
   abbrev pub Lives : Type 0
   Lives = (plan : Plan) (n i : ℕ) (a z : WriterState D) (life : List (WriterState D)) (p : Place D)
       → IsWriterOf disk plan n i a
@@ -27,7 +27,8 @@ module _ {D : Type 0} (disk : Disk.Ghosts D) where
       → IsPlaceOf disk plan n i p
       × IsBeginning a.seat.seen (seen_at p) × IsBeginning (seen_at p) z.seat.seen
 
-  -- the place lies in a life of the writer of segment i of n, who has seen no more than this history
+  -- the place is in a life of the writer of segment i of n, which has seen no more than the history
+  -- h
   abbrev pub IsLivedIn : Plan → ℕ → List Update → ℕ → Place D → Type 0
   IsLivedIn plan n h i p = (a z : WriterState D) × (life : List (WriterState D))
       × IsWriterOf disk plan n i a
@@ -46,12 +47,12 @@ module _ {D : Type 0} (disk : Disk.Ghosts D) where
       → Pairs (λ _. CrashLeaves disk) writers files
       → Recovers (length writers) (starts plan) h writers scanners files
 
--- this seat's view stands in the table, writes segment i, and has seen what the place says
+-- a seat of the table writes segment i and has seen what the place says
 abbrev pub IsSeatOf : {D : Type 0} → List SeatView → ℕ → Place D → Type 0
 IsSeatOf {D} views i p = (j : ℕ) × (v : SeatView) × (get_elem? views j ≡ some v) × IsWriter v i
     × (seen_at p ≡ updates v.seen)
 
--- a seat in the table has seen these updates
+-- a seat of the table has seen these updates
 abbrev pub IsSeenIn : List SeatView → List Update → Type 0
 IsSeenIn views seen = (j : ℕ) × (v : SeatView) × (get_elem? views j ≡ some v)
     × (seen ≡ updates v.seen)
@@ -65,7 +66,7 @@ ConsistentLaw D = (plan : Plan) (s : Moment) → Kept plan s
     → ((k : ℕ) (seen : List Update) → slice_get scanners k ≡ Some seen → IsSeenIn s.views seen)
     → IsConsistent (starts plan) writers scanners
 
--- what a scan has answered is the memory after a beginning of each history that begins with what its
+-- the result of a scan is the memory after a beginning of each history that begins with what its
 -- seat has seen
 abbrev pub ScanLaw : Type 0
 ScanLaw = (before after : Known) (memory : List (ℕ × List ℕ)) (visible : List Update)

@@ -1,10 +1,10 @@
-//! A crash of all devices at one moment, while threads update and scan.
+//! Laws: what a crash of all devices leaves, while threads update and scan.
 //!
-//! A writer does one thing after the other, each to its device alone or to its seat alone: it sees
-//! more, it stores, and it shows what is stored. That is its life, and a crash finds each writer at
-//! some place in its life, and each scanner at one in its. Nothing ties the places of two threads to
-//! each other but this: nobody has seen an update that its writer hasn't shown. At any moment of the
-//! real registers that is so, since their rule says it; and it is enough for one memory to come back.
+//! A writer does one thing after the other, each on its device alone or on its seat alone: it sees
+//! more updates, it stores a value, and it shows what is stored. That is its life. A crash finds
+//! each writer, and each scanner, at some place in its life. The places of two threads are
+//! independent of each other but for this: nobody has seen an update that its writer hasn't shown.
+//! The registers' rule guarantees this at each moment, and it is enough to recover one memory.
 #![tactic(auto)]
 
 mod laws;

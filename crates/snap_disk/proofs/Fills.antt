@@ -1,4 +1,4 @@
--- A fill for any bytes.
+-- For any bytes that the model allows there is a fill that leaves them.
 use Rattle.std.proofs.Common.{◌≡◌, ℕ, ◌^◌, ◌<◌, Bool, true, false, List, length, refl, sym, ◌∙◌, arith, slice_index}
 use Rattle.std.specs.Prelude.{◌||◌, if◌then◌else◌}
 use Rattle.std.specs.Global.{Vec}
@@ -28,7 +28,7 @@ at_zero : (v : Vec ℕ) (p old : ℕ) → p < length v.items
     → fill_byte (At 0 v) p old ≡ slice_index v.items p
 at_zero v p old within = grind (arith, common_steps)
 
--- the fill by the bytes that are there afterwards, where nothing changed but at the touched places
+-- if bytes changed at touched places only, the fill made of the new bytes leads from old to new
 filled : (is_touched : ℕ → Bool) (old : List ℕ) (v : Vec ℕ) → length v.items ≡ length old
     → ((p : ℕ) → is_touched p ≡ false → slice_index v.items p ≡ slice_index old p)
     → IsFilled (At 0 v) is_touched old v.items
@@ -67,5 +67,5 @@ inside_any_write at n old new b small touched left =
     left.elsewhere p before ∙ sym
     (touched.bytes_elsewhere.elsewhere p (or_parts (in_range at n p) (old.is_open p) before).0))
 
--- the laws, for the function that has them
+-- all laws of fills, for fill_laws
 pub ruleset laws = (any_crash, any_failed_write, inside_any_write)

@@ -1,4 +1,4 @@
--- Two lists with a fact at each place.
+-- Two lists of equal length, with a fact that holds of the elements at each place.
 use Rattle.std.proofs.Common.{◌≡◌, ◌≢◌, ℕ, zero, suc, ◌<◌, inl, inr, List, [], ◌∷◌, length, Some, slice_get, slice_set, refl, ap, sym, ◌∙◌}
 use Rattle.std.proofs.Common.{subst, arith}
 use Rattle.std.proofs.lemmas.List.{length-set, set-get_or}
@@ -7,7 +7,7 @@ use Rattle.std.proofs.lemmas.Bool.{cases_eq}
 use Rattle.snap_history.specs.Pairs.{Pairs}
 use Rattle.snap_history.proofs.Lists.{get-set_same, get-set_other}
 
--- an element of a list that is long enough
+-- there is an element at each place of a list
 pub element : {A : Type 0} (xs : List A) (i : ℕ) → i < length xs → (a : A)
     × (slice_get xs i ≡ Some a)
 element [] i l = absurd (omega arith)
@@ -22,13 +22,13 @@ partner R xs ys i a p e =
     let y = element ys i (omega arith) in
     (y.0, y.1, p.each i a y.0 e y.1)
 
--- to write what stands there changes nothing
+-- to write the element that is there changes nothing
 set_same : {A : Type 0} (xs : List A) (i : ℕ) (x : A) → slice_get xs i ≡ Some x
     → slice_set xs i x ≡ xs
 set_same xs i x at =
     ap (slice_set xs i) (sym (get_or_from_slice_get xs i x x at)) ∙ set-get_or xs i x
 
--- one pair is replaced, and the fact at the others carries over
+-- one pair is replaced, and the fact carries over at all other places
 pub Pairs-set : {A B : Type 0} (R Q : ℕ → A → B
     → Type 0) (xs : List A) (ys : List B) (i : ℕ) (a : A) (b : B) → i < length xs
     → ((j : ℕ) (c : A) (d : B) → j ≢ i → R j c d → Q j c d) → Q i a b → Pairs R xs ys

@@ -1,4 +1,4 @@
--- Lists whose items are taken one after another.
+-- Lists whose items are removed from the front, one after the other.
 use Rattle.std.proofs.Common.{◌≡◌, ℕ, zero, suc, ◌+◌, ◌<◌, ◌≤◌, List, [], ◌∷◌, ◌++◌, length, map, take, drop, slice_get, Some, ap}
 use Rattle.std.proofs.Common.{sym, ◌∙◌, arith}
 use Rattle.std.proofs.lemmas.Option.{slice_get_within}
@@ -11,12 +11,12 @@ get_dropped zero (y ∷ xs) x rest e = cc
 get_dropped (suc k) [] x rest e = absurd cc
 get_dropped (suc k) (y ∷ xs) x rest e = get_dropped k xs x rest e
 
--- the first k items of a list are taken, and now this one
+-- the first k items of the list were removed, and x is being removed now
 pub record Taken {A : Type 0} (k : ℕ) (xs : List A) (x : A) (rest : List A) : Type 0 where
   pub head : drop k xs ≡ x ∷ rest
   pub at : slice_get xs k ≡ Some x
   pub inside : k < length xs
-  -- what is left when they are n
+  -- what remains once n items are removed
   pub left : (n : ℕ) → n ≡ k + 1 → rest ≡ drop n xs
   pub front : (n : ℕ) → n ≡ k + 1 → take n xs ≡ take k xs ++ x ∷ []
 
@@ -35,14 +35,14 @@ taken k xs x left rest is next =
           ∙ ap (λ l. take k xs ++ take 1 l) head);
     }
 
--- the same of what a function makes of each
+-- the front of the list after mapping a function
 pub map_front : {A B : Type 0} (f : A → B) (k : ℕ) (xs : List A) (x : A) (rest : List A)
     → Taken k xs x rest → (n : ℕ) → n ≡ k + 1
     → map f (take n xs) ≡ map f (take k xs) ++ f x ∷ []
 map_front f k xs x rest next n on =
     ap (map f) (next.front n on) ∙ map-append f (take k xs) (x ∷ [])
 
--- none is left, so all are taken
+-- if nothing remains, all items were removed
 pub none_after : {A : Type 0} (k : ℕ) (xs rest : List A) → rest ≡ drop k xs → length rest ≡ 0
     → length xs ≤ k
 none_after k xs rest is none = let e = ap length is ∙ length-drop k xs in omega arith

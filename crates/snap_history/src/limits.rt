@@ -1,13 +1,13 @@
-//! The limits of a memory, of its values and of their numbers.
+//! The limits of a memory, its values and their numbers.
 
-/// The most segments that a memory has.
+/// The largest number of segments.
 pub const MAX_COUNT: u8 = 16;
 
-/// The most scanners that a memory has.
+/// The largest number of scanners.
 pub const MAX_SCANNERS: usize = 16;
 
-/// The longest value in bytes.
+/// The length of the longest value in bytes.
 pub const MAX_VALUE_LEN: usize = 4080;
 
-/// The largest number of a value. The next one would not lie below 2^63.
+/// The largest number of a value, the last below 2^63.
 pub const LAST_NUMBER: u64 = (1 << 63) - 1;

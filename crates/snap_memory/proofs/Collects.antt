@@ -1,4 +1,4 @@
--- What the looks of a scan say of what its seat has seen. A moment is a length of that list.
+-- What a scan's looks show of what its seat has seen. A moment is a length of that list.
 use Rattle.std.proofs.Common.{◌≡◌, ℕ, ◌+◌, ◌-◌, ◌*◌, ◌^◌, ◌<◌, ◌≤◌, inl, inr, List, [], ◌∷◌, ◌++◌, length, take, drop, replicate, Some}
 use Rattle.std.proofs.Common.{slice_index, slice_get, slice_set, refl, ap, sym, ◌∙◌, subst, arith, append_assoc}
 use Rattle.std.proofs.Math.Seq.{take-append-add, take-append_seam, take-length}
@@ -23,7 +23,7 @@ use Rattle.snap_register.specs.Rule.{segments}
 use Rattle.snap_register.specs.Seat.{Known, looked, number_in, Grows, IsBelow, Looks}
 use Rattle.snap_memory.specs.Scans.{BeginsFresh, IsCleanScan, IsBorrowedScan, TakesLooksOf}
 
--- a list and its moments
+-- A list and its moments:
 
 pub take-begins : (a h : List Update) (p : ℕ) → IsBeginning a h → length a ≤ p
     → IsBeginning a (take p h)
@@ -44,7 +44,7 @@ begins-length : (a h : List Update) → IsBeginning a h → length a ≤ length 
 begins-length a h b = (let e : length h ≡ length (a ++ b.0) = ap length b.1 in
     let x = length-append a b.0 in omega arith)
 
--- what was seen at the first of these looks, or, where there is none yet, before the scan
+-- what was seen at the first of these looks; before it, what was seen before the scan
 abbrev pub first_of : List Update → List (List Update) → List Update
 first_of h [] = h
 first_of h (x ∷ xs) = x
@@ -70,7 +70,7 @@ begins_fresh a b [] part l is begins = absurd (omega arith)
 begins_fresh a b (x ∷ xs) part l is begins =
     record { first = x; later = xs; looks = is; begins = begins }
 
--- a scan's looks are as well after any begin that isn't later, and where none was told after any
+-- a scan's looks are also valid for an earlier begin, and before the first look for any begin
 collects_from : (n : ℕ) (number : Numbers) (entry : Entries (List ℕ)) (f f' e : ℕ) (told : List ℕ)
     (latest : List (List ℕ)) → (0 < length told → f' ≤ f)
     → Collects (List ℕ) n number entry f e told latest
@@ -86,7 +86,7 @@ collects_from n number entry f f' e told latest late c = record {
   entries = c.entries;
 }
 
--- the number of the segment at each place of a set at each moment, alone and as what a look gives
+-- the number of the segment at each place of a set at each moment, alone and as an entry
 abbrev pub number_at : ℕ → Start → List Update → Numbers
 number_at set start h t p = number_after start (take t h) (slice_index (named set) p)
 
@@ -96,13 +96,13 @@ entry_at set start h t p = number_at set start h t p ∷ []
 rising : (set : ℕ) (start : Start) (h : List Update) → IsRising (number_at set start h)
 rising set start h p s t l = number-le start h (slice_index (named set) p) s t l
 
--- what the looks of a scan of the set told, from a moment of the history on
+-- the numbers and values that a scan of the set found since moment `from` of the history
 abbrev pub HasToldFrom : ℕ → Start → List Update → ℕ → List ℕ → List (List ℕ) → Type 0
 HasToldFrom set start h from told latest =
     Collects (List ℕ) (size set) (number_at set start h) (entry_at set start h) from (length h)
     told latest
 
--- a scan of the set under way, begun when the seat knew a, which knows b now
+-- a scan of the set in progress: it began when the seat knew a, and the seat now knows b
 pub record Gathers (a b : Known) (set : ℕ) (told numbers : List ℕ) : Type 0 where
   pub among : set < 2 ^ segments a.plan
   pub short : set < 2 ^ 16
@@ -212,7 +212,7 @@ module _ (a b c : Known) (set : ℕ) (told numbers : List ℕ) (j k : ℕ)
   seen_within = first_within a.seen c.seen g.sights
       (beginning-trans (first_of a.seen g.sights) b.seen c.seen g.within later.later)
 
-  -- once there was a look, the first stays the first
+  -- after the first look, the first stays the same
   late : 0 < length told → length first ≤ length (first_of a.seen g.sights)
   late l = (let e : length g.sights ≡ length told = g.all_told in
       let x : length first ≡ length (first_of a.seen g.sights) =
@@ -222,7 +222,7 @@ module _ (a b c : Known) (set : ℕ) (told numbers : List ℕ) (j k : ℕ)
   number_same t p l = ap (λ h. number_after start h (slice_index (named set) p))
       (take-beginning b.seen c.seen t later.later l)
 
-  -- the number told is that of the moment of the look
+  -- the number found is that of the moment of the look
   now : k ≡ number (length c.seen) place
   now = found ∙ ap (λ (p : Plan). number_after (starts p) c.seen j) (later.plan ∙ g.grows.plan)
       ∙ ap (λ h. number_after start h j) (sym (take-length c.seen))
@@ -242,7 +242,7 @@ module _ (a b c : Known) (set : ℕ) (told numbers : List ℕ) (j k : ℕ)
       (Collects-push (List ℕ) n number entry (length first) (length b.seen) told g.latest grown
       (length c.seen) place end turn (begins-length first c.seen seen_within) g.long)
 
-  -- so it isn't below the last one told
+  -- the number found isn't below the last one found for the segment
   pub told_fits : (p : ℕ) → IsAt set p j → IsNoFall (size set) told p k
   told_fits p other = subst (λ q. IsNoFall n told q k) (at_once set place p j at other)
       (subst (IsNoFall n told place) (sym now)
@@ -304,7 +304,7 @@ module _ (a b c : Known) (set : ℕ) (told numbers : List ℕ) (j k : ℕ)
       below = λ _. below;
     }
 
--- where the numbers told decide the scan
+-- once the numbers decide the scan
 module _ (a b : Known) (set : ℕ) (told numbers : List ℕ) (g : Gathers a b set told numbers) where
   abbrev first_seen : List Update
   first_seen = first_of a.seen g.sights
@@ -320,7 +320,7 @@ module _ (a b : Known) (set : ℕ) (told numbers : List ℕ) (g : Gathers a b se
   is_fresh part some begins = begins_fresh a b g.sights part
       (let e : length g.sights ≡ length told = g.all_told in omega arith) g.sights_are begins
 
-  -- so it took some looks off, and no more than a scan might
+  -- so the scan used up looks, and no more than a scan might
   pub takes_looks : 0 < length told → TakesLooksOf (size set) a b
   takes_looks l = record {
     some = omega (arith, g.left);
@@ -351,7 +351,7 @@ module _ (a b : Known) (set : ℕ) (told numbers : List ℕ) (g : Gathers a b se
     begins_first : IsBeginning first_seen (take moment.0 b.seen)
     begins_first = take-begins first_seen b.seen moment.0 g.within moment.1.after
 
-    -- the last look at a named segment told its number then
+    -- the last look of a named segment found the number that it had at that moment
     last_at : (i : ℕ) → i < segments b.plan → Names set i
         → (looked b i ≡ Some (number_in b (take moment.0 b.seen) i))
         × (slice_index numbers i ≡ number_in b (take moment.0 b.seen) i)
@@ -421,7 +421,7 @@ module _ (a b : Known) (set : ℕ) (told numbers : List ℕ) (g : Gathers a b se
         let moved = borrowed.moved in
         omega arith
 
-    -- so each list that lacks just its last update has all that there was by then
+    -- so each list that lacks only its last update has all that there was at the first look
     inside : (part : List Update) → IsBeginning part b.seen
         → looked b j ≡ Some (number_in b part j + 1) → length first_seen ≤ length part
     inside part within before =

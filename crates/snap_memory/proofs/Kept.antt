@@ -1,4 +1,4 @@
--- What was kept of a scan is of what the seat has seen since then.
+-- What a scanner has cached stays valid as its seat sees more.
 use Rattle.std.proofs.Common.{◌≡◌, ℕ, ◌<◌, inl, inr, List, Option, Some, length, slice_get, slice_set, get_or, refl, ap, sym, subst, ◌∙◌, arith}
 use Rattle.std.proofs.lemmas.Bool.{cases_eq}
 use Rattle.std.proofs.lemmas.Option.{same_Some, slice_get_read}
@@ -32,7 +32,7 @@ fits_grown a b Absent g f = f
 fits_grown a b (Kept room) g f =
     (f.0 ∙ ap (λ (p : Plan). segments p) (sym g.plan), kept_grown a b room.items g f.1)
 
--- what is kept of one segment, and the room with something else of one
+-- the cached entry of one segment, and a cache in which one entry is replaced
 kept_at : (seat : Known) (room : List (Option SegmentValue)) (i : ℕ)
     (kept : Option SegmentValue) → AreKept seat room → slice_get room i ≡ Some kept
     → IsKeptOf seat i kept
@@ -48,7 +48,7 @@ kept_set seat room k kept all inside new i x at = elim (cases_eq i k) [
   | inr other ↦ all i x (sym (get-set_other room k i kept other) ∙ at)
 ]
 
--- the same of a place within, by a call that left the seat as it was
+-- a cache in which one entry is replaced, by a call that left the seat unchanged
 module _ (a b : Known) (room : List (Option SegmentValue)) (n i end : ℕ) (long : length room ≡ n)
     (fits : n ≡ segments a.plan) (count : end ≡ segments a.plan) (test : i < end) where
   pub kept_in : (kept : Option SegmentValue) → b ≡ a → AreKept a room → IsKeptOf b i kept

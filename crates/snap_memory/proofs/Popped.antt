@@ -1,4 +1,4 @@
--- What a list's last element has of what all have.
+-- A property of all elements of a list holds of the last one.
 use Rattle.std.proofs.Common.{◌≡◌, ℕ, List, ◌++◌, length, Option, Some, slice_get, ap, ◌∙◌}
 use Rattle.std.specs.Option.{option_to_list}
 use Rattle.snap_history.proofs.Lists.{get-append_last}

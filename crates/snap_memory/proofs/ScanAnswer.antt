@@ -1,4 +1,4 @@
--- The memory that a scan answers.
+-- The answer of a scan is the memory of one moment.
 use Rattle.std.proofs.Common.{◌≡◌, ℕ, inl, inr, ◌+◌, ◌-◌, ◌^◌, ◌<◌, ◌≤◌, List, [], length, map, All, Some, slice_get, get_or, ap, sym, subst, ◌∙◌, arith}
 use Rattle.std.proofs.lemmas.Option.{same_Some, slice_get-get_or, slice_get-map}
 use Rattle.std.proofs.lemmas.List.{length-map}
@@ -25,7 +25,7 @@ use Rattle.snap_history.proofs.Moments.{value_same}
 use Rattle.std.proofs.Common.{Result, Ok, Err, OnOk, IfOk}
 use Rattle.std.proofs.lemmas.Bool.{cases_lt}
 
--- of two beginnings of one list with the same number of a segment, the values are the same
+-- two beginnings of one list in which a segment has the same number have the same value of it
 ordered : (start : Start) (h p q : List Update) (i : ℕ) → IsBeginning p h → IsBeginning q h
     → length p ≤ length q → number_after start p i ≡ number_after start q i
     → value_after start p i ≡ value_after start q i
@@ -46,8 +46,8 @@ same_value start h p q i bp bq e =
       | inr ge ↦ sym (ordered start h q p i bq bp ge (sym e))
     ]
 
--- the value of the last look is that of each beginning in which the segment has the number that it
--- told
+-- the value that the last look found is that of each beginning in which the segment has the number
+-- found
 pub value_told : (b : Known) (i k : ℕ) (value : List ℕ) (part : List Update) → IsValue b i value
     → looked b i ≡ Some k → IsBeginning part b.seen → k ≡ number_in b part i
     → value ≡ value_in b part i
@@ -55,15 +55,15 @@ value_told b i k value part v told within is =
     let e : number_in b v.part i ≡ k = same_Some _ k (sym v.number ∙ told) in
     v.value_is ∙ same_value (starts b.plan) b.seen v.part part i v.beginning within (e ∙ is)
 
--- of a number and a value that were seen together, the value is that of each beginning of what was
--- seen in which the segment has the number
+-- if a number and a value were seen together, the value is that of each beginning in which the
+-- segment has this number
 pub seen_value : (b : Known) (i : ℕ) (x : ℕ × List ℕ) (part : List Update) → WasSeen b i x
     → IsBeginning part b.seen → x.0 ≡ number_in b part i → x.1 ≡ value_in b part i
 seen_value b i x part was within is =
     was.value_is ∙ same_value (starts b.plan) b.seen was.part part i was.within within
     (sym was.number_is ∙ is)
 
--- what a view has of a named segment, and that it was seen
+-- the entry of a named segment in a view, which was seen
 module _ (b : Known) (j set : ℕ) (xs : List (ℕ × List ℕ)) (i : ℕ) (v : IsView b j set xs)
     (l : i < segments b.plan) (named : Names set i) where
   view_entry : get_or xs i (0, []) ≡ (number_in b v.part i, value_in b v.part i)
@@ -98,7 +98,7 @@ module _ (set : ℕ) (a b : Known) where
     };
   }
 
-  -- the entries found have the numbers of such a list, so its values too
+  -- entries found are those after `part` if their numbers are
   listed : (found : Found) (values : List (ℕ × List ℕ)) (part : List Update)
       → set < 2 ^ segments b.plan → AreEntries (named set) b found values
       → ((i : ℕ) → i < segments b.plan → Names set i → number_of found i ≡ number_in b part i)
@@ -119,7 +119,7 @@ module _ (set : ℕ) (a b : Known) where
         x.1 ∙ ap (λ (z : ℕ × List ℕ). Some z) (λ t. (number t, value t)));
   }
 
-  -- and can be answered
+  -- the entries found can be returned
   pub entries_short : (found : Found) (values : List SegmentValue)
       → AreEntries (named set) b found (map pair_of values) → All (λ v. IsShort v.value) values
   entries_short found values e k d l =
@@ -151,19 +151,19 @@ module _ (set : ℕ) (a b : Known) where
       are i ∙ ap (λ (x : ℕ × List ℕ). x.0) (view_entry b j set view i v l named))
       (s.begins v.part v.beginning v.before) (s.fresh v.part v.beginning v.before) v.beginning
 
--- what follows from two facts about a call that went well holds of it
+-- from two facts about a successful call
 pub both_ok : {T E : Type 0} (r : Result T E) (P Q R : Type 0) → (P → Q → R) → OnOk r P → OnOk r Q
     → OnOk r R
 both_ok (Ok x) P Q R f p q = f p q
 both_ok (Err e) P Q R f p q = p
 
--- what follows from a fact about what a call gave
+-- from a fact about the result of a call
 pub map_ok : {T E : Type 0} (r : Result T E) (P Q : T → Type 0) → ((x : T) → P x → Q x) → IfOk r P
     → IfOk r Q
 map_ok (Ok x) P Q f p = f x p
 map_ok (Err e) P Q f p = p
 
--- the set of all segments of a seat's registers, n of them
+-- the set of all n segments of a seat's registers
 module _ (a : Known) (n set : ℕ) (count : n ≡ segments a.plan) (is : set ≡ 2 ^ n - 1) where
   pub all_is : set ≡ all_of a
   all_is = is ∙ ap (λ v. 2 ^ v - 1) count
@@ -177,7 +177,7 @@ module _ (a : Known) (n set : ℕ) (count : n ≡ segments a.plan) (is : set ≡
   pub all_count : n ≤ 16 → size set ≡ segments a.plan
   all_count few = ap size is ∙ all_size n few ∙ count
 
--- they stay while the seat sees more
+-- the set stays the same while the seat sees more
 module _ (a b : Known) (g : Grows a b) where
   pub all_same : all_of a ≡ all_of b
   all_same = ap (λ (p : Plan). 2 ^ segments p - 1) (sym g.plan)
@@ -185,7 +185,7 @@ module _ (a b : Known) (g : Grows a b) where
   pub all_grown : (n : ℕ) → n ≡ segments a.plan → n ≤ 16 → segments b.plan ≤ 16
   all_grown n count few = subst (λ (p : Plan). segments p ≤ 16) (sym g.plan) (subst (λ v. v ≤ 16) count few)
 
--- a scan of all segments
+-- A scan of all segments:
 module _ (a b : Known) (few : segments b.plan ≤ 16) where
   all_names : (i : ℕ) → i < segments b.plan → Names (all_of b) i
   all_names i l = (at_named (all_of b) i i (all_at (segments b.plan) few i l)).1
@@ -216,8 +216,8 @@ module _ (a b : Known) (few : segments b.plan ≤ 16) where
     };
   }
 
--- a writer's own segment has no further update than those it had seen, so the answer of its scan
--- has them all
+-- a writer's own segment has no further update than those its seat had seen, so the answer of its
+-- scan has them all
 module _ (a b : Known) (g : Grows a b) (alone : a.high ≡ a.low + 1)
     (few : segments b.plan ≤ 16) where
   has_all : (part : List Update) → IsBeginning a.seen part → IsBeginning part b.seen

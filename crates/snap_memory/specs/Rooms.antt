@@ -1,4 +1,4 @@
--- What a scanner keeps from scan to scan.
+-- The cache of a scanner.
 use Rattle.std.specs.Prelude.{◌≡◌, ℕ, ◌<◌, List, [], length, Some, Option, slice_get, slice_index, get_or}
 use Rattle.snap_history.specs.History.{Update, IsBeginning}
 use Rattle.snap_history.specs.Limits.{IsShort}
@@ -13,56 +13,56 @@ use Rattle.snap_memory.specs.declared.room.Room.TheVariants.{Absent, Kept}
 use Rattle.snap_memory.specs.declared.room.Found.{Found}
 use Rattle.snap_memory.specs.declared.room.Found.TheVariants.{Looked, Viewed}
 
--- the number and the value of the segment i after a beginning of what the seat has seen
+-- segment i had this number and value after a beginning of what the seat has seen
 pub record WasSeen (seat : Known) (i : ℕ) (x : ℕ × List ℕ) : Type 0 where
   pub part : List Update
   pub within : IsBeginning part seat.seen
   pub number_is : x.0 ≡ number_in seat part i
   pub value_is : x.1 ≡ value_in seat part i
 
--- a number and a value that can be answered: they were seen, and the value is within the limit
+-- a number and a value that a scan may return: they were seen, and the value isn't too long
 abbrev pub IsAnswerable : Known → ℕ → ℕ × List ℕ → Type 0
 IsAnswerable seat i x = WasSeen seat i x × IsShort x.1
 
--- what is kept of each segment can be answered
+-- each cached entry may be returned
 abbrev pub AreKept : Known → List (Option SegmentValue) → Type 0
 AreKept seat room = (i : ℕ) (x : SegmentValue) → slice_get room i ≡ Some (Some x)
     → IsAnswerable seat i (pair_of x)
 
--- the room is of the seat's size, and what is kept in it was seen
+-- the cache has the seat's size, and its entries were seen
 abbrev pub Fits : Known → Room → Type 0
 Fits seat Absent = Unit {0}
 Fits seat (Kept room) = (length room.items ≡ segments seat.plan) × AreKept seat room.items
 
--- the number that was found of the segment i
+-- the number found for segment i
 abbrev pub number_of : Found → ℕ → ℕ
 number_of (Looked numbers) i = slice_index numbers.now i
 number_of (Viewed view) i = (get_or view.now i (0, [])).0
 
--- it has a place for the segment i
+-- there is a place for segment i
 abbrev pub HasPlace : Found → ℕ → Type 0
 HasPlace (Looked numbers) i = i < MAX_SEGMENTS
 HasPlace (Viewed view) i = i < length view.now
 
--- the last look at the segment i told its number, or its entry in the view was seen
+-- the number is that of the last look at segment i, or the entry in the view was seen
 abbrev pub IsFoundAt : Known → Found → ℕ → Type 0
 IsFoundAt seat (Looked numbers) i = looked seat i ≡ Some (slice_index numbers.now i)
 IsFoundAt seat (Viewed view) i = WasSeen seat i (get_or view.now i (0, []))
 
--- what was found of the named segments
+-- what was found for all named segments
 abbrev pub IsFound : ℕ → Known → Found → Type 0
 IsFound set seat found = (i : ℕ) → i < segments seat.plan → Names set i
     → HasPlace found i × IsFoundAt seat found i
 
--- what is kept of the segment i can be answered
+-- the cached entry of segment i may be returned
 abbrev pub IsKeptOf : Known → ℕ → Option SegmentValue → Type 0
 IsKeptOf seat i kept = (x : SegmentValue) → kept ≡ Some x → IsAnswerable seat i (pair_of x)
 
--- an entry has the number that was found of the segment i, and can be answered
+-- the entry has the number found for segment i, and may be returned
 abbrev pub IsEntry : Known → Found → ℕ → ℕ × List ℕ → Type 0
 IsEntry seat found i x = (x.0 ≡ number_of found i) × IsAnswerable seat i x
 
--- the list has such an entry for each of these segments, in order
+-- the list has an entry for each of these segments, in order
 pub record AreEntries (named : List ℕ) (seat : Known) (found : Found)
     (values : List (ℕ × List ℕ)) : Type 0 where
   pub count : length values ≡ length named

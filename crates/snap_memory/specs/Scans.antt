@@ -1,4 +1,4 @@
--- What a scan answers, of what its seat had seen before and has seen after.
+-- The answers of scans, in terms of what the seat had seen before and has seen afterwards.
 use Rattle.std.specs.Prelude.{◌≡◌, ℕ, ◌+◌, ◌-◌, ◌^◌, ◌<◌, ◌≤◌, ◌⊎◌, List, ◌∷◌, ◌++◌, length, Some, slice_get}
 use Rattle.snap_history.specs.History.{Update, IsBeginning}
 use Rattle.snap_register.specs.Rule.{segments}
@@ -10,7 +10,7 @@ use Rattle.snap_register.specs.declared.view.View.{View}
 use Rattle.snap_register.specs.declared.view.View.TheVariants.{Collected, Borrowed}
 use Rattle.snap_scan.specs.Looks.{most_looks}
 
--- the scan took looks, and the list begins with what the seat had seen at the first of them
+-- the scan made looks, and the list begins with what the seat had seen at the first of them
 pub record BeginsFresh (before after : Known) (part : List Update) : Type 0 where
   pub first : List Update
   pub later : List (List Update)
@@ -21,8 +21,9 @@ pub record BeginsFresh (before after : Known) (part : List Update) : Type 0 wher
 abbrev pub all_of : Known → ℕ
 all_of seat = 2 ^ segments seat.plan - 1
 
--- the last looks at the named segments told the numbers after a list that begins with what the seat
--- had seen before, and at the scan's first look, and is a beginning of what it has seen after
+-- the named segments' last looks found the numbers after `part`, a list that begins with what the
+-- seat had seen before and at the scan's first look, and that is a beginning of what it has seen
+-- afterwards
 pub record IsCleanScan (set : ℕ) (before after : Known) : Type 0 where
   pub part : List Update
   pub begins : IsBeginning before.seen part
@@ -31,8 +32,9 @@ pub record IsCleanScan (set : ℕ) (before after : Known) : Type 0 where
   pub each : (i : ℕ) → i < segments after.plan → Names set i
       → looked after i ≡ Some (number_in after part i)
 
--- the last look at j found an update, and each beginning of what the seat has seen after that lacks
--- just that update of j begins with what the seat had seen before, and at the scan's first look
+-- the last look at j found an update. Each beginning of what the seat has seen afterwards that
+-- lacks only that update of j begins with what the seat had seen before and at the scan's first
+-- look
 pub record IsBorrowedScan (before after : Known) (j : ℕ) : Type 0 where
   pub inside : j < segments after.plan
   pub found : HasFoundUpdate after j
@@ -41,13 +43,13 @@ pub record IsBorrowedScan (before after : Known) (j : ℕ) : Type 0 where
   pub fresh : (part : List Update) → IsBeginning part after.seen
       → looked after j ≡ Some (number_in after part j + 1) → BeginsFresh before after part
 
--- the view is the answer of a scan of the named segments
+-- the scan of the named segments may be answered from this view
 abbrev pub IsScan : ℕ → Known → Known → View → Type 0
 IsScan set before after Collected = IsCleanScan set before after
 IsScan set before after (Borrowed j) = IsBorrowedScan before after j
 
--- the numbers and values of the memory after a list that begins with what the seat had seen before,
--- and at the scan's first look, and is a beginning of what it has seen after
+-- the memory after `part`, a list that begins with what the seat had seen before and at the scan's
+-- first look, and that is a beginning of what it has seen afterwards
 pub record IsSnapshot (before after : Known) (memory : List (ℕ × List ℕ)) : Type 0 where
   pub part : List Update
   pub begins : IsBeginning before.seen part
@@ -55,7 +57,7 @@ pub record IsSnapshot (before after : Known) (memory : List (ℕ × List ℕ)) :
   pub within : IsBeginning part after.seen
   pub is_memory : IsMemory after part memory
 
--- the numbers and values of the named segments, in ascending order, after such a list
+-- the numbers and values of the named segments, in ascending order, after a list as in IsSnapshot
 pub record IsPart (set : ℕ) (before after : Known) (values : List (ℕ × List ℕ)) : Type 0 where
   pub part : List Update
   pub begins : IsBeginning before.seen part
@@ -65,7 +67,8 @@ pub record IsPart (set : ℕ) (before after : Known) (values : List (ℕ × List
   pub each : (p i : ℕ) → IsAt set p i
       → slice_get values p ≡ Some (number_in after part i, value_in after part i)
 
--- room for all segments has the numbers and values of the named ones after such a list
+-- `memory`, which has a place for every segment, has the numbers and values of the named ones after
+-- a list as in IsSnapshot
 pub record HasPart (set : ℕ) (before after : Known) (memory : List (ℕ × List ℕ)) : Type 0 where
   pub part : List Update
   pub begins : IsBeginning before.seen part
@@ -73,41 +76,40 @@ pub record HasPart (set : ℕ) (before after : Known) (memory : List (ℕ × Lis
   pub within : IsBeginning part after.seen
   pub is_memory : IsMemoryOf after set part memory
 
--- what the room had of segments that aren't named stays
+-- the entries of segments that aren't named stay
 abbrev pub KeepsOthers : ℕ → List (ℕ × List ℕ) → List (ℕ × List ℕ) → Type 0
 KeepsOthers set before after = (i : ℕ) → (Names set i → ⊥) → slice_get after i ≡ slice_get before i
 
--- the set names some segments, all of them of the seat's registers
+-- the set names at least one segment, and only those of the seat's registers
 pub record IsSetOf (seat : Known) (set : ℕ) : Type 0 where
   pub some : 0 < set
   pub among : set < 2 ^ segments seat.plan
 
--- the seat has looks left for a scan of so many segments
+-- the seat has enough looks left for a scan of `count` segments
 abbrev pub HasLooks : ℕ → Known → Type 0
 HasLooks count seat = most_looks count ≤ seat.left
 
--- and for one of all
+-- the seat has enough looks left for a scan of all segments
 abbrev pub CanScan : Known → Type 0
 CanScan seat = HasLooks (segments seat.plan) seat
 
--- the scan took looks off, and no more than one of so many segments might
+-- the scan used up looks, and no more than a scan of `count` segments might
 pub record TakesLooksOf (count : ℕ) (before after : Known) : Type 0 where
   pub some : after.left < before.left
   pub few : before.left ≤ after.left + most_looks count
 
--- and than one of all might
+-- the scan used up looks, and no more than a scan of all segments might
 abbrev pub TakesLooks : Known → Known → Type 0
 TakesLooks before after = TakesLooksOf (segments before.plan) before after
 
--- a scan of so many segments may be refused so: no memory was left, before its first look or after
--- its last, or too few looks were left, and nothing changed
+-- why a scan of `count` segments may be refused: memory ran out, before its first look or after its
+-- last; or too few looks were left, and nothing changed
 abbrev pub MayRefuse : ℕ → Known → Refusal → Known → Type 0
 MayRefuse count before why after =
     ((why ≡ NoMemory) × ((after ≡ before) ⊎ (Grows before after × TakesLooksOf count before after)))
     ⊎ ((why ≡ Worn) × (before.left < most_looks count) × (after ≡ before))
 
--- the list has the number that the last look at each named segment told, and the value of its
--- record
+-- the list has the number that each named segment's last look found, and the value of its record
 pub record AreLooked (set : ℕ) (seat : Known) (memory : List (ℕ × List ℕ)) : Type 0 where
   pub size : length memory ≡ segments seat.plan
   pub each : (i : ℕ) → i < segments seat.plan → Names set i

@@ -1,4 +1,4 @@
-//! The looks of one scan, over either kind of seat, and the values that they found.
+//! The looks of one scan, by either kind of seat, and the values found.
 ghost use Rattle.std.specs.Prelude.{◌≡◌, ℕ, ◌<◌, ◌≤◌, length, slice_index, Some};
 ghost use Rattle.snap_register.specs.Rule.{segments};
 ghost use Rattle.snap_register.specs.Seat.{Grows, IsBelow, looked};
@@ -9,8 +9,8 @@ ghost use Rattle.snap_memory.specs.Scans.{TakesLooks, TakesLooksOf};
 use snap_register::{Looker, SnapshotBuf, View};
 use snap_scan::{MAX_SEGMENTS, Next, Scan, SegmentSet};
 
-/// Looks at these segments until the numbers told decide the scan, and answers where its memory
-/// stands. The numbers are those of the last looks.
+/// Takes looks of the segments in `set` until their numbers decide the scan. Returns where its
+/// values are, and in `numbers` what each segment's last look found.
 pub(crate) fn gather<L: Looker>(
     seat: &mut L,
     set: SegmentSet,
@@ -39,12 +39,12 @@ pub(crate) fn gather<L: Looker>(
     }
 }
 
-/// Fills `out` with the memory of one moment, by the looks of any kind of seat, also of one that a
-/// caller has put round a seat of the registers. [`Scanner::scan_into`](crate::Scanner::scan_into)
-/// is this scan by a scanner's own seat. The memory has all updates that stood in the history at the
-/// first look of this call.
+/// Fills `out` with the memory of one moment, by the looks of any kind of seat, also of one that
+/// wraps a seat of the registers. [`Scanner::scan_into`](crate::Scanner::scan_into) is this scan by
+/// a scanner's own seat. The memory has all updates that were in the history at the first look of
+/// this call.
 ///
-/// It takes off the looks that it takes; the caller has to see that enough for a scan are left
+/// It uses up looks. The caller must make sure that enough for a scan are left
 /// ([`most_looks`](snap_scan::most_looks)).
 pub fn scan<L: Looker>(seat: &mut L, out: &mut SnapshotBuf)
     requires left { CanScan (L.known seat.old) }
@@ -57,8 +57,8 @@ pub fn scan<L: Looker>(seat: &mut L, out: &mut SnapshotBuf)
     scan_some(seat, SegmentSet::all(seat.segments()), out);
 }
 
-/// Writes into `out` the number and value of each segment that the set names, all of one moment, by
-/// the looks of any kind of seat, as [`scan`] does for all.
+/// Writes into `out` the number and value of each segment in `set`, all of one moment, by the looks
+/// of any kind of seat, as [`scan`] does for all segments.
 pub(crate) fn scan_some<L: Looker>(seat: &mut L, set: SegmentSet, out: &mut SnapshotBuf)
     requires set { IsSetOf (L.known seat.old) set.bits }
     requires left { HasLooks (size set.bits) (L.known seat.old) }
@@ -76,8 +76,7 @@ pub(crate) fn scan_some<L: Looker>(seat: &mut L, set: SegmentSet, out: &mut Snap
     }
 }
 
-/// Writes into `out` the values of the last looks, one at each named segment, which told these
-/// numbers.
+/// Writes into `out` the values of the last looks, one at each named segment, with their `numbers`.
 fn read_named<L: Looker>(
     seat: &mut L,
     set: SegmentSet,

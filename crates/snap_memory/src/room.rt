@@ -1,4 +1,4 @@
-//! What a scanner keeps from scan to scan: a value whose number hasn't changed isn't read again.
+//! The cache of a scanner: a value whose number hasn't changed isn't read again.
 ghost use Rattle.std.specs.Prelude.{◌≡◌, ℕ, ◌<◌, ◌^◌, length, map, Some, All, IfOk, IfSome};
 ghost use Rattle.snap_history.specs.Limits.{IsShort};
 ghost use Rattle.snap_register.specs.Rule.{segments};
@@ -16,16 +16,16 @@ use snap_register::{Looker, SnapshotBuf, View};
 use snap_scan::{MAX_SEGMENTS, SegmentSet, SegmentValue};
 use std::alloc::{AllocError, Global};
 
-/// The room of a scanner.
+/// A scanner's cache.
 #[derive(Drop)]
 pub(crate) enum Room {
-    /// It kept nothing yet, and has taken no memory.
+    /// Nothing was cached yet, and no memory was allocated.
     Absent,
-    /// For each segment the number and value that a scan of this scanner read last, where one did.
+    /// For each segment the number and value that this scanner read last, if it did.
     Kept(Vec<Option<SegmentValue>>),
 }
 
-/// Room for what is kept of this many segments.
+/// An empty cache for `segments` segments.
 pub(crate) fn empty_room(
     alloc: Global,
     segments: usize,
@@ -40,8 +40,8 @@ pub(crate) fn empty_room(
     Ok(room)
 }
 
-/// The numbers and values of the segments that the set names, in ascending order and all of one
-/// moment. Where memory runs out, looks may have been taken.
+/// The numbers and values of the segments in `set`, in ascending order, all of one moment. If
+/// memory runs out, looks may have been used up.
 pub(crate) fn scan_kept<L: Looker>(
     alloc: Global,
     seat: &mut L,
@@ -75,7 +75,7 @@ pub(crate) fn scan_kept<L: Looker>(
 /// Where a scan found its answer.
 #[derive(Clone, Copy)]
 pub(crate) enum Found<'a> {
-    /// In the records of the last looks, which told these numbers.
+    /// In the records of the last looks, which found these numbers.
     Looked(&'a [u64; MAX_SEGMENTS]),
     /// In the view of one record, which has these entries.
     Viewed(&'a SnapshotBuf),
@@ -84,7 +84,7 @@ pub(crate) enum Found<'a> {
 impl<'a> Found<'a> {
     ghost use Rattle.snap_memory.specs.Rooms.{number_of, HasPlace, IsFoundAt, IsAnswerable};
 
-    /// The number that was found of the segment `i`.
+    /// The number found for segment `i`.
     fn number(self, i: usize) -> u64
         requires place { HasPlace self i }
         ensures { result ≡ number_of self.entry i }
@@ -95,7 +95,7 @@ impl<'a> Found<'a> {
         }
     }
 
-    /// The value that was found of the segment `i`, in memory of its own.
+    /// Reads the value found for segment `i` into new memory.
     fn read<L: Looker>(self, alloc: Global, seat: &mut L, i: usize) -> Result<Bytes, AllocError>
         requires segment { i < segments (L.known seat.old).plan }
         requires place { HasPlace self i }
@@ -111,7 +111,7 @@ impl<'a> Found<'a> {
     }
 }
 
-/// What is kept, where it has this number.
+/// The cached value, if it has this number.
 fn kept_value(kept: &Option<SegmentValue>, number: u64) -> Result<Option<Bytes>, AllocError>
     ensures { IfOk result (λ found. IfSome found (λ v. (x : SegmentValue) × (kept.now ≡ Some x)
         × (x.number ≡ number) × (x.value ≡ v))) }
@@ -122,8 +122,8 @@ fn kept_value(kept: &Option<SegmentValue>, number: u64) -> Result<Option<Bytes>,
     }
 }
 
-/// What was found of the segment `i`: what is kept of it, where that has its number, else what is
-/// read, which is kept then.
+/// The entry found for segment `i`: from the cache if that has the number, else read and then
+/// cached.
 fn take_entry<L: Looker>(
     alloc: Global,
     seat: &mut L,
@@ -150,8 +150,8 @@ fn take_entry<L: Looker>(
     Ok(SegmentValue { number, value })
 }
 
-/// What was found of the named segments. What has the number that is kept comes out of the room, and
-/// the rest is read, and kept.
+/// The entries found for the segments in `set`: from the cache if it has the number, else read and
+/// then cached.
 fn list<L: Looker>(
     alloc: Global,
     seat: &mut L,

@@ -1,4 +1,4 @@
-//! The scanners.
+//! A scanner.
 ghost use Rattle.std.specs.Prelude.{◌≡◌, ℕ, ◌+◌, ◌<◌, ◌≤◌, ◌⊎◌, [], ◌∷◌, ◌++◌, length, map, take};
 ghost use Rattle.std.specs.Prelude.{OnOk, OnErr, IfOk, IfErr, IsTrue, ◌↔◌, All};
 ghost use Rattle.snap_history.specs.Limits.{IsShort};
@@ -23,7 +23,7 @@ use std::alloc::{AllocError, Global};
 use std::marker::Model;
 use std::mem;
 
-/// One scanner, on a seat of its own. It waits for nobody. Only [`Scanner::scan`] may take memory.
+/// A scanner on a seat of its own. It is wait-free. Only [`Scanner::scan`] may allocate.
 #[derive(Drop)]
 pub struct Scanner {
     seat: ReadSeat,
@@ -42,7 +42,7 @@ impl Model for Scanner {
 }
 
 impl Scanner {
-    /// The scanner on this seat, with no room for its scans.
+    /// A scanner on this seat, without a cache.
     pub fn new(seat: ReadSeat) -> Scanner
         ensures { result ≡ seat }
     {
@@ -60,14 +60,14 @@ impl Scanner {
         self.seat.segments()
     }
 
-    /// How many looks it may still take.
+    /// How many looks it has left.
     pub fn looks_left(&self) -> u64
         ensures { result ≡ self.now.left }
     {
         self.seat.looks_left()
     }
 
-    /// Whether fewer looks are left than a scan of this many segments might take.
+    /// Whether fewer looks are left than a scan of `count` segments might take.
     fn is_worn(&self, count: usize) -> bool
         requires { count ≤ MAX_SEGMENTS }
         ensures { IsTrue result ↔ (self.now.left < most_looks count) }
@@ -75,13 +75,13 @@ impl Scanner {
         self.seat.looks_left() < most_looks(count) as u64
     }
 
-    /// Fills `out` with the number and the value of each segment, all of one moment: the memory
-    /// after a list of updates that begins with all that the scanner had seen before this call, and
-    /// with all that stood in the history at its first look of this call, and is a beginning of all
-    /// that it has seen after. It takes off the looks that it takes.
+    /// Fills `out` with the number and the value of each segment, all of one moment. This is the
+    /// memory after a list of updates that begins with all that the scanner had seen before this
+    /// call and with all that was in the history at the first look of this call, and that is a
+    /// beginning of all that the scanner has seen afterwards. Uses up looks.
     ///
-    /// Where fewer looks are left than a scan might take ([`most_looks`]) it answers `Worn`, and
-    /// nothing changes.
+    /// Returns `Worn`, and changes nothing, if fewer looks are left than a scan might take
+    /// ([`most_looks`]).
     pub fn scan_into(&mut self, out: &mut Snapshot) -> Result<(), Refusal>
         requires room { length out.old ≡ segments self.old.plan }
         ensures enough { OnOk result (CanScan self.old) }
@@ -97,11 +97,11 @@ impl Scanner {
         self.scan_some(SegmentSet::all(self.segments()), out)
     }
 
-    /// Writes into `out` the number and the value of each segment that the set names, all of one
-    /// moment, as [`Scanner::scan_into`] does for all. What `out` has of the others stays.
+    /// Writes into `out` the number and the value of each segment in `set`, all of one moment, as
+    /// [`Scanner::scan_into`] does for all segments. The other entries of `out` stay.
     ///
-    /// The set names one segment at least, and none that isn't there. Where fewer looks are left
-    /// than such a scan might take ([`most_looks`]) it answers `Worn`, and nothing changes.
+    /// `set` names at least one segment, and only existing ones. Returns `Worn`, and changes
+    /// nothing, if fewer looks are left than such a scan might take ([`most_looks`]).
     pub fn scan_some(&mut self, set: SegmentSet, out: &mut Snapshot) -> Result<(), Refusal>
         requires set { IsSetOf self.old set.bits }
         requires room { length out.old ≡ segments self.old.plan }
@@ -123,15 +123,15 @@ impl Scanner {
         Ok(())
     }
 
-    /// The number and the value of each segment that the set names, in ascending order, all of one
-    /// moment, as [`Scanner::scan_some`] gives them, in memory of their own. What a scan of this kind
-    /// has read is kept, and shared with its answer, so the value of a segment that still has the
-    /// same number isn't read again: a number has one value. But the looks are taken anew, so the
-    /// answer has all that stood in the history at the first look of this call.
+    /// The number and the value of each segment in `set`, in ascending order, all of one moment, as
+    /// [`Scanner::scan_some`] gives them, in memory of their own. Values are cached and shared with
+    /// the answer, so a segment whose number hasn't changed isn't read again: a number has one
+    /// value. The looks are always new, so the answer has all that was in the history at the first
+    /// look of this call.
     ///
-    /// The set names one segment at least, and none that isn't there. Where fewer looks are left
-    /// than such a scan might take it answers `Worn`, and nothing changes. `NoMemory` where memory is
-    /// refused: before the first look, or after the last.
+    /// `set` names at least one segment, and only existing ones. Errors: `Worn`, with nothing
+    /// changed, if fewer looks are left than such a scan might take; `NoMemory` if memory runs out,
+    /// before the first look or after the last.
     pub fn scan(&mut self, alloc: Global, set: SegmentSet) -> Result<Vec<SegmentValue>, Refusal>
         requires set { IsSetOf self.old set.bits }
         ensures enough { OnOk result (HasLooks (size set.bits) self.old) }
@@ -161,8 +161,8 @@ impl Scanner {
         }
     }
 
-    /// One look at the segment `j`: its number, and its value at the front of `value`, with the
-    /// value's length.
+    /// One look: returns the number of segment `j` and the length of its value, which is at the
+    /// front of `value`.
     pub fn read_one(&mut self, j: usize, value: &mut [u8; MAX_VALUE_LEN]) -> (u64, usize)
         requires segment { j < segments self.old.plan }
         requires left { 0 < self.old.left }
@@ -179,9 +179,9 @@ impl Scanner {
         (number, length)
     }
 
-    /// Afterwards the scanner and the writer have seen the same: all that either had seen, and all
-    /// that stands in the history at a moment of this call. So the scanner's next scan has all that
-    /// the writer showed before. It isn't a look.
+    /// Joins what the scanner and the writer have seen. Afterwards both have seen all that either
+    /// had, and all that was in the history at one moment of this call. So the scanner's next scan
+    /// has all that the writer has shown. It isn't a look.
     pub fn meet(&mut self, writer: &mut WriteSeat)
         requires together { AreTogether self.old writer.old }
         ensures scanner { Meets self.old self.new }

@@ -1,4 +1,4 @@
-//! The answer of a scan, in room that is made once and filled again and again.
+//! The answer of a scan, in memory that is allocated once and filled again and again.
 ghost use Rattle.std.specs.Prelude.{◌≡◌, ℕ, ◌<◌, List, [], length, slice_get, Some};
 ghost use Rattle.std.specs.Prelude.{IfOk, replicate};
 ghost use Rattle.snap_history.specs.Limits.{IsShort};
@@ -7,7 +7,7 @@ use snap_register::SnapshotBuf;
 use std::alloc::{AllocError, Global};
 use std::marker::Model;
 
-/// The number and the value of each segment, as a scan answered them.
+/// The number and the value of each segment, as a scan found them.
 #[derive(Drop)]
 pub struct Snapshot {
     pub(crate) buf: SnapshotBuf,
@@ -22,9 +22,9 @@ impl Model for Snapshot {
 }
 
 impl Snapshot {
-    /// Room for n segments, 4,096 bytes each; at first each has number 0 and the empty value.
+    /// Room for `n` segments, 4,096 bytes each. At first each has number 0 and the empty value.
     ///
-    /// Where memory runs out it answers the `AllocError`, and nothing is kept.
+    /// Returns the `AllocError` if memory runs out.
     pub fn new(alloc: Global, n: usize) -> Result<Snapshot, AllocError>
         ensures size { IfOk result (λ s. length s ≡ n) }
         ensures values { IfOk result (λ s. s ≡ replicate n (0, [])) }
@@ -41,7 +41,7 @@ impl Snapshot {
         self.buf.len()
     }
 
-    /// The number of the segment i.
+    /// The number of segment `i`.
     pub fn number(&self, i: usize) -> u64
         requires { i < length self.now }
         ensures { (x : ℕ × List ℕ) → slice_get self.now i ≡ Some x → result ≡ x.0 }
@@ -49,7 +49,7 @@ impl Snapshot {
         self.buf.number(i)
     }
 
-    /// The value of the segment i.
+    /// The value of segment `i`.
     pub fn value(&self, i: usize) -> &[u8]
         requires { i < length self.now }
         ensures value { (x : ℕ × List ℕ) → slice_get self.now i ≡ Some x → result.now ≡ x.1 }

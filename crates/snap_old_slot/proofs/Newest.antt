@@ -1,4 +1,4 @@
--- Which slots an old file has that holds a number.
+-- The slots of an old file that holds a number.
 use Rattle.std.proofs.Common.{◌≡◌, ◌⊎◌, inl, inr, ⊎_elim, ℕ, ◌+◌, ◌-◌, List, length, subst, arith}
 use Rattle.std.proofs.lemmas.Bool.{cases_eq}
 use Rattle.snap_disk.specs.Device.{part}
@@ -10,7 +10,8 @@ use Rattle.snap_slot.specs.declared.slot.Flaw.{Flaw}
 use Rattle.snap_slot.specs.declared.slot.Slot.{Slot}
 use Rattle.snap_slot.specs.declared.slot.Slot.TheVariants.{Closed, Open, Bad}
 
--- one is open and the other closed, or both are open with numbers that differ by one
+-- the slots hold a number: one is open and the other closed, or both are open and their numbers
+-- differ by one
 abbrev pub Answers : Slot → Slot → Type 0
 Answers x y = (k : ℕ) × (n : ℕ)
     × (((x ≡ Open k n) × (y ≡ Closed))
@@ -84,7 +85,7 @@ held_answers b x y first second k v is = ⊎_elim
     beside)
     (cases_eq is.s 0)
 
--- two open slots that answer have numbers that differ by one
+-- two open slots that hold a number differ by one
 pub next_numbers : (x y : Slot) (a m b n : ℕ) → x ≡ Open a m → y ≡ Open b n → Answers x y
     → (a ≡ b + 1) ⊎ (b ≡ a + 1)
 next_numbers x y a m b n x_is y_is answers = ⊎_elim
@@ -100,7 +101,7 @@ next_numbers x y a m b n x_is y_is answers = ⊎_elim
     others)
     answers.2
 
--- beside a closed slot an open one answers
+-- if one slot is closed, the other one is open
 pub open_beside : (x y : Slot) → x ≡ Closed → Answers x y → (k : ℕ) × (n : ℕ) × (y ≡ Open k n)
 open_beside x y x_is answers = ⊎_elim
     (λ (one : (x ≡ Open answers.0 answers.1) × (y ≡ Closed)). let i = one.0 in cc)
@@ -111,7 +112,7 @@ open_beside x y x_is answers = ⊎_elim
     others)
     answers.2
 
--- beside a bad slot none does
+-- neither slot is bad
 pub not_first_bad : (x y : Slot) (flaw : Flaw) → x ≡ Bad flaw → Answers x y → ⊥
 not_first_bad x y flaw x_is answers = ⊎_elim
     (λ (one : (x ≡ Open answers.0 answers.1) × (y ≡ Closed)). let i = one.0 in cc)

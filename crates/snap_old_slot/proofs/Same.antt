@@ -1,4 +1,4 @@
--- An old file is read in one way only.
+-- An old file can be read in one way only.
 use Rattle.std.proofs.Common.{◌≡◌, ◌⊎◌, inr, ⊎_elim, ℕ, ◌-◌, List, length, slice_index, Option, Some, None, MatchOption, IfOk, IfErr}
 use Rattle.std.proofs.Common.{refl, sym, ◌∙◌, ap, subst, arith}
 use Rattle.std.specs.Option.{ok_or}
@@ -14,7 +14,7 @@ use Rattle.snap_old_slot.specs.Old.{old_mark, OldOpen, OldHolds, OldHead}
 use Rattle.snap_old_slot.specs.Found.{IsOldHeaderOf, IsOldHeld, IsOldFound, IsNoOldOpening}
 use Rattle.snap_old_slot.specs.declared.recovery.OldFound.{OldFound}
 
--- a slot is open with one number and one value, and isn't closed too
+-- a slot is open with one number and one value only, and isn't closed too
 same_slot : (b : List ℕ) (s k l : ℕ) (v w : List ℕ) → OldOpen b s k v → OldOpen b s l w
     → (k ≡ l) × (v ≡ w)
 same_slot b s k l v w is also =
@@ -24,7 +24,7 @@ not_closed : (b : List ℕ) (s k : ℕ) (v : List ℕ) → OldOpen b s k v → I
 not_closed b s k v is closed =
     not_open_and_closed 2 s (part (gate_at s) 4096 b) (part (body_at s) 4096 b) k v is closed
 
--- of two numbers that a file holds in both slots
+-- the two slots of a file can't both hold the newest number
 not_both : (b : List ℕ) (s t k l : ℕ) (v w : List ℕ) → t ≡ 1 - s → s ≡ 1 - t → OldOpen b s k v
     → (IsClosed b t ⊎ ((u : List ℕ) × OldOpen b t (k - 1) u)) → OldOpen b t l w
     → (IsClosed b s ⊎ ((u : List ℕ) × OldOpen b s (l - 1) u)) → ⊥
@@ -65,7 +65,7 @@ old_holds_same b k l v w is also =
     )) is.is_open is.other there beyond))
     (cases_eq is.s t)
 
--- under any other header than that of segment i of n
+-- what reading an old file returns if its header isn't that of segment i of n
 pub wrong_old_file : (b : List ℕ) (x : Header) (i n : ℕ) → IsOldHeaderOf b x
     → (x ≡ header.Closed → ⊥) → (x ≡ header.Open i n → ⊥)
     → (IsUnformatted b → ⊥) × (OldHead b i n → ⊥)
@@ -78,7 +78,7 @@ wrong_old_file b (header.Open j m) i n is not_closed not_open = (
 wrong_old_file b header.Wrong i n is not_closed not_open =
     (λ unformatted. unformatted is.0, λ head. is.1 i n head)
 
--- and under the right one, where the slots give no answer
+-- what reading an old file returns if its header is right and its slots hold no value
 pub old_damaged : (b : List ℕ) (i n : ℕ) (answer : Option OldFound) → length b ≡ 20480
     → OldHead b i n → MatchOption answer ((k : ℕ) (v : List ℕ) → OldHolds b k v → ⊥) (IsOldHeld b)
     → IfErr (ok_or answer Damaged) (λ why. IsNoOldOpening i n b why × IsOfBytes why)

@@ -1,4 +1,4 @@
--- What is found in the bytes of an old file.
+-- What is found in the bytes b of an old file.
 use Rattle.std.specs.Prelude.{◌≡◌, ◌≢◌, ◌⊎◌, ℕ, ◌≤◌, List, length}
 use Rattle.snap_disk.specs.Device.{part}
 use Rattle.snap_disk.specs.declared.refusal.Refusal.{Refusal}
@@ -16,11 +16,11 @@ use Rattle.snap_old_slot.specs.Old.{old_slot_of, old_mark, OldHolds, OldHead}
 use Rattle.snap_old_slot.specs.declared.layout.TheConstants.{OLD_FILE_LEN, OLD_SLOT_COUNT}
 use Rattle.snap_old_slot.specs.declared.recovery.OldFound.{OldFound}
 
--- the header is read as this
+-- the reading of the header
 abbrev pub IsOldHeaderOf : List ℕ → Header → Type 0
 IsOldHeaderOf b header = IsMarkedHeader old_mark b header
 
--- slot s is read as this
+-- the reading of slot s
 abbrev pub IsOldSlotOf : List ℕ → ℕ → Slot → Type 0
 IsOldSlotOf b s slot = IsReadAs OLD_SLOT_COUNT s (part (gate_at s) BLOCK_LEN b)
     (part (body_at s) BLOCK_LEN b) slot
@@ -31,7 +31,7 @@ pub record IsOldHeld (b : List ℕ) (found : OldFound) : Type 0 where
   pub small : IsNumber found.number
   pub fits : found.length ≤ MAX_VALUE_LEN
 
--- what is found in the file of segment i of n
+-- the finding in the file of segment i of n
 pub record IsOldFound (i n : ℕ) (b : List ℕ) (found : OldFound) : Type 0 where
   pub head : OldHead b i n
   pub held : IsOldHeld b found

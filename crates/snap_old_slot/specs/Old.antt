@@ -1,4 +1,4 @@
--- What the bytes of an old segment file stand for: as those of a new one, but with another mark and
+-- What the bytes b of an old segment file hold. It differs from a new one in its mark and in having
 -- two slots.
 use Rattle.std.specs.Prelude.{◌⊎◌, ℕ, ◌-◌, ◌%◌, List, codes}
 use Rattle.snap_disk.specs.Device.{part}
@@ -6,7 +6,7 @@ use Rattle.snap_slot.specs.Layout.{IsClosed, IsHeadOf, IsOpenSlot, gate_at, body
 use Rattle.snap_slot.specs.declared.layout.TheConstants.{BLOCK_LEN}
 use Rattle.snap_old_slot.specs.declared.layout.TheConstants.{OLD_SLOT_COUNT}
 
--- the slot in which a number lies, and the other one
+-- the slot that holds number k, and the other slot
 abbrev pub old_slot_of : ℕ → ℕ
 old_slot_of k = k % OLD_SLOT_COUNT
 
@@ -18,17 +18,18 @@ abbrev pub OldOpen : List ℕ → ℕ → ℕ → List ℕ → Type 0
 OldOpen b s k v = IsOpenSlot OLD_SLOT_COUNT s (part (gate_at s) BLOCK_LEN b)
     (part (body_at s) BLOCK_LEN b) k v
 
--- it holds number k and value v: one slot has them, the other is closed or has the number before
+-- the file holds number k and value v: one slot has them, the other is closed or has the previous
+-- number
 pub record OldHolds (b : List ℕ) (k : ℕ) (v : List ℕ) : Type 0 where
   pub s : ℕ
   pub is_open : OldOpen b s k v
   pub other : IsClosed b (old_other_slot s)
       ⊎ ((u : List ℕ) × OldOpen b (old_other_slot s) (k - 1) u)
 
--- the eight bytes with which every old file begins
+-- the first eight bytes of every old file
 abbrev pub old_mark : List ℕ
 old_mark = codes "SNAPSEG1"
 
--- it has the old header of segment i of n, whose gate is open
+-- the file has the old header of segment i of n, and its gate is open
 abbrev pub OldHead : List ℕ → ℕ → ℕ → Type 0
 OldHead b i n = IsHeadOf old_mark b i n

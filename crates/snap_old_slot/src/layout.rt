@@ -1,17 +1,17 @@
-//! What the old format has for itself.
+//! The constants in which the old format differs from today's.
 ghost use Rattle.std.specs.Prelude.{◌≡◌};
 ghost use Rattle.snap_old_slot.specs.Old.{old_slot_of};
 
-/// The length of a file in bytes.
+/// The length of an old file in bytes.
 pub const OLD_FILE_LEN: u64 = 20_480;
 
-/// The first bytes of a file.
+/// The first bytes of an old file.
 pub(crate) const OLD_MARK: [u8; 8] = *b"SNAPSEG1";
 
-/// How many slots a file has.
+/// How many slots an old file has.
 pub const OLD_SLOT_COUNT: u64 = 2;
 
-/// The slot in which a number lies.
+/// The slot that holds a number.
 pub fn old_slot_of(number: u64) -> u64
     ensures { result ≡ old_slot_of number }
 {

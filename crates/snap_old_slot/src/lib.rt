@@ -1,8 +1,8 @@
-//! Reads a segment file of the old format, which had two slots, for as long as such files are to be
-//! carried over. Nothing writes that format any more.
+//! Reads segment files of the old format, which has two slots, so that they can be migrated.
+//! Nothing writes that format any more.
 //!
-//! The blocks of a slot are those of `snap_slot`, and stand at the same offsets. Others are the
-//! mark, the number of slots, and so the file's length and the slot of a number (docs/FORMATS.md).
+//! The blocks of a slot and their offsets are those of `snap_slot`. The mark and the number of
+//! slots differ, and so do the file's length and the slot of a number (docs/FORMATS.md).
 #![tactic(auto)]
 
 mod layout;

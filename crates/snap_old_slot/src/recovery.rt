@@ -1,4 +1,4 @@
-//! Finds what an old file holds.
+//! Finds the value that a file of the old format holds.
 ghost use Rattle.std.specs.Prelude.{◌≡◌, ◌+◌, ◌<◌, ◌≤◌, ℕ, List, length, IfOk, IfErr, MatchOption};
 ghost use Rattle.snap_disk.specs.Device.{part};
 ghost use Rattle.snap_slot.specs.limits.TheConstants.{MAX_VALUE_LEN};
@@ -18,12 +18,12 @@ use crate::layout::{OLD_FILE_LEN, OLD_MARK, OLD_SLOT_COUNT, old_slot_of};
 use snap_disk::Refusal;
 use snap_slot::{BLOCK_LEN, Header, Slot, VALUE_AT, body_at, gate_at, read_header, read_slot};
 
-/// The newest number of an old file, and how long its value is.
+/// The newest number of an old file, with the length of its value.
 #[derive(Clone, Copy, Debug, PartialEq, Eq)]
 pub struct OldFound {
-    /// At most [`LAST_NUMBER`](snap_history::LAST_NUMBER); it lies in the slot [`old_slot_of`] it.
+    /// At most [`LAST_NUMBER`](snap_history::LAST_NUMBER). It is in the slot [`old_slot_of`] it.
     pub number: u64,
-    /// How many bytes its value has, at most [`MAX_VALUE_LEN`](snap_history::MAX_VALUE_LEN).
+    /// The length of its value in bytes, at most [`MAX_VALUE_LEN`](snap_history::MAX_VALUE_LEN).
     pub length: u16,
 }
 
@@ -31,7 +31,7 @@ impl OldFound {
     ghost use Rattle.snap_slot.specs.Findings.{value_in};
     ghost use Rattle.snap_old_slot.specs.Old.{old_slot_of};
 
-    /// Its value, among the bytes of the file in which it was found.
+    /// The value, read from the bytes of the file in which it was found.
     #[tactic(auto, unfolding(snap_disk::specs::Device::part))]
     pub fn value<'a>(&self, file: &'a [u8]) -> &'a [u8]
         requires size { length file.now ≡ OLD_FILE_LEN }
@@ -45,11 +45,12 @@ impl OldFound {
     }
 }
 
-/// Finds the newest number in the bytes of an old file, as that of segment `index` of `count`.
+/// Finds the newest number in the bytes of an old file that should be that of segment `index` of
+/// `count`.
 ///
-/// Refused as `Unformatted` where the gate of the header is closed, else as `WrongFile` where the
-/// header is that of another segment or none, else as `Damaged` where the slots give no answer: one
-/// of them is bad, or none is open, or both are with numbers that don't differ by one.
+/// Errors, in this order: `Unformatted` if the header's gate is closed; `WrongFile` if the header
+/// is that of another segment or breaks the format; `Damaged` if a slot is bad, none is open, or
+/// both are with numbers that don't differ by one.
 pub fn recover_old(file: &[u8], index: u8, count: u8) -> Result<OldFound, Refusal>
     requires { length file.now ≡ OLD_FILE_LEN }
     ensures found { IfOk result (IsOldFound index count file.now) }
@@ -65,7 +66,7 @@ pub fn recover_old(file: &[u8], index: u8, count: u8) -> Result<OldFound, Refusa
     }
 }
 
-/// The header of a file.
+/// Reads the header of a file.
 fn old_header(file: &[u8]) -> Header
     requires { length file.now ≡ OLD_FILE_LEN }
     ensures { IsOldHeaderOf file.now result }
@@ -73,7 +74,7 @@ fn old_header(file: &[u8]) -> Header
     read_header(&OLD_MARK, block_at(file, 0))
 }
 
-/// One block of a file.
+/// The block at offset `at` of a file.
 #[tactic(auto, unfolding(snap_disk::specs::Device::part))]
 fn block_at(file: &[u8], at: u64) -> &[u8]
     requires size { length file.now ≡ OLD_FILE_LEN }
@@ -85,7 +86,7 @@ fn block_at(file: &[u8], at: u64) -> &[u8]
     &file[at..at + BLOCK_LEN]
 }
 
-/// One slot of a file.
+/// Reads slot `index` of a file.
 fn old_slot(file: &[u8], index: u8) -> Slot
     requires size { length file.now ≡ OLD_FILE_LEN }
     requires slot { index < OLD_SLOT_COUNT }
@@ -96,8 +97,8 @@ fn old_slot(file: &[u8], index: u8) -> Slot
     read_slot(OLD_SLOT_COUNT, index, gate, body)
 }
 
-/// The number that two slots answer: that of an open one beside a closed one, or the greater of two
-/// that differ by one.
+/// The newest number of two slots: that of the only open one, or the greater of two numbers that
+/// differ by one.
 fn newest_old(first: Slot, second: Slot) -> Option<OldFound>
     ensures { (b : List ℕ) → IsOldSlotOf b 0 first → IsOldSlotOf b 1 second
         → MatchOption result ((k : ℕ) (v : List ℕ) → OldHolds b k v → ⊥) (IsOldHeld b) }

@@ -1,5 +1,5 @@
--- A store before its gate is opened: the spare gate is closed, and the body is written behind the
--- closed gate of its slot.
+-- A store before it opens the gate: the spare gate is being closed, and the body is written while
+-- the gate of its slot is closed.
 use Rattle.std.proofs.Common.{Bool, true, false, ◌≡◌, ◌≢◌, ◌⊎◌, inl, inr, ⊎_elim, ℕ, ◌+◌, ◌-◌, ◌<◌, ◌≤◌, List, [], ◌∷◌, length}
 use Rattle.std.proofs.Common.{slice_index, sym, ◌∙◌, ap, subst, arith}
 use Rattle.std.proofs.lemmas.Bool.{cases_eq}
@@ -31,7 +31,7 @@ module _ (i n k : ℕ) (u : List ℕ) where
       → IsClosed d.bytes s
   next_closed spare_open d ready = subst (λ (x : ℕ). IsClosed d.bytes x) next_is ready.next
 
-  -- the gate of the spare slot and the body may hold anything
+  -- a crash may leave any bytes in the spare gate and in the body
   module _ (spare_open : Bool) (d : Device) (ready : IsAtRest i n k u spare_open d) (b : List ℕ)
       (left : MayLeave (opened (body_at s) BLOCK_LEN (opened (gate_at t) 1 d)) b) where
     keeps : (lo m : ℕ) → (gate_at t < lo + m → gate_at t + 1 ≤ lo)
@@ -53,7 +53,7 @@ module _ (i n k : ℕ) (u : List ℕ) where
         (keeps (gate_at (next_slot (slot_of k))) BLOCK_LEN (λ h. omega (arith, h)) (λ h.
         omega (arith, h))) ready.next
 
-  -- The spare gate is open at the beginning:
+  -- If the spare gate is open at the start:
   module _ (d : Device) (ready : IsAtRest i n k u true d) (b : List ℕ)
       (left : MayLeave (opened (body_at s) BLOCK_LEN (opened (gate_at t) 1 d)) b) where
     spare_gate : part (gate_at t) BLOCK_LEN d.bytes ≡ gate_block OPEN_GATE
@@ -91,7 +91,7 @@ module _ (i n k : ℕ) (u : List ℕ) where
       is = changed;
     })
 
-    -- whatever becomes of the spare gate and of the body, the file holds what it held
+    -- whatever bytes the spare gate and the body get, the file holds its old value
     pub waiting_leaves : IsFileOf i n k u b
     waiting_leaves = record {
       size = left.size ∙ ready.size;
@@ -110,7 +110,7 @@ module _ (i n k : ℕ) (u : List ℕ) where
   closing_leaves d ready b left =
       waiting_leaves d ready b (opened_leaves (body_at s) BLOCK_LEN (opened (gate_at t) 1 d) b left)
 
-  -- It is closed at the beginning:
+  -- If the spare gate is closed at the start:
   module _ (d : Device) (ready : IsAtRest i n k u false d) (b : List ℕ)
       (left : MayLeave (opened (body_at s) BLOCK_LEN d) b) where
     wider : MayLeave (opened (body_at s) BLOCK_LEN (opened (gate_at t) 1 d)) b
@@ -132,7 +132,7 @@ module _ (i n k : ℕ) (u : List ℕ) where
       };
     }
 
-  -- The first sync makes the closing and the body last:
+  -- After the first sync the closed gate and the body are durable:
   module _ (v : List ℕ) (fits : IsShort v) where
     abbrev block : List ℕ
     block = body_block (k + 1) v

@@ -1,4 +1,4 @@
--- What writes elsewhere keep of a segment file.
+-- The parts of a segment file that writes to other parts leave unchanged.
 use Rattle.std.proofs.Common.{◌≡◌, ◌⊎◌, inl, inr, ⊎_elim, ℕ, ◌+◌, ◌-◌, ◌<◌, ◌≤◌, List, [], ◌∷◌, length, slice_index, sym, ◌∙◌, ap}
 use Rattle.std.proofs.Common.{subst, arith, ◌||◌}
 use Rattle.std.proofs.lemmas.Bool.{cases_lt, or_parts, or_from}
@@ -8,18 +8,18 @@ use Rattle.snap_slot.specs.declared.layout.TheConstants.{BLOCK_LEN}
 use Rattle.snap_slot.specs.Layout.{zeros, format_mark, gate_block, gate_at, body_at, Open, IsClosed, Head}
 use Rattle.snap_slot.proofs.Blocks.{head_of_block, head_in_block}
 
--- two ranges that don't meet, one of which ends before the other begins
+-- two ranges apart: one of them ends before the other begins
 pub apart : (lo m at n : ℕ) → (at < lo + m → at + n ≤ lo) → (lo + m ≤ at) ⊎ (at + n ≤ lo)
 apart lo m at n h = ⊎_elim (λ low. inr (h low)) (λ high. inl high) (cases_lt at (lo + m))
 
 module _ (d : Device) (settled : IsSettled d) (b : List ℕ) where
-  -- a range that doesn't meet the n places that are open
+  -- a range apart from the n open places is unchanged
   pub kept : (at n : ℕ) → MayLeave (opened at n d) b → (lo m : ℕ) → (at < lo + m → at + n ≤ lo)
       → part lo m b ≡ part lo m d.bytes
   kept at n left lo m out = part_left lo m (opened at n d) b left (λ p from below.
       settled_closed at n d settled p (out_apart lo m at n (apart lo m at n out) p from below))
 
-  -- nor others
+  -- a range apart from two open ranges is unchanged
   pub kept_twice : (at n then_at j : ℕ) → MayLeave (opened then_at j (opened at n d)) b
       → (lo m : ℕ) → (at < lo + m → at + n ≤ lo) → (then_at < lo + m → then_at + j ≤ lo)
       → part lo m b ≡ part lo m d.bytes
@@ -29,7 +29,7 @@ module _ (d : Device) (settled : IsSettled d) (b : List ℕ) where
       (out_apart lo m at n (apart lo m at n out) p from below)
       (out_apart lo m then_at j (apart lo m then_at j then_out) p from below))
 
--- a crash may leave as much where more places are open, also below others
+-- with more places open a crash may still leave all that it could before
 pub inner_opened_leaves : (at n below j : ℕ) (d : Device) (b : List ℕ) → MayLeave (opened at n d) b
     → MayLeave (opened at n (opened below j d)) b
 inner_opened_leaves at n below j d b left = record {
@@ -60,7 +60,7 @@ module _ (a b : List ℕ) where
       → IsClosed a s → IsClosed b s
   closed_kept s gate was = record { gate = was.gate; closed = was.closed; is = gate ∙ was.is }
 
-  -- a gate block of which only the gate changes
+  -- a gate block of which only the gate changes is a gate block with the new gate
   pub gate_changed : (at : ℕ) → length b ≡ length a → at + BLOCK_LEN ≤ length a
       → part (at + 1) (BLOCK_LEN - 1) b ≡ part (at + 1) (BLOCK_LEN - 1) a
       → (g : ℕ) → part at BLOCK_LEN a ≡ gate_block g
@@ -73,7 +73,7 @@ module _ (a b : List ℕ) where
       part-cons at (BLOCK_LEN - 1) b (omega (arith, within, size))
       ∙ ap (λ (l : List ℕ). slice_index b at ∷ l) (same ∙ rest)
 
--- one byte that was written stands there
+-- after a write of one byte, that byte is read there
 pub byte_stands : (at x : ℕ) (b : List ℕ) → part at 1 b ≡ x ∷ [] → slice_index b at ≡ x
 byte_stands at x b stands =
     let plain : at + 0 ≡ at = omega arith in

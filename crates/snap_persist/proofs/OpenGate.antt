@@ -1,4 +1,4 @@
--- A store that opens its gate, behind which the new body stands.
+-- A store that opens the gate of its new body.
 use Rattle.std.proofs.Common.{true, false, ◌≡◌, ◌≢◌, inl, inr, ⊎_elim, ℕ, ◌+◌, ◌-◌, ◌<◌, ◌≤◌, List, [], ◌∷◌, length, slice_index, sym}
 use Rattle.std.proofs.Common.{◌∙◌, ap, subst, arith}
 use Rattle.std.proofs.lemmas.Bool.{cases_eq, or_parts}
@@ -18,7 +18,7 @@ module _ (i n k : ℕ) (u v : List ℕ) (small : IsNumber (k + 1)) (fits : IsSho
   next_is : next_slot (slot_of k) ≡ s
   next_is = omega arith
 
-  -- beside the new number the spare slot is that of the old one, and the next one is closed
+  -- for the number k + 1 the spare slot is that of k, and the next slot is closed
   after_is : spare_slot (slot_of k) ≡ next_slot s
   after_is = omega arith
 
@@ -28,7 +28,7 @@ module _ (i n k : ℕ) (u v : List ℕ) (small : IsNumber (k + 1)) (fits : IsSho
   gate_closed : IsClosed d.bytes s
   gate_closed = subst (λ (x : ℕ). IsClosed d.bytes x) next_is ready.rest.next
 
-  -- the gate may hold anything
+  -- a crash may leave any byte in the gate
   module _ (b : List ℕ) (left : MayLeave (opened (gate_at s) 1 d) b) where
     keeps : (lo m : ℕ) → (gate_at s < lo + m → gate_at s + 1 ≤ lo)
         → part lo m b ≡ part lo m d.bytes
@@ -91,12 +91,12 @@ module _ (i n k : ℕ) (u v : List ℕ) (small : IsNumber (k + 1)) (fits : IsSho
       };
     }
 
-    -- so the file holds the old value, or the new one
+    -- so the file holds the old value or the new one
     pub gate_leaves : IsEither i n k u v b
     gate_leaves = ⊎_elim (λ opens. inr (gate_opened opens)) (λ closes.
         inl (still_closed closes)) (cases_eq (slice_index b (gate_at s)) OPEN_GATE)
 
-  -- after the second sync it holds the new one
+  -- after the second sync the device is at rest with the new value
   pub stored : (e : Device) → IsWritten (gate_at s) (OPEN_GATE ∷ []) d e
       → IsAtRest i n (k + 1) v true e
   stored e done =

@@ -7,14 +7,14 @@ use Rattle.snap_slot.specs.Layout.{slot_of, next_slot, gate_at, body_at, IsClose
 use Rattle.snap_slot.specs.States.{IsAtRest, IsEither}
 use Rattle.snap_persist.specs.Device.{IsBodyStored}
 
--- The gate of the slot that the next number takes is closed already, so its body may be torn.
+-- The slot that the next number takes is closed already, so its body may be torn.
 abbrev pub NextGateIsClosed : Type 0
 NextGateIsClosed = (i n k : ℕ) (u : List ℕ) (spare_open : Bool) (d : Device)
     → IsAtRest i n k u spare_open d → IsClosed d.bytes (slot_of (k + 1))
 
--- Closing the spare slot needs no sync of its own: before the first sync its gate and the new body
--- may hold any bytes, and whatever they are the file holds number k. For the spare slot keeps the
--- number before behind that gate, open or closed, and the new body stands behind a closed one.
+-- Closing the spare slot needs no sync of its own. Before the first sync the spare gate and the new
+-- body may hold any bytes, and the file holds number k all the same: the spare slot, open or
+-- closed, has the previous number, and the gate of the new body is closed.
 abbrev pub ClosingSharesTheSync : Type 0
 ClosingSharesTheSync = (i n k : ℕ) (u : List ℕ) (d : Device) → IsAtRest i n k u true d
     → (b : List ℕ)
@@ -22,9 +22,9 @@ ClosingSharesTheSync = (i n k : ℕ) (u : List ℕ) (d : Device) → IsAtRest i 
     (opened (gate_at (next_slot (slot_of (k + 1)))) 1 d)) b
     → IsFileOf i n k u b
 
--- That sync made both last. Now the new gate alone may hold any byte, and it decides: where it is
--- open the file holds number k + 1, beside number k and a closed slot for the number after; else
--- it holds number k.
+-- The first sync has made both durable. Now only the new gate may hold any byte, and it decides: if
+-- it is open the file holds number k + 1, with number k in the spare slot and the next slot closed;
+-- else the file holds number k.
 abbrev pub OneGateDecides : Type 0
 OneGateDecides = (i n k : ℕ) (u v : List ℕ) → IsNumber (k + 1) → IsShort v → (d : Device)
     → IsBodyStored i n k u v d

@@ -1,4 +1,4 @@
--- Blocks of words, copied and put behind one another.
+-- Blocks of words, copied and appended.
 use Rattle.std.proofs.Common.{◌≡◌, ℕ, zero, suc, ◌+◌, ◌*◌, ◌<◌, ◌≤◌, List, [], ◌∷◌, ◌++◌, length, get_or, take, drop, refl, ap, sym}
 use Rattle.std.proofs.Common.{subst, ◌∙◌, arith, append_assoc, length-append}
 use Rattle.std.proofs.lemmas.List.{take_at, take-take, get_or_append_left, get_or-append-add, get_or_push, take-append-drop, drop-take}
@@ -43,7 +43,7 @@ bytes_same d w a b (suc k) each = λ t. bytes_same d w a b k (λ q lq. each q (o
 pub size_small : (ws : List ℕ) (at : ℕ) → IsWhole ws at → size_at ws at ≤ 512
 size_small ws at w = let s = w.short in omega arith
 
--- the same words hold the same block
+-- the words at b are a copy of the block at a
 pub record Copied (d w : List ℕ) (a b : ℕ) : Type 0 where
   pub whole : IsWhole d a
   pub size : size_at d a ≡ size_at w b
@@ -71,7 +71,7 @@ block_same d w a b whole each fits =
       block = λ t. (number t, value t);
     }
 
--- a block stays where words come behind it
+-- a block stays when words are appended
 pub block_stays : (d e : List ℕ) (a : ℕ) → IsPrefix d e → IsWhole d a → Copied e d a a
 block_stays d e a pre whole =
     let in_d = whole.inside in
@@ -100,7 +100,7 @@ behind_small ws at (suc k) each =
     let s = size_small ws (behind ws at k) (each k (omega arith)) in
     omega arith
 
--- one block more
+-- one block more is appended
 pub blocks_push : (d w : List ℕ) (at from k : ℕ) (f : Start) → AreBlocks d at k f → IsWhole w from
     → block_at w from ≡ f k → AreBlocks (d ++ piece w from (size_at w from)) at (k + 1) f
 blocks_push d w at from k f old whole is =
@@ -142,7 +142,7 @@ blocks_push d w at from k f old whole is =
 pub no_blocks : (d : List ℕ) (f : Start) → AreBlocks d (length d) 0 f
 no_blocks d f = record { each = λ i li. absurd (omega arith); last = refl }
 
--- an update's words, from its own block and those of its view
+-- the words of an update: its own block and those of its view
 pub record_of : (d e : List ℕ) (n k : ℕ) (v : List ℕ) (f g : Start) → IsBlock d 0 k v
     → length d ≡ size_at d 0 → IsPrefix d e → AreBlocks e (length d) n f
     → ((i : ℕ) → i < n → f i ≡ g i) → IsRecord n k v g e
@@ -158,7 +158,7 @@ record_of d e n k v f g own long pre blocks same =
       };
     }
 
--- a piece more of a list
+-- taking n + k elements takes n, then k more
 pub take_piece : (n k : ℕ) (xs : List ℕ) → take (n + k) xs ≡ take n xs ++ take k (drop n xs)
 take_piece n k xs = sym (take-append-drop n (take (n + k) xs))
     ∙ (λ i. take-take n (n + k) xs (omega arith) i ++ drop-take n k xs i)
@@ -188,7 +188,7 @@ bytes_all d bytes (suc k) each =
 pub words_enough : (n : ℕ) → n ≤ 4080 → (words_for n ≤ 510) × (n ≤ 8 * words_for n)
 words_enough n le = (omega arith, omega arith)
 
--- a first block, by its words
+-- the first block, by its words
 pub first_block : (d value : List ℕ) (k : ℕ) → length value ≤ 4080
     → 2 + words_for (length value) ≤ length d → get_or d 0 0 ≡ k → get_or d 1 0 ≡ length value
     → take (length value) (bytes_at d 2 (words_for (length value))) ≡ value → IsBlock d 0 k value
@@ -215,7 +215,7 @@ packed_block d value bytes k n le long all number len whole each =
     each q (omega arith)))
     ∙ (take-take (length value) (8 * words_for (length value)) bytes w.1 ∙ whole))
 
--- the last word, which holds the bytes behind the whole words
+-- the last word, with the bytes after the whole words
 pub tail_bytes : (d value rest : List ℕ) (k w : ℕ) → length d ≡ 2 + k
     → bytes_at d 2 k ≡ take (8 * k) value → to_le_bytes w64 w ≡ drop (8 * k) value ++ rest
     → words_for (length value) ≡ k + 1

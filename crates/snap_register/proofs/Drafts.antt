@@ -1,4 +1,4 @@
--- What a seat is after it stored words into the free buffer.
+-- A seat after it stored words into the free buffer.
 use Rattle.std.proofs.Common.{◌≡◌, ℕ, ◌+◌, ◌*◌, ◌≤◌, ◌++◌, List, length, ap, sym, subst, ◌∙◌, arith, length-append}
 use mathlib.Core.List.{IsPrefix}
 use Rattle.snap_history.specs.History.{Start}
@@ -32,7 +32,7 @@ drafted_then a m n l d e =
 pub held_drafted : (m n : Mine) (j : ℕ) → Drafted m n → held n.0 j ≡ held m.0 j
 held_drafted m n j d = ap (λ (x : Mine). held x.0 j) d
 
--- k blocks of the view that an update takes along were stored behind what stood at the place `at`
+-- k blocks of an update's view were appended to a draft that ended at place `at`
 pub record HasCopied (a b : Access) (at to k : ℕ) (f : Start) : Type 0 where
   pub same : HasDrafted a b (draft_of b)
   pub to_is : to ≡ length (draft_of b)
@@ -40,7 +40,7 @@ pub record HasCopied (a b : Access) (at to k : ℕ) (f : Start) : Type 0 where
   pub prefix : IsPrefix (draft_of a) (draft_of b)
   pub blocks : AreBlocks (draft_of b) at k f
 
--- and one more
+-- one block more was appended
 pub block_copied : (a m n : Access) (at to k from size : ℕ) (w : List ℕ) (f : Start)
     → HasCopied a m at to k f → HasDrafted m n (draft_of m ++ piece w from size)
     → (size ≡ size_at w from) × (size ≤ 512) → IsWhole w from → block_at w from ≡ f k

@@ -1,4 +1,4 @@
--- A view is cut in two, or takes in another.
+-- A view is split in two, or joined with another.
 use Rattle.std.proofs.Common.{◌≡◌, ◌≢◌, ℕ, zero, suc, ◌+◌, ◌-◌, ◌<◌, ◌≤◌, ◌⊎◌, inl, inr, ⊎_elim, List, [], ◌∷◌, ◌++◌, length}
 use Rattle.std.proofs.Common.{get_or, set, refl, ap, sym, subst, ◌∙◌, arith, le_refl}
 use Rattle.std.proofs.lemmas.List.{length-set}
@@ -24,13 +24,13 @@ at_end [] a b (suc j) e = absurd (some-ne-none b (sym e))
 at_end (x ∷ xs) a b zero e = inl e
 at_end (x ∷ xs) a b (suc j) e = ⊎_elim (λ z. inl z) (λ t. inr (ap suc t.0, t.1)) (at_end xs a b j e)
 
--- the sum where the view v became a and a new view b came
+-- a sum after view v became a and a new view b was added
 cut : (f : SeatView → ℕ) (vs : List SeatView) (id : ℕ) (v a b : SeatView) → get_elem? vs id ≡ some v
     → total f (set vs id a ++ b ∷ []) + f v ≡ total f vs + f a + f b
 cut f vs id v a b at = let x = total_set f vs id v a at in let y = total_push f (set vs id a) b in
     omega arith
 
--- the sum where the views v and u became a and b
+-- a sum after views v and u became a and b
 bound : (f : SeatView → ℕ) (vs : List SeatView) (id other : ℕ) (v u a b : SeatView)
     → get_elem? vs id ≡ some v → get_elem? (set vs id a) other ≡ some u
     → total f (set (set vs id a) other b) + f v + f u ≡ total f vs + f a + f b
@@ -38,7 +38,7 @@ bound f vs id other v u a b at there = let x = total_set f vs id v a at in let y
     total_set f (set vs id a) other u b there in omega arith
 
 module _ (S : Type 0) where
-  -- the rule over other views with no pin more and none less
+  -- the rule, over other views that hold the same pins
   over : {p : Plan} {s : State S SeatView} (k : Kept p s) (writer : ℕ → ℕ) (vs : List SeatView)
       → total (λ v. v.pin_quota) vs ≤ total (λ v. v.pin_quota) s.views
       → total (λ v. v.left) vs ≤ total (λ v. v.left) s.views
@@ -60,7 +60,7 @@ module _ (S : Type 0) where
     each_seat = each;
   }
 
-  -- the rule where the view v became a, with its pins, and a new view b came, which has none
+  -- the rule after view v became a, with its pins, and a new view b without pins was added
   over_cut : {p : Plan} {s : State S SeatView} (k : Kept p s) (writer : ℕ → ℕ) (id : ℕ)
       (v a b : SeatView) → get_elem? s.views id ≡ some v → a.left + b.left ≤ v.left
       → a.pin_quota + b.pin_quota ≤ v.pin_quota
@@ -83,7 +83,7 @@ module _ (S : Type 0) where
       (sym (t.0 ∙ length-set s.views id a) y, t.1 y)) second)
       (at_end (set s.views id a) b u j e))
 
-  -- a new seat that has no pin and writes nothing, from one that keeps what it writes and pins
+  -- a new seat without pins that writes nothing; the old one keeps its pins and what it writes
   parts : (p : Plan) (id : ℕ) (v : SeatView) (quota left quota' left' : ℕ) (pins records : List ℕ)
       → left + left' ≤ v.left → quota + quota' ≤ v.pin_quota
       → ((i : ℕ) → 0 < get_or v.pins i 0 → 0 < quota) → ((i : ℕ) → get_or pins i 0 ≡ 0)
@@ -120,12 +120,12 @@ module _ (S : Type 0) where
       }
       (λ j u _ there. k.each_seat j u there)
 
-  -- the new seat has seen as much
+  -- the new seat has seen as much as the old one
   pub shares : (p : Plan) (id : ℕ) (v : SeatView) → Splits {S = S} (Kept p) id v v (messenger v)
   shares p id v s k at = parts p id v v.pin_quota v.left 0 0 [] [] (omega arith) (omega arith)
       (k.each_seat id v at).pin_quota (λ i. refl) s k at
 
-  -- the new seat has a pin a register and the looks of a seat, and writes nothing
+  -- the new seat has a pin per register and a seat's looks, and writes nothing
   pub seats_reader : (p : Plan) (id : ℕ) (v : SeatView) → ((i : ℕ) → get_or v.pins i 0 ≡ 0)
       → v.plan.looks ≤ v.left → 1 ≤ v.pin_quota
       → Splits {S = S} (Kept p) id v (without_reader v) (reader v)
@@ -133,7 +133,7 @@ module _ (S : Type 0) where
       parts p id v (v.pin_quota - 1) (v.left - v.plan.looks) 1 v.plan.looks v.pins v.records
       (omega arith) (omega arith) (λ i some_pin. let z = bare i in absurd (omega arith)) bare
 
-  -- the new seat writes the first segment, and the other seat those behind it
+  -- the new seat writes the first segment, the old one those after it
   pub gives : (p : Plan) (id : ℕ) (v : SeatView) → v.seen_end ≡ v.high → v.pool_end ≡ v.high
       → v.low < v.high → ((i : ℕ) → get_or v.pins i 0 ≡ 0) → v.plan.looks ≤ v.left → 1 ≤ v.pin_quota
       → Splits {S = S} (Kept p) id v (without_first_role v) (first_role v)
@@ -180,7 +180,7 @@ module _ (S : Type 0) where
         refl,
       )) t)
 
-  -- the seat takes in what another without a pin, that writes nothing, has seen, and the other is
+  -- the seat joins what another has seen, which has no pin and writes nothing; the other one is
   -- spent
   takes_in : (p : Plan) (id : ℕ) (v : SeatView) (other : ℕ) (u : SeatView)
       (seen received : List Entry) → ((i : ℕ) → get_or u.pins i 0 ≡ 0)
@@ -226,7 +226,7 @@ module _ (S : Type 0) where
       }
       (λ i y _. k.each_seat i y) j x))
 
-  -- the seat is told of what the other has seen
+  -- the seat receives what the other has seen
   pub tells : (p : Plan) (id : ℕ) (v : SeatView) (other : ℕ) (u : SeatView) → v.seen_end ≡ v.high
       → ((i : ℕ) → get_or u.pins i 0 ≡ 0)
       → Joins {S = S} (Kept p) id v other u (with_received v u) spent

@@ -24,7 +24,7 @@ use Rattle.snap_register.proofs.Lines.{prefix_self, prefix_trans, count_prefix, 
 use Rattle.snap_register.proofs.Places.{Apart, word_apart, given_apart, given_same, given_behind, cell_behind, given_cell, given_inside, word_inside}
 use Rattle.snap_register.proofs.Sums.{total_set, total_same, total_one, on_here, on_not, far_none, far_here, pins_at, pin_more}
 
--- f, but y at j
+-- f with y at j
 abbrev pub turn : {A : Type 0} → (ℕ → A) → ℕ → A → ℕ → A
 turn f j y i = cond (i == j) y (f i)
 
@@ -37,7 +37,7 @@ turn_else f j y i e = grind (arith, nat_tests)
 turn_same : {A : Type 0} (f : ℕ → A) (j i : ℕ) → turn f j (f j) i ≡ f i
 turn_same f j i = grind (arith, nat_tests)
 
--- the words of the register i stay
+-- the words of register i stay
 pub record SameWords (p : Plan) (ws ws' : List ℕ) (i : ℕ) : Type 0 where
   pub word : get_or ws' i 0 ≡ get_or ws i 0
   pub givens : (b : ℕ) → b < buffers p → get_or ws' (given p i b) 0 ≡ get_or ws (given p i b) 0
@@ -47,7 +47,7 @@ pub record SameWords (p : Plan) (ws ws' : List ℕ) (i : ℕ) : Type 0 where
 pub words_same : (p : Plan) (ws : List ℕ) (i : ℕ) → SameWords p ws ws i
 words_same p ws i = record { word = refl; givens = λ b lb. refl; cells = λ b q lb lq. refl }
 
--- they do where another word is stored
+-- another word was stored
 pub words_beside : {p : Plan} (ws : List ℕ) (c y i : ℕ) → Apart p i c
     → SameWords p ws (set ws c y) i
 words_beside {p} ws c y i apart = record {
@@ -56,11 +56,11 @@ words_beside {p} ws c y i apart = record {
   cells = λ b q lb lq. get_or-set_other ws c (cell p i b q) y 0 (apart.cells b q lb lq);
 }
 
--- a sum over the views' pins on the register i
+-- the sum of f over the views' pins on register i
 abbrev pub over_pins : (ℕ → ℕ) → ℕ → List SeatView → ℕ
 over_pins f i vs = total (λ v. f (get_or v.pins i 0)) vs
 
--- a register whose own words and pins don't change
+-- a register whose words and pins don't change
 pub register_stays : {p : Plan} {h h' : List Entry} {ws ws' : List ℕ} {vs vs' : List SeatView}
     {i : ℕ} {d : Pool} {x : ℕ} → SameWords p ws ws' i
     → ((f : ℕ → ℕ) → f 0 ≡ 0 → over_pins f i vs' ≡ over_pins f i vs)
@@ -90,7 +90,7 @@ register_stays {p} {h} {h'} {ws} {ws'} {vs} {vs'} {i} {d} {x} words pins lefts l
           (λ q lq lw. words.cells d.current q r.current lq ∙ r.latest q lq lw);
     }
 
--- the same where one view changed, with its pin on the register
+-- a register whose words don't change, when one view changes but not its pin there
 pub register_beside : {p : Plan} {h h' : List Entry} {ws ws' : List ℕ} {vs : List SeatView} {i : ℕ}
     {d : Pool} {x : ℕ} (id : ℕ) (v w : SeatView) → get_elem? vs id ≡ some v
     → get_or v.pins i 0 ≡ get_or w.pins i 0 → w.left ≤ v.left → SameWords p ws ws' i
@@ -110,7 +110,7 @@ pinned_stays {p} {h} {h'} {ws} {ws'} {i} {b} {r} pre cells k = record {
       (λ q lq lw. cells q lq ∙ k.holds q lq lw);
 }
 
--- what a seat knows stays, where the buffers that it pins and what it writes stay
+-- what a seat knows stays true while the buffers that it pins and what it writes stay
 pub knows_stays : {p : Plan} {h h' : List Entry} {ws ws' : List ℕ} {writer writer' : ℕ → ℕ}
     {pools pools' : ℕ → Pool} {j : ℕ} {v : SeatView} → IsPrefix h h'
     → ((i b q : ℕ) → i < segments p → b < buffers p → get_or v.pins i 0 ≡ b + 1 → q < width p
@@ -149,7 +149,7 @@ module _ (S : Type 0) where
       subst (λ (x : ℕ × SeatView). K x.0 x.1) (λ i. (sym t.0 i, t.1 i)) mine)
       (λ (t : (j ≢ me) × (get_elem? vs j ≡ some v)). others j v t.0 t.1) (at_set vs me j w v e)
 
-  -- a step may be taken that keeps the rule of the seat's own plan, which is the table's
+  -- a step may be taken if it keeps the rule of the seat's own plan, which is the table's
   pub allowed : (p : Plan) (slots id : ℕ) (m : M) (c : ℕ) (f : ℕ → ℕ) (tells : ℕ → M → Type 0)
       → m.0.spent ≡ false
       → ((s : St) (k : Kept m.0.plan s) → get_elem? s.views id ≡ some m.0
@@ -167,7 +167,7 @@ module _ (S : Type 0) where
         r.2,
       )
 
-  -- the rule once the seat id has taken a step, by what it left
+  -- the rule after seat id has taken a step that left this
   kept_after : {p : Plan} {s : St} (k : Kept p s) (id : ℕ) (v w : SeatView) (ws : List ℕ)
       (h : List Entry) (pools : ℕ → Pool) (pinned : ℕ → ℕ) → get_elem? s.views id ≡ some v
       → w.pin_quota ≡ v.pin_quota → length ws ≡ length s.words → IsLegal p h
@@ -192,7 +192,7 @@ module _ (S : Type 0) where
         each_seat = seats_stay (Knows p h ws k.writer pools) s.views id w mine theirs;
       }
 
-  -- a step on the register i, which has the pool d then, and whose current word counts x pins
+  -- a step on register i, which then has pool d, and whose current word counts x pins
   pub step_keeps : {p : Plan} {s : St} (k : Kept p s) (id i : ℕ) (v w : SeatView) (ws : List ℕ)
       (h : List Entry) (d : Pool) (x : ℕ) → get_elem? s.views id ≡ some v
       → w.pin_quota ≡ v.pin_quota → w.left ≤ v.left → length ws ≡ length s.words → IsLegal p h
@@ -216,7 +216,7 @@ module _ (S : Type 0) where
       (sym (turn_else k.pools i d a ne) t, sym (turn_else k.pinned i x a ne) t))
       (register_beside id v w at (pins a ne) left (words a la ne) (lines a ne) (k.registers a la))))
 
-  -- a step on the register j that changes no buffer, no pool and not the history
+  -- a step on register j that changes no buffer, no pool and not the history
   pin_step : {p : Plan} {s : St} (k : Kept p s) (id j : ℕ) (v w : SeatView) (c y x : ℕ)
       → get_elem? s.views id ≡ some v → w.pin_quota ≡ v.pin_quota → w.left ≤ v.left
       → ((a : ℕ) → a < segments p → a ≢ j → Apart p a c)
@@ -233,7 +233,7 @@ module _ (S : Type 0) where
       (λ a b q la lb pin lq. get_or-set_other s.words c (cell p a b q) y 0 (cells a b q))
       (λ a has. (refl, turn_same k.pools j a, refl)) (k.each_seat i u there))
 
-  -- a load leaves the words
+  -- a load leaves the words unchanged
   pub loaded : {p : Plan} (s : St) (c id : ℕ) (cs : List (ℕ × S)) (w : SeatView)
       → Kept p record { words = s.words; homes = s.homes; views = set s.views id w }
       → Kept p (stepped s c (get_or s.words c 0) id cs w keeps)
@@ -243,7 +243,7 @@ module _ (S : Type 0) where
     views = set s.views id w;
   }) (sym (set-get_or s.words c 0))
 
-  -- a load after which no pin and no pool has changed
+  -- a load that changes no pin and no pool
   unmoved : {p : Plan} {s : St} (k : Kept p s) (c id : ℕ) (cs : List (ℕ × S)) (v w : SeatView)
       → get_elem? s.views id ≡ some v → w.pin_quota ≡ v.pin_quota → w.left ≡ v.left
       → w.pins ≡ v.pins → Knows p k.history s.words k.writer k.pools id w
@@ -271,7 +271,7 @@ module _ (S : Type 0) where
         ),
       ))
 
-  -- what a seat is told that sees the whole history
+  -- what a seat learns that sees the whole history
   told_all : {s : St} (v w : SeatView) (k : Kept v.plan s) (id : ℕ) → get_elem? s.views id ≡ some v
       → w.seen ≡ k.history → Learns v w
   told_all v w k id at is =

@@ -1,4 +1,4 @@
--- What a seat keeps as it looks.
+-- What a seat keeps through its looks.
 use Rattle.std.proofs.Common.{◌≡◌, ◌≢◌, ℕ, ◌+◌, ◌-◌, ◌<◌, ◌≤◌, List, [], ◌∷◌, ◌++◌, length, get_or, set, refl, ap, sym, subst}
 use Rattle.std.proofs.Common.{◌∙◌, arith, get_or-set_same, get_or-set_other, le_refl, append_assoc}
 use Rattle.std.proofs.lemmas.List.{length-set, set-get_or}
@@ -20,7 +20,7 @@ use Rattle.snap_register.specs.Steps.{view_of}
 use Rattle.snap_register.proofs.Views.{all_readable}
 use Rattle.snap_register.proofs.Lines.{count_prefix, count-append, count_push_same}
 
--- what holds of y at j, and of the other entries, holds of all once y stands at j
+-- if y has a property at j, and the other entries have it, then all have it after y is set at j
 pub set_each : (P : ℕ → ℕ → Type 0) (l : List ℕ) (j y : ℕ) → j < length l → P j y
     → ((i : ℕ) → i ≢ j → P i (get_or l i 0)) → (i : ℕ) → P i (get_or (set l j y) i 0)
 set_each P l j y inside here others i = dite (ℕ_discrete i j)
@@ -28,7 +28,7 @@ set_each P l j y inside here others i = dite (ℕ_discrete i j)
     (subst (P j) (sym (get_or-set_same l j y 0 inside)) here))
     (λ ne. subst (P i) (sym (get_or-set_other l j i y 0 ne)) (others i ne))
 
--- a seat at rest, in which nothing but these has changed
+-- a seat at rest in which only these have changed
 abbrev pub changed : {S : Type 0} → Me S SeatView → List Entry → ℕ → List ℕ → List ℕ → List Sight
     → Pool → Me S SeatView
 changed m seen left pins records sights pool = (
@@ -47,14 +47,14 @@ changed m seen left pins records sights pool = (
 
 module _ {S : Type 0} {words left : ℕ} {pins : List ℕ} {m : Me S SeatView}
     (seated : IsSeated words pins left m) where
-  -- between two calls it has seen all that it was told
+  -- between two calls it has seen all that it received
   settled : m ≡ (record m.0 { received = []; seen_end = m.0.high }, m.1)
   settled = λ t. (
     record m.0 { received = seated.received_none t; seen_end = seated.seen_end_is t },
     m.1,
   )
 
-  -- where nothing but the pins, the records, the looks, the pool and what was seen changes
+  -- only the pins, the records, the looks, the pool and what was seen have changed
   seated_with : {words' left' l : ℕ} {pins' : List ℕ} {m' : Me S SeatView} (seen : List Entry)
       (ps ms : List ℕ) (ss : List Sight) (d : Pool) → words' ≡ words → left' ≡ l
       → m' ≡ changed m seen l ps ms ss d → length ps ≡ length m.0.pins
@@ -82,7 +82,7 @@ module _ {S : Type 0} {words left : ℕ} {pins : List ℕ} {m : Me S SeatView}
         readable = read;
       })
 
-  -- where the pin on the register j becomes x
+  -- the pin on register j becomes x
   seated_set : {words' left' l : ℕ} {m' : Me S SeatView} (j x : ℕ) (seen : List Entry)
       (ms : List ℕ) (ss : List Sight) → j < segments m.0.plan → j < length pins
       → x ≤ buffers m.0.plan → words' ≡ words → left' ≡ l
@@ -125,7 +125,7 @@ module _ {S : Type 0} {words left : ℕ} {pins : List ℕ} {m : Me S SeatView}
       (is ∙ ap (λ (n : Me S SeatView). (record n.0 { pins = set m.0.pins j 0 }, n.1)) settled) refl
       seated.records_are seated.readable
 
-  -- where nothing but the pool changes
+  -- only the pool has changed
   pub seated_pool : {words' : ℕ} {m' : Me S SeatView} (d : Pool) → words' ≡ words
       → m' ≡ (record m.0 { pool = d }, m.1) → IsSeated words' pins left m'
   seated_pool d same is =
@@ -133,7 +133,7 @@ module _ {S : Type 0} {words left : ℕ} {pins : List ℕ} {m : Me S SeatView}
       (is ∙ ap (λ (n : Me S SeatView). (record n.0 { pool = d }, n.1)) settled) refl refl
       seated.pins_are seated.pins_inside seated.records_are seated.readable
 
-  -- and what was seen
+  -- only the pool and what was seen have changed
   pub seated_shown : {n s block_words whole words' : ℕ} {m' : Me S SeatView} (d : Pool)
       (seen : List Entry) → IsSized n s block_words whole m.0.plan → words' ≡ words
       → m' ≡ (record m.0 { seen = seen; pool = d }, m.1) → IsPrefix m.0.seen seen
@@ -146,7 +146,7 @@ module _ {S : Type 0} {words left : ℕ} {pins : List ℕ} {m : Me S SeatView}
       refl
       seated.pins_are seated.pins_inside old (all_readable m.0.records sized legal old)
 
--- the sizes are those of its plan still
+-- the sizes are still those of the plan
 pub sized_still : (a : Access) {p : Plan} → p ≡ (view_of a).plan
     → IsSized a.segments a.scanners a.block_words a.words p
 sized_still a e =

@@ -1,4 +1,4 @@
--- What a beginning of a history, and one more update, do to a segment's line.
+-- How a beginning of a history, and one more update, change a segment's line.
 use Rattle.std.proofs.Common.{◌≡◌, ◌≢◌, ℕ, zero, suc, ◌+◌, ◌<◌, ◌≤◌, ◌==◌, ◌⊎◌, inl, inr, ⊎_elim, Bool, true, false, cond, List, []}
 use Rattle.std.proofs.Common.{◌∷◌, ◌++◌, length, get_or, refl, ap, sym, subst, ◌∙◌, arith, append_assoc, length-append}
 use Rattle.std.proofs.lemmas.List.{same_from_push, get_or_append_left, get_or_push, nil_from_length, append-nil}
@@ -28,7 +28,7 @@ pub only-append : (i : ℕ) (a b : List Entry) → only i (a ++ b) ≡ only i a 
 only-append i [] b = refl
 only-append i (x ∷ xs) b = both (x.segment == i) x _ _ _ (only-append i xs b)
 
--- one entry in front, of the segment or of another
+-- one entry in front, of this segment or of another
 only_first : (i : ℕ) (x : Entry) (h : List Entry) → x.segment ≡ i → only i (x ∷ h) ≡ x ∷ only i h
 only_first i x h same = grind (arith, nat_tests)
 
@@ -62,7 +62,7 @@ count_rest i a h p = ap (count i) (sym p.1) ∙ count-append i a p.0
 pub count_prefix : (i : ℕ) (a h : List Entry) → IsPrefix a h → count i a ≤ count i h
 count_prefix i a h p = omega (arith, count_rest i a h p)
 
--- what a record of a beginning's line has, the whole's has
+-- a record of a beginning's line is a record of the whole history's line
 pub record_prefix : (p : Plan) (a h : List Entry) (i r : ℕ) → IsPrefix a h → r ≤ count i a
     → record_words p h i r ≡ record_words p a i r
 record_prefix p a h i r pre le =
@@ -104,12 +104,13 @@ pub legal_prefix : (p : Plan) (a h : List Entry) → IsPrefix a h → IsLegal p 
 legal_prefix p a h pre legal l r e is =
     legal l (r ++ pre.0) e (sym (append_assoc l (e ∷ r) pre.0) ∙ (ap (λ w. w ++ pre.0) is ∙ pre.1))
 
--- what may follow a beginning may follow the whole, where its segment has no further update
+-- an update that may follow a beginning may follow the whole history, if its segment has no further
+-- update there
 pub follows_later : (p : Plan) (a h : List Entry) (x : Entry) → IsPrefix a h
     → count x.segment a ≡ count x.segment h → Follows p a x → Follows p h x
 follows_later p a h x pre same f = (f.0, prefix_trans f.0 a h f.1 pre, f.2 ∙ same, f.3)
 
--- the update at the place r of a segment's line, and what stands before it
+-- update r of a segment's line, with what precedes and what follows it
 pub record Found (i r : ℕ) (h : List Entry) : Type 0 where
   pub before : List Entry
   pub after : List Entry

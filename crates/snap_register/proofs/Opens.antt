@@ -1,4 +1,4 @@
--- The words at the start keep the rule, and the first seat hands out the others.
+-- The words at the start keep the rule, and the first seat splits off the others.
 use Rattle.std.proofs.Common.{◌≡◌, ℕ, zero, suc, ◌+◌, ◌-◌, ◌*◌, ◌<◌, ◌≤◌, ⊎_elim, List, [], ◌∷◌, ◌++◌, map, length}
 use Rattle.std.proofs.Common.{get_or, refl, ap, sym, subst, ◌∙◌, arith, length-append, suc-mul, mul-le-mul_right}
 use Rattle.std.proofs.lemmas.Bool.Decides.{nat_tests}
@@ -37,7 +37,7 @@ fewer_looks (suc l) looks any =
 legal_none : (p : Plan) → IsLegal p []
 legal_none p a b e is = absurd (omega (arith, ap length is, length-append a (e ∷ b)))
 
--- zeros alone
+-- zeros only
 none_at : (n i : ℕ) → get_or {A = ℕ} (replicate n 0) i 0 ≡ 0
 none_at n i = dite (dec_le n i)
     (λ past. get_or_past (replicate n 0) i 0 (omega (arith, length-replicate {A = ℕ} n 0)))
@@ -55,7 +55,7 @@ module _ (S : Type 0) where
       → get_or m.0.pins i 0 ≡ 0
   bare words l m f i = ap (λ (z : List ℕ). get_or z i 0) f.pins_are ∙ none_at (segments m.0.plan) i
 
-  -- once a seat was handed out, which takes the segments below `low`
+  -- after a seat was split off that takes the segments below `low`
   pub first_after : (words words' l k low : ℕ) (m n : Me S SeatView) → IsFirst words l m → k + 1 ≡ l
       → words' ≡ words → n ≡ (
         record m.0 {

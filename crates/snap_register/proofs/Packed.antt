@@ -1,4 +1,4 @@
--- Registers that open with packed values.
+-- Registers that start with packed values.
 use Rattle.std.proofs.Common.{◌≡◌, ℕ, ◌^◌, ◌≤◌, List, length, map, take, slice_get, Some, refl, ap, sym, subst, ◌∙◌, arith}
 use Rattle.std.proofs.Common.{mul-le-mul_right}
 use Rattle.std.proofs.lemmas.List.{length-map, take_all}
@@ -71,7 +71,7 @@ opening_is scanners looks vs os p = record {
       λ t. (number t, value t);
 }
 
--- once all were packed
+-- after all were packed
 pub packed_all : {A : Type 0} (f : A → ℕ × List ℕ) (k : ℕ) (xs : List A) (os : List Opening)
     → length xs ≤ k → Pairs (λ _. IsPacked) (map f (take k xs)) os
     → Pairs (λ _. IsPacked) (map f xs) os

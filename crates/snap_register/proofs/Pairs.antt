@@ -1,11 +1,11 @@
--- Two lists with a fact at each place, which grow at their ends.
+-- Two lists of equal length, with a fact that holds at each place, which grow by appending.
 use Rattle.std.proofs.Common.{◌≡◌, ◌⊎◌, inl, inr, ⊎_elim, ℕ, zero, suc, ◌+◌, List, [], ◌∷◌, ◌++◌, length, map, take, slice_get, Some}
 use Rattle.std.proofs.Common.{refl, ap, sym, subst, ◌∙◌, arith}
 use Rattle.std.proofs.lemmas.List.{length_push, map-append, take_more}
 use Rattle.std.proofs.lemmas.Option.{slice_get_within, get_or_from_slice_get, same_Some}
 use Rattle.snap_history.specs.Pairs.{Pairs}
 
--- an element of a list with one more at its end
+-- an element of a list with one more appended
 pub get_pushed : {A : Type 0} (l : List A) (a b : A) (j : ℕ) → slice_get (l ++ a ∷ []) j ≡ Some b
     → (slice_get l j ≡ Some b) ⊎ ((j ≡ length l) × (a ≡ b))
 get_pushed [] a b zero e = inr (refl, same_Some a b e)

@@ -1,4 +1,4 @@
--- Where the words of the registers lie.
+-- The places of the registers' words.
 use Rattle.std.proofs.Common.{◌≡◌, ◌≢◌, ℕ, ◌+◌, ◌*◌, ◌<◌, ◌≤◌, ap, sym, mul-le-mul_right, arith}
 use mathlib.Core.Logic.{dite}
 use native.Mathlib.Decide.{dec_le}
@@ -19,7 +19,7 @@ parts_same a b w q s lq ls e =
     let same : a ≡ b = omega arith in
     (same, omega (arith, ap (λ (z : ℕ). z * w) same))
 
--- the word c isn't of the register i
+-- word c isn't one of register i
 pub record Apart (p : Plan) (i c : ℕ) : Type 0 where
   pub word : i ≢ c
   pub givens : (b : ℕ) → b < buffers p → given p i b ≢ c
@@ -61,7 +61,7 @@ module _ (p : Plan) where
   pub word_inside : (i : ℕ) → i < segments p → i < size p
   word_inside i li = omega arith
 
-  -- the words of another register j
+  -- the current word of another register j
   pub word_apart : (i j : ℕ) → j < segments p → i ≢ j → Apart p i j
   word_apart i j lj ne = record {
     word = ne;

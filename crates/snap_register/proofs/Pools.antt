@@ -1,4 +1,4 @@
--- The writer's steps keep the rule: a check of a buffer, a load and a store in the free one, a
+-- A writer's steps keep the rule: a check of a buffer, a load and a store in the free one, a
 -- publication.
 use Rattle.std.proofs.Common.{◌≡◌, ◌≢◌, ℕ, ◌+◌, ◌-◌, ◌*◌, ◌^◌, ◌<◌, ◌≤◌, List, [], ◌∷◌, ◌++◌, length, get_or, set, false, refl, ap, sym}
 use Rattle.std.proofs.Common.{subst, ◌∙◌, arith, length-append, get_or-set_same, get_or-set_other, le_refl}
@@ -34,7 +34,7 @@ module _ (S : Type 0) where
   abbrev M : Type 0
   M = Me S SeatView
 
-  -- what the writer of the register i knows of it before a step
+  -- what the writer of register i knows of it before a step
   record Own (s : St) (id : ℕ) (v : SeatView) (k : Kept v.plan s) (i : ℕ) : Type 0 where
     known : Knows v.plan k.history s.words k.writer k.pools id v
     its : k.writer i ≡ id
@@ -55,8 +55,8 @@ module _ (S : Type 0) where
             (own.pool (let a = role.3 in omega arith)) (k.registers i inside);
       }
 
-  -- a step of the writer of the segment i, with which its pool changes, maybe words of its free
-  -- buffer, and maybe what was seen and the history by an update of its own
+  -- a step of the writer of segment i that changes its pool, perhaps words of its free buffer, and
+  -- perhaps adds its own update to the history
   pool_step : (s : St) (id i : ℕ) (v : SeatView) (k : Kept v.plan s) (ws : List ℕ)
       (seen h : List Entry) (d : Pool) (x : ℕ) → get_elem? s.views id ≡ some v → IsWriter v i
       → i < segments v.plan → length ws ≡ length s.words → IsPrefix k.history h
@@ -113,7 +113,7 @@ module _ (S : Type 0) where
       other_seat (sym (t.role a has).own ∙ (ap k.writer e ∙ own.its)) in
       (refl, turn_else k.pools i d a apart, lines a apart)) t)
 
-  -- a load by the writer after which its pool has changed
+  -- a load by the writer that changes its pool
   pool_load : (s : St) (id i c : ℕ) (m : M) (k : Kept m.0.plan s) (d : Pool) (x : ℕ)
       → get_elem? s.views id ≡ some m.0 → IsWriter m.0 i → i < segments m.0.plan
       → Register m.0.plan k.history s.words (set s.views id (record m.0 { pool = d })) i d x
@@ -126,7 +126,7 @@ module _ (S : Type 0) where
       (λ a la ne. words_same m.0.plan s.words a)
       (λ b q lb lq ne. refl) mine)
 
-  -- the own register over the views with another pool
+  -- the writer's own register, over the views with another pool
   with_pool : (s : St) (id i : ℕ) (v : SeatView) (k : Kept v.plan s) (seen : List Entry) (d : Pool)
       → get_elem? s.views id ≡ some v → IsWriter v i → i < segments v.plan
       → Register v.plan k.history s.words
@@ -201,7 +201,7 @@ module _ (S : Type 0) where
         (λ same. absurd (differs same), λ _. (refl, omega arith)),
       ))))
 
-  -- the next word of the free buffer, behind the words l of the draft that stay, is y
+  -- the next word of the free buffer, after the words l of the draft that stay, is y
   draft_at : (s : St) (id : ℕ) (m : M) (k : Kept m.0.plan s) (i c y : ℕ)
       (l : List ℕ) → get_elem? s.views id ≡ some m.0 → IsWriter m.0 i → i < segments m.0.plan
       → m.0.pool.free_buffer < buffers m.0.plan → length l ≤ length m.0.pool.draft
@@ -263,7 +263,7 @@ module _ (S : Type 0) where
             ∙ r.latest q lq lw;
       })
 
-  -- after a load the next word is as it was found
+  -- after a load the next word is the one found
   pub reuses : (p : Plan) (slots id : ℕ) (m : M) (i c : ℕ) → m.0.spent ≡ false → IsWriter m.0 i
       → i < segments m.0.plan → m.0.pool.free_buffer < buffers m.0.plan
       → length m.0.pool.draft < width m.0.plan
@@ -279,7 +279,7 @@ module _ (S : Type 0) where
         refl,
       ))
 
-  -- after a store it is what was stored
+  -- after a store the word is the one stored
   pub redrafts : (p : Plan) (slots id : ℕ) (m : M) (i c y : ℕ) → m.0.spent ≡ false
       → IsWriter m.0 i → i < segments m.0.plan → m.0.pool.free_buffer < buffers m.0.plan
       → 0 < length m.0.pool.draft → length m.0.pool.draft ≤ width m.0.plan

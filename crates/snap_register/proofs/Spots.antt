@@ -1,4 +1,4 @@
--- Words at their places in the table.
+-- The places of records' words in the table.
 use Rattle.std.proofs.Common.{◌≡◌, ℕ, ◌+◌, ◌-◌, ◌<◌, ◌++◌, List, length, get_or, ap, subst, ◌∙◌, arith, length-append}
 use Rattle.atomic_table.specs.Table.{Me}
 use Rattle.snap_register.specs.declared.plan.SeatView.{SeatView}
@@ -8,13 +8,13 @@ use Rattle.snap_register.specs.Setup.{IsSeated}
 use Rattle.snap_register.specs.Steps.{Owns, IsFree, LiesAt, IsNext, IsLast}
 use Rattle.snap_register.proofs.Places.{cell_inside}
 
--- the words of a record lie one behind the other
+-- the words of a record are consecutive
 pub lies_more : (v : SeatView) (j q k r first place : ℕ) → LiesAt v j q first
     → r < length (held v j) → r ≡ q + k → place ≡ first + k → LiesAt v j r place
 lies_more v j q k r first place lies inside more e =
     record { pinned = lies.pinned; inside = inside; is = omega arith }
 
--- where the first words of a draft went, the next one comes behind them
+-- the next word of a draft is at the next place
 pub next_more : (v : SeatView) (i b to q first place : ℕ) (ws : List ℕ) → Owns v i → IsFree v b
     → to ≡ length v.pool.draft → length ws ≡ q → to + q < width v.plan
     → first ≡ cell v.plan i b to → place ≡ first + q

@@ -24,7 +24,7 @@ pub total_push : (f : SeatView → ℕ) (vs : List SeatView) (w : SeatView)
 total_push f [] w = omega arith
 total_push f (x ∷ xs) w = let h = total_push f xs w in omega arith
 
--- one view's part is no more than the sum
+-- one view's summand is at most the sum
 pub total_one : (f : SeatView → ℕ) (vs : List SeatView) (k : ℕ) (v : SeatView)
     → get_elem? vs k ≡ some v → f v ≤ total f vs
 total_one f [] k v e = absurd (some-ne-none v (sym e))
@@ -48,7 +48,7 @@ on_here i b v e = grind (arith, nat_tests)
 pub on_not : (i b : ℕ) (v : SeatView) → get_or v.pins i 0 ≢ b + 1 → on i b v ≡ 0
 on_not i b v e = grind (arith, nat_tests)
 
--- no view pins where the sum is 0
+-- if the sum is 0, no view pins the buffer
 pub none_on : (i b : ℕ) (vs : List SeatView) (k : ℕ) (v : SeatView) → total (on i b) vs ≡ 0
     → get_elem? vs k ≡ some v → get_or v.pins i 0 ≢ b + 1
 none_on i b vs k v none at e = let a = on_here i b v e in let t = total_one (on i b) vs k v at in
@@ -66,7 +66,7 @@ far_le t c x = grind (arith, nat_tests)
 pub other_ne : (c k : ℕ) → other c k ≢ c
 other_ne c k e = grind (arith, nat_tests)
 
--- the next other buffer's pins are no longer among those further on
+-- the pins on the next other buffer no longer count among those further on
 far_next : (c k x : ℕ)
     → cond (x == other c k + 1) 1 0 + far (other c (k + 1)) c x ≡ far (other c k) c x
 far_next c k x = grind (arith, nat_tests)
@@ -77,19 +77,19 @@ pub beyond_next : (i c k : ℕ) (vs : List SeatView)
 beyond_next i c k vs = total_add (on i (other c k)) (beyond i (other c (k + 1)) c)
     (beyond i (other c k) c) vs (λ v. far_next c k (get_or v.pins i 0))
 
--- pins that the current word counts, at its buffer and elsewhere
+-- pins that the current word counts: on its own buffer, and on others
 pub pins_at : (d : Pool) (x b : ℕ) → d.current ≡ b → pins_of d x b ≡ get_or d.counted b 0 + x
 pins_at d x b e = grind (arith, nat_tests)
 
 pub pins_else : (d : Pool) (x b : ℕ) → d.current ≢ b → pins_of d x b ≡ get_or d.counted b 0
 pins_else d x b e = grind (arith, nat_tests)
 
--- one pin more on the current buffer, which this view has
+-- one pin more on the current buffer, by this view
 pub pin_more : (d : Pool) (x b j : ℕ) (w : SeatView) → get_or w.pins j 0 ≡ d.current + 1
     → (pins_of d (x + 1) b ≡ pins_of d x b + on j b w) × (pins_of d (x + 1) b ≤ pins_of d x b + 1)
 pin_more d x b j w pin = (grind (arith, nat_tests), grind (arith, nat_tests))
 
--- the pins on each buffer, once the current word's were added and the buffer f is current
+-- the pins on each buffer, after the current word's were added and buffer f became current
 pub pins_moved : (d : Pool) (x c f : ℕ) → d.current < length d.counted
     → get_or d.counted d.current 0 + x ≡ c
     → (b : ℕ) → get_or (set d.counted d.current c) b 0 + cond (f == b) 0 0 ≡ pins_of d x b

@@ -1,4 +1,4 @@
--- The registers' history as updates of a memory: what a seat knows, in a caller's words.
+-- The registers' history as updates of a memory: what a seat knows, in its callers' terms.
 use Rattle.std.proofs.Common.{◌≡◌, ℕ, zero, suc, ◌+◌, ◌<◌, ◌≤◌, ◌==◌, Bool, true, false, cond, List, [], ◌∷◌, ◌++◌, length, get_or}
 use Rattle.std.proofs.Common.{Some, None, slice_get, refl, ap, sym, subst, ◌∙◌, arith, append_assoc}
 use Rattle.std.specs.Prelude.{if◌then◌else◌}
@@ -64,7 +64,7 @@ pub value_is : (p : Plan) (h : List Entry) (i : ℕ)
     → value_after (starts p) (updates h) i ≡ (memory p h i).1
 value_is p h i = last_is i h (entry i (start_at p i).words)
 
--- a beginning of the one is a beginning of the other
+-- A beginning of one is a beginning of the other:
 
 pub beginning_is : (a h : List Entry) → IsPrefix a h → IsBeginning (updates a) (updates h)
 beginning_is a h pre = (updates pre.0, sym (ap updates pre.1) ∙ map-append update_of a pre.0)
@@ -86,7 +86,7 @@ back (u ∷ part) (x ∷ h) b =
       is = cc (first, rest.is);
     }
 
--- a beginning with this many updates of j
+-- a beginning with r updates of j
 pub record Moment (h : List Entry) (j r : ℕ) : Type 0 where
   pub part : List Entry
   pub prefix : IsPrefix part h
@@ -109,7 +109,7 @@ moment h j (suc r) le =
       count_is = omega arith;
     }
 
--- what the last look told
+-- What the last look found:
 
 pub looked_some : (z : TableId) (v : SeatView) (j : ℕ) → 0 < get_or v.pins j 0
     → looked (known z v) j ≡ Some ((start_at v.plan j).number + get_or v.records j 0)
@@ -134,7 +134,7 @@ update_found z v j found =
     let e = t.1 in
     (t.0, omega arith)
 
--- a seat's calls
+-- The calls of a seat:
 
 pub grows_is : (z z' : TableId) (v w : SeatView) → z' ≡ z → w.plan ≡ v.plan → w.low ≡ v.low
     → w.high ≡ v.high → IsPrefix v.seen w.seen → ((i : ℕ) → Has v i → only i w.seen ≡ only i v.seen)
@@ -149,7 +149,7 @@ grows_is z z' v w same plan low high later own = record {
       let c : count i w.seen ≡ count i v.seen = ap length (own i (l, h)) in omega arith;
 }
 
--- a meeting, after which the seat has seen this
+-- a meeting, after which the seat has seen h
 pub meets_is : (z z' : TableId) (v w : SeatView) (h : List Entry) → z' ≡ z
     → w ≡ record v { seen = h } → IsPrefix v.seen h
     → ((i : ℕ) → Has v i → only i h ≡ only i v.seen) → Meets (known z v) (known z' w)
@@ -224,7 +224,7 @@ view_shown z v j set xs legal found le size each =
       };
     }
 
--- a caller's view is one that the seat can take along
+-- A view that the caller may publish can be carried by the seat:
 
 pub can_take : (z : TableId) (v : SeatView) (view : View) → MayPublish (known z v) view
     → CanTake v view
@@ -270,7 +270,7 @@ may_take z v (Borrowed j) read m = λ part pre before.
     let b = number_is v.plan v.seen v.low in
     omega arith
 
--- and then the update may follow
+-- then the update may follow
 follows_of : (v : SeatView) (i k : ℕ) (view : View) (value d e : List ℕ) (part : List Entry)
     → IsPrefix part v.seen → count i part ≡ count i v.seen
     → ((j : ℕ) → j < segments v.plan → taken v view j ≡ memory v.plan part j)
@@ -304,7 +304,7 @@ follows_is v i k (Borrowed j) value d e can may old next own long pre blocks leg
 abbrev the_update : ℕ → List ℕ → Update
 the_update i l = record { segment = i; value = l }
 
--- what a publication leaves
+-- the effect of a publication
 pub shown_is : (z z' : TableId) (v w : SeatView) (i k : ℕ) (value : List ℕ) → z' ≡ z → v.low ≡ i
     → IsShown v w i k value → Shows (known z v) (known z' w) value
 shown_is z z' v w i k value same low s =

@@ -1,5 +1,5 @@
--- Words and sizes as another program packs them: Python's struct.unpack("<Q", bytes), of bytes that
--- are filled up with zeros to eight.
+-- Words and sizes as another program packs them: Python's struct.unpack("<Q", bytes), with the
+-- bytes padded with zeros to eight.
 use Rattle.std.proofs.Common.{◌≡◌, ℕ, ◌+◌, ◌∷◌, [], refl}
 use Rattle.std.specs.Int.{w64, to_le_bytes}
 use Rattle.snap_register.specs.Words.{words_for}
@@ -16,7 +16,7 @@ greatest : to_le_bytes w64 18446744073709551615
     ≡ 255 ∷ 255 ∷ 255 ∷ 255 ∷ 255 ∷ 255 ∷ 255 ∷ 255 ∷ []
 greatest = refl
 
--- no byte, and zeros
+-- no bytes, padded
 no_tail : to_le_bytes w64 0 ≡ 0 ∷ 0 ∷ 0 ∷ 0 ∷ 0 ∷ 0 ∷ 0 ∷ 0 ∷ []
 no_tail = refl
 

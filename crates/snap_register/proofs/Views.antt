@@ -1,4 +1,4 @@
--- What a published record holds: its number, its value and its view.
+-- The contents of a published record: its number, its value and its view.
 use Rattle.std.proofs.Common.{◌≡◌, ℕ, zero, suc, ◌+◌, ◌*◌, ◌^◌, ◌<◌, ◌≤◌, List, [], ◌∷◌, length, get_or, ap, subst, ◌∙◌, arith}
 use mathlib.Core.List.{IsPrefix}
 use Rattle.snap_register.specs.declared.access.Access.{Access}
@@ -13,7 +13,7 @@ use Rattle.snap_register.specs.Steps.{view_of}
 use Rattle.snap_register.proofs.Blocks.{behind_small, size_small}
 use Rattle.snap_register.proofs.Lines.{find, prefix_trans}
 
--- an update's record: its own block, and the view that it took along
+-- the record of an update: its own block, and the view that it carries
 pub record Viewed (p : Plan) (h : List Entry) (j r : ℕ) : Type 0 where
   pub part : List Entry
   pub beginning : IsPrefix part h
@@ -68,7 +68,7 @@ readable p h j (suc r) legal block_words start le =
       );
     }
 
--- all that a seat may pin
+-- all records that a seat may pin
 pub all_readable : {n s block_words words : ℕ} {p : Plan} {h : List Entry} (ms : List ℕ)
     → IsSized n s block_words words p → IsLegal p h
     → ((j : ℕ) → j < segments p → get_or ms j 0 ≤ count j h) → (j : ℕ) → j < segments p
@@ -76,7 +76,7 @@ pub all_readable : {n s block_words words : ℕ} {p : Plan} {h : List Entry} (ms
 all_readable {p = p} {h = h} ms sized legal old j lj =
     readable p h j (get_or ms j 0) legal sized.block_words_is (sized.starts j lj) (old j lj)
 
--- the blocks of a pinned record's view lie within its words
+-- the blocks of a pinned record's view are within its words
 pub view_whole : (a : Access) (j k : ℕ) → IsLegal (view_of a).plan (view_of a).seen
     → 0 < get_or (view_of a).records j 0 → j < segments (view_of a).plan
     → k < segments (view_of a).plan
@@ -85,7 +85,7 @@ view_whole a j k legal updated lj lk =
     ((viewed (view_of a).plan (view_of a).seen j (get_or (view_of a).records j 0) legal updated
     (a.seated.records_are j lj)).view.each k lk).whole
 
--- and these are few
+-- a pinned record has few words
 held_small : (a : Access) (j : ℕ) → j < segments (view_of a).plan
     → length (held (view_of a) j) ≤ 8704
 held_small a j lj = omega (
@@ -96,7 +96,7 @@ held_small a j lj = omega (
   a.sized.segments_are,
 )
 
--- so that no place behind one of its blocks comes near the end of the numbers
+-- so the place after one of its blocks fits in a word
 pub ends_small : (a : Access) (j at n : ℕ) (w : List ℕ) → j < segments (view_of a).plan
     → w ≡ held (view_of a) j → IsWhole w at → n ≡ size_at w at → at + n < 2 ^ 64
 ends_small a j at n w lj same whole size = omega (arith, held_small a j lj, ap length same)

@@ -1,4 +1,4 @@
--- A history of updates, and what a segment's line in it is.
+-- A history of updates, and each segment's line in it.
 use Rattle.std.specs.Prelude.{ℕ, ◌+◌, ◌==◌, cond, List, [], ◌∷◌, length, map, slice_index_or}
 use Rattle.snap_history.specs.History as history
 use Rattle.snap_register.specs.declared.plan.Entry.{Entry}
@@ -13,7 +13,7 @@ entry i ws = record { segment = i; words = ws }
 abbrev pub sight : List Entry → Sight
 sight h = record { seen = h }
 
--- the entries of the segment i, in order
+-- the entries of segment i, in order
 abbrev pub only : ℕ → List Entry → List Entry
 only i [] = []
 only i (x ∷ xs) = cond (x.segment == i) (x ∷ only i xs) (only i xs)
@@ -27,15 +27,15 @@ no_start = record { number = 0; words = [] }
 abbrev pub start_at : Plan → ℕ → Start
 start_at p i = slice_index_or p.start i no_start
 
--- the number of the segment i after the history
+-- the number of segment i after the history
 abbrev pub number : Plan → List Entry → ℕ → ℕ
 number p h i = (start_at p i).number + count i h
 
--- the record of the segment i at the start, and then those of its updates
+-- the record of segment i at the start, then those of its updates
 abbrev pub line : Plan → List Entry → ℕ → List Entry
 line p h i = entry i (start_at p i).words ∷ only i h
 
--- the words of the record r of the segment i
+-- the words of record r of segment i
 abbrev pub record_words : Plan → List Entry → ℕ → ℕ → List ℕ
 record_words p h i r = (slice_index_or (line p h i) r (entry i [])).words
 
@@ -43,7 +43,7 @@ record_words p h i r = (slice_index_or (line p h i) r (entry i [])).words
 abbrev pub memory : Plan → List Entry → ℕ → ℕ × List ℕ
 memory p h i = (number p h i, value_at (record_words p h i (count i h)) 0)
 
--- the same as updates of a memory, whose start is that of the plan
+-- the entry as an update of a memory
 abbrev pub update_of : Entry → history.Update
 update_of e = record { segment = e.segment; value = value_at e.words 0 }
 

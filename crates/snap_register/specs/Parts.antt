@@ -10,7 +10,7 @@ use Rattle.snap_register.specs.Rule.{segments}
 use Rattle.snap_register.specs.Seat.{Known}
 use Rattle.snap_register.specs.Registers.{RegistersId}
 
--- a seat that has seen nothing yet, with all its looks, that writes the segments from `low` on and
+-- a seat that has seen nothing yet and has all its looks, and writes the segments from `low` on and
 -- below `high`
 pub record IsNewSeat (z : RegistersId) (p : Plan) (low high : ℕ) (a : Known) : Type 0 where
   pub table_is : a.table ≡ z
@@ -20,11 +20,11 @@ pub record IsNewSeat (z : RegistersId) (p : Plan) (low high : ℕ) (a : Known) :
   pub high_is : a.high ≡ high
   pub left_is : a.left ≡ p.looks
 
--- the seats are those of the writers, in order of their segments
+-- the writers' seats, in the order of their segments
 abbrev pub AreWriters : RegistersId → Plan → List Known → Type 0
 AreWriters z p xs = (i : ℕ) (a : Known) → slice_get xs i ≡ Some a → IsNewSeat z p i (i + 1) a
 
--- the seats write nothing
+-- seats that write nothing
 abbrev pub AreReaders : RegistersId → Plan → List Known → Type 0
 AreReaders z p xs = (i : ℕ) (a : Known) → slice_get xs i ≡ Some a → IsNewSeat z p 0 0 a
 
@@ -34,7 +34,7 @@ pub record IsOpening (p : Plan) (looks : ℕ) (values : List (ℕ × List ℕ)) 
   pub looks_are : p.looks ≡ looks
   pub each : (i : ℕ) (x : ℕ × List ℕ) → slice_get values i ≡ Some x → starts p i ≡ x
 
--- the words hold the number and the value
+-- the words have the number and the value
 pub record IsPacked (x : ℕ × List ℕ) (o : Opening) : Type 0 where
   pub number_is : o.number ≡ x.0
   pub low : IsNumber x.0

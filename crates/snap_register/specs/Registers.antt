@@ -1,4 +1,4 @@
--- Which registers are meant, and what they are between two steps.
+-- The identity of registers, and their state between two steps.
 use Rattle.std.specs.Prelude.{[]}
 use Rattle.atomic_table.specs.Seated.{TableId}
 use Rattle.atomic_table.specs.Table.{State, Me}
@@ -8,7 +8,7 @@ use Rattle.snap_register.specs.declared.plan.SeatView.{SeatView}
 abbrev pub RegistersId : Type 0
 RegistersId = TableId
 
--- what stands for registers where none were named
+-- a value for the case that there are no registers
 abbrev pub no_registers : RegistersId
 no_registers = record {
   words = 0;
@@ -20,10 +20,10 @@ no_registers = record {
   slot_names = [];
 }
 
--- what a seat knows, with the slots that it holds, of which there are none
+-- what a seat knows; it holds no slots
 abbrev pub Mine : Type 0
 Mine = Me (Unit {0}) SeatView
 
--- a moment of the registers, between two steps: their words, and what each seat knows
+-- the registers between two steps: their words, and what each seat knows
 abbrev pub Moment : Type 0
 Moment = State (Unit {0}) SeatView

@@ -1,6 +1,6 @@
--- The rule of the registers' words, and what each step tells. Word i is the current word of the
--- register i: its buffer, times 2^56, and the pins on it. Behind these lie the given-back counts,
--- and behind these the buffers.
+-- The rule of the registers' words, and the result of each step. Word i is the current word of
+-- register i: its buffer's index times 2^56, plus the pins on it. After these words come the
+-- given-back counts, then the buffers.
 use Rattle.std.specs.Prelude.{◌≡◌, ℕ, ◌+◌, ◌-◌, ◌*◌, ◌/◌, ◌^◌, ◌<◌, ◌≤◌, ◌==◌, ltb, cond, List, [], ◌∷◌, ◌++◌, length, slice_index}
 use Rattle.std.specs.Prelude.{slice_set, take, true, false}
 use mathlib.Core.Option.{some}
@@ -27,20 +27,20 @@ buffers p = segments p + p.scanners + 2
 abbrev pub width : Plan → ℕ
 width p = (segments p + 1) * p.block_words
 
--- where the given-back count of the buffer b of the register i lies
+-- the place of the given-back count of buffer b of register i
 abbrev pub given : Plan → ℕ → ℕ → ℕ
 given p i b = segments p + (i * buffers p + b)
 
--- where the word q of that buffer lies
+-- the place of word q of buffer b of register i
 abbrev pub cell : Plan → ℕ → ℕ → ℕ → ℕ
 cell p i b q = segments p + (segments p * buffers p + ((i * buffers p + b) * width p + q))
 
--- how many words there are
+-- how many words the table has
 abbrev pub size : Plan → ℕ
 size p = segments p + (segments p * buffers p + segments p * buffers p * width p)
 
--- after the history a the update e may come: its view is the memory after a beginning of a, in
--- which its own segment's number is that in a, and its number is the next
+-- the update e may follow the history a: its view is the memory after a beginning of a in which e's
+-- segment has the same number as in a, and e's own number is the next
 abbrev pub Follows : Plan → List Entry → Entry → Type 0
 Follows p a e = (b : List Entry) × IsPrefix b a × (count e.segment b ≡ count e.segment a)
     × IsRecord (segments p) (number p b e.segment + 1) (value_at e.words 0) (memory p b) e.words
@@ -48,15 +48,15 @@ Follows p a e = (b : List Entry) × IsPrefix b a × (count e.segment b ≡ count
 abbrev pub IsLegal : Plan → List Entry → Type 0
 IsLegal p h = (a b : List Entry) (e : Entry) → a ++ e ∷ b ≡ h → Follows p a e
 
--- the numbers are within the limit
+-- all numbers are valid
 abbrev pub IsBelow : Plan → List Entry → Type 0
 IsBelow p h = (i : ℕ) → i < segments p → IsNumber (number p h i)
 
--- the view writes the segment i
+-- the view writes segment i
 abbrev pub Has : SeatView → ℕ → Type 0
 Has v i = (v.low ≤ i) × (i < v.high)
 
--- the segment i is the one that the view writes
+-- the view writes segment i alone, and knows all its updates and its pool
 abbrev pub IsWriter : SeatView → ℕ → Type 0
 IsWriter v i = (v.low ≡ i) × (v.high ≡ i + 1) × (v.seen_end ≡ i + 1) × (v.pool_end ≡ i + 1)
 
@@ -65,33 +65,34 @@ abbrev pub total : (SeatView → ℕ) → List SeatView → ℕ
 total f [] = 0
 total f (v ∷ vs) = f v + total f vs
 
--- 1 where the view pins the buffer b of the register i
+-- 1 if the view pins buffer b of register i
 abbrev pub on : ℕ → ℕ → SeatView → ℕ
 on i b v = cond (slice_index v.pins i == b + 1) 1 0
 
--- 1 where x is the pin of a buffer from t on but c
+-- 1 if x is a pin on a buffer from t on, other than c
 abbrev pub far : ℕ → ℕ → ℕ → ℕ
 far t c x = cond (ltb t x) (cond (x == c + 1) 0 1) 0
 
 abbrev pub beyond : ℕ → ℕ → ℕ → SeatView → ℕ
 beyond i t c v = far t c (slice_index v.pins i)
 
--- the buffer k of those that aren't c
+-- buffer number k of those other than c
 abbrev pub other : ℕ → ℕ → ℕ
 other c k = cond (ltb k c) k (k + 1)
 
--- all pins on the buffer b that the writer counted, with the x that the current word counts
+-- all pins that the writer counted on buffer b, with the x that the current word counts
 abbrev pub pins_of : Pool → ℕ → ℕ → ℕ
 pins_of d x b = slice_index d.counted b + cond (d.current == b) x 0
 
--- the buffer b of the register i holds the words l, as far as it reaches
+-- buffer b of register i holds the words l, as far as it reaches
 abbrev pub Holds : Plan → List ℕ → ℕ → ℕ → List ℕ → Type 0
 Holds p words i b l = (q : ℕ) → q < width p → q < length l
     → slice_index words (cell p i b q) ≡ slice_index l q
 
--- The register i, whose current word counts x pins. Its pins are those given back and those held;
--- the buffer noted as free has none; the buffers noted as held, with the pins elsewhere than on
--- these and on the current one, are no more than the seats; and no count comes near 2^56.
+-- Register i, whose current word counts x pins. The pins counted for a buffer are those returned
+-- and those held. The buffer found free has no pins. The buffers found pinned, plus the pins on
+-- buffers other than these and the current one, are no more than the seats. No count comes near
+-- 2^56.
 module _ (p : Plan) (h : List Entry) (words : List ℕ) (views : List SeatView) (i : ℕ) where
   pub record Register (d : Pool) (x : ℕ) : Type 0 where
     pub word : slice_index words i ≡ d.current * 2 ^ 56 + x
@@ -110,7 +111,7 @@ module _ (p : Plan) (h : List Entry) (words : List ℕ) (views : List SeatView) 
         → slice_index words (cell p i d.free_buffer q) ≡ slice_index d.draft q
     pub latest : Holds p words i d.current (record_words p h i (count i h))
 
--- the view's pin x on the register i is of a buffer which holds the record r
+-- the pin on buffer b of register i is on record r, which the buffer holds
 pub record Pinned (p : Plan) (h : List Entry) (words : List ℕ) (i b r : ℕ) : Type 0 where
   pub inside : b < buffers p
   pub old : r ≤ count i h
@@ -118,8 +119,8 @@ pub record Pinned (p : Plan) (h : List Entry) (words : List ℕ) (i b r : ℕ) :
 
 module _ (p : Plan) (h : List Entry) (words : List ℕ) (writer : ℕ → ℕ) (pools : ℕ → Pool)
     (seat : ℕ) (v : SeatView) where
-  -- the seat is the writer of the segment i: it has seen, or was told of, all its updates, and
-  -- knows its pool
+  -- the seat is the writer of segment i: it has seen or received all its updates, and knows its
+  -- pool
   pub record Writes (i : ℕ) : Type 0 where
     pub inside : i < segments p
     pub own : writer i ≡ seat
@@ -136,7 +137,7 @@ module _ (p : Plan) (h : List Entry) (words : List ℕ) (writer : ℕ → ℕ) (
         → Pinned p h words i b (slice_index v.records i)
     pub pin_quota : (i : ℕ) → 0 < slice_index v.pins i → 0 < v.pin_quota
 
--- There is one history, of which each seat has seen a beginning. The words are its records
+-- There is one history, and each seat has seen a beginning of it; the words hold its records.
 pub record Kept {S : Type 0} (p : Plan) (s : State S SeatView) : Type 0 where
   pub history : List Entry
   pub writer : ℕ → ℕ
@@ -151,7 +152,7 @@ pub record Kept {S : Type 0} (p : Plan) (s : State S SeatView) : Type 0 where
   pub each_seat : (j : ℕ) (v : SeatView) → get_elem? s.views j ≡ some v
       → Knows p history s.words writer pools j v
 
--- what a seat that sees all learns
+-- what a seat learns from a step by which it sees the whole history
 pub record Learns (v w : SeatView) : Type 0 where
   pub later : IsPrefix v.seen w.seen
   pub received : IsPrefix v.received w.seen
@@ -160,7 +161,7 @@ pub record Learns (v w : SeatView) : Type 0 where
   pub legal : IsLegal v.plan w.seen
   pub below : IsBelow v.plan w.seen
 
--- the pool once the buffer b is current, where the word before counted x pins
+-- the pool after buffer b became current, when the word before counted x pins
 abbrev pub moved_pool : SeatView → ℕ → ℕ → Pool
 moved_pool v b x = record {
   current = b;
@@ -170,7 +171,7 @@ moved_pool v b x = record {
   draft = [];
 }
 
--- the seat's update, of what it had drafted, stands at the end of what it has seen, and the free
+-- the last update that the seat has seen is its own, with the words that it drafted, and the free
 -- buffer is the current one
 pub record Publishes (v w : SeatView) (i x : ℕ) : Type 0 where
   pub same : w ≡ record v { seen = w.seen; pool = moved_pool v v.pool.free_buffer x }
@@ -202,7 +203,7 @@ spent = record {
   sights = [];
 }
 
--- the first segment that the view writes, alone, with a pin a register and the looks of a seat
+-- a writer of the first segment that the view writes, with a pin per register and a seat's looks
 abbrev pub first_role : SeatView → SeatView
 first_role v = record v {
   high = v.low + 1;
@@ -219,7 +220,7 @@ without_first_role v = record v {
   left = v.left - v.plan.looks;
 }
 
--- a seat with a pin a register and the looks of a seat, that writes nothing
+-- a seat that writes nothing, with a pin per register and a seat's looks
 abbrev pub reader : SeatView → SeatView
 reader v = record v {
   received = [];
@@ -234,7 +235,7 @@ reader v = record v {
 abbrev pub without_reader : SeatView → SeatView
 without_reader v = record v { pin_quota = v.pin_quota - 1; left = v.left - v.plan.looks }
 
--- what was seen alone
+-- what was seen, and nothing else
 abbrev pub messenger : SeatView → SeatView
 messenger v = record v {
   received = [];
@@ -248,11 +249,11 @@ messenger v = record v {
   records = [];
 }
 
--- the first view, told of what the second has seen
+-- the first view after it received what the second has seen
 abbrev pub with_received : SeatView → SeatView → SeatView
 with_received v u = record v { received = u.seen }
 
--- the first view, which has seen what the second has
+-- the first view after it has seen what the second has
 abbrev pub with_seen_of : SeatView → SeatView → SeatView
 with_seen_of v u = record v { seen = u.seen }
 
@@ -265,7 +266,7 @@ abbrev pub next_other : Pool → ℕ
 next_other d = other d.current d.found_pinned
 
 module _ {S : Type 0} where
-  -- a fetch_add on a current word, which is a look
+  -- a fetch_add on a current word: a look
   abbrev pub pinning : Step S → Me S SeatView → ℕ → Me S SeatView → Type 0
   pinning st m found m' = Learns m.0 m'.0 × (m'.1 ≡ m.1) × (found / 2 ^ 56 < buffers m.0.plan)
       × (m'.0 ≡ record m.0 {
@@ -283,7 +284,7 @@ module _ {S : Type 0} where
   giving st m found m' = (i b : ℕ) → b < buffers m.0.plan → st.word ≡ given m.0.plan i b
       → m' ≡ (record m.0 { pins = slice_set m.0.pins i 0 }, m.1)
 
-  -- a load of a current word, which does not pin
+  -- a load of a current word, without a pin
   abbrev pub heard : Step S → Me S SeatView → ℕ → Me S SeatView → Type 0
   heard st m found m' = Learns m.0 m'.0 × (m'.1 ≡ m.1)
       × (m'.0 ≡ record m.0 { seen = m'.0.seen; received = []; seen_end = m.0.high })
@@ -314,19 +315,19 @@ module _ {S : Type 0} where
         m.1,
       )) × (m.0.pool.found_pinned + 1 ≤ seats m.0.plan))
 
-  -- a load of the next word of the free buffer, which is drafted as it stands
+  -- a load of the next word of the free buffer, which becomes a part of the draft
   abbrev pub reused : Step S → Me S SeatView → ℕ → Me S SeatView → Type 0
   reused st m found m' = m'
       ≡ (record m.0 { pool = record m.0.pool { draft = m.0.pool.draft ++ found ∷ [] } }, m.1)
 
-  -- a store of the word that was drafted last
+  -- a store in place of the last drafted word
   abbrev pub redrafted : Step S → Me S SeatView → ℕ → Me S SeatView → Type 0
   redrafted st m found m' = m' ≡ (
     record m.0 { pool = record m.0.pool { draft = without_last m.0.pool.draft ++ st.first ∷ [] } },
     m.1,
   )
 
-  -- a swap of the own current word
+  -- a swap of the seat's own current word
   abbrev pub published : Step S → Me S SeatView → ℕ → Me S SeatView → Type 0
   published st m found m' = Publishes m.0 m'.0 st.word (found - m.0.pool.current * 2 ^ 56)
       × (m.0.pool.current * 2 ^ 56 ≤ found) × (m'.1 ≡ m.1)

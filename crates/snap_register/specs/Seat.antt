@@ -1,4 +1,4 @@
--- What a caller sees of a seat.
+-- The model of a seat, for its callers.
 use Rattle.std.specs.Prelude.{◌≡◌, ◌≢◌, ℕ, ◌+◌, ◌<◌, ◌≤◌, ◌==◌, Option, Some, None, cond, List, [], ◌∷◌, ◌++◌, length, map, slice_index}
 use Rattle.std.specs.Prelude.{slice_get}
 use Rattle.snap_register.specs.Registers.{RegistersId}
@@ -12,9 +12,9 @@ use Rattle.snap_register.specs.declared.view.View.TheVariants.{Collected, Borrow
 use Rattle.snap_register.specs.History.{starts, updates, start_at}
 use Rattle.snap_register.specs.Rule.{segments}
 
--- the table and its plan, the updates that the seat has seen, the segments that it writes, from
--- `low` on and below `high`, which buffers and which records its last looks found, how many looks
--- it has left, and what it had seen at each look that it took, in order
+-- the table and its plan; the updates that the seat has seen; the segments that it writes, from
+-- `low` on and below `high`; which buffers and records its last looks found; how many looks it has
+-- left; and what it had seen at each of its looks, in order
 pub record Known : Type 0 where
   pub table : RegistersId
   pub plan : Plan
@@ -39,7 +39,7 @@ known z v = record {
   sights = map (λ s. updates s.seen) v.sights;
 }
 
--- the number that the last look at the segment j told
+-- the number that the last look at segment j found
 abbrev pub looked : Known → ℕ → Option ℕ
 looked a j = cond (slice_index a.pins j == 0) None
     (Some ((start_at a.plan j).number + slice_index a.records j))
@@ -48,14 +48,14 @@ looked a j = cond (slice_index a.pins j == 0) None
 abbrev pub own_of : Known → ℕ
 own_of a = a.low
 
--- the number and the value of the segment i after these updates
+-- the number and the value of segment i after the updates h
 abbrev pub number_in : Known → List Update → ℕ → ℕ
 number_in a h i = number_after (starts a.plan) h i
 
 abbrev pub value_in : Known → List Update → ℕ → List ℕ
 value_in a h i = value_after (starts a.plan) h i
 
--- the numbers of what was seen are within the limit
+-- all numbers among what was seen are valid
 abbrev pub IsBelow : Known → Type 0
 IsBelow a = (i : ℕ) → i < segments a.plan → IsNumber (number_in a a.seen i)
 
@@ -64,7 +64,7 @@ pub record AreTogether (a b : Known) : Type 0 where
   pub table : b.table ≡ a.table
   pub plan : b.plan ≡ a.plan
 
--- the seat has seen more, at the end of its list, and no further update of its own segment
+-- the seat has seen more updates, after those it had seen, and none of its own segment
 pub record Grows (a b : Known) : Type 0 where
   pub table : b.table ≡ a.table
   pub plan : b.plan ≡ a.plan
@@ -73,66 +73,66 @@ pub record Grows (a b : Known) : Type 0 where
   pub later : IsBeginning a.seen b.seen
   pub own : (i : ℕ) → a.low ≤ i → i < a.high → number_in a b.seen i ≡ number_in a a.seen i
 
--- the same, and nothing else: no look was taken, and the looks are as they were
+-- the seat has seen more, and nothing else changed: no look was made, and the earlier looks stay
 pub record Meets (a b : Known) : Type 0 where
   pub grows : Grows a b
   pub looks : (i : ℕ) → looked b i ≡ looked a i
   pub left : b.left ≡ a.left
   pub sights : b.sights ≡ a.sights
 
--- the last look at j told this number, and those at the other segments are as they were
+-- the last look of segment j found this number; those of other segments stay
 pub record Looks (a b : Known) (j number : ℕ) : Type 0 where
   pub here : looked b j ≡ Some number
   pub others : (i : ℕ) → i ≢ j → looked b i ≡ looked a i
 
--- there was a look at j
+-- the seat has looked at j
 abbrev pub HasLooked : Known → ℕ → Type 0
 HasLooked a j = looked a j ≢ None
 
--- there was one, which told a number above the start's
+-- the last look of segment j found an update, not the start
 pub record HasFoundUpdate (a : Known) (j : ℕ) : Type 0 where
   pub told : ℕ
   pub is : looked a j ≡ Some told
   pub above : (starts a.plan j).0 < told
 
--- the value is that of the number last looked at: of j after a beginning of what was seen in which
--- j has that number
+-- the value is that of segment j's last look: the value after a beginning of what was seen in which
+-- j has the number found
 pub record IsValue (a : Known) (j : ℕ) (value : List ℕ) : Type 0 where
   pub part : List Update
   pub beginning : IsBeginning part a.seen
   pub number : looked a j ≡ Some (number_in a part j)
   pub value_is : value ≡ value_in a part j
 
--- the list has each segment's number and value after these updates
+-- the list has each segment's number and value after the updates `part`
 pub record IsMemory (a : Known) (part : List Update) (xs : List (ℕ × List ℕ)) : Type 0 where
   pub size : length xs ≡ segments a.plan
   pub each : (i : ℕ) → i < segments a.plan
       → slice_get xs i ≡ Some (number_in a part i, value_in a part i)
 
--- the list has the number and value of each segment that the set names after these updates
+-- the list has the number and value of each named segment after the updates `part`
 pub record IsMemoryOf (a : Known) (set : ℕ) (part : List Update) (xs : List (ℕ × List ℕ)) : Type 0 where
   pub size : length xs ≡ segments a.plan
   pub each : (i : ℕ) → i < segments a.plan → Names set i
       → slice_get xs i ≡ Some (number_in a part i, value_in a part i)
 
--- the list has the memory of the named segments after a beginning of what was seen, in which j has
--- the number below the one last looked at
+-- the list has the memory of the named segments after a beginning of what was seen in which j's
+-- number is one below that of the last look
 pub record IsView (a : Known) (j set : ℕ) (xs : List (ℕ × List ℕ)) : Type 0 where
   pub part : List Update
   pub beginning : IsBeginning part a.seen
   pub before : looked a j ≡ Some (number_in a part j + 1)
   pub memory : IsMemoryOf a set part xs
 
--- all last looks told the numbers after a beginning of what was seen, which has all updates of the
--- own segment
+-- all last looks found the numbers after a beginning of what was seen that has all updates of the
+-- seat's own segment
 pub record IsCollected (a : Known) : Type 0 where
   pub part : List Update
   pub beginning : IsBeginning part a.seen
   pub whole : number_in a part (own_of a) ≡ number_in a a.seen (own_of a)
   pub each : (i : ℕ) → i < segments a.plan → looked a i ≡ Some (number_in a part i)
 
--- the last look at j found an update, and a beginning of what was seen that lacks just that update
--- of j has all updates of the own segment
+-- the last look at j found an update, and a beginning of what was seen that lacks only that update
+-- of j has all updates of the seat's own segment
 pub record IsBorrowed (a : Known) (j : ℕ) : Type 0 where
   pub inside : j < segments a.plan
   pub found : HasFoundUpdate a j
@@ -140,12 +140,12 @@ pub record IsBorrowed (a : Known) (j : ℕ) : Type 0 where
       → looked a j ≡ Some (number_in a part j + 1)
       → number_in a part (own_of a) ≡ number_in a a.seen (own_of a)
 
--- an update of this seat may take this view along
+-- an update of this seat may carry this view
 abbrev pub MayPublish : Known → View → Type 0
 MayPublish a Collected = IsCollected a
 MayPublish a (Borrowed j) = IsBorrowed a j
 
--- the update of the own segment to this value stands at the end of what is seen
+-- the last update that the seat has seen is that of its own segment to this value
 pub record Shows (a b : Known) (value : List ℕ) : Type 0 where
   pub table : b.table ≡ a.table
   pub plan : b.plan ≡ a.plan

@@ -1,4 +1,4 @@
--- What a seat keeps of its table, and the table's plan.
+-- What a seat keeps about its table, and the table's plan.
 use Rattle.std.specs.Prelude.{◌≡◌, ℕ, ◌+◌, ◌*◌, ◌^◌, ◌<◌, ◌≤◌, List, [], ◌++◌, length, slice_index, map, replicate, false}
 use Rattle.std.specs.List.{flat_map}
 use Rattle.snap_history.specs.Limits.{IsNumber}
@@ -59,12 +59,12 @@ first_view p = record {
   sights = [];
 }
 
--- the record of the segment i at the start fills the first words of a buffer
+-- the record of segment i at the start fills the first words of a buffer
 abbrev pub HasStart : Plan → ℕ → Type 0
 HasStart p i = (length (start_at p i).words ≡ p.block_words)
     × IsBlock (start_at p i).words 0 (start_at p i).number (value_at (start_at p i).words 0)
 
--- the counts are those of the plan
+-- these sizes are those of the plan
 pub record IsSized (segments' scanners block_words words : ℕ) (p : Plan) : Type 0 where
   pub segments_are : segments' ≡ segments p
   pub scanners_are : scanners ≡ p.scanners
@@ -76,11 +76,11 @@ pub record IsSized (segments' scanners block_words words : ℕ) (p : Plan) : Typ
   pub block_words_is : p.block_words ≡ BLOCK_WORDS
   pub starts : (i : ℕ) → i < segments p → HasStart p i
 
--- the sizes of a table that is made are those of the plan, and so are a seat's looks
+-- the sizes of a new table, and a seat's looks, are those of the plan
 abbrev pub HasSizes : Sizes → Plan → Type 0
 HasSizes s p = IsSized s.segments s.scanners s.block_words s.words p × (s.looks ≡ p.looks)
 
--- the seat is of a table of the plan's size and holds no slot, and its pins are these
+-- a seat of a table of the plan's size, without slots and with these pins
 pub record IsSeated {S : Type 0} (words : ℕ) (pins : List ℕ) (left : ℕ)
     (m : Me S SeatView) : Type 0 where
   pub words_are : words ≡ size m.0.plan
@@ -98,8 +98,8 @@ pub record IsSeated {S : Type 0} (words : ℕ) (pins : List ℕ) (left : ℕ)
   pub readable : (i : ℕ) → i < segments m.0.plan
       → Readable m.0.plan m.0.seen i (slice_index m.0.records i)
 
--- the seat writes the segment i alone, has this number, and knows its current buffer and the pins
--- counted for each
+-- the seat writes segment i alone, at number k, and knows its current buffer and the pins counted
+-- for each buffer
 pub record IsPool {S : Type 0} (i k current : ℕ) (counted : List ℕ)
     (m : Me S SeatView) : Type 0 where
   pub role : IsWriter m.0 i
@@ -112,25 +112,25 @@ pub record IsPool {S : Type 0} (i k current : ℕ) (counted : List ℕ)
   pub counted_are : (b : ℕ) → b < buffers m.0.plan
       → slice_index counted b ≡ slice_index m.0.pool.counted b
 
--- the words of a segment's buffers behind the first record's first words
+-- the words of a segment's buffers after the first words of its first record
 abbrev pub unused : Plan → ℕ
 unused p = segments p * p.block_words + (segments p + p.scanners + 1) * width p
 
--- the words at the start: in each register the buffer 0 is current and has no pin
+-- the words at the start: in each register buffer 0 is current and has no pin
 abbrev pub opening_words : Plan → List ℕ
 opening_words p = replicate (segments p + segments p * buffers p) 0
     ++ flat_map (λ s. s.words ++ replicate (unused p) 0) p.start
 
--- the values fill the first words, which begin with the number, and no number of looks comes near
--- 2^56
+-- the values fill the first words, which begin with their numbers, and the looks can't bring a
+-- count near 2^56
 pub record IsReady (p : Plan) : Type 0 where
   pub each : (i : ℕ) → i < segments p → HasStart p i × IsNumber (start_at p i).number
   pub block_words_is : p.block_words ≡ BLOCK_WORDS
   pub few : buffers p ≤ 128
   pub looks : seats p * p.looks < 2 ^ 56
 
--- the first seat, while it hands out the others: for each that is to come it has a pin a register
--- and the looks
+-- the first seat while others are split off from it: it still has a pin per register and the looks
+-- for each that is to come
 pub record IsFirst {S : Type 0} (words left : ℕ) (m : Me S SeatView) : Type 0 where
   pub words_are : words ≡ size m.0.plan
   pub alone : m.1 ≡ []
@@ -147,7 +147,7 @@ pub record IsFirst {S : Type 0} (words left : ℕ) (m : Me S SeatView) : Type 0 
   pub pins_are : m.0.pins ≡ replicate (segments m.0.plan) 0
   pub records_are : m.0.records ≡ replicate (segments m.0.plan) 0
 
--- a seat that it handed out
+-- a seat just split off
 pub record IsFresh {S : Type 0} (words : ℕ) (m : Me S SeatView) : Type 0 where
   pub words_are : words ≡ size m.0.plan
   pub alone : m.1 ≡ []

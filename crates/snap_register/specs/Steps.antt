@@ -1,4 +1,4 @@
--- What a seat at its table knows, and what a call changes of it.
+-- What a seat with its table knows, and what each call changes.
 use Rattle.std.specs.Prelude.{◌≡◌, ℕ, ◌-◌, ◌<◌, ◌≤◌, List, [], length, slice_index}
 use Rattle.atomic_table.specs.Table.{Me}
 use Rattle.atomic_table.specs.declared.shared.Seat.{Seat}
@@ -17,37 +17,37 @@ view_at s = s.me.0
 abbrev pub view_of : Access → SeatView
 view_of a = view_at a.seat
 
--- the same, as its callers see it
+-- that, as the seat's callers see it
 abbrev pub known_of : Access → Known
 known_of a = known a.seat.table_id (view_of a)
 
--- what it knows of its own register's buffers
+-- what the seat knows of its own register's buffers
 abbrev pub pool_of : Access → Pool
 pool_of a = (view_of a).pool
 
--- the words that it drafted in the free one
+-- the words that the seat has drafted in the free buffer
 abbrev pub draft_of : Access → List ℕ
 draft_of a = (pool_of a).draft
 
--- the seat writes the segment i alone, which there is
+-- the seat writes segment i alone, and the segment exists
 abbrev pub Owns : SeatView → ℕ → Type 0
 Owns v i = IsWriter v i × (i < segments v.plan)
 
--- the buffer b of the own register is noted as free
+-- buffer b of the seat's own register was found free
 abbrev pub IsFree : SeatView → ℕ → Type 0
 IsFree v b = (b ≡ v.pool.free_buffer) × (b < buffers v.plan)
 
--- the seat pins a buffer of the register j
+-- the seat pins a buffer of register j
 abbrev pub HasPin : SeatView → ℕ → Type 0
 HasPin v j = (j < segments v.plan) × (0 < slice_index v.pins j)
 
--- the word q of the record that the seat pins on the register j lies at this place
+-- word q of the record that the seat pins on register j is at this place
 pub record LiesAt (v : SeatView) (j q place : ℕ) : Type 0 where
   pub pinned : HasPin v j
   pub inside : q < length (held v j)
   pub is : place ≡ cell v.plan j (slice_index v.pins j - 1) q
 
--- the next word of the own register's free buffer lies at this place
+-- the next word of the free buffer is at this place
 pub record IsNext (v : SeatView) (place : ℕ) : Type 0 where
   pub own : ℕ
   pub owns : Owns v own
@@ -55,7 +55,7 @@ pub record IsNext (v : SeatView) (place : ℕ) : Type 0 where
   pub inside : length v.pool.draft < width v.plan
   pub is : place ≡ cell v.plan own v.pool.free_buffer (length v.pool.draft)
 
--- the word of the own register's free buffer that was drafted last lies at this place
+-- the last drafted word of the free buffer is at this place
 pub record IsLast (v : SeatView) (place : ℕ) : Type 0 where
   pub own : ℕ
   pub owns : Owns v own
@@ -64,29 +64,29 @@ pub record IsLast (v : SeatView) (place : ℕ) : Type 0 where
   pub inside : length v.pool.draft ≤ width v.plan
   pub is : place ≡ cell v.plan own v.pool.free_buffer (length v.pool.draft - 1)
 
--- the seat has seen all that stands in the history, and what it was told
+-- the seat has seen all that is in the history, and all that it received
 abbrev pub HasHeard : {S : Type 0} → Me S SeatView → Me S SeatView → Type 0
 HasHeard m n = Learns m.0 n.0 × (n.1 ≡ m.1)
     × (n.0 ≡ record m.0 { seen = n.0.seen; received = []; seen_end = m.0.high })
 
--- it is the same seat of the same table, with as many looks left
+-- the same seat of the same table, with as many looks left
 abbrev pub IsSameSeat : Access → Access → Type 0
 IsSameSeat a b = (b.seat.table_id ≡ a.seat.table_id) × (b.seat.id ≡ a.seat.id) × (b.left ≡ a.left)
 
--- the seat stands where an access keeps it
+-- the seat is as an access keeps it
 abbrev pub HasSeat : Seat (Unit {0}) SeatView → Type 0
 HasSeat s = (pins : List ℕ) × (left : ℕ) × IsSeated s.table_id.words pins left s.me
 
--- and it knows the same
+-- the same seat, with the same knowledge and looks
 abbrev pub IsSame : Access → Access → Type 0
 IsSame a b = (b.seat.table_id ≡ a.seat.table_id) × (b.seat.id ≡ a.seat.id) × (b.seat.me ≡ a.seat.me)
     × (b.left ≡ a.left)
 
--- what it knows of its own buffers is this, and all else that it knows is the same
+-- only the pool has changed, to d
 abbrev pub HasPool : Access → Access → Pool → Type 0
 HasPool a b d = b.seat.me ≡ (record (view_of a) { pool = d }, a.seat.me.1)
 
--- the words that it drafted in the free buffer are these, and nothing else changed
+-- only the draft has changed, to ws
 abbrev pub HasDrafted : Access → Access → List ℕ → Type 0
 HasDrafted a b ws = (b.left ≡ a.left) × (b.seat.table_id ≡ a.seat.table_id)
     × (b.seat.id ≡ a.seat.id) × HasPool a b (record (pool_of a) { draft = ws })

@@ -1,5 +1,5 @@
-//! A seat with its table, and where each word lies. What it does there stands in the folder: its
-//! looks, the draft of an update, the update's publication, and meetings.
+//! A seat with its table, and the places of the table's words. The folder has its operations:
+//! looks, drafts of updates, publications, and meetings.
 ghost use Rattle.std.specs.Prelude.{◌≡◌, ◌<◌, ◌≤◌, IsTrue, ◌↔◌};
 ghost use Rattle.snap_history.specs.declared.limits.TheConstants.{MAX_COUNT};
 ghost use Rattle.snap_register.specs.Rule.{segments, buffers, width, given, cell};
@@ -15,7 +15,7 @@ use snap_scan::MAX_SEGMENTS;
 use std::alloc::Global;
 use std::sync::Arc;
 
-/// A current word is its buffer times this, and the pins on it.
+/// The factor of the buffer's index in a current word; its pins are added.
 pub(crate) const PIN_RANGE: u64 = 1 << 56;
 
 /// A seat, its table, and the table's sizes.
@@ -27,7 +27,7 @@ pub(crate) struct Access {
     pub(crate) scanners: usize,
     pub(crate) block_words: usize,
     pub(crate) words: usize,
-    /// For each register the buffer that is pinned, plus 1, or 0.
+    /// For each register the index of the pinned buffer, plus 1; or 0.
     pub(crate) pins: [u64; MAX_SEGMENTS],
     pub(crate) left: u64,
     ghost own: { seat.table_id ≡ table.value.shared.table_id },
@@ -47,7 +47,7 @@ impl Access {
         self.segments
     }
 
-    /// Whether there was a look at j, whose buffer is pinned since.
+    /// Whether the seat has looked at `j`; that buffer is still pinned.
     pub(crate) fn has_looked(&self, j: usize) -> bool
         requires { j < segments (view_of self.now).plan }
         ensures { IsTrue result ↔ HasLooked (known_of self.now) j }
@@ -69,7 +69,7 @@ impl Access {
         (self.segments + 1) * self.block_words
     }
 
-    /// Where the given-back count of the buffer b of the register i lies.
+    /// The place of the given-back count of buffer `b` of register `i`.
     pub(crate) fn given(&self, i: usize, b: usize) -> usize
         requires { (i < segments (view_of self.now).plan) × (b < buffers (view_of self.now).plan) }
         ensures { (result ≡ given (view_of self.now).plan i b)
@@ -80,7 +80,7 @@ impl Access {
         self.segments + (i * buffers + b)
     }
 
-    /// Where the word q of that buffer lies.
+    /// The place of word `q` of buffer `b` of register `i`.
     pub(crate) fn cell(&self, i: usize, b: usize, q: usize) -> usize
         requires { (i < segments (view_of self.now).plan) × (b < buffers (view_of self.now).plan)
             × (q < width (view_of self.now).plan) }

@@ -1,4 +1,4 @@
-//! Registers that start with given numbers and values.
+//! Registers with given numbers and values.
 ghost use Rattle.std.specs.Prelude.{◌≡◌, ℕ, ◌^◌, ◌<◌, ◌≤◌, length, map, slice_get, Some, IfOk};
 ghost use Rattle.atomic_table.specs.Seated.{TableId};
 ghost use Rattle.snap_history.specs.Limits.{IsNumber, IsShort};
@@ -19,12 +19,11 @@ use std::alloc::{AllocError, Global};
 pub struct Registers;
 
 impl Registers {
-    /// Registers of which segment i starts with the number and the value `values[i]`: one seat for
-    /// each segment's writer and one for each scanner, each with so many `looks`. Nobody has seen
-    /// an update yet. There is nothing to give back: the registers end with the last of their
-    /// seats.
+    /// Makes registers in which segment i starts with the number and value `values[i]`. Returns one
+    /// seat for each segment's writer and one for each scanner, each with `looks` looks. No seat
+    /// has seen an update yet. The registers are freed with the last of their seats.
     ///
-    /// Where memory runs out it answers the `AllocError`, and nothing is kept.
+    /// Returns the `AllocError` if memory runs out.
     pub fn open(
         alloc: Global,
         values: &[(u64, Vec<u8>)],
@@ -51,7 +50,7 @@ impl Registers {
     }
 }
 
-// The words of the number and the value.
+// A number and a value as words.
 fn opening_of(alloc: Global, number: u64, value: &[u8]) -> Result<Opening, AllocError>
     requires { IsShort value.now }
     ensures number { IfOk result (λ x. x.number ≡ number) }
@@ -66,7 +65,7 @@ fn opening_of(alloc: Global, number: u64, value: &[u8]) -> Result<Opening, Alloc
     })
 }
 
-// Writes the block of the number and the value.
+// Writes the block of a number and a value.
 fn pack(number: u64, value: &[u8], words: &mut [u64])
     requires bytes { IsShort value.now }
     requires words { length words.old ≡ BLOCK_WORDS }

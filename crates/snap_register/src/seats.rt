@@ -1,4 +1,4 @@
-//! The two kinds of seat.
+//! The two kinds of seat, and their common trait.
 ghost use Rattle.std.specs.Prelude.{◌≡◌, ℕ, ◌+◌, ◌*◌, ◌^◌, ◌<◌, ◌≤◌, ◌++◌, ◌∷◌, length, take, []};
 ghost use Rattle.std.specs.Prelude.{IsTrue, IfOk, ◌↔◌, slice_get};
 ghost use Rattle.snap_history.specs.Limits.{IsNumber, IsShort};
@@ -21,13 +21,13 @@ use snap_scan::SegmentSet;
 use std::alloc::{AllocError, Global};
 use std::marker::Model;
 
-/// What both kinds of seat can do. A seat has a list of the updates that it has seen. The lists of
-/// all seats of one opening are beginnings of one history.
+/// The operations of both kinds of seat. A seat has a list of the updates that it has seen. The
+/// lists of all seats of one opening are beginnings of one history.
 pub trait Looker {
-    // What the seat knows of the registers.
+    // The seat's knowledge of the registers.
     ghost known: { Self → Known };
 
-    /// How many looks it may still take. Each look takes one off, and nothing else does.
+    /// How many looks it has left. Each look takes one, and nothing else does.
     fn looks_left(&self) -> u64
         ensures left { result ≡ (known self.now).left };
 
@@ -36,15 +36,15 @@ pub trait Looker {
         ensures count { result ≡ segments (known self.now).plan }
         ensures some { (0 < result) × (result ≤ MAX_COUNT) };
 
-    /// Whether there was a look at the segment `j`.
+    /// Whether the seat has looked at segment `j`.
     fn has_looked(&self, j: usize) -> bool
         requires segment { j < segments (known self.now).plan }
         ensures looked { IsTrue result ↔ HasLooked (known self.now) j };
 
-    /// Looks at the segment `j`: the seat sees all updates that stand in the history at this
-    /// moment, and the number of `j` among them is the answer. The record that was found stays as
-    /// it is until the seat's next look at `j`. A look waits for nobody, and it is one more in the
-    /// list of what the seat had seen at each of its looks.
+    /// Looks at segment `j`, without waiting: the seat sees all updates in the history at this
+    /// moment. Returns the number of `j` among them. The record found can't change before the
+    /// seat's next look there. The look is appended to the list of what the seat had seen at each
+    /// of its looks.
     fn look(&mut self, j: usize) -> u64
         requires segment { j < segments (known self.old).plan }
         requires left { 0 < (known self.old).left }
@@ -56,8 +56,7 @@ pub trait Looker {
             ++ (known self.new).seen ∷ [] }
         ensures left { (known self.new).left + 1 ≡ (known self.old).left };
 
-    /// Writes the value of the record of the last look at `j` to the front of `out`, and answers
-    /// its length.
+    /// Copies the value of `j` that the last look found to the front of `out`. Returns its length.
     fn value(&mut self, j: usize, out: &mut [u8]) -> usize
         requires segment { j < segments (known self.old).plan }
         requires looked { HasLooked (known self.old) j }
@@ -66,9 +65,9 @@ pub trait Looker {
         ensures size { result ≤ MAX_VALUE_LEN }
         ensures same { known self.new ≡ known self.old };
 
-    /// The value of the record of the last look at `j`, in memory of its own.
+    /// The value of `j` that the last look found, in new memory.
     ///
-    /// Where memory runs out it answers the `AllocError`.
+    /// Returns the `AllocError` if memory runs out.
     fn value_bytes(&mut self, alloc: Global, j: usize) -> Result<Bytes, AllocError>
         requires segment { j < segments (known self.old).plan }
         requires looked { HasLooked (known self.old) j }
@@ -76,9 +75,8 @@ pub trait Looker {
         ensures size { IfOk result (λ v. IsShort v) }
         ensures same { known self.new ≡ known self.old };
 
-    /// Writes into `out` what the view of the record of the last look at `j` has of the segments
-    /// that the set names: of the memory that the scan inside that update answered. What `out` has
-    /// of others stays.
+    /// Writes into `out`, for each segment in `set`, the entry of the view found by the last look
+    /// at `j`: the memory that the scan inside that update found. Other entries of `out` stay.
     fn view(&mut self, j: usize, set: SegmentSet, out: &mut SnapshotBuf)
         requires segment { j < segments (known self.old).plan }
         requires updated { HasFoundUpdate (known self.old) j }
@@ -89,7 +87,7 @@ pub trait Looker {
         ensures same { known self.new ≡ known self.old };
 }
 
-/// A seat that looks and writes nothing.
+/// A seat that only looks.
 #[derive(Drop)]
 pub struct ReadSeat {
     access: Access,
@@ -147,8 +145,9 @@ impl ReadSeat {
         ReadSeat { access }
     }
 
-    /// Afterwards both seats have seen the same: all that either had seen, and all that stands in
-    /// the history at a moment of this call. It isn't a look, and the looks of both stay.
+    /// Joins what both seats have seen. Afterwards both have seen all that either had, and all that
+    /// was in the history at one moment of this call. It isn't a look, and both seats keep their
+    /// looks.
     pub fn meet(&mut self, writer: &mut WriteSeat)
         requires together { AreTogether self.old writer.old }
         ensures scanner { Meets self.old self.new }
@@ -168,7 +167,7 @@ pub struct WriteSeat {
     number: u64,
     /// The current buffer.
     current: usize,
-    /// The pins that were counted for each buffer.
+    /// How many pins were counted for each buffer.
     counted: [u64; MAX_BUFFERS],
 }
 
@@ -233,7 +232,7 @@ impl WriteSeat {
         }
     }
 
-    /// The segment that it writes, and no other.
+    /// The one segment that it writes.
     pub fn segment(&self) -> usize
         ensures own { result ≡ own_of self.now }
         ensures inside { result < segments self.now.plan }
@@ -249,9 +248,9 @@ impl WriteSeat {
         self.number
     }
 
-    /// Shows an update of the own segment to this value, with this view, and answers its number.
-    /// The update stands in the history from one moment of this call on. It always finds a free
-    /// buffer, so it waits for nobody and refuses nothing.
+    /// Shows an update of the seat's segment to `value`, with this view, and returns its number.
+    /// The update is in the history from one moment of this call on. It always finds a free buffer,
+    /// so it never waits and never fails.
     pub fn publish(&mut self, value: &[u8], view: &View) -> u64
         requires size { IsShort value.now }
         requires next { IsNumber (number_in self.old self.old.seen (own_of self.old) + 1) }

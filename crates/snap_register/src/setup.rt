@@ -1,4 +1,5 @@
-//! The table of the registers' words, its rule (specs/Rule.antt), and what each step on it tells.
+//! The table of the registers' words, its rule (specs/Rule.antt), and the result of each step on
+//! it.
 ghost use Rattle.snap_register.specs.Rule.{Kept, pinning, giving, heard, read, checked};
 ghost use Rattle.snap_register.specs.Rule.{
   reused,
@@ -16,7 +17,7 @@ use atomic_table::{Join, Play, Seat, Split, Table, TableRule};
 use std::alloc::Global;
 use std::snapshot::Snapshot;
 
-/// What the table is told when it is made.
+/// The arguments with which the table is made.
 #[derive(Drop)]
 pub struct Setup {
     pub scanners: usize,
@@ -81,21 +82,21 @@ impl Play<(), SeatView> for Reuse {
     ghost then = { reused };
 }
 
-// A store of the word of the free buffer that was drafted last.
+// A store in place of the last drafted word of the free buffer.
 pub(crate) struct Redraft;
 
 impl Play<(), SeatView> for Redraft {
     ghost then = { redrafted };
 }
 
-// A swap of the own current word.
+// A swap of the seat's own current word.
 pub(crate) struct Publish;
 
 impl Play<(), SeatView> for Publish {
     ghost then = { published };
 }
 
-/// A messenger: it has seen as much, pins nothing and writes nothing.
+/// Splits off a messenger: it has seen as much, and pins and writes nothing.
 pub(crate) struct SplitMessenger;
 
 impl Split<SeatView> for SplitMessenger {
@@ -104,7 +105,7 @@ impl Split<SeatView> for SplitMessenger {
     ghost right = { messenger };
 }
 
-/// The new seat writes the first segment.
+/// Splits off a seat that writes the first segment.
 pub(crate) struct SplitWriter;
 
 impl Split<SeatView> for SplitWriter {
@@ -113,7 +114,7 @@ impl Split<SeatView> for SplitWriter {
     ghost right = { first_role };
 }
 
-/// The new seat writes nothing.
+/// Splits off a seat that writes nothing.
 pub(crate) struct SplitReader;
 
 impl Split<SeatView> for SplitReader {
@@ -122,7 +123,7 @@ impl Split<SeatView> for SplitReader {
     ghost right = { reader };
 }
 
-/// What the second has seen is told to the first.
+/// Joins two seats: the first receives what the second has seen.
 pub(crate) struct JoinMessage;
 
 impl Join<SeatView> for JoinMessage {
@@ -131,7 +132,7 @@ impl Join<SeatView> for JoinMessage {
     ghost spent = { spent };
 }
 
-/// The first has seen what the second has.
+/// Joins two seats: the first has seen what the second has.
 pub(crate) struct JoinAnswer;
 
 impl Join<SeatView> for JoinAnswer {

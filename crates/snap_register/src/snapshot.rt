@@ -1,4 +1,4 @@
-//! Room for the numbers and values of all segments, which is made once and filled again and again.
+//! Memory for the numbers and values of all segments, allocated once and filled again and again.
 ghost use Rattle.std.specs.Prelude.{◌≡◌, ◌≢◌, ℕ, ◌<◌, List, [], length, slice_get, Some};
 ghost use Rattle.std.specs.Prelude.{IfOk, replicate};
 ghost use Rattle.snap_history.specs.Limits.{IsShort};
@@ -43,7 +43,7 @@ impl Held {
         self.number
     }
 
-    // Becomes this number and the value of the record of the seat's last look at j.
+    // Takes this number, and the value that the seat's last look found for segment `j`.
     fn read<L: Looker>(&mut self, seat: &mut L, j: usize, number: u64)
         requires segment { j < segments (L.known seat.old).plan }
         requires looked { looked (L.known seat.old) j ≡ Some number }
@@ -71,9 +71,9 @@ impl Model for SnapshotBuf {
 }
 
 impl SnapshotBuf {
-    /// Room for n segments, each at number 0 with the empty value. It takes 4,096 bytes a segment.
+    /// Room for `n` segments, each at number 0 with the empty value. Takes 4,096 bytes per segment.
     ///
-    /// Where memory runs out it answers the `AllocError`, and nothing is kept.
+    /// Returns the `AllocError` if memory runs out.
     pub fn new(alloc: Global, n: usize) -> Result<SnapshotBuf, AllocError>
         ensures size { IfOk result (λ s. length s ≡ n) }
         ensures values { IfOk result (λ s. s ≡ replicate n (0, [])) }
@@ -96,7 +96,7 @@ impl SnapshotBuf {
         self.segments.len()
     }
 
-    /// The number of the segment i.
+    /// The number of segment `i`.
     pub fn number(&self, i: usize) -> u64
         requires { i < length self.now }
         ensures { (x : ℕ × List ℕ) → slice_get self.now i ≡ Some x → result ≡ x.0 }
@@ -104,7 +104,7 @@ impl SnapshotBuf {
         self.segments[i].number()
     }
 
-    /// The value of the segment i.
+    /// The value of segment `i`.
     pub fn value(&self, i: usize) -> &[u8]
         requires { i < length self.now }
         ensures value { (x : ℕ × List ℕ) → slice_get self.now i ≡ Some x → result.now ≡ x.1 }
@@ -113,8 +113,8 @@ impl SnapshotBuf {
         self.segments[i].value()
     }
 
-    /// Takes the value of the record of the seat's last look at the segment j, which told this
-    /// number, out of the buffer that the seat pins. The other segments stay as they are.
+    /// Copies the value of segment `j` out of the buffer that the seat pins since its last look
+    /// there, which found `number`. The other segments stay.
     pub fn read<L: Looker>(&mut self, seat: &mut L, j: usize, number: u64)
         requires inside { j < length self.old }
         requires segment { j < segments (L.known seat.old).plan }

@@ -1,4 +1,4 @@
-//! A table, and the seats at it.
+//! Makes a table and its seats.
 ghost use Rattle.std.specs.Prelude.{◌≡◌, ℕ, ◌+◌, ◌*◌, ◌^◌, ◌<◌, ◌≤◌, ◌++◌, [], length, map};
 ghost use Rattle.std.specs.Prelude.{replicate, IfOk, OnOk, slice_index, false};
 ghost use Rattle.std.specs.List.{flat_map};
@@ -30,7 +30,7 @@ use std::alloc::{AllocError, Global};
 use std::snapshot::Snapshot;
 use std::sync::Arc;
 
-/// The counts of a table.
+/// The sizes of a table.
 #[derive(Clone, Copy)]
 struct Sizes {
     segments: usize,
@@ -43,7 +43,7 @@ struct Sizes {
 fn append_zeros(words: &mut Vec<u64>, count: usize) -> Result<(), AllocError>
     ensures { OnOk result (words.new.items ≡ words.old.items ++ replicate count 0) }
 {
-    // There is no memory for a list whose length no `usize` holds.
+    // No memory can hold a list whose length exceeds a `usize`.
     let all = words.len().checked_add(count).ok_or(AllocError)?;
     words.resize(all, 0)
 }
@@ -56,8 +56,8 @@ fn append(words: &mut Vec<u64>, x: &Opening, rest: usize) -> Result<(), AllocErr
     append_zeros(words, rest)
 }
 
-// The first words of the table: zeros, and then for each segment the words of its first record and
-// the `rest`, which are zeros too. There are `count` words, for which room is made at once.
+// The first words of the table: zeros, then for each segment the words of its first record and
+// `rest` zeros. Room for all `count` words is allocated at once.
 fn first_words(
     alloc: Global,
     values: &Vec<Opening>,
@@ -76,7 +76,7 @@ fn first_words(
     Ok(words)
 }
 
-// The access of a fresh seat.
+// The access of a new seat.
 fn access_of(
     table: &Arc<WordTable, Global>,
     seat: TableSeat,
@@ -109,7 +109,7 @@ pub struct Parts {
     pub scanners: Vec<ReadSeat>,
 }
 
-// Gives a seat to each writer.
+// Makes the writers' seats.
 fn seat_writers(
     alloc: Global,
     table: &Arc<WordTable, Global>,
@@ -142,7 +142,7 @@ fn seat_writers(
     Ok(writers)
 }
 
-// Gives a seat to each scanner.
+// Makes the scanners' seats.
 fn seat_readers(
     alloc: Global,
     table: &Arc<WordTable, Global>,
@@ -163,7 +163,7 @@ fn seat_readers(
     Ok(readers)
 }
 
-/// The seats over a table whose first records hold these words.
+/// Makes the seats of a table whose first records hold these words.
 pub(crate) fn open(
     alloc: Global,
     values: &Vec<Opening>,
@@ -193,7 +193,7 @@ pub(crate) fn open(
         values: Snapshot::of(values),
     };
     let (table, mut first_seat) = Table::of_words(alloc, words.as_slice(), &setup)?;
-    // The table has a copy of its own, so for this moment there are two.
+    // The table has copied the words, so there are two copies for a moment.
     drop(words);
     let table = Arc::new(alloc, table)?;
     let sizes = Sizes {

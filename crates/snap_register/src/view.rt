@@ -1,10 +1,10 @@
-/// Where the view of an update stands: the memory that the update's own scan answered. It is not
-/// copied before [`WriteSeat::publish`](crate::WriteSeat::publish) takes it out of the buffers that
-/// the seat pins.
+/// Where the view of an update is: the memory found by the scan inside it.
+/// [`WriteSeat::publish`](crate::WriteSeat::publish) copies it out of the buffers that the seat
+/// pins; it isn't copied before.
 #[derive(Debug, Clone, Copy, PartialEq, Eq)]
 pub enum View {
-    /// The records of the last looks, one at each segment: the scan was clean.
+    /// In the records of the last looks, one at each segment: the scan was clean.
     Collected,
-    /// The view of the record of the last look at this segment: the scan borrowed it.
+    /// In the record that the last look found for this segment, as its view: the scan borrowed it.
     Borrowed(usize),
 }

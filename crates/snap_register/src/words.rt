@@ -1,4 +1,4 @@
-//! The sizes of a record: numbers and values as words.
+//! Numbers and values as words, and the sizes of a record.
 ghost use Rattle.std.specs.Prelude.{◌≡◌, ◌≤◌, ◌<◌, ◌+◌, ◌-◌, length, take, drop, replicate};
 ghost use Rattle.std.specs.Int.{w64, to_le_bytes};
 ghost use Rattle.snap_history.specs.declared.limits.TheConstants.{MAX_VALUE_LEN};
@@ -6,13 +6,13 @@ ghost use Rattle.snap_register.specs.Words.{words_for};
 
 use snap_history::MAX_VALUE_LEN;
 
-/// The most words that a value takes.
+/// The most words of a value.
 pub(crate) const VALUE_WORDS: usize = MAX_VALUE_LEN / 8;
 
-/// The most words that a number, a length and a value take.
+/// The most words of a block: a number, a length and a value.
 pub(crate) const BLOCK_WORDS: usize = 2 + VALUE_WORDS;
 
-/// How many words a number, a length and a value of this many bytes take.
+/// How many words a block takes whose value has `length` bytes.
 pub(crate) fn block_size(length: usize) -> usize
     requires { length ≤ MAX_VALUE_LEN }
     ensures { result ≡ 2 + words_for length }
@@ -20,7 +20,7 @@ pub(crate) fn block_size(length: usize) -> usize
     2 + (length + 7) / 8
 }
 
-/// The word of eight bytes, of which the first is the lowest.
+/// Eight bytes as a word, the first byte lowest.
 pub(crate) fn word_of(bytes: &[u8]) -> u64
     requires { length bytes.now ≡ 8 }
     ensures { to_le_bytes w64 result ≡ bytes.now }
@@ -30,7 +30,7 @@ pub(crate) fn word_of(bytes: &[u8]) -> u64
     ])
 }
 
-/// The word of fewer than eight bytes, of which the first is the lowest, and zeros behind them.
+/// Fewer than eight bytes as a word, the first byte lowest, followed by zeros.
 pub(crate) fn tail_word(bytes: &[u8]) -> u64
     requires { length bytes.now < 8 }
     ensures front { take (length bytes.now) (to_le_bytes w64 result) ≡ bytes.now }

@@ -1,4 +1,4 @@
--- What is told of a crash at any moment from an opening on, and at any cut once all are back.
+-- A crash at any moment from an opening on, and at any cut once all writers and scanners are back.
 use Rattle.std.proofs.Common.{◌≡◌, ℕ, zero, suc, inl, List, [], ◌∷◌, ◌++◌, length, map, Some, slice_get, refl, sym, subst, ◌∙◌, arith}
 use Rattle.std.proofs.lemmas.List.{length-map}
 use Rattle.std.proofs.lemmas.Option.{slice_get_within, same_Some}
@@ -38,7 +38,7 @@ its_segment w = w.segment
 abbrev pub its_device : {D : Type 0} → WriterState D → D
 its_device w = w.segment.device
 
--- the registers start with what the writers have, and these with the memory after the base
+-- the registers start with what the writers have, which is the memory after the base
 pub starts_after : {D : Type 0} (writers : List (WriterState D)) (plan : Plan) (start : Start)
     (base : List Update)
     → ((i : ℕ) (w : WriterState D) → slice_get writers i ≡ Some w
@@ -66,7 +66,7 @@ module _ {D : Type 0} (disk : Disk.Ghosts D) where
       let d = element devices i (omega (arith, within, size, length-map writers its_segment)) in
       (d.0, d.1, were.each i d.0 w.segment d.1 (get_map its_segment writers i w at))
 
-  -- it starts with what the files hold
+  -- the writer starts with what the files hold
   starts_with : (devices : List D) (writers : List (WriterState D))
       → Pairs (IsOpened disk (length devices)) devices (map its_segment writers)
       → (start : Start) (h : List Update) (begun : ℕ → List ℕ → Type 0)
@@ -182,7 +182,7 @@ module _ {D : Type 0} (disk : Disk.Ghosts D) where
   backs_stopped olds news why k is =
       Pairs-map _ _ olds news (λ i d e returned. returned.back) is.returned
 
-  -- ---- all are back
+  -- ---- all writers and scanners are back
 
   pub any_cut : (h : List Update) (writers : List (WriterState D)) (scanners : List Known)
       → AreBack writers scanners → IsHistory h writers scanners

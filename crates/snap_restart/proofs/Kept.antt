@@ -1,4 +1,4 @@
--- Writers that did something are back as they were.
+-- Writers and scanners that did something can still be closed.
 use Rattle.std.proofs.Common.{◌≡◌, ℕ, ◌+◌, ◌<◌, ◌≤◌, List, length, slice_get, slice_set, Some, sym, subst, ◌∙◌}
 use mathlib.Core.Logic.{dite}
 use native.Mathlib.Decide.{ℕ_discrete}
@@ -11,7 +11,7 @@ use Rattle.snap_writer.specs.Writer.{WriterState}
 use Rattle.snap_writer.specs.Update.{IsSameSeat}
 use Rattle.snap_restart.specs.Closed.{AreBack, IsSeatAt}
 
--- one writer made an update
+-- after an update by one writer
 pub back_updated : {D : Type 0} (ws : List (WriterState D)) (rs : List Known) (i : ℕ)
     (x y : WriterState D) → AreBack ws rs → slice_get ws i ≡ Some x → IsSameSeat x.seat y.seat
     → AreBack (slice_set ws i y) rs

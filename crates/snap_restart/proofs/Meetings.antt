@@ -1,4 +1,4 @@
--- What a scanner knows that meets all writers twice, and what their devices then hold.
+-- What a scanner knows after it has met all writers twice, and what their devices then hold.
 use Rattle.std.proofs.Common.{◌≡◌, ℕ, ◌+◌, ◌<◌, ◌≤◌, List, length, slice_get, slice_set, Some, refl, ap, sym, subst, ◌∙◌, arith}
 use mathlib.Core.Logic.{dite}
 use native.Mathlib.Decide.{ℕ_discrete}
@@ -18,7 +18,7 @@ use Rattle.snap_restart.specs.Closed.{AreBack, IsHistory, HoldsAfter, HasMet, Is
 use Rattle.snap_restart.proofs.Pairs.{pairs_self, pairs_moved}
 use Rattle.snap_disk.specs.declared.disk.Disk as Disk
 
--- what holds of the items before place k, and now of the one there
+-- a property of all items before place k, and of the item there
 pub one_more : {A : Type 0} (P : A → Type 0) (xs : List A) (k : ℕ) (x : A) → slice_get xs k ≡ Some x
     → ((i : ℕ) (y : A) → slice_get xs i ≡ Some y → i < k → P y) → P x → (i : ℕ) (y : A)
     → slice_get xs i ≡ Some y → i < k + 1 → P y
@@ -34,7 +34,7 @@ together_grown a b c d t g h = record {
   plan = h.plan ∙ t.plan ∙ sym g.plan;
 }
 
--- a scanner more was heard
+-- one scanner more was met
 pub heard_step : (olds : List Known) (k : ℕ) (b met seat grown : Known) → slice_get olds k ≡ Some b
     → ((i : ℕ) (x : Known) → slice_get olds i ≡ Some x → i < k → IsBeginning x.seen seat.seen)
     → Grows b met → Grows seat grown → met.seen ≡ grown.seen
@@ -44,7 +44,7 @@ heard_step olds k b met seat grown there before g more is =
     (λ i x at low. beginning-trans x.seen seat.seen grown.seen (before i x at low) more.later)
     (subst (IsBeginning b.seen) is g.later)
 
--- the scanner met this writer now
+-- the scanner has just met this writer
 pub told_now : (start scanner met a grown : Known) → Grows start scanner → Grows scanner met
     → Grows a grown → met.seen ≡ grown.seen → IsTold a start met
 told_now start scanner met a grown first more g is = record {
@@ -97,13 +97,13 @@ module _ {D : Type 0} where
       together_grown b x.0.seat s w.seat
       (record { table = a.table_is ∙ sym r.table_is; plan = a.plan_is ∙ sym r.plan_is }) g met.grows
 
-  -- the first writer alone took part
+  -- only the first writer took part
   pub first_met : (w0 : List (WriterState D)) (x y : WriterState D) → slice_get w0 0 ≡ Some x
       → HasMet x y → Pairs (λ _. HasMet) w0 (slice_set w0 0 y)
   first_met w0 x y at met =
       pairs_moved HasMet met_more w0 w0 0 x y at met (pairs_self (λ _. HasMet) (λ _. met_self) w0)
 
-  -- after the first round the scanner has seen it all, which the second one shows
+  -- after the first round the scanner has seen everything, as the second round shows
   pub history_told : (w0 w1 w2 : List (WriterState D)) (scanners : List Known)
       (first : WriterState D) (s1 s2 s3 : Known) → AreBack w0 scanners
       → Pairs (λ _. HasMet) w0 w1 → Pairs (λ _. HasMet) w1 w2
@@ -139,7 +139,7 @@ module _ {D : Type 0} where
     },
   )
 
-  -- the devices that come back hold the history's numbers and values
+  -- the devices returned hold the history's numbers and values
   pub holds_after : (disk : Disk.Ghosts D) (h : List Update)
       (writers met : List (WriterState D)) (scanners : List Known) → AreBack writers scanners
       → IsHistory h writers scanners → Pairs (λ _. HasMet) writers met
@@ -179,7 +179,7 @@ module _ {D : Type 0} where
             (λ t. (number_is t, value_is t)) (kept hon);
       }
 
--- ---- devices that come back
+-- ---- devices that are returned
 
 module _ {D : Type 0} (disk : Disk.Ghosts D) where
   -- a writer's device, taken out of its segment

@@ -1,4 +1,4 @@
--- Seats of new registers, beside the segments that they were opened with.
+-- New registers' seats match the segments that the registers were opened with.
 use Rattle.std.proofs.Common.{◌≡◌, ℕ, ◌+◌, ◌<◌, ◌≤◌, List, [], ◌∷◌, length, map, slice_get, Some, refl, ap, sym, ◌∙◌, arith}
 use Rattle.std.proofs.lemmas.List.{length-map}
 use Rattle.snap_register.specs.Registers.{RegistersId}
@@ -26,7 +26,7 @@ seat_at : {z : RegistersId} {p : Plan} {low high : ℕ} {a : Known} → IsNewSea
 seat_at n =
     record { table_is = n.table_is; plan_is = n.plan_is; low_is = n.low_is; high_is = n.high_is }
 
--- a new seat that writes segment i starts with what the registers have of it
+-- a new seat that writes segment i starts with the registers' number and value of it
 pub new_starts : (z : RegistersId) (p : Plan) (i : ℕ) (a : Known) (x : ℕ × List ℕ)
     → IsNewSeat z p i (i + 1) a → starts p i ≡ x
     → (number_in a a.seen (own_of a) ≡ x.0) × (value_in a a.seen (own_of a) ≡ x.1)

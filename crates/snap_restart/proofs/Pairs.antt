@@ -1,4 +1,4 @@
--- Two lists with a fact at each place: the same one twice, one behind the other, mapped or spliced.
+-- Two lists of equal length with a fact at each place: one list twice, composed, mapped or spliced.
 use Rattle.std.proofs.Common.{◌≡◌, ℕ, zero, suc, ◌<◌, List, [], ◌∷◌, ◌++◌, length, map, slice_get, slice_set, Some, refl, ap, sym, subst, ◌∙◌, arith}
 use Rattle.std.proofs.lemmas.List.{length-map}
 use Rattle.std.proofs.lemmas.Option.{slice_get_within, same_Some}
@@ -23,7 +23,7 @@ pairs_more R more xs ys zs p q = record {
       more a b.0 c b.2 (q.each i b.0 c b.1 ec));
 }
 
--- the item at place k of the second list goes on
+-- the item at place k of the second list is replaced
 pub pairs_moved : {A : Type 0} (R : A → A → Type 0)
     → ((a b c : A) → R a b → R b c → R a c) → (xs ys : List A) (k : ℕ) (y z : A)
     → slice_get ys k ≡ Some y → R y z → Pairs (λ _. R) xs ys → Pairs (λ _. R) xs (slice_set ys k z)
@@ -65,7 +65,7 @@ onto : {A B : Type 0} (R : ℕ → A → B → Type 0) (u : A) (v : B) (xs : Lis
 onto R u v xs ys first p zero a b ea eb = subst (λ z. R 0 a z) (same_Some v b eb) (subst (λ z. R 0 z v) (same_Some u a ea) first)
 onto R u v xs ys first p (suc i) a b ea eb = p.each i a b ea eb
 
--- pairs, one more, and behind them a list beside itself
+-- two lists, one more pair, and then one list with itself
 pub Pairs-spliced : {A : Type 0} (R : ℕ → A → A → Type 0) (xs ys : List A) (x y : A) (rest : List A) → Pairs R xs ys → R (length xs) x y
     → ((i : ℕ) (a : A) → length xs < i → R i a a) → Pairs R (xs ++ x ∷ rest) (ys ++ y ∷ rest)
 Pairs-spliced R [] [] x y rest p here behind = record { size = refl; each = beside R x y rest here behind }

@@ -17,7 +17,7 @@ use Rattle.snap_restart.specs.Opened.{IsBack, IsOpened, IsReturned, IsStopped}
 use Rattle.snap_disk.specs.declared.disk.Disk as Disk
 
 module _ {D : Type 0} (disk : Disk.Ghosts D) where
-  -- a device that was not touched
+  -- a device that wasn't touched
   pub back_same : OnlyNow disk → (d : D) → IsBack disk d d
   back_same only_now d = record {
     honest_then = λ h. h;
@@ -25,7 +25,7 @@ module _ {D : Type 0} (disk : Disk.Ghosts D) where
     now = λ h b m. m;
   }
 
-  -- what a crash may leave now is among what one since then might have left
+  -- what a crash may leave now is among what a crash since the opening began might have left
   pub back_later : CountsNow disk → (d e : D) → (disk.is_honest e → disk.is_honest d)
       → (disk.is_honest e → LeavesOnly disk d e (MayLeave (disk.device d))) → IsBack disk d e
   back_later counts_now d e then any = record {
@@ -62,7 +62,7 @@ module _ {D : Type 0} (disk : Disk.Ghosts D) where
       behind = λ l. absurd (omega arith);
     }
 
-  -- the segments before were opened, this one was refused, and the others were not touched
+  -- the earlier segments were opened, this one was refused, and the others weren't touched
   pub stopped_at : OnlyNow disk → (why : Refusal) (olds news : List D) (ss : List (SegmentState D)) (d e : D) (rest : List D)
       (k : ℕ) → k ≡ length ss → drop k olds ≡ d ∷ rest → k < length olds
       → Pairs (IsOpened disk (length olds)) (take k olds) ss
@@ -83,7 +83,7 @@ module _ {D : Type 0} (disk : Disk.Ghosts D) where
         returned = subst (λ l. Pairs R l news) whole (subst (λ l. Pairs R (take k olds ++ d ∷ rest) l) (sym is) all);
       }
 
-  -- no memory at once: nothing was touched
+  -- memory ran out at once: nothing was touched
   pub stopped_first : OnlyNow disk → (olds : List D) → IsStopped disk olds olds NoMemory 0
   stopped_first only_now olds = record {
     kind = tt;
@@ -97,7 +97,7 @@ module _ {D : Type 0} (disk : Disk.Ghosts D) where
     }) olds;
   }
 
-  -- no memory once all were opened
+  -- memory ran out after all were opened
   pub stopped_last : (olds news : List D) (ss : List (SegmentState D))
       → Pairs (IsOpened disk (length olds)) olds ss → news ≡ map (λ s. s.device) ss
       → IsStopped disk olds news NoMemory (length olds)

@@ -1,4 +1,4 @@
--- Lists whose items are taken one after another.
+-- Lists whose items are removed one after another.
 use Rattle.std.proofs.Common.{◌≡◌, ℕ, zero, suc, ◌+◌, List, ◌∷◌, ◌++◌, length, map, take, Some, slice_get, Option, None, Result, Ok, Err, IfOk, refl, ap, subst, ◌∙◌, arith}
 use Rattle.std.specs.Prelude.{◌<◌, All, IsSome, IsErr, option_map}
 use Rattle.std.proofs.lemmas.Option.{get_or_from_slice_get, slice_get-map}
@@ -8,25 +8,25 @@ use Rattle.snap_history.proofs.Removals.{Taken}
 pub get_map : {A B : Type 0} (f : A → B) (ws : List A) (k : ℕ) (x : A) → slice_get ws k ≡ Some x → slice_get (map f ws) k ≡ Some (f x)
 get_map f ws k x e = slice_get-map f ws k ∙ ap (option_map f) e
 
--- what holds of each item holds of the next one
+-- a property of all items holds of the next one
 pub all_dropped : {A : Type 0} (P : A → Type 0) (k : ℕ) (ws : List A) (x : A) (rest : List A)
     → All P ws → Taken k ws x rest → P x
 all_dropped P k ws x rest all next =
     subst P (get_or_from_slice_get ws k x x next.at) (all k x next.inside)
 
--- one item more was taken, and as many are left as the iterator says
+-- one item more was removed, and the iterator has as many left as it says
 pub one_fewer : {A : Type 0} {x : A} {left rest : List A} {m n : ℕ} → m ≡ length left
     → left ≡ x ∷ rest → n + 1 ≡ m → n ≡ length rest
 one_fewer was next gone = let short = ap length next in omega arith
 
--- none comes where none is left
+-- the iterator returns nothing if nothing is left
 pub none_comes : {A : Type 0} (next : Option A) (n : ℕ) → (0 < n → IsSome next)
     → ((x : A) → next ≡ Some x → ⊥) → n ≡ 0
 none_comes (Some x) n some none = absurd (none x refl)
 none_comes None zero some none = refl
 none_comes None (suc n) some none = absurd (let is = some (omega arith) in cc)
 
--- so many items are there after k of them
+-- the length of the list after k of the items were appended
 pub so_far : {A B : Type 0} (f : A → B) (old items : List B) (ss : List A) (k : ℕ)
     → items ≡ old ++ map f (take k ss) → k < length ss → length items ≡ length old + k
 so_far f old items ss k is low = ap length is ∙ length-append old (map f (take k ss))

@@ -22,6 +22,6 @@ lines_next xs k x e =
     let long : length (take k xs) ≡ k = length-take-le k xs (omega arith) in
     ap (lines_text 0) (take_next k xs x e) ∙ lines_push 0 k (take k xs) x (omega arith)
 
--- behind all lines comes their count
+-- after all lines follows their count
 pub lines_all : (xs : List Recovered) (report : Report) (k : ℕ) → xs ≡ report.segments.items → length xs ≤ k → lines_text 0 (take k xs) ++ line (codes "segments " ++ decimal (length report.segments.items)) ≡ report_text report
 lines_all xs report k e all = ap (λ l. lines_text 0 l ++ line (codes "segments " ++ decimal (length report.segments.items))) (take_all k xs all ∙ e)

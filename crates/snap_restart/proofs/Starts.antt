@@ -22,7 +22,7 @@ module _ {D : Type 0} (disk : Disk.Ghosts D) (n : ℕ) (start : Start) where
       pub all_devices : length devices ≡ n
       all_devices = sym (length-map devices (λ (d : D). (disk.device d).bytes)) ∙ now.size
 
-      -- and it goes on
+      -- the history continues
       pub history_on : (writers : List (WriterState D)) (opened : AreOpened disk devices writers)
           → AllHonest disk writers
           → GoesOn disk opened.plan start l.history l.crashed writers

@@ -1,4 +1,4 @@
--- All writers and scanners of one opening, what they have seen, and what their devices hold once
+-- All writers and scanners of one opening, what they have seen, and what their devices hold after
 -- they are closed.
 use Rattle.std.specs.Prelude.{◌≡◌, ℕ, ◌+◌, ◌<◌, ◌≤◌, List, length, slice_get, Some}
 use Rattle.snap_register.specs.Registers.{RegistersId}
@@ -11,14 +11,14 @@ use Rattle.snap_register.specs.Seat.{Known, Grows, number_in, value_in}
 use Rattle.snap_writer.specs.Writer.{WriterState, number_of, value_of}
 use Rattle.snap_disk.specs.declared.disk.Disk as Disk
 
--- the seat is one of this opening, and writes the segments from `low` on and below `high`
+-- a seat of this opening that writes the segments from `low` on and below `high`
 pub record IsSeatAt (table : RegistersId) (plan : Plan) (low high : ℕ) (a : Known) : Type 0 where
   pub table_is : a.table ≡ table
   pub plan_is : a.plan ≡ plan
   pub low_is : a.low ≡ low
   pub high_is : a.high ≡ high
 
--- the writers of all segments of one opening, in order, and its scanners: at least one is here
+-- the writers of all segments of one opening, in order, and its scanners, at least one
 pub record AreBack {D : Type 0} (writers : List (WriterState D)) (scanners : List Known)
     : Type 0 where
   pub table : RegistersId
@@ -32,17 +32,17 @@ pub record AreBack {D : Type 0} (writers : List (WriterState D)) (scanners : Lis
   pub scanners_are : (k : ℕ) (b : Known) → slice_get scanners k ≡ Some b
       → IsSeatAt table plan 0 0 b
 
--- each writer and each scanner has seen a beginning of this history, whose updates of a segment are
--- those that its writer showed
+-- each writer and each scanner has seen a beginning of the history h, whose updates of a segment
+-- are those that its writer showed
 pub record IsHistory {D : Type 0} (h : List Update) (writers : List (WriterState D))
     (scanners : List Known) : Type 0 where
   pub writers_saw : (i : ℕ) (w : WriterState D) → slice_get writers i ≡ Some w
       → IsBeginning w.seat.seen h × (updates_of i h ≡ updates_of i w.seat.seen)
   pub scanners_saw : (k : ℕ) (b : Known) → slice_get scanners k ≡ Some b → IsBeginning b.seen h
 
--- the writer of segment i stopped at the number and the value of the history, and its device holds
--- them: no place is open, or after a failed store a crash leaves these or the next number with the
--- value that was begun
+-- the writer of segment i ended with the number and value that the history has, and its device
+-- holds them: no place is open, or after a failed store a crash leaves these or the next number
+-- with the value that was begun
 pub record HoldsAfter {D : Type 0} (disk : Disk.Ghosts D) (h : List Update)
     (i : ℕ) (w : WriterState D) : Type 0 where
   pub number_is : w.segment.number ≡ number_in w.seat h i
@@ -51,19 +51,19 @@ pub record HoldsAfter {D : Type 0} (disk : Disk.Ghosts D) (h : List Update)
       (number_in w.seat h i) (value_in w.seat h i) w.segment.begun w.segment.spare_open
       (disk.device w.segment.device)
 
--- the writer took part in a meeting: its file is as it was, and its seat may have seen more
+-- the writer took part in a meeting: its file is unchanged, and its seat may have seen more
 pub record HasMet {D : Type 0} (old new : WriterState D) : Type 0 where
   pub segment_is : new.segment ≡ old.segment
   pub grows : Grows old.seat new.seat
 
--- after a meeting of all writers with a scanner it has seen all that this writer had, and before it
--- had seen no update of the writer's segment that the writer hadn't
+-- after a scanner met all writers it has seen all that this writer had; and before that it had seen
+-- no update of the writer's segment that the writer hadn't
 pub record IsTold (writer before after : Known) : Type 0 where
   pub heard : IsBeginning writer.seen after.seen
   pub no_more : (i : ℕ) → writer.low ≤ i → i < writer.high
       → number_in writer before.seen i ≤ number_in writer writer.seen i
 
--- what a writer says of its device: it holds the number and the value that were shown last
+-- the writer's device holds the number and the value shown last
 pub record Rests {D : Type 0} (disk : Disk.Ghosts D) (w : WriterState D)
     : Type 0 where
   pub number_is : w.segment.number ≡ number_of w

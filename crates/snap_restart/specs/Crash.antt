@@ -1,4 +1,4 @@
--- What the writers and scanners of one opening that are back tell of any crash before.
+-- What an opening's writers and scanners, once all are back, imply about any earlier crash.
 use Rattle.std.specs.Prelude.{◌≡◌, ℕ, ◌<◌, ◌≤◌, List, ◌++◌, length, map, Some, slice_get}
 use mathlib.Core.Option.{some}
 use lib.ListN.{get_elem?}
@@ -17,16 +17,16 @@ use Rattle.snap_cut.specs.Laws.{IsSeatOf}
 use Rattle.snap_disk.specs.declared.disk.Disk as Disk
 
 module _ {D : Type 0} (disk : Disk.Ghosts D) where
-  -- the place lies in a life that began with this writer of segment i
+  -- the place is in a life that began with this writer of segment i
   abbrev pub IsLifeFrom : List (WriterState D) → ℕ → Place D → Type 0
   IsLifeFrom writers i p = (a z : WriterState D) × (life : List (WriterState D))
       × (slice_get writers i ≡ Some a)
       × Lived disk a life z
       × IsIn disk z a life p
 
-  -- Whatever these writers do from now on: at any moment of their registers a crash of all devices is
-  -- recovered as the memory after the whole history of that moment, of which each seat has seen a
-  -- beginning, followed by at most one begun update of each writer.
+  -- Whatever these writers do from now on: at any moment of their registers a crash of all devices
+  -- is recovered as the memory after the whole history of that moment, of which each seat has seen
+  -- a beginning, followed by at most one begun update of each writer.
   abbrev pub AnyMoment : Plan → List (WriterState D) → Type 0
   AnyMoment plan writers = (s : Moment) (kept : Kept plan s)
       (places : List (Place D)) (files : List (List ℕ)) → length places ≡ length writers
@@ -37,7 +37,8 @@ module _ {D : Type 0} (disk : Disk.Ghosts D) where
       → IsBeginning (updates v.seen) (updates kept.history))
       × IsRecovered (length writers) (starts plan) (updates kept.history) (Begun places) files
 
-  -- the same, told from an earlier start, where these writers began behind the base
+  -- AnyMoment, from an earlier start, after which these writers began with the memory after the
+  -- base
   abbrev pub AnyMomentAfter : Plan → Start → List Update → List (WriterState D) → Type 0
   AnyMomentAfter plan start base writers = (s : Moment) (kept : Kept plan s)
       (places : List (Place D)) (files : List (List ℕ)) → length places ≡ length writers
@@ -46,8 +47,9 @@ module _ {D : Type 0} (disk : Disk.Ghosts D) where
       → Pairs (λ _. CrashLeaves disk) places files
       → IsRecovered (length writers) start (base ++ updates kept.history) (Begun places) files
 
-  -- The history goes on over a crash: the writers begin with the memory after it and then some of the
-  -- updates that were begun there, at most one of each segment, and what they show stands behind.
+  -- The history continues across a crash: the writers begin with the memory after it and then some
+  -- of the updates begun at the crash, at most one of each segment; what they show comes after
+  -- these.
   pub record GoesOn (plan : Plan) (start : Start) (h : List Update) (crashed : List (Place D))
       (writers : List (WriterState D)) : Type 0 where
     pub more : List Update
@@ -63,8 +65,8 @@ module _ {D : Type 0} (disk : Disk.Ghosts D) where
   AllHonest writers = (i : ℕ) (w : WriterState D) → slice_get writers i ≡ Some w
       → disk.is_honest w.segment.device
 
-  -- all writers were opened at rest, of the segments in order, and their history starts with what
-  -- the files hold: where that is what a crash left, the history before goes on
+  -- all writers were opened at rest, in the order of their segments, and start with what the files
+  -- hold; if that is what a crash left, the history before continues
   pub record AreOpened (devices : List D) (writers : List (WriterState D)) : Type 0 where
     pub plan : Plan
     pub all : length writers ≡ segments plan
@@ -79,8 +81,8 @@ module _ {D : Type 0} (disk : Disk.Ghosts D) where
         (map (λ (d : D). (disk.device d).bytes) devices)
         → AllHonest writers → GoesOn plan start h crashed writers
 
-  -- These devices are what became of the others since a call began: whatever a crash left of all of
-  -- them at any times since then, that are times of each by itself, is the memory that was kept.
+  -- The devices `news` are what became of `olds` during a call: whatever a crash left of them at
+  -- times since the call began, each at a time of its own, is the memory that `olds` kept.
   abbrev pub StayKept : List D → List D → Type 0
   StayKept olds news = (n : ℕ) (start : Start) (h : List Update) (crashed : List (Place D))
       (files : List (List ℕ)) → KeepMemory disk n start h (Begun crashed) olds
@@ -89,7 +91,7 @@ module _ {D : Type 0} (disk : Disk.Ghosts D) where
       → slice_get files i ≡ Some b → disk.is_honest e × disk.might_have_left e (disk.clock d) b)
       → IsRecovered n start h (Begun crashed) files
 
-  -- the place lies in a life that came to this writer of segment i
+  -- the place is in a life that led to this writer of segment i
   abbrev pub IsLifeOf : Plan → List (WriterState D) → ℕ → Place D → Type 0
   IsLifeOf plan writers i p = (a z : WriterState D) × (life : List (WriterState D))
       × (slice_get writers i ≡ Some z)
@@ -97,7 +99,7 @@ module _ {D : Type 0} (disk : Disk.Ghosts D) where
       × Lived disk a life z
       × IsIn disk z a life p
 
-  -- one of the scanners had seen these updates by some time
+  -- by some time one of the scanners had seen these updates
   abbrev pub HadSeen : List Known → List Update → Type 0
   HadSeen scanners seen = (k : ℕ) × (b : Known) × (slice_get scanners k ≡ Some b)
       × IsBeginning seen b.seen

@@ -1,5 +1,5 @@
--- Devices before and after an opening of all files. What is said is over any type D of
--- device, and `Disk.Ghosts D` is what `Disk` lets one say of it.
+-- Devices before and after an opening of all files, for any type D of device. `Disk.Ghosts D` has
+-- the ghost items of the trait `Disk` for it.
 use Rattle.std.specs.Prelude.{◌≡◌, ◌≢◌, ℕ, ◌+◌, ◌^◌, ◌<◌, ◌≤◌, List, [], length, None, Some, slice_get}
 use Rattle.snap_disk.specs.declared.refusal.Refusal.{Refusal}
 use Rattle.snap_disk.specs.declared.refusal.Refusal.TheVariants.{NoMemory}
@@ -21,15 +21,16 @@ use Rattle.snap_disk.specs.declared.disk.Disk as Disk
 abbrev pub IsOpenable : (i n : ℕ) → List ℕ → Type 0
 IsOpenable i n b = Head b i n × ((k : ℕ) × (v : List ℕ) × Holds b k v)
 
--- whatever a crash at any time since d leaves of the device, and one now, a crash of d could leave
+-- whatever a crash since d was there, or a crash now, leaves of the device, a crash of d could
+-- leave
 pub record IsBack {D : Type 0} (disk : Disk.Ghosts D) (d e : D) : Type 0 where
   pub honest_then : disk.is_honest e → disk.is_honest d
   pub any_time : disk.is_honest e → LeavesOnly disk d e (MayLeave (disk.device d))
   pub now : disk.is_honest e → (b : List ℕ) → MayLeave (disk.device e) b
       → MayLeave (disk.device d) b
 
--- segment i of n was opened on device d: it isn't fenced, no place is open, and it holds the number
--- and the value that the bytes held
+-- segment i of n was opened on device d: it isn't fenced, no place is open, and it has the number
+-- and value that the bytes held
 pub record IsOpened {D : Type 0} (disk : Disk.Ghosts D) (n i : ℕ) (d : D)
     (s : SegmentState D) : Type 0 where
   pub index_is : s.index ≡ i
@@ -43,21 +44,21 @@ pub record IsOpened {D : Type 0} (disk : Disk.Ghosts D) (n i : ℕ) (d : D)
       → IsAtRest i n s.number s.value s.spare_open (disk.device s.device)
   pub back : IsBack disk d s.device
 
--- device e is what came back for device d, of segment i, where the opening of n segments was
--- refused at segment k
+-- device e was returned for device d, of segment i, by an opening of n segments that was refused at
+-- segment k
 pub record IsReturned {D : Type 0} (disk : Disk.Ghosts D) (n k : ℕ) (why : Refusal)
     (i : ℕ) (d e : D) : Type 0 where
   pub back : IsBack disk d e
-  -- those before were opened
+  -- the segments before k were opened
   pub before : i < k → (disk.failure_count e ≡ disk.failure_count d) × (disk.is_honest e
       → IsOpenable i n (disk.device d).bytes)
-  -- this one was refused, save for want of memory by what its bytes are or by a fault
+  -- segment k was refused: unless memory ran out, because of its bytes or a fault
   pub here : i ≡ k → CountsFailed why (disk.failure_count d) (disk.failure_count e)
       × (why ≢ NoMemory → disk.is_honest e → IsNoOpening i n (disk.device d).bytes why)
-  -- and those behind it weren't touched
+  -- the segments after k weren't touched
   pub behind : k < i → e ≡ d
 
--- the opening of these devices was refused at segment k, and they came back in order
+-- the opening of these devices was refused at segment k, and all were returned in order
 pub record IsStopped {D : Type 0} (disk : Disk.Ghosts D) (olds news : List D)
     (why : Refusal) (k : ℕ) : Type 0 where
   pub kind : IsOpenRefusal why
@@ -66,7 +67,7 @@ pub record IsStopped {D : Type 0} (disk : Disk.Ghosts D) (olds news : List D)
   pub returned : Pairs (IsReturned disk (length olds) k why)
       olds news
 
--- how many looks a seat may take between an opening and the next
+-- how many looks a seat has between an opening and the next
 abbrev pub all_looks : ℕ
 all_looks = 2 ^ 50
 
@@ -74,7 +75,7 @@ all_looks = 2 ^ 50
 abbrev pub IsFresh : Known → Type 0
 IsFresh a = (a.seen ≡ []) × (a.left ≡ all_looks)
 
--- so it is with each writer and each scanner
+-- no writer and no scanner has seen an update or made a look
 pub record AreFresh {D : Type 0} (writers : List (WriterState D)) (scanners : List Known)
     : Type 0 where
   pub writers_are : (i : ℕ) (w : WriterState D) → slice_get writers i ≡ Some w → IsFresh w.seat
@@ -85,7 +86,7 @@ pub record Starts {D : Type 0} (s : SegmentState D) (a : Known) : Type 0 where
   pub number_is : s.number ≡ number_in a a.seen (own_of a)
   pub value_is : s.value ≡ value_in a a.seen (own_of a)
 
--- what was recovered of a segment
+-- what the report says was recovered of a segment
 abbrev pub recovered : {D : Type 0} → SegmentState D → Recovered
 recovered s = record { number = s.number; length = length s.value; spare_open = s.spare_open }
 

@@ -1,4 +1,4 @@
--- How a report is printed.
+-- The text of a report.
 use Rattle.std.specs.Prelude.{ℕ, ◌+◌, Bool, true, false, List, [], ◌∷◌, ◌++◌, length, codes}
 use Rattle.std.specs.Fmt.{decimal}
 use Rattle.snap_segment.specs.Text.{line}
@@ -9,7 +9,7 @@ abbrev pub spare_text : Bool → List ℕ
 spare_text true = codes "open"
 spare_text false = codes "closed"
 
--- what is said of segment i
+-- the text about segment i
 abbrev pub recovered_text : ℕ → Recovered → List ℕ
 recovered_text i s = codes "segment " ++ (decimal i ++ (codes " number " ++ (decimal s.number ++
     (codes " length " ++ (decimal s.length ++ (codes " spare " ++ spare_text s.spare_open))))))

@@ -14,23 +14,23 @@ use Rattle.snap_restart.specs.Crash.{IsLifeFrom, AllHonest, GoesOn, AreOpened, S
 use Rattle.snap_disk.specs.declared.disk.Disk as Disk
 
 module _ {D : Type 0} (disk : Disk.Ghosts D) where
-  -- These devices are the same files behind a crash: of each a further crash leaves only what that
-  -- one could leave. For what a crash leaves open stays open, until a sync has succeeded.
+  -- These devices are the same files after a crash: a further crash leaves of each only what that
+  -- crash could leave, because a crash leaves open places open until a sync has succeeded.
   abbrev pub FollowCrash : List (Place D) → List D → Type 0
   FollowCrash crashed nexts = Pairs (λ _ p d. (b : List ℕ) → MayLeave (disk.device d) b
       → CrashLeaves disk p b) crashed nexts
 
-  -- The same behind an opening that was cut off or refused: only what a crash could have left since
-  -- it began.
+  -- These devices are the same files after an opening that was cut off or refused: a further crash
+  -- leaves only what a crash since the opening began could have left.
   abbrev pub FollowOpening : List D → List D → List D → Type 0
   FollowOpening olds news nexts = (length olds ≡ length nexts)
       × ((i : ℕ) (d e f : D) (b : List ℕ) → slice_get olds i ≡ Some d → slice_get news i ≡ Some e
       → slice_get nexts i ≡ Some f → MayLeave (disk.device f) b
       → disk.is_honest e × disk.might_have_left e (disk.clock d) b)
 
--- What happened to some files from a time at which they were known to keep the memory of the start:
--- the whole history of each moment at which a crash came, the newest first, and the devices as they
--- are handed to the next opening.
+-- What happened to some files since they were known to keep the memory of the start: the whole
+-- history of each moment at which a crash came, newest first, and the devices as the next opening
+-- gets them.
 pub data Restarts {D : Type 0} (disk : Disk.Ghosts D) (n : ℕ) (start : Start)
     : List (List Update) → List D → Type 0 where
   First : (devices : List D) → KeepMemory disk n start [] (Begun {D = D} []) devices
@@ -46,15 +46,15 @@ pub data Restarts {D : Type 0} (disk : Disk.Ghosts D) (n : ℕ) (start : Start)
       → IsLifeFrom disk writers i p × IsSeatOf s.views i p)
       → FollowCrash disk crashed nexts
       → Restarts disk n start (updates kept.history ∷ moments) nexts
-  -- a crash came while they were opened, or one of them was refused
+  -- a crash came during an opening, or one of the files was refused
   Interrupted : (moments : List (List Update)) (devices news nexts : List D)
       → Restarts disk n start moments devices
       → StayKept disk devices news
       → FollowOpening disk devices news nexts
       → Restarts disk n start moments nexts
 
--- the history is those of these moments, one behind the other, and before each of them some updates
--- that were begun and not shown, at most one of each segment
+-- the history consists of those of these moments, one after another, and before each of them some
+-- updates that were begun and not shown, at most one of each segment
 abbrev pub IsJoined : List (List Update) → List Update → Type 0
 IsJoined [] h = h ≡ []
 IsJoined (moment ∷ earlier) h = (before : List Update) × (more : List Update)
@@ -75,8 +75,7 @@ AnyNumberLaw {D} disk = (n : ℕ) (start : Start)
     → Restarts disk n start moments devices
     → Last disk n start moments devices
 
--- from the first opening on nothing is known of what was before: its history begins with what the
--- files hold
+-- before the first opening nothing is known: its history begins with what the files hold
 abbrev pub FirstLaw : {D : Type 0} → Disk.Ghosts D → Type 0
 FirstLaw {D} disk = (devices : List D) (writers : List (WriterState D))
     (opened : AreOpened disk devices writers)

@@ -29,19 +29,19 @@ use snap_segment::Segment;
 use std::alloc::Global;
 use std::vec::IntoIter;
 
-/// Why no file is open, and no writer there.
+/// Why an opening failed. No file is open, and there is no writer.
 #[derive(Debug, Drop)]
 pub struct Stopped<D> {
-    /// All devices, in order of their segments.
+    /// All devices, in the order of their segments.
     pub devices: Vec<D>,
     pub refusal: Refusal,
-    /// How many segments were opened before: of a refusal other than `NoMemory` it is the segment
-    /// that was refused.
+    /// How many segments were opened before. For any refusal but `NoMemory` this is the index of
+    /// the refused segment.
     pub segment: usize,
 }
 
 /// Opens each file as that of its segment, in order, up to the first refusal. The second list is
-/// empty, with room for the devices of any `Store`.
+/// empty and has room for all devices of a `Store`.
 pub(crate) fn open_segments<D: Disk + Drop>(
     alloc: Global,
     devices: Vec<D>,
@@ -78,7 +78,7 @@ pub(crate) fn open_segments<D: Disk + Drop>(
     Ok((segments, emptied))
 }
 
-// There was no memory to begin with.
+// Memory ran out before any file was opened.
 fn unopened<D: Disk>(devices: Vec<D>) -> Stopped<D>
     ensures { IsStopped D.Disk devices.items result.devices.items result.refusal result.segment }
 {
@@ -89,7 +89,7 @@ fn unopened<D: Disk>(devices: Vec<D>) -> Stopped<D>
     }
 }
 
-// All devices in order: those of the open segments, this one and the rest.
+// All devices in order: those of the open segments, the refused one, and the rest.
 fn returned<D: Disk + Drop>(
     mut devices: Vec<D>,
     segments: Vec<Segment<D>>,
@@ -109,7 +109,7 @@ fn returned<D: Disk + Drop>(
     devices
 }
 
-/// Puts the devices of open segments behind the others, in order.
+/// Appends the devices of open segments to `devices`, in order.
 pub(crate) fn release<D: Disk + Drop>(segments: Vec<Segment<D>>, devices: &mut Vec<D>)
     requires room { length devices.old.items + length segments.items ≤ vec_capacity devices.old }
     ensures items { devices.new.items

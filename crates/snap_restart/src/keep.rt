@@ -1,7 +1,7 @@
-//! Lists with room.
+//! Appends to lists that have room.
 ghost use Rattle.std.specs.Prelude.{◌≡◌, ◌++◌, ◌∷◌, ◌<◌, ◌≤◌, [], length, vec_capacity};
 
-/// Adds an item where there is room for it, so that it takes no memory.
+/// Appends an item to a list that has room for it, so without allocating.
 pub(crate) fn keep<T: Drop>(items: &mut Vec<T>, item: T)
     requires { length items.old.items < vec_capacity items.old }
     ensures items { items.new.items ≡ items.old.items ++ item ∷ [] }

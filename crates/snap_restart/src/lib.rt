@@ -1,5 +1,5 @@
-//! A restart: all files of a memory are opened at once, with a report of what was found, and closed
-//! at once. Nothing is served that was not recovered from every file and synced.
+//! Opens all files of a memory together, with a report of what was found, and closes them together.
+//! Nothing is served that wasn't recovered from every file and synced.
 #![tactic(auto)]
 
 mod files;

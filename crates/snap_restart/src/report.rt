@@ -1,22 +1,22 @@
-//! What a restart found, as text (docs/FORMATS.md).
+//! The report of a restart, as text (docs/FORMATS.md).
 ghost use Rattle.std.specs.Prelude.{Some};
 ghost use Rattle.snap_restart.specs.Report.{recovered_text, report_text};
 
 use std::fmt;
 
-/// What was recovered of one segment.
+/// A segment in the report: what was recovered of it.
 #[derive(Clone, Copy, Debug, PartialEq, Eq)]
 pub struct Recovered {
-    /// How many values were stored since its file was formatted.
+    /// How many values were stored since the file was formatted.
     pub number: u64,
-    /// How many bytes its value has.
+    /// The length of its value in bytes.
     pub length: usize,
-    /// Whether the slot that its next number takes is open.
+    /// Whether the slot of the previous number is still open, so that the next store closes it.
     pub spare_open: bool,
 }
 
-/// What was recovered of each segment, in order. Its text has a line for each of them, and then one
-/// with their count.
+/// The report of a restart: what was recovered of each segment, in order. `Display` gives a line
+/// for each of them, and one with their count.
 #[derive(Debug, Drop)]
 pub struct Report {
     pub segments: Vec<Recovered>,

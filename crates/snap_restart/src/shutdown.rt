@@ -1,8 +1,8 @@
-//! All writers and scanners of a memory come back.
+//! Collects all writers and scanners of a memory when it closes.
 //!
-//! What they have seen is one history: a scanner hears each writer, and then each once more. After
-//! the first round it has seen all that any of them had seen. After the second no writer knows of a
-//! further update of its own segment, so in the first round there was none.
+//! What they have seen is one history, proved by meetings: a scanner meets each writer, then each
+//! once more. After the first round it has seen all that any of them had seen. The second round
+//! shows that it had seen no update that its writer hadn't shown.
 ghost use Rattle.std.specs.Prelude.{
   ◌≡◌,
   ℕ,
@@ -27,7 +27,7 @@ use snap_disk::Disk;
 use snap_memory::Scanner;
 use snap_writer::Writer;
 
-/// Tells what all of them have seen: beginnings of one history. The files stay as they are.
+/// Proves what all of them have seen: beginnings of one history. The files don't change.
 pub(crate) fn hear_everybody<D: Disk>(writers: &mut Vec<Writer<D>>, scanners: &mut Vec<Scanner>)
     requires back { AreBack writers.old.items scanners.old.items }
     ensures met { Pairs (λ _. HasMet) writers.old.items writers.new.items }
@@ -39,7 +39,7 @@ pub(crate) fn hear_everybody<D: Disk>(writers: &mut Vec<Writer<D>>, scanners: &m
     meet_all(writers, scanner);
 }
 
-// The writer hears all scanners.
+// The writer meets all scanners.
 fn hear_all<D: Disk>(writer: &mut Writer<D>, scanners: &mut Vec<Scanner>)
     requires together { (k : ℕ) (b : _) → slice_get scanners.old.items k ≡ Some b
         → AreTogether b writer.old.seat }
@@ -67,7 +67,7 @@ fn meet_all<D: Disk>(writers: &mut Vec<Writer<D>>, scanner: &mut Scanner)
     }
 }
 
-/// Puts the devices of the writers into the list, in order.
+/// Puts the devices of the writers into `devices`, in order.
 pub(crate) fn release_all<D: Disk + Drop>(writers: Vec<Writer<D>>, mut devices: Vec<D>) -> Vec<D>
     requires empty { devices.items ≡ [] }
     requires room { length writers.items ≤ vec_capacity devices }

@@ -1,4 +1,4 @@
-//! A [`Store`]: the writers and scanners of all files that were opened at once.
+//! A [`Store`]: the writers and scanners of files that were opened together.
 ghost use Rattle.std.specs.Prelude.{
   ◌≡◌,
   ℕ,
@@ -44,31 +44,31 @@ use snap_segment::Segment;
 use snap_writer::Writer;
 use std::alloc::{AllocError, Global};
 
-/// How many looks each writer and each scanner may take between an opening and the next: at a
-/// million a second, enough for 35 years.
+/// How many looks each writer and each scanner has between an opening and the next: at a million
+/// per second enough for 35 years.
 pub const LOOKS: u64 = 1 << 50;
 
 /// The writers and the scanners of one opening.
 ///
-/// They may be taken out. Once all of them are back, the writers in order of their segments, it can
-/// be closed.
+/// Both may be taken out. Once all are put back, the writers in the order of their segments, the
+/// store can be closed.
 #[derive(Drop)]
 pub struct Store<D: Disk> {
     pub writers: Vec<Writer<D>>,
     pub scanners: Vec<Scanner>,
-    /// With room for all devices, so that closing takes no memory.
+    /// Has room for all devices, so that closing allocates nothing.
     devices: Vec<D>,
     ghost empty: { devices.items ≡ [] },
     ghost room: { MAX_COUNT ≤ vec_capacity devices },
 }
 
 impl<D: Disk + Drop> Store<D> {
-    /// Gives the devices back, in order of their segments. It takes no memory and makes no device
-    /// call.
+    /// Returns the devices, in the order of their segments. It allocates nothing and makes no
+    /// device call.
     ///
     /// All that writers and scanners have seen are beginnings of one history, and each device holds
-    /// the number and the value of its segment after it; of a fenced one a crash may leave one
-    /// number more, with the value whose store failed.
+    /// the number and the value of its segment after it. Of a fenced segment a crash may leave the
+    /// next number with the value whose store failed.
     pub fn close(self) -> Vec<D>
         requires back { AreBack self.writers.items self.scanners.items }
         ensures devices { result.items ≡ map (λ w. w.segment.device) self.writers.items }
@@ -77,8 +77,8 @@ impl<D: Disk + Drop> Store<D> {
             × ((i : ℕ) (w : _) → slice_get self.writers.items i ≡ Some w
             → HoldsAfter D.Disk h i w) }
 
-        // A crash of all devices at any time before, that found them so that nobody had seen an
-        // update which its writer hadn't shown, is recovered as one memory.
+        // An earlier crash of all devices is recovered as one memory, if it found them so that
+        // nobody had seen an update that its writer hadn't shown.
         ensures crash { (h : List Update)
             × IsHistory h self.writers.items self.scanners.items
             × AnyCut D.Disk h self.writers.items
@@ -93,7 +93,8 @@ impl<D: Disk + Drop> Store<D> {
         release_all(writers, devices)
     }
 
-    /// The writers in order of their segments and the scanners, for who never closes it.
+    /// Returns the writers, in the order of their segments, and the scanners, for callers that
+    /// never close it.
     pub fn into_parts(self) -> (Vec<Writer<D>>, Vec<Scanner>)
         ensures writers { result.0.items ≡ self.writers.items }
         ensures scanners { result.1.items ≡ self.scanners.items }
@@ -107,12 +108,13 @@ impl<D: Disk + Drop> Store<D> {
     }
 }
 
-/// Opens all files, in order of their segments, and then the registers, so that each writer starts
-/// with the number and the value of its file. Each of them is synced before it is read, so what is
-/// served then stands after any later crash.
+/// Opens all files, in the order of their segments, then makes the registers, so that each writer
+/// starts with the number and the value of its file. Each file is synced before it is read, so what
+/// is served survives any later crash.
 ///
-/// The first refusal of a file ends it. `NoMemory` may also come before or after the files. All
-/// devices then come back, in order, and a crash leaves of each only what one before could leave.
+/// Stops at the first file that is refused. `NoMemory` may also come before the first file or after
+/// the last. After an error all devices are returned, in order, and a crash leaves of each only
+/// what it could have left before.
 pub fn open_all<D: Disk + Drop>(
     alloc: Global,
     devices: Vec<D>,
@@ -122,14 +124,14 @@ pub fn open_all<D: Disk + Drop>(
     requires scanners { (0 < scanners) × (scanners ≤ MAX_SCANNERS) }
     requires headroom { All (λ d. D.failure_count d < 2 ^ 64 - 1) devices.items }
 
-    // Each file was opened, and its number and value are those of its writer.
+    // Each file was opened, and its writer has its number and value.
     ensures opened { IfOk result (λ r.
         Pairs (IsOpened D.Disk
         (length devices.items)) devices.items (map (λ w. w.segment) r.0.writers.items)) }
     ensures starts { IfOk result (λ r. (i : ℕ) (w : _)
         → slice_get r.0.writers.items i ≡ Some w → IsPaired w) }
 
-    // Nobody has seen an update or taken a look, and the `Store` can be closed as it is.
+    // No update was seen and no look was made, and the `Store` can be closed as it is.
     ensures fresh { IfOk result (λ r. AreFresh r.0.writers.items r.0.scanners.items) }
     ensures scanners { IfOk result (λ r. length r.0.scanners.items ≡ scanners) }
     ensures back { IfOk result (λ r. AreBack r.0.writers.items r.0.scanners.items) }
@@ -137,20 +139,20 @@ pub fn open_all<D: Disk + Drop>(
         r.1.segments.items ≡ map (λ w. recovered w.segment) r.0.writers.items) }
 
     // A crash of all devices at any moment from now on is recovered as the memory after the history
-    // of that moment, followed by at most one begun update of each writer. Where the files hold what
-    // such a crash left, the history before it goes on.
+    // of that moment, followed by at most one begun update of each writer. If the files hold what
+    // such a crash left, the earlier history continues.
     ensures crash { IfOk result (λ r. AreOpened D.Disk devices.items r.0.writers.items) }
 
-    // And what a writer has stored stays: once an update was answered with number k, each later
-    // crash leaves k with its value, or a later number with the value that the writer gave to it.
+    // What a writer has stored stays: once an update was acknowledged with number k, each later
+    // crash leaves k with its value, or a later number with the value that the writer gave it.
     ensures stays { IfOk result (λ r. AllStays D.Disk r.0.writers.items) }
 
-    // A crash during the opening, however it ends, leaves the memory that was there before.
+    // A crash during the opening, however it ends, leaves the memory from before.
     ensures kept_ok { IfOk result (λ r. StayKept D.Disk
         devices.items (map (λ w. w.segment.device) r.0.writers.items)) }
     ensures kept_err { IfErr result (λ e. StayKept D.Disk devices.items e.devices.items) }
 
-    // After a refusal no writer exists, and all devices come back.
+    // After a refusal there is no writer, and all devices are returned.
     ensures stopped { IfErr result (λ e.
         IsStopped D.Disk devices.items e.devices.items e.refusal e.segment) }
 {
@@ -190,7 +192,7 @@ pub fn open_all<D: Disk + Drop>(
     }
 }
 
-/// All memory that a [`Store`] has but that of its files.
+/// All memory of a [`Store`], except that of its files.
 #[derive(Drop)]
 struct Ready<D: Disk> {
     parts: Parts,
@@ -201,7 +203,7 @@ struct Ready<D: Disk> {
     report: Report,
 }
 
-// Takes it.
+// Allocates all memory of a store, except that of its files.
 #[tactic(auto, using(crate::proofs::Removals::no_ok))]
 fn take_memory<D: Disk + Drop>(
     alloc: Global,
@@ -234,7 +236,7 @@ fn take_memory<D: Disk + Drop>(
     })
 }
 
-// The numbers and the values, in order.
+// The numbers and values of the segments, in order.
 #[tactic(auto, using(crate::proofs::Removals::no_ok))]
 fn values_of<D: Disk>(
     alloc: Global,
@@ -255,7 +257,7 @@ fn values_of<D: Disk>(
     Ok(values)
 }
 
-// What was recovered of each segment.
+// The report on these segments.
 fn report_of<D: Disk>(alloc: Global, segments: &Vec<Segment<D>>) -> Result<Report, AllocError>
     ensures { IfOk result (λ r. r.segments.items ≡ map recovered segments.now.items) }
 {
@@ -270,7 +272,7 @@ fn report_of<D: Disk>(alloc: Global, segments: &Vec<Segment<D>>) -> Result<Repor
     Ok(Report { segments: lines })
 }
 
-// Puts each writer at its seat.
+// Makes a writer of each segment and its seat.
 fn place_writers<D: Disk + Drop>(
     segments: Vec<Segment<D>>,
     seats: Vec<WriteSeat>,
@@ -292,7 +294,7 @@ fn place_writers<D: Disk + Drop>(
     writers
 }
 
-// Puts each scanner at its seat.
+// Makes a scanner of each seat.
 fn place_scanners(seats: Vec<ReadSeat>, mut scanners: Vec<Scanner>) -> Vec<Scanner>
     requires empty { scanners.items ≡ [] }
     requires room { length seats.items ≤ vec_capacity scanners }

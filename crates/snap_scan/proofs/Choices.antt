@@ -1,4 +1,4 @@
--- What is picked by which of two numbers is smaller.
+-- The results of a choice by which of two numbers is smaller.
 use Rattle.std.proofs.Common.{◌≡◌, ℕ, ◌<◌, ◌≤◌, arith}
 use Rattle.std.specs.Prelude.{nat_lt, if◌then◌else◌}
 use Rattle.std.proofs.lemmas.Bool.Decides.{nat_tests}

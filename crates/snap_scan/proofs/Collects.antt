@@ -1,4 +1,4 @@
--- What one look adds, and why the end of a scan tells one moment.
+-- What one look adds to a scan, and why a scan that ends shows one moment.
 use Rattle.std.proofs.Common.{◌≡◌, ℕ, ◌+◌, ◌-◌, ◌*◌, ◌<◌, ◌≤◌, inl, inr, List, [], ◌∷◌, ◌++◌, length, Some, slice_index}
 use Rattle.std.proofs.Common.{slice_get, slice_set, ap, sym, ◌∙◌, subst, arith}
 use Rattle.std.specs.Prelude.{nat_lt, if◌then◌else◌}
@@ -22,7 +22,7 @@ same_turn n L k i j turn borrowed =
     same_segment n borrowed.last.0 i turn.1.0 j borrowed.segment within (omega arith)
 
 module _ (A : Type 0) (n : ℕ) (number : Numbers) (entry : Entries A) (b e : ℕ) where
-  -- nothing was looked at yet
+  -- before the first look
   pub Collects-none : (latest : List A) → Collects A n number entry b e [] latest
   Collects-none latest = record {
     moment = λ t. b;
@@ -34,7 +34,7 @@ module _ (A : Type 0) (n : ℕ) (number : Numbers) (entry : Entries A) (b e : �
   }
 
   module _ (L : List ℕ) (latest : List A) (c : Collects A n number entry b e L latest) where
-    -- what was seen stays seen when the history grows
+    -- looks stay valid when the history grows
     pub Collects-same : (number2 : Numbers) (entry2 : Entries A)
         → ((t i : ℕ) → t ≤ e → number2 t i ≡ number t i)
         → ((t i : ℕ) → t ≤ e → entry2 t i ≡ entry t i)
@@ -151,7 +151,7 @@ module _ (A : Type 0) (n : ℕ) (number : Numbers) (entry : Entries A) (b e : �
           rising j (c.moment (m * n + j)) t (omega arith) in
           omega arith
 
-      -- the first number told for a segment isn't below the one that it had when the scan began
+      -- the first number found for a segment is at least the one it had when the scan began
       pub first_low : (j : ℕ) → j < n → j < length L → number b j ≤ slice_index L j
       first_low j within early =
           let at : 0 * n + j ≡ j = omega arith in
@@ -167,7 +167,8 @@ module _ (A : Type 0) (n : ℕ) (number : Numbers) (entry : Entries A) (b e : �
         last_is = get_or_push L (number t j) 0 (length (L ++ number t j ∷ []) - 1)
             (omega (arith, length_push L (number t j)))
 
-        -- a segment that rose by two since the scan's first look did so after the scan began
+        -- a segment that rose by two since the scan's first look has risen by two since the scan
+        -- began
         pub rose : number b j + 2 ≤ number t j
         rose =
             let last = last_is in
@@ -183,7 +184,7 @@ module _ (A : Type 0) (n : ℕ) (number : Numbers) (entry : Entries A) (b e : �
             let low = first_low j turn.0 early in
             omega arith
 
-        -- so the moment of its view lies inside the scan
+        -- so the moment of its view is within the scan
         pub borrow_moment : (p : ℕ) → p ≤ t → number p j + 1 ≡ number t j
             → (IsClean n (L ++ number t j ∷ []) → ⊥)
             → IsMoment n number b t (L ++ number t j ∷ []) p
@@ -203,7 +204,7 @@ module _ (A : Type 0) (n : ℕ) (number : Numbers) (entry : Entries A) (b e : �
               };
             }
 
-      -- two equal collects tell the moment between them
+      -- two equal collects show the moment between them
       pub clean_moment : IsKept A number entry → 0 < n → IsClean n L
           → ((j : ℕ) → IsBorrow n L j → ⊥) → (p : ℕ) × IsMoment n number b e L p
           × IsThen A n entry p latest
@@ -242,7 +243,7 @@ module _ (A : Type 0) (n : ℕ) (number : Numbers) (entry : Entries A) (b e : �
                 (omega arith)) (equal i l))),
           )
 
--- a moment stays that of the scan when the history grows
+-- a moment of a scan stays one when the history grows
 pub IsMoment-same : (n : ℕ) (number number2 : Numbers) (b e : ℕ) (L : List ℕ) (p : ℕ)
     → ((t i : ℕ) → t ≤ e → number2 t i ≡ number t i) → IsMoment n number b e L p
     → IsMoment n number2 b e L p

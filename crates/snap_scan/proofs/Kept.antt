@@ -1,4 +1,4 @@
--- What a machine that was told one more number stands for.
+-- The machine after one more number represents the list with that number.
 use Rattle.std.proofs.Common.{◌≡◌, ◌≢◌, ℕ, ◌+◌, ◌-◌, ◌*◌, ◌<◌, ◌≤◌, ◌⊎◌, inl, inr, Bool, true, false, List, [], ◌∷◌, ◌++◌, length}
 use Rattle.std.proofs.Common.{slice_index, slice_set, refl, ap, sym, ◌∙◌, subst, arith}
 use Rattle.std.specs.Prelude.{nat_lt, IsTrue, MatchBool, ◌↔◌, not, ◌==◌, ◌||◌, if◌then◌else◌}
@@ -18,7 +18,7 @@ use Rattle.snap_scan.proofs.Places.{same_collect, same_segment}
 use Rattle.snap_scan.proofs.Tell.{low_push, rising_push, undecided_push, undecided_before, same_push, changed_push}
 use Rattle.snap_scan.proofs.Verdict.{said, looks-lt}
 
--- the last number told for the segment whose turn it is
+-- the number that the latest look found for the segment whose turn it is
 latest_is : (s : Machine) (L : List ℕ) (j m : ℕ) → StandsFor s L → s.next ≡ Look j
     → length L ≡ (m + 1) * s.segments + j
     → slice_index s.latest j ≡ slice_index L (m * s.segments + j)
@@ -28,7 +28,7 @@ latest_is s L j m st e place =
     q.before m j (same_collect s.segments q.m j (m + 1) j q.within q.within (omega arith))
     (omega arith) q.within
 
--- is the same in each list that the scan stands for
+-- a number that doesn't fall in one list doesn't fall in any list that the machine represents
 same_fall : (s : Machine) (K L : List ℕ) (j k : ℕ) → StandsFor s K → StandsFor s L
     → s.next ≡ Look j → IsNoFall s.segments K j k → IsNoFall s.segments L j k
 same_fall s K L j k sk sl e fall m place =
@@ -39,7 +39,7 @@ same_fall s K L j k sk sl e fall m place =
     let w = fall m (omega arith) in
     omega arith
 
--- numbers that the code needs small
+-- bounds that the code needs
 pub turn_fits : (s : Machine) (j k : ℕ) → s.next ≡ Look j → MayTell s j k
     → (j < 16) × (s.looks < 1000) × (j < length s.first)
 turn_fits s j k e may = ∥∥₁_elim may (hlevel props) (λ r.
@@ -54,7 +54,7 @@ turn_fits s j k e may = ∥∥₁_elim may (hlevel props) (λ r.
       omega (arith, st.firsts),
     ))
 
--- what the flag says, where it is off and where it is on
+-- the changed flag, off and on
 flag_off : (a : Bool) (x y : ℕ) → (a || not (x == y)) ≡ false → (a ≡ false) × (x ≡ y)
 flag_off true x y e = cc
 flag_off false x y e = (refl, grind (arith, nat_tests))
@@ -63,7 +63,7 @@ flag_on : (a : Bool) (x y : ℕ) → (a || not (x == y)) ≡ true → (a ≡ tru
 flag_on true x y e = inl refl
 flag_on false x y e = inr (grind (arith, nat_tests))
 
--- what the machine does with a number that isn't a borrow
+-- The machine after a number that isn't a borrow:
 
 abbrev flag_after : Machine → ℕ → ℕ → Bool
 flag_after s j k = s.changed || not (slice_index s.latest j == k)
@@ -71,7 +71,7 @@ flag_after s j k = s.changed || not (slice_index s.latest j == k)
 abbrev firsts_after : Machine → ℕ → ℕ → List ℕ
 firsts_after s j k = if nat_lt s.looks s.segments then slice_set s.first j k else s.first
 
--- the machine with the number kept
+-- the machine with that number recorded
 abbrev kept : Machine → ℕ → ℕ → Machine
 kept s j k = record s {
   looks = s.looks + 1;
@@ -80,7 +80,7 @@ kept s j k = record s {
   latest = slice_set s.latest j k;
 }
 
--- the number isn't two above that of the first look
+-- the number isn't two above that of the segment's first look
 abbrev IsClose : Machine → ℕ → ℕ → Type 0
 IsClose s j k = (s.looks < s.segments) ⊎ (k < slice_index s.first j + 2)
 
@@ -147,7 +147,7 @@ module _ (s : Machine) (L : List ℕ) (j k : ℕ) (st : StandsFor s L) (e : s.ne
       }
 
   module _ (may : MayTell s j k) (near : IsClose s j k) where
-    -- in the first collect there was no look at j before
+    -- in the first collect the segment has no earlier look
     at_start : s.looks < s.segments → length L ≡ j
     at_start lt = elim (cases_eq q.m 0) [
       | inl zero ↦ (let f : q.m * s.segments ≡ 0 * s.segments = ap (λ x. x * s.segments) zero in
@@ -183,7 +183,7 @@ module _ (s : Machine) (L : List ℕ) (j k : ℕ) (st : StandsFor s L) (e : s.ne
           ∙ q.first i hi (omega (arith, looks)) ∙ sym (old i (omega (arith, looks)))
     ]
 
-    -- the latest numbers of the collect that is under way, with this one
+    -- the latest numbers of the current collect, with this one
     here_after : (i : ℕ) → i < j + 1
         → slice_index (slice_set s.latest j k) i ≡ slice_index (L ++ k ∷ []) (q.m * s.segments + i)
     here_after i l = elim (cases_lt i j) [
@@ -215,7 +215,7 @@ module _ (s : Machine) (L : List ℕ) (j k : ℕ) (st : StandsFor s L) (e : s.ne
           | inr other ↦ inr (λ p f g. other (q.before p j f (omega arith) within ∙ g))
         ])
 
-    -- so the machine stands for the longer list, whatever it does next by right
+    -- so the machine represents the longer list, if its next step is right
     stands : (changed : Bool) (next : Next)
         → Says (record (kept s j k) { changed = changed; next = next }) (L ++ k ∷ []) next
         → StandsFor (record (kept s j k) { changed = changed; next = next }) (L ++ k ∷ [])
@@ -258,8 +258,8 @@ module _ (s : Machine) (L : List ℕ) (j k : ℕ) (st : StandsFor s L) (e : s.ne
           omega arith));
     })
 
-    -- the first segment of the next collect, after one that differs from the one before; or the
-    -- answer of one that doesn't
+    -- the last segment of this collect: another collect follows if it differs from the one before,
+    -- else the answer
     pub StandsFor-end_collect : s.segments ≤ j + 1
         → MatchBool (flag_after s j k)
         (StandsFor (record (kept s j k) { next = Look 0; changed = false }) (L ++ k ∷ []))
@@ -310,7 +310,7 @@ module _ (s : Machine) (L : List ℕ) (j k : ℕ) (st : StandsFor s L) (e : s.ne
             undecided_then,
           )
 
--- what holds of the scan that the test picks
+-- a property of both outcomes of a test holds of the outcome chosen
 pub of_picked : (b : Bool) (P : Machine → Type 0) (s x y : Machine) → MatchBool b (P x) (P y)
     → MatchBool b (s ≡ x) (s ≡ y) → P s
 of_picked true P s x y h e = subst P (sym e) h

@@ -1,4 +1,5 @@
--- The segments of a set by their places: they ascend, each is named, and each that is named has a place.
+-- The segments of a set and their places: they ascend, each is named, and each named segment has a
+-- place.
 use Rattle.std.proofs.Common.{◌≡◌, ℕ, zero, suc, ◌+◌, ◌-◌, ◌^◌, ◌<◌, ◌≤◌, inl, inr, List, [], ◌∷◌, ◌++◌, length, take, None, Some, slice_get, slice_set, slice_index}
 use Rattle.std.proofs.Common.{refl, ap, sym, ◌∙◌, subst, arith, ◌==◌}
 use Rattle.std.specs.Int.{bit_at}
@@ -11,7 +12,7 @@ use Rattle.std.proofs.lemmas.Option.{slice_get_within, slice_get-get_or, same_So
 use Rattle.snap_history.proofs.Lists.{get-push, get-append_left, get-append_last}
 use Rattle.snap_scan.specs.Sets.{Names, named_below, named, size, IsAt}
 
--- the list below k + 1, by whether k is named
+-- the list of named segments below k + 1, if k is named and if it isn't
 module _ (set k : ℕ) where
   abbrev below : List ℕ
   below = named_below set k
@@ -59,7 +60,7 @@ has_place set (suc k) j l is =
       | inr other ↦ has_place set k j (omega arith) is
     ])
 
--- a place before another one has the smaller segment
+-- a lower place has a smaller segment
 pub ascends : (set k p q i j : ℕ) → slice_get (named_below set k) p ≡ Some i
     → slice_get (named_below set k) q ≡ Some j → p < q → i < j
 unfolding named_below
@@ -91,7 +92,7 @@ few_below set (suc k) =
     (λ is. (let long : length (below set k ++ k ∷ []) ≡ length (below set k) + 1 = length_push (below set k) k in
     omega arith)) (λ un. omega arith)
 
--- the list has the numbers below k, each at its place
+-- the list is 0, 1, .. up to k - 1
 record IsUpTo (k : ℕ) (xs : List ℕ) : Type 0 where
   count : length xs ≡ k
   each : (p : ℕ) → p < k → slice_get xs p ≡ Some p
@@ -119,7 +120,7 @@ all_below n (suc k) l =
 up : (k : ℕ) → suc k ≡ k + 1
 up k = omega arith
 
--- the list one segment further, as the front of a longer one
+-- a list that gets the next named segment
 pub listed_with : (set k n : ℕ) (xs : List ℕ) → take n xs ≡ named_below set k → n < length xs
     → Names set k → take (n + 1) (slice_set xs n k) ≡ named_below set (k + 1)
 listed_with set k n xs e l is =
@@ -130,7 +131,7 @@ pub listed_without : (set k n : ℕ) (xs : List ℕ) → take n xs ≡ named_bel
     → (Names set k → ⊥) → take n xs ≡ named_below set (k + 1)
 listed_without set k n xs e un = e ∙ sym (without set k un) ∙ ap (named_below set) (up k)
 
--- as places and segments of the whole set
+-- The places and segments of a whole set:
 module _ (set : ℕ) where
   pub few : size set ≤ 16
   few = few_below set 16
@@ -157,7 +158,7 @@ module _ (set : ℕ) where
   pub at_is : (p j : ℕ) → IsAt set p j → slice_index (named set) p ≡ j
   at_is p j at = get_or_from_slice_get (named set) p j 0 at
 
-  -- a set with a number below 2 ^ n names no segment from n on
+  -- a set below 2 ^ n names no segment from n on
   named_low : (n j : ℕ) → set < 2 ^ n → Names set j → j < n
   named_low n j l is = elim (cases_lt j n) [
     | inl lt ↦ lt
@@ -167,7 +168,7 @@ module _ (set : ℕ) where
   pub at_below : (n p j : ℕ) → set < 2 ^ n → IsAt set p j → j < n
   at_below n p j l at = named_low n j l (at_named p j at).1
 
-  -- and a set whose number isn't 0 names one
+  -- a set other than 0 names a segment
   pub some : set < 2 ^ 16 → 0 < set → 0 < size set
   some small pos = elim (cases_lt 0 (size set)) [
     | inl lt ↦ lt
@@ -183,7 +184,7 @@ module _ (set : ℕ) where
         absurd (omega arith))
   ]
 
--- a set among n segments, at most 16, has 16 bits, and each of them has a name below n
+-- a set among n segments, at most 16, fits in 16 bits
 below_most : (set n : ℕ) → n ≤ 16 → set < 2 ^ n → set < 2 ^ 16
 below_most set n few among =
     let more : 2 ^ n ≤ 2 ^ 16 = pow-le-pow_right (omega arith) few in
@@ -196,7 +197,7 @@ module _ (set n : ℕ) (few' : n ≤ 16) (among : set < 2 ^ n) where
   pub names_below : (j : ℕ) → Names set j → j < n
   names_below j is = named_low set n j among is
 
-  -- so those below n are all
+  -- so the named segments below n are all that it names
   all_named : (d : ℕ) → named_below set (n + d) ≡ named_below set n
   all_named zero = ap (named_below set) (let same : n + 0 ≡ n = omega arith in same)
   all_named (suc d) =
@@ -208,7 +209,7 @@ module _ (set n : ℕ) (few' : n ≤ 16) (among : set < 2 ^ n) where
   pub named_all : named_below set n ≡ named set
   named_all = sym (all_named (16 - n)) ∙ ap (named_below set) (let same : n + (16 - n) ≡ 16 = omega arith in same)
 
--- the set of all of n segments has each at the place of its number
+-- the set of all n segments has segment i at place i
 module _ (n : ℕ) (most : n ≤ 16) where
   all_up_to : IsUpTo n (named (2 ^ n - 1))
   all_up_to = subst (IsUpTo n) (named_all (2 ^ n - 1) n most (omega (arith, pow_pos n)))
@@ -226,7 +227,7 @@ module _ (n : ℕ) (most : n ≤ 16) where
       let e = all_size in
       same_Some j p (sym at ∙ all_at p (omega arith))
 
--- what holds of the entry at each place of a list holds at each place of the list with one more
+-- a list with a property at each place, and one more entry with it
 module _ {A : Type 0} (P : ℕ → A → Type 0) (set k : ℕ) (xs : List A) where
   abbrev IsListed : ℕ → List A → Type 0
   IsListed n l = (length l ≡ length (named_below set n))

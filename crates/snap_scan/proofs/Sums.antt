@@ -1,4 +1,4 @@
--- Sums of a function over the numbers below one.
+-- Sums of a function over the numbers below k.
 use Rattle.std.proofs.Common.{◌≡◌, ℕ, zero, suc, ◌+◌, ◌*◌, ◌<◌, ◌≤◌, ◌⊎◌, inl, inr, ap, sym, ◌∙◌, arith}
 use Rattle.std.proofs.lemmas.Bool.{cases_lt, cases_eq}
 
@@ -15,7 +15,7 @@ sum_cap f g d (suc k) h =
     let product : suc k * d ≡ k * d + d = omega arith in
     omega arith
 
--- where none falls all stay the same, or the sum rises
+-- if no summand falls, all stay the same or the sum rises
 pub same_or_more : (f g : ℕ → ℕ) (k : ℕ) → ((i : ℕ) → i < k → f i ≤ g i)
     → ((i : ℕ) → i < k → f i ≡ g i) ⊎ (sum_below f k < sum_below g k)
 same_or_more f g zero h = inl (λ i l. absurd (omega arith))

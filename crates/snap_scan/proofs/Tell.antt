@@ -1,4 +1,4 @@
--- One more number at the end of the list.
+-- One more number appended to the list.
 use Rattle.std.proofs.Common.{◌≡◌, ◌≢◌, ℕ, ◌+◌, ◌*◌, ◌<◌, ◌≤◌, ◌⊎◌, inl, inr, true, false, List, [], ◌∷◌, ◌++◌, length}
 use Rattle.std.proofs.Common.{slice_index, ap, sym, ◌∙◌, arith}
 use Rattle.std.proofs.lemmas.List.{length_push, get_or_push, get_or_append_left}
@@ -75,7 +75,7 @@ module _ (n : ℕ) (L : List ℕ) (m j k : ℕ) (within : j < n) (place : length
         ]);
   }
 
-  -- the numbers before the last one decide as little as they did
+  -- the earlier numbers still decide nothing
   pub undecided_before : IsUndecided n L (length L) → (b : ℕ) → length (L ++ k ∷ []) ≡ b + 1
       → IsUndecided n (L ++ k ∷ []) b
   undecided_before u b e =
@@ -90,7 +90,7 @@ module _ (n : ℕ) (L : List ℕ) (m j k : ℕ) (within : j < n) (place : length
             (Same-old c n (omega arith) (omega arith) same);
       }
 
-  -- the collects equal so far stay so where the new number is that of the collect before
+  -- equal so far, and equal with the new number
   pub same_push : IsChanged false n L m j
       → ((p : ℕ) → m ≡ p + 1 → slice_index L (p * n + j) ≡ k)
       → IsChanged false n (L ++ k ∷ []) m (j + 1)
@@ -109,7 +109,7 @@ module _ (n : ℕ) (L : List ℕ) (m j k : ℕ) (within : j < n) (place : length
         ],
       )
 
-  -- and they stay unequal, or become so
+  -- different so far, or different with the new number
   pub changed_push : IsChanged true n L m j
       ⊎ ((p : ℕ) → m ≡ p + 1 → slice_index L (p * n + j) ≢ k)
       → IsChanged true n (L ++ k ∷ []) m (j + 1)

@@ -1,4 +1,4 @@
--- What a list of looks says, and that its verdicts exclude each other.
+-- What a list of numbers decides, and that its decisions exclude each other.
 use Rattle.std.proofs.Common.{◌≡◌, ℕ, zero, suc, ◌+◌, ◌-◌, ◌*◌, ◌<◌, ◌≤◌, inl, inr, List, length, take, Some, slice_get, slice_index, refl, ap, sym}
 use Rattle.std.proofs.Common.{◌∙◌, subst, arith}
 use Rattle.std.proofs.Math.Nat.{mul-le-mul_left}
@@ -14,7 +14,7 @@ use Rattle.snap_scan.proofs.Places.{same_segment}
 use Rattle.snap_scan.proofs.Sets.{at_some, at_is}
 use Rattle.snap_scan.proofs.Sums.{sum_below, sum_cap, same_or_more}
 
--- the last two collects of a clean list
+-- the last two collects of a clean list are equal
 pub Same-from_clean : (n : ℕ) (L : List ℕ) (clean : IsClean n L) → Same n L clean.rounds.0 n
 Same-from_clean n L clean i l =
     let c = clean.rounds.0 in
@@ -65,12 +65,12 @@ same_borrow n L j k a b =
     let f : length L ≡ b.last.0 * n + k + 1 = b.last.1 in
     same_segment n a.last.0 j b.last.0 k a.segment b.segment (omega arith)
 
--- what a machine says, by what comes next
+-- the statement about a machine's list that its next step makes
 pub said : (s : Machine) (L : List ℕ) (v : Next) → StandsFor s L → s.next ≡ v → Says s L v
 said s L v st e = subst (Says s L) e st.says
 
--- the bound on looks: each collect that differs from the one before moves some number by one, and
--- none moves by two
+-- The bound on looks: each collect that differs from the one before raises some number by one, and
+-- none rises by two.
 
 abbrev total : ℕ → List ℕ → ℕ → ℕ
 total n L m = sum_below (λ i. slice_index L (m * n + i)) n
@@ -99,7 +99,7 @@ total-rises n L (suc m) up u h =
     let f = ap (total n L) (let e : m + 1 ≡ suc m = omega arith in e) in
     omega arith
 
--- at most n collects have differed from the one before
+-- at most n collects differ from the one before
 collects-le : (n : ℕ) (L : List ℕ) (m : ℕ) → IsRising n L → IsUndecided n L (length L)
     → m * n ≤ length L → m ≤ n + 1
 collects-le n L zero up u h = omega arith
@@ -118,7 +118,7 @@ looks-lt s L j k =
     let q : s.segments * k.m ≤ s.segments * (s.segments + 1) = mul-le-mul_left s.segments r in
     omega arith
 
--- no list before this one decides an answer
+-- No earlier list decides anything:
 
 none_of : (n : ℕ) (L : List ℕ) → IsUndecided n L (length L) → IsDecided n L → ⊥
 none_of n L u (inl clean) = not_clean n L u clean
@@ -143,25 +143,25 @@ first_of : (n : ℕ) (L : List ℕ) → IsFirst n L → (k : ℕ) → k < length
 first_of n L first k l = undecided_at n L (length L - 1) k (first (length L - 1) (omega arith))
     (omega arith) (omega arith)
 
--- a machine's next place, as that of its set
+-- the machine's next place, as a segment of its set
 pub at_look : (set j : ℕ) (v : Next) → next_at set v ≡ Look j
     → (p : ℕ) × (v ≡ Look p) × (slice_index (named set) p ≡ j)
 at_look set j (Look p) e = (p, refl, (let same : slice_index (named set) p ≡ j = cc in same))
 at_look set j Clean e = cc
 at_look set j (Borrow p) e = cc
 
--- and a place of a set's list as its segment
+-- a place in a set's list, as its segment
 pub listed : (set : ℕ) (list : List ℕ) (p j : ℕ) → list ≡ named set → slice_get list p ≡ Some j
     → slice_index (named set) p ≡ j
 listed set list p j is at = at_is set p j (ap (λ l. slice_get l p) (sym is) ∙ at)
 
--- the place whose turn it is has a segment
+-- the place of the next look has a segment
 pub turn_at : (set : ℕ) (s : Machine) (L : List ℕ) (p j : ℕ) → s.segments ≡ size set
     → s.next ≡ Look p → slice_index (named set) p ≡ j → StandsFor s L → IsAt set p j
 turn_at set s L p j count is at st =
     at_some set p (omega (arith, (said s L (Look p) st is).within)) ∙ ap (λ v. Some v) at
 
--- what comes next in a machine is what the list says of its set
+-- the machine's next step is what its list decides
 module _ (set : ℕ) (s : Machine) (L : List ℕ) (count : s.segments ≡ size set) (st : StandsFor s L) where
   at_place : (p j : ℕ) → p < s.segments → slice_index (named set) p ≡ j → IsAt set p j
   at_place p j l is = at_some set p (omega (arith, count)) ∙ ap (λ v. Some v) is
@@ -222,7 +222,7 @@ module _ (set : ℕ) (s : Machine) (L : List ℕ) (count : s.segments ≡ size s
   pub says_next : IsNext set L (next_at set s.next)
   says_next = says_at s.next st.says
 
--- so is what it answers where its next is this one
+-- the step that the machine returns is what its list decides
 pub next_is : (set : ℕ) (s : Machine) (L : List ℕ) (v : Course) (next : Next) → s.segments ≡ size set
     → StandsFor s L → (record { set = set; told = L; next = next_at set s.next }) ≡ v
     → next_at set s.next ≡ next → IsNext v.set v.told next

@@ -1,4 +1,4 @@
--- Which segments a set names. A set is a number whose bit i stands for segment i.
+-- Sets of segments, as numbers: bit i is set if the set names segment i.
 use Rattle.std.proofs.Common.{zero, suc}
 use Rattle.std.specs.Prelude.{◌≡◌, ℕ, ◌==◌, List, [], ◌∷◌, ◌++◌, length, cond, slice_get, Some}
 use Rattle.std.specs.Int.{bit_at}
@@ -20,6 +20,6 @@ named set = named_below set 16
 abbrev pub size : ℕ → ℕ
 size set = length (named set)
 
--- segment j is the one at place p of the set
+-- segment j is at place p of the set
 abbrev pub IsAt : ℕ → ℕ → ℕ → Type 0
 IsAt set p j = slice_get (named set) p ≡ Some j

@@ -1,4 +1,4 @@
--- What a scan answers of one segment.
+-- One segment in the answer of a scan.
 use Rattle.std.specs.Prelude.{ℕ, List}
 use Rattle.snap_scan.specs.declared.segment_value.SegmentValue.{SegmentValue}
 

@@ -1,9 +1,9 @@
-//! The laws of a scan's looks, for whoever lets one look.
+//! Laws of a scan's looks: what each adds, and which moment they show in the end.
 ghost use Rattle.snap_scan.specs.Laws.{NoFall, LookMore, CleanMoment, BorrowMoment};
 
-/// What each look adds to a scan, that no number falls in it, and which moment the numbers told
-/// tell once they decide: after a clean end one that lies between the two collects, and after a
-/// borrow that of the view, which lies inside the scan.
+/// A look adds its number to the scan, and no number falls. Once the numbers decide the scan they
+/// belong to one moment: after a clean end a moment between the two collects, after a borrow the
+/// moment of the view, which is within the scan.
 pub fn collect_laws()
     ensures no_fall { NoFall }
     ensures look { LookMore }

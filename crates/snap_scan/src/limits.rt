@@ -4,10 +4,10 @@ ghost use Rattle.snap_scan.specs.Looks.{most_looks};
 
 use snap_history::MAX_COUNT;
 
-/// The most segments that a scan looks at.
+/// The most segments that a scan reads.
 pub const MAX_SEGMENTS: usize = MAX_COUNT as usize;
 
-/// The most looks that a scan of this many segments makes: n(n + 2).
+/// The most looks that a scan of `segments` segments makes: n(n + 2).
 pub const fn most_looks(segments: usize) -> usize
     requires { segments ≤ MAX_SEGMENTS }
     ensures { result ≡ most_looks segments }

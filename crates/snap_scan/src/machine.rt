@@ -1,4 +1,4 @@
-//! What a scan keeps of the numbers that it was told: its first looks and its latest ones.
+//! The state machine of a scan: it keeps the numbers of the first and of the latest looks.
 ghost use Rattle.std.specs.Prelude.{
   ◌≡◌,
   ℕ,
@@ -28,26 +28,25 @@ ghost use Rattle.std.specs.Prelude.{
 use crate::limits::MAX_SEGMENTS;
 use crate::next::Next;
 
-/// The machine of a scan. It takes no memory but its own, and each number costs it the same few
-/// steps.
+/// The state machine of a scan. It allocates nothing, and each number takes constant time.
 #[derive(Debug, Drop)]
 pub struct Machine {
     segments: usize,
     looks: usize,
     next: Next,
-    /// whether the collect under way has shown another number than the one before; the first
-    /// collect has none before it, and counts as changed
+    /// Whether the current collect has found another number than the one before. The first collect
+    /// has none before it, and counts as changed.
     changed: bool,
-    /// the number of the first look at each segment
+    /// The number that each segment's first look found.
     first: [u64; MAX_SEGMENTS],
-    /// the number of the latest look at each segment
+    /// The number that each segment's latest look found.
     latest: [u64; MAX_SEGMENTS],
 }
 
 impl Machine {
     ghost use Rattle.snap_scan.specs.Stands.{StandsFor, MayTell};
 
-    /// A machine that was told nothing.
+    /// A machine without any numbers.
     pub(crate) fn new(segments: usize) -> Machine
         requires least { 0 < segments }
         requires most { segments ≤ MAX_SEGMENTS }
@@ -65,21 +64,21 @@ impl Machine {
         }
     }
 
-    /// What comes next.
+    /// The next step.
     pub(crate) fn next(&self) -> Next
         ensures { result ≡ self.now.next }
     {
         self.next
     }
 
-    /// How many numbers it was told.
+    /// How many numbers it has got.
     pub(crate) fn looks(&self) -> usize
         ensures { result ≡ self.now.looks }
     {
         self.looks
     }
 
-    /// The place whose turn it is, where one has it.
+    /// The place of the next look; 0 if the scan has ended.
     pub(crate) fn place(&self) -> usize
         ensures { (p : ℕ) → self.now.next ≡ Next.Look p → result ≡ p }
     {
@@ -89,7 +88,7 @@ impl Machine {
         }
     }
 
-    /// The look at this segment, whose turn it was, gave this number.
+    /// Records the number that a look found for `segment`, whose turn it was.
     pub(crate) fn told(&mut self, segment: usize, number: u64)
         requires turn { self.old.next ≡ Next.Look segment }
         requires stands { MayTell self.old segment number }
@@ -110,7 +109,7 @@ impl Machine {
         }
     }
 
-    /// Whether this number is two above that of the scan's first look at the segment.
+    /// Whether `number` is at least two above that of the segment's first look, in a later collect.
     fn has_moved_twice(&self, segment: usize, number: u64) -> bool
         requires { segment < length self.now.first }
         ensures { IsTrue result ↔ ((self.now.segments ≤ self.now.looks)
@@ -119,7 +118,7 @@ impl Machine {
         self.looks >= self.segments && number.saturating_sub(self.first[segment]) >= 2
     }
 
-    /// Takes in a number that decides nothing by itself.
+    /// Stores a number that isn't a borrow.
     fn keep(&mut self, segment: usize, number: u64)
         requires place { segment < MAX_SEGMENTS }
         requires headroom { self.old.looks + 1 < 2 ^ 64 }
@@ -141,8 +140,8 @@ impl Machine {
         self.looks += 1;
     }
 
-    /// Goes on from the last look of a collect: to the answer, or to one more collect, which is
-    /// compared with this one.
+    /// Ends a collect: with the answer if it found the same numbers as the one before, else with
+    /// one more collect to compare with it.
     fn end_collect(&mut self)
         ensures { MatchBool self.old.changed
             (self.new ≡ record self.old { next = Next.Look 0; changed = false })

@@ -1,12 +1,13 @@
-//! What a scan does next.
+//! The next step of a scan.
 
-/// What a scan does next. Segments are counted from 0.
+/// The next step of a scan. Segments are counted from 0.
 #[derive(Clone, Copy, Debug, Drop, PartialEq, Eq)]
 pub enum Next {
-    /// Look at this segment, and tell the scan its number.
+    /// Look at this segment, and call [`Scan::told`](crate::Scan::told) with its number.
     Look(usize),
-    /// Answer the values of the last collect: it showed the same numbers as the one before.
+    /// The answer is the values of the last collect, which found the same numbers as the one
+    /// before.
     Clean,
-    /// Answer the view in this segment's register: it was seen to move twice.
+    /// The answer is the view in this segment's register, whose number has risen by two.
     Borrow(usize),
 }

@@ -1,10 +1,10 @@
-//! The numbers that a scan's looks answered. They exist in proofs alone.
+//! The list of all numbers that a scan's looks found. It exists in proofs alone.
 ghost use Rattle.std.specs.Prelude.{◌≡◌, ◌++◌, ◌∷◌, [], List, ℕ};
 ghost use Rattle.std.specs.Borrow.{ftrue};
 
 use std::marker::Model;
 
-/// The numbers that the looks answered so far, in order. It takes no memory.
+/// The numbers found so far, in order. It takes no memory.
 #[derive(Debug, Drop)]
 pub struct NumberList {
     pub ghost list: { List ℕ },
@@ -15,14 +15,14 @@ impl Model for NumberList {
 }
 
 impl NumberList {
-    /// No number.
+    /// An empty list.
     pub(crate) fn none() -> NumberList
         ensures { result.list ≡ [] }
     {
         NumberList {}
     }
 
-    /// These numbers, and this one behind them.
+    /// This list with one number more.
     pub(crate) fn then(&self, _number: &u64) -> NumberList
         ensures { result.list ≡ self.now.list ++ _number.now ∷ [] }
     {

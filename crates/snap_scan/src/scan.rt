@@ -1,4 +1,4 @@
-//! One scan, from its beginning to its answer.
+//! One scan, from its start to its answer.
 ghost use Rattle.std.specs.Prelude.{◌≡◌, ℕ, ◌-◌, ◌^◌, ◌<◌, ◌≤◌, [], ◌∷◌, ◌++◌, length};
 ghost use Rattle.snap_scan.specs.Looks.{IsNoFall};
 ghost use Rattle.snap_scan.specs.Sets.{size, IsAt};
@@ -12,12 +12,13 @@ use crate::segments::Segments;
 use crate::set::SegmentSet;
 use std::marker::Model;
 
-/// One scan of some segments, from its beginning to its answer.
+/// One scan of some segments, from its start to its answer.
 ///
-/// Look where [`Scan::next`] says, tell the number by [`Scan::told`], and go on until `next` is
-/// `Clean` or `Borrow`. It takes no memory. Its contracts see the set of its segments, the list of
-/// all numbers told, in order, and what comes next. Look t is at the segment at place t mod m of
-/// the set, which names m segments.
+/// Look at the segment that [`Scan::next`] returns, pass its number to [`Scan::told`], and repeat
+/// until `next` is `Clean` or `Borrow`. It allocates nothing.
+///
+/// Its contracts see the set of its segments, the list of all numbers in order, and the next step.
+/// If the set names m segments, look t is at the segment at place t mod m of the set.
 #[derive(Debug, Drop)]
 pub struct Scan {
     set: SegmentSet,
@@ -43,8 +44,8 @@ impl Model for Scan {
 }
 
 impl Scan {
-    /// A scan of these segments, at least one, that was told nothing. Its first look is at the
-    /// lowest of them.
+    /// A scan of the segments in `set`, at least one, before any look. Its first look is at the
+    /// lowest.
     pub fn of(set: SegmentSet) -> Scan
         requires some { 0 < set.bits }
         ensures set { result.set ≡ set.bits }
@@ -60,7 +61,8 @@ impl Scan {
         }
     }
 
-    /// A scan of all of this many segments, 1 to [`MAX_SEGMENTS`], that was told nothing.
+    /// A scan of segments 0 to `segments` - 1, before any look. `segments` is 1 to
+    /// [`MAX_SEGMENTS`].
     pub fn new(segments: usize) -> Scan
         requires least { 0 < segments }
         requires most { segments ≤ MAX_SEGMENTS }
@@ -71,8 +73,8 @@ impl Scan {
         Scan::of(SegmentSet::all(segments))
     }
 
-    /// What comes next: an answer exactly where the told numbers decide one, else the next look,
-    /// and that only below [`most_looks`](crate::most_looks).
+    /// The next step: an answer exactly if the numbers so far decide one, else the next look. There
+    /// are at most [`most_looks`](crate::most_looks) looks.
     pub fn next(&self) -> Next
         ensures same { result ≡ self.now.next }
         ensures decides { IsNext self.now.set self.now.told result }
@@ -84,15 +86,15 @@ impl Scan {
         }
     }
 
-    /// How many numbers the scan was told.
+    /// How many looks the scan has recorded.
     pub fn looks(&self) -> usize
         ensures { result ≡ length self.now.told }
     {
         self.machine.looks()
     }
 
-    /// The look at this segment, whose turn it was, gave this number. A segment's number never
-    /// falls.
+    /// Records the number that a look found for `segment`. It must be this segment's turn, and its
+    /// number may not have fallen.
     pub fn told(&mut self, segment: usize, number: u64)
         requires turn { self.old.next ≡ Next.Look segment }
         requires rising { (p : ℕ) → IsAt self.old.set p segment

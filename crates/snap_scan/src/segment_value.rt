@@ -1,4 +1,4 @@
-//! What a scan answers of one segment.
+//! One segment in the answer of a scan.
 use bytes::Bytes;
 
 /// A segment's number and value.

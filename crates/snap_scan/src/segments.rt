@@ -1,4 +1,4 @@
-//! The segments of a set, in ascending order.
+//! The segments of a set as a list, in ascending order.
 ghost use Rattle.std.specs.Prelude.{◌≡◌, ◌<◌, take, length, slice_get, Some};
 ghost use Rattle.snap_scan.specs.Sets.{named, size};
 
@@ -13,7 +13,7 @@ pub struct Segments {
 }
 
 impl Segments {
-    /// Those of this set.
+    /// The segments of `set`.
     pub(crate) fn of(set: SegmentSet) -> Segments
         ensures list { take result.count result.list ≡ named set.bits }
         ensures count { result.count ≡ size set.bits }
@@ -29,7 +29,7 @@ impl Segments {
         Segments { count, list }
     }
 
-    /// The segment at this place.
+    /// The segment at `place`.
     pub(crate) fn at(&self, place: usize) -> usize
         requires place { place < length (take self.now.count self.now.list) }
         ensures at { slice_get (take self.now.count self.now.list) place ≡ Some result }

@@ -1,18 +1,18 @@
-//! Which segments a scan looks at.
+//! The set of segments that a scan reads.
 ghost use Rattle.std.specs.Prelude.{◌≡◌, ◌-◌, ◌^◌, ◌<◌, ◌≤◌, ◌↔◌, IsTrue};
 ghost use Rattle.snap_history.specs.declared.limits.TheConstants.{MAX_COUNT};
 ghost use Rattle.snap_scan.specs.Sets.{Names, size};
 
 use crate::segments::Segments;
 
-/// Some of the segments 0 to 15: bit i of its number names segment i.
+/// A set of segments 0 to 15: bit i is set if the set names segment i.
 #[derive(Clone, Copy, Debug, PartialEq, Eq, Drop)]
 pub struct SegmentSet {
     pub bits: u16,
 }
 
 impl SegmentSet {
-    /// The set of all of this many segments, at most [`MAX_SEGMENTS`](crate::MAX_SEGMENTS).
+    /// Segments 0 to `segments` - 1, at most [`MAX_SEGMENTS`](crate::MAX_SEGMENTS) of them.
     pub fn all(segments: usize) -> SegmentSet
         requires most { segments ≤ MAX_COUNT }
         ensures all { result.bits ≡ 2 ^ segments - 1 }
@@ -22,7 +22,7 @@ impl SegmentSet {
         }
     }
 
-    /// Whether it names this segment, which is below [`MAX_SEGMENTS`](crate::MAX_SEGMENTS).
+    /// Whether the set names `segment`, which is below [`MAX_SEGMENTS`](crate::MAX_SEGMENTS).
     pub fn has(self, segment: usize) -> bool
         requires segment { segment < MAX_COUNT }
         ensures names { IsTrue result ↔ Names self.bits segment }
@@ -30,14 +30,15 @@ impl SegmentSet {
         self.bits >> segment & 1 == 1
     }
 
-    /// Whether it names no segment.
+    /// Whether the set names no segment.
     pub fn is_empty(self) -> bool
         ensures none { IsTrue result ↔ (self.bits ≡ 0) }
     {
         self.bits == 0
     }
 
-    /// Whether all that it names are among the first so many segments, at most [`MAX_SEGMENTS`](crate::MAX_SEGMENTS).
+    /// Whether all named segments are below `segments`, which is at most
+    /// [`MAX_SEGMENTS`](crate::MAX_SEGMENTS).
     pub fn is_among(self, segments: usize) -> bool
         requires most { segments ≤ MAX_COUNT }
         ensures below { IsTrue result ↔ (self.bits < 2 ^ segments) }
@@ -45,7 +46,7 @@ impl SegmentSet {
         u32::from(self.bits) < 1u32 << segments
     }
 
-    /// How many segments it names.
+    /// How many segments the set names.
     pub fn len(self) -> usize
         ensures size { result ≡ size self.bits }
     {

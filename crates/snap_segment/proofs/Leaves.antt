@@ -6,7 +6,7 @@ use Rattle.snap_disk.specs.declared.disk.Disk as Disk
 use Rattle.snap_segment.specs.Calls.{Leaves}
 
 module _ {D : Type 0} (disk : Disk.Ghosts D) where
-  -- of no call
+  -- a run of no call
   pub none : (old : D) (P : List ℕ → Type 0)
       → ((b : List ℕ) → disk.might_have_left old (disk.clock old) b → MayLeave (disk.device old) b)
       → ((b : List ℕ) → MayLeave (disk.device old) b → P b) → Leaves disk old old P
@@ -15,7 +15,7 @@ module _ {D : Type 0} (disk : Disk.Ghosts D) where
     now = here;
   }
 
-  -- of one call
+  -- a run of one call
   pub one : {old new : D} {P : List ℕ → Type 0}
       → ((b : List ℕ) → disk.might_have_left old (disk.clock old) b → MayLeave (disk.device old) b)
       → ((b : List ℕ) → MayLeave (disk.device old) b → P b)
@@ -35,7 +35,7 @@ module _ {D : Type 0} (disk : Disk.Ghosts D) where
     now = λ b left. from b (is.now b left);
   }
 
-  -- one run after another
+  -- one run followed by another
   pub then : {old mid new : D} {P Q R : List ℕ → Type 0} → Leaves disk old mid P
       → Leaves disk mid new Q → ((b : List ℕ) → P b → R b) → ((b : List ℕ) → Q b → R b)
       → Leaves disk old new R

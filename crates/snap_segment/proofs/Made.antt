@@ -1,4 +1,4 @@
--- All bytes of a file that was made.
+-- All bytes of a new file.
 use Rattle.std.proofs.Common.{◌≡◌, inl, inr, ℕ, List, [], ◌∷◌, ◌++◌, length, take, drop, slice_index, length-drop, sym, ◌∙◌, ap, arith}
 use Rattle.std.proofs.lemmas.List.{take-append-drop, take_all}
 use Rattle.snap_disk.specs.Device.{Device, part, IsWritten}
@@ -7,7 +7,7 @@ use Rattle.snap_slot.specs.Layout.{header_front, slots_of}
 use Rattle.snap_slot.specs.States.{IsPrepared}
 use Rattle.snap_segment.specs.Creation.{new_file}
 
--- a file is what stands before its header's gate, that gate, and what stands behind it
+-- a file is the bytes before its header's gate, that gate, and the bytes after it
 in_three : (b : List ℕ) → length b ≡ 28672
     → b ≡ part 0 4095 b ++ (slice_index b 4095 ∷ part 4096 24576 b)
 unfolding part
@@ -17,7 +17,7 @@ in_three b long =
     (sym (take_all 24577 (drop 4095 b) (omega (arith, length-drop 4095 b, long)))
     ∙ part-cons 4095 24576 b (omega (arith, long)))
 
--- once the header's gate was opened behind the rest
+-- after the gate of a prepared file was opened, these are all bytes
 pub made_bytes : (i n k : ℕ) (v : List ℕ) (d d2 : Device) → IsPrepared i n k v d
     → IsWritten 4095 (0xA5 ∷ []) d d2 → d2.bytes ≡ new_file i n k v
 made_bytes i n k v d d2 is done =

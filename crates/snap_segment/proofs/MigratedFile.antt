@@ -1,4 +1,4 @@
--- What a migration found is what the old file holds.
+-- A migration finds the value that the old file holds.
 use Rattle.std.proofs.Common.{◌≡◌, ℕ, List, ◌∙◌}
 use Rattle.snap_slot.specs.Findings.{value_in}
 use Rattle.snap_old_slot.specs.Old.{old_slot_of}

@@ -1,4 +1,4 @@
--- What a run of calls says of its device.
+-- What every run of calls does to its device.
 use Rattle.std.specs.Prelude.{◌≡◌, ℕ, List, length, Result}
 use Rattle.snap_disk.specs.Device.{CountsCalls, MayLeave}
 use Rattle.snap_disk.specs.Time.{LeavesOnly}
@@ -6,8 +6,8 @@ use Rattle.snap_disk.specs.declared.disk.Disk as Disk
 use Rattle.snap_disk.specs.declared.refusal.Refusal.{Refusal}
 use Rattle.snap_segment.specs.Segment.{CountsRefusal}
 
--- Whatever the device: its failure count grows exactly at `DeviceFailed`, and it got so many calls at
--- `Ok` and no more at a refusal. Its length stays, and if it is honest it was so before.
+-- For any device: its failure count grows by one exactly at `DeviceFailed`. Ok takes `made` calls,
+-- a refusal at most that many. The length stays, and a device that is honest now was honest before.
 pub record Counts {D T : Type 0} (disk : Disk.Ghosts D) (result : Result T Refusal) (made : ℕ)
     (old new : D) : Type 0 where
   pub count : CountsRefusal result (disk.failure_count old) (disk.failure_count new)
@@ -15,11 +15,11 @@ pub record Counts {D T : Type 0} (disk : Disk.Ghosts D) (result : Result T Refus
   pub calls : CountsCalls result made (disk.clock old) (disk.clock new)
   pub honest : disk.is_honest new → disk.is_honest old
 
--- a crash at any time during the calls, and one after them, leaves only what has P
+-- a crash at any time during the calls or after them leaves only bytes with the property P
 pub record Leaves {D : Type 0} (disk : Disk.Ghosts D) (old new : D) (P : List ℕ → Type 0) : Type 0 where
   pub any_time : LeavesOnly disk old new P
   pub now : (b : List ℕ) → MayLeave (disk.device new) b → P b
 
--- it leaves only what one before could leave
+-- a crash leaves only what it could have left before the calls
 abbrev pub LeavesAsBefore : {D : Type 0} (disk : Disk.Ghosts D) (old new : D) → Type 0
 LeavesAsBefore disk old new = Leaves disk old new (MayLeave (disk.device old))

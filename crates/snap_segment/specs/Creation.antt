@@ -1,4 +1,4 @@
--- A file that is being made.
+-- The file that formatting and migration make.
 use Rattle.std.specs.Prelude.{◌≡◌, ◌⊎◌, ℕ, ◌+◌, List, [], ◌∷◌, ◌++◌, Result, IsErrOf, OnOk}
 use Rattle.snap_disk.specs.Device.{Device, IsSynced, MayLeave}
 use Rattle.snap_disk.specs.declared.disk.Disk as Disk
@@ -7,22 +7,22 @@ use Rattle.snap_disk.specs.declared.refusal.Refusal.TheVariants.{AlreadyFormatte
 use Rattle.snap_slot.specs.Layout.{header_front, slots_of, IsFormatted, IsUnformatted, IsFileOf}
 use Rattle.snap_slot.specs.declared.layout.TheConstants.{OPEN_GATE}
 
--- all bytes of a file of segment i of n that is made with number k and value v: its header with the
--- gate open, the slot of k, and zeros in both others
+-- all bytes of the new file of segment i of n with number k and value v: its header with an open
+-- gate, the slot of k, and zeros in the other two
 abbrev pub new_file : (i n k : ℕ) (v : List ℕ) → List ℕ
 new_file i n k v = header_front i n ++ (OPEN_GATE ∷ slots_of k v)
 
--- what a crash before could leave, or an unformatted file, or the whole new one with number k and
--- value v
+-- bytes that a crash could have left before, or an unformatted file, or the whole new file with
+-- number k and value v
 abbrev pub IsMadeOrLeft : (i n k : ℕ) (v : List ℕ) (old : Device) → List ℕ → Type 0
 IsMadeOrLeft i n k v old b = MayLeave old b ⊎ (IsUnformatted b ⊎ IsFileOf i n k v b)
 
--- the same of formatting, which makes number 0 and the empty value
+-- IsMadeOrLeft for formatting, which makes number 0 and the empty value
 abbrev pub IsFresh : (i n : ℕ) (old : Device) → List ℕ → Type 0
 IsFresh i n old b = IsMadeOrLeft i n 0 [] old b
 
--- an answer tells how the header's gate was found: `AlreadyFormatted` that it was open, by a sync
--- and a read, and Ok that it was closed
+-- the result says how the header's gate was found: `AlreadyFormatted` open, by a sync and a read;
+-- Ok closed
 pub record TellsGate {D T : Type 0} (disk : Disk.Ghosts D) (result : Result T Refusal) (old new : D)
     : Type 0 where
   pub taken_calls : IsErrOf result AlreadyFormatted → disk.clock new ≡ disk.clock old + 2

@@ -1,4 +1,4 @@
--- What a migration answers.
+-- The results of a migration.
 use Rattle.std.specs.Prelude.{◌≡◌, ℕ, List, Result, Ok, Err}
 use Rattle.snap_disk.specs.declared.refusal.Refusal.{Refusal}
 use Rattle.snap_old_slot.specs.Old.{OldHolds}
@@ -7,15 +7,15 @@ use Rattle.snap_segment.specs.declared.migration.Which.TheVariants.{Old, New}
 use Rattle.snap_segment.specs.Open.{CountsFailed}
 use Rattle.snap_segment.specs.Refusals.{IsMakeRefusal}
 
--- the failure count of the device that failed grows by one: that of the old file and that of the
--- new one, each before and after
+-- only the failure count of the device that failed grows, by one; the counts are of the old file
+-- before and after, then of the new file before and after
 abbrev pub CountsFault : Which → Refusal → (before after new_before new_after : ℕ) → Type 0
 CountsFault Old why before after new_before new_after =
     CountsFailed why before after × (new_after ≡ new_before)
 CountsFault New why before after new_before new_after =
     (after ≡ before) × CountsFailed why new_before new_after
 
--- it came past the old file: it is done, or the new file was in its way
+-- the old file was read: the refusal came from making the new one
 abbrev pub IsPast : Which → Refusal → Type 0
 IsPast Old why = ⊥
 IsPast New why = IsMakeRefusal why

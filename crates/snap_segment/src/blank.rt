@@ -1,4 +1,4 @@
-//! Makes the file of a new segment.
+//! Formats the file of a new segment.
 ghost use Rattle.std.specs.Prelude.{◌≡◌, ◌≢◌, ◌-◌, ◌^◌, ◌<◌, ◌≤◌, [], false, length, OnOk, IfErr, IsErrOf, ◌↔◌};
 ghost use Rattle.snap_disk.specs.Device.{Device};
 ghost use Rattle.snap_history.specs.declared.limits.TheConstants.{MAX_COUNT};
@@ -12,14 +12,15 @@ ghost use Rattle.snap_segment.specs.Creation.{IsFresh, TellsGate};
 use crate::creation::create;
 use snap_disk::{Disk, Refusal};
 
-/// Makes the file of segment `index` of `count`: it holds number 0 and the empty value, and no byte
-/// of what was there before. It makes seven device calls.
+/// Makes the file of segment `index` of `count`, with number 0 and the empty value. No byte of the
+/// old content remains. Makes seven device calls.
 ///
-/// Refused as `WrongFile` where the device has another length than a segment file, with no device
-/// call; `AlreadyFormatted` where the header's gate is open, after a sync and a read, and nothing
-/// is written; `DeviceFailed` where a device call failed. The header's gate is opened last, behind
-/// a sync, so a crash at any time leaves what was there, an unformatted file or the whole new one;
-/// and of a formatted file only what was there.
+/// Errors: `WrongFile` if the device doesn't have the length of a segment file, before any device
+/// call; `AlreadyFormatted` if the header's gate is open, after a sync and a read and before any
+/// write; `DeviceFailed` if a device call failed.
+///
+/// The header's gate is opened last, after a sync. So a crash at any time leaves the old content,
+/// an unformatted file or the whole new one; and of a formatted file only the old content.
 #[tactic(auto, unfolding(snap_slot::specs::Layout::fresh_file))]
 pub fn format<D: Disk>(device: &mut D, index: u8, count: u8) -> Result<(), Refusal>
     requires below { index < count }
@@ -32,19 +33,19 @@ pub fn format<D: Disk>(device: &mut D, index: u8, count: u8) -> Result<(), Refus
     ensures wrong_file_same { IsErrOf result Refusal.WrongFile → device.new ≡ device.old }
     ensures gate { TellsGate D.Disk result device.old device.new }
 
-    // Of a formatted file, whatever is answered, a crash leaves what one before could leave.
+    // Of a formatted file, whatever the result, a crash leaves only what it could have left before.
     ensures kept { D.is_honest device.new → IsFormatted (D.device device.old).bytes
         → LeavesAsBefore D.Disk device.old device.new }
 
-    // Of any file it leaves that, an unformatted file or the whole new one.
+    // Of any file a crash leaves that, an unformatted file or the whole new one.
     ensures leaves { D.is_honest device.new → Leaves D.Disk device.old device.new
         (IsFresh index count (D.device device.old)) }
 
-    // Once it has answered Ok, a crash leaves the new file.
+    // After Ok a crash leaves the new file.
     ensures last { D.is_honest device.new
         → OnOk result (IsAtRest index count 0 [] false (D.device device.new)) }
 
-    // Then these are all its bytes, whatever it held before: the closed slots hold zeros.
+    // After Ok these are all bytes of the device. The closed slots hold zeros.
     ensures bytes { D.is_honest device.new
         → OnOk result ((D.device device.new).bytes ≡ fresh_file index count) }
 {

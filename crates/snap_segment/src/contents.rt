@@ -1,11 +1,11 @@
-//! Reads a whole file: what an opening and a migration begin with.
+//! Reads a whole file, as an opening and a migration do first.
 ghost use Rattle.std.specs.Prelude.{◌≡◌, ◌-◌, ◌^◌, ◌<◌, length, OnOk};
 ghost use Rattle.snap_disk.specs.Device.{Device, IsSettled, CountsFailure, CountsCalls};
 ghost use Rattle.snap_segment.specs.Calls.{LeavesAsBefore};
 
 use snap_disk::{DeviceFault, Disk};
 
-/// Syncs, and then reads the whole file.
+/// Syncs, then reads the whole file.
 pub(crate) fn read_all<D: Disk>(device: &mut D, file: &mut [u8]) -> Result<(), DeviceFault>
     requires headroom { D.failure_count device.old < 2 ^ 64 - 1 }
     requires whole { length file.old ≡ length (D.device device.old).bytes }

@@ -1,4 +1,4 @@
-//! Makes the file of a segment with its number and value: what formatting and migration share.
+//! Makes the file of a segment that holds a given number and value, for formatting and migration.
 ghost use Rattle.std.specs.Prelude.{◌≡◌, ◌≢◌, ◌-◌, ◌^◌, ◌<◌, ◌≤◌, false, length, OnOk, IfOk, IfErr, IsErrOf, IsTrue, ◌↔◌};
 ghost use Rattle.snap_slot.specs.declared.layout.TheConstants.{FILE_LEN};
 ghost use Rattle.snap_disk.specs.Device.{Device, IsSettled, IsSynced, CountsFailure, CountsCalls};
@@ -16,14 +16,15 @@ use snap_slot::{
     encode_slots, gate_at,
 };
 
-/// Makes the file of segment `index` of `count`: it holds `number` and `value`, and its other slots
-/// are closed and hold zeros. It makes seven device calls.
+/// Makes the file of segment `index` of `count`, with `number` and `value`. Its other slots are
+/// closed and hold zeros. Makes seven device calls.
 ///
-/// Refused as `WrongFile` where the device has another length than a segment file, with no device
-/// call; `AlreadyFormatted` where the header's gate is open, after a sync and a read, and nothing
-/// is written; `DeviceFailed` where a device call failed. The header's gate is opened last, behind
-/// a sync, so a crash at any time leaves what was there, an unformatted file or the whole new one;
-/// and of a formatted file only what was there.
+/// Errors: `WrongFile` if the device doesn't have the length of a segment file, before any device
+/// call; `AlreadyFormatted` if the header's gate is open, after a sync and a read and before any
+/// write; `DeviceFailed` if a device call failed.
+///
+/// The header's gate is opened last, after a sync. So a crash at any time leaves the old content,
+/// an unformatted file or the whole new one; and of a formatted file only the old content.
 pub fn create<D: Disk>(
     device: &mut D,
     index: u8,
@@ -43,19 +44,19 @@ pub fn create<D: Disk>(
     ensures wrong_file_same { IsErrOf result Refusal.WrongFile → device.new ≡ device.old }
     ensures gate { TellsGate D.Disk result device.old device.new }
 
-    // Of a formatted file, whatever is answered, a crash leaves what one before could leave.
+    // Of a formatted file, whatever the result, a crash leaves only what it could have left before.
     ensures kept { D.is_honest device.new → IsFormatted (D.device device.old).bytes
         → LeavesAsBefore D.Disk device.old device.new }
 
-    // Of any file it leaves that, an unformatted file or the whole new one.
+    // Of any file a crash leaves that, an unformatted file or the whole new one.
     ensures leaves { D.is_honest device.new → Leaves D.Disk device.old device.new
         (IsMadeOrLeft index count number value.now (D.device device.old)) }
 
-    // Once it has answered Ok, a crash leaves the new file.
+    // After Ok a crash leaves the new file.
     ensures last { D.is_honest device.new
         → OnOk result (IsAtRest index count number value.now false (D.device device.new)) }
 
-    // Then these are all its bytes, whatever it held before.
+    // After Ok these are all bytes of the device.
     ensures bytes { D.is_honest device.new
         → OnOk result ((D.device device.new).bytes ≡ new_file index count number value.now) }
 {
@@ -74,7 +75,7 @@ pub fn create<D: Disk>(
     write_synced(device, HEADER_GATE_AT, &[OPEN_GATE]).map_err(|_| Refusal::DeviceFailed)
 }
 
-/// Syncs, and looks at the header's gate.
+/// Syncs, then reads the first block and returns whether the header's gate is closed.
 fn is_unformatted<D: Disk>(device: &mut D) -> Result<bool, DeviceFault>
     requires size { length (D.device device.old).bytes ≡ FILE_LEN }
     requires headroom { D.failure_count device.old < 2 ^ 64 - 1 }
@@ -95,7 +96,7 @@ fn is_unformatted<D: Disk>(device: &mut D) -> Result<bool, DeviceFault>
     Ok(block[HEADER_GATE_AT as usize] != OPEN_GATE)
 }
 
-/// Writes all but the header's gate, and then syncs.
+/// Writes everything but the header's gate, then syncs.
 fn write_front<D: Disk>(
     device: &mut D,
     index: u8,

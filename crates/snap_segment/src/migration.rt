@@ -1,4 +1,4 @@
-//! Carries the file of a segment over from the old format.
+//! Converts a segment's file from the old format.
 ghost use Rattle.std.specs.Prelude.{◌≡◌, ◌≢◌, ◌+◌, ◌-◌, ◌^◌, ◌<◌, ◌≤◌, ◌↔◌, ℕ, List, false, length, OnOk, IfOk, IfErr, IsErrOf};
 ghost use Rattle.snap_slot.specs.declared.layout.TheConstants.{FILE_LEN};
 ghost use Rattle.snap_disk.specs.Device.{Device, IsSynced, MayLeave, CountsCalls};
@@ -20,26 +20,27 @@ use snap_disk::{Disk, Refusal};
 use snap_old_slot::{OLD_FILE_LEN, OldFound, recover_old};
 use snap_slot::FILE_LEN;
 
-/// Which file of a migration a refusal speaks of.
+/// The file of a migration that was refused.
 #[derive(Clone, Copy, Debug, PartialEq, Eq)]
 pub enum Which {
     /// The file of the old format.
     Old,
-    /// The file that is made.
+    /// The file to be made.
     New,
 }
 
 /// Makes the file of segment `index` of `count` on `new`, with the number and value that `old`
-/// holds in the old format, and answers that number. It makes nine device calls: a sync and a read
-/// of `old`, which it never writes, and then the seven of [`format`](crate::format) on `new`. It
-/// takes no memory.
+/// holds in the old format. Returns that number. Makes nine device calls: a sync and a read of
+/// `old`, which it never writes, then the seven of [`format`](crate::format) on `new`. Allocates
+/// nothing.
 ///
-/// Refused, for the file that it names, in this order: `WrongFile` where `old` has another length
-/// than a file of the old format, and then where `new` has another than a segment file, with no
-/// device call; of `old`, `DeviceFailed` where a device call failed, and `Unformatted`, `WrongFile`
-/// and `Damaged` as an opening is; of `new`, `AlreadyFormatted` and `DeviceFailed` as formatting
-/// is. A refusal for `old` leaves `new` untouched. A crash at any time leaves in `old` what was
-/// there, and in `new` what was there, an unformatted file or the whole new one.
+/// Errors name the refused file, in this order: `WrongFile` if `old` doesn't have the length of an
+/// old file, or else if `new` doesn't have that of a segment file, both before any device call; of
+/// `old`, `DeviceFailed` if a device call failed, and `Unformatted`, `WrongFile` and `Damaged` as
+/// for an opening; of `new`, `AlreadyFormatted` and `DeviceFailed` as for formatting.
+///
+/// An error of `old` leaves `new` untouched. A crash at any time leaves of `old` only what it could
+/// have left before, and in `new` the old content, an unformatted file or the whole new one.
 pub fn migrate<O: Disk, N: Disk>(
     old: &mut O,
     new: &mut N,
@@ -51,7 +52,7 @@ pub fn migrate<O: Disk, N: Disk>(
     requires headroom_old { O.failure_count old.old < 2 ^ 64 - 1 }
     requires headroom_new { N.failure_count new.old < 2 ^ 64 - 1 }
 
-    // A failure count grows exactly where that device failed.
+    // A failure count grows by one exactly if that device failed.
     ensures count_ok { IfOk result (λ _. (O.failure_count old.new ≡ O.failure_count old.old)
         × (N.failure_count new.new ≡ N.failure_count new.old)) }
     ensures count_err { IfErr result (λ e. CountsFault e.0 e.1
@@ -66,8 +67,8 @@ pub fn migrate<O: Disk, N: Disk>(
     ensures honest_old { O.is_honest old.new → O.is_honest old.old }
     ensures honest_new { N.is_honest new.new → N.is_honest new.old }
 
-    // Each refusal says what the bytes are. A length is judged before any call, and a refusal for
-    // the old file comes before any call on the new one.
+    // What the bytes are at each refusal. Lengths are checked before any call, and the old file is
+    // checked before any call on the new one.
     ensures refusals { IfErr result (λ e. IsMigrationRefusal e.0 e.1) }
     ensures wrong_old_length { length (O.device old.old).bytes ≢ OLD_FILE_LEN
         → IsErrOf result (Which.Old, Refusal.WrongFile) × (old.new ≡ old.old) }
@@ -88,8 +89,8 @@ pub fn migrate<O: Disk, N: Disk>(
     ensures unformatted { N.is_honest new.new
         → OnOk result (IsUnformatted (N.device new.old).bytes) }
 
-    // The old file is never written: a crash leaves of it what one before could leave, at any time
-    // during the call and after it, and where no call on it failed its bytes are the same.
+    // The old file is never written: a crash during the call or after it leaves what it could have
+    // left before. Unless a call on it failed its bytes are the same.
     ensures old_kept { O.is_honest old.new
         → LeavesOnly O.Disk old.old old.new (MayLeave (O.device old.old)) }
     ensures old_kept_now { O.is_honest old.new → (b : List ℕ)
@@ -98,13 +99,13 @@ pub fn migrate<O: Disk, N: Disk>(
         → (IsErrOf result (Which.Old, Refusal.DeviceFailed) → ⊥)
         → (O.device old.new).bytes ≡ (O.device old.old).bytes }
 
-    // Of a new file that is formatted already a crash leaves what one before could leave.
+    // Of a new file that was formatted already a crash leaves only what it could have left before.
     ensures kept { N.is_honest new.new → IsFormatted (N.device new.old).bytes
         → LeavesOnly N.Disk new.old new.new (MayLeave (N.device new.old)) }
     ensures kept_now { N.is_honest new.new → IsFormatted (N.device new.old).bytes
         → (b : List ℕ) → MayLeave (N.device new.new) b → MayLeave (N.device new.old) b }
 
-    // A crash of the new file at any time during the call, and one after it.
+    // A crash of the new file at any time during the call, and after it.
     ensures any_time { O.is_honest old.new → N.is_honest new.new
         → OfHeld (O.device old.old).bytes (λ k v. LeavesOnly N.Disk new.old new.new
         (IsMadeOrLeft index count k v (N.device new.old))) }
@@ -112,12 +113,12 @@ pub fn migrate<O: Disk, N: Disk>(
         → OfHeld (O.device old.old).bytes (λ k v. (b : List ℕ) → MayLeave (N.device new.new) b
         → IsMadeOrLeft index count k v (N.device new.old) b) }
 
-    // Once it has answered Ok, a crash leaves in the new file what the old one holds.
+    // After Ok a crash leaves in the new file what the old one holds.
     ensures last { O.is_honest old.new → N.is_honest new.new
         → OfHeld (O.device old.old).bytes (λ k v. IfOk result (λ number. (number ≡ k)
         × IsAtRest index count k v false (N.device new.new))) }
 
-    // Then these are all the bytes of the new file, whatever it held before.
+    // After Ok these are all bytes of the new file.
     ensures bytes { O.is_honest old.new → N.is_honest new.new
         → OfHeld (O.device old.old).bytes
         (λ k v. OnOk result ((N.device new.new).bytes ≡ new_file index count k v)) }
@@ -140,7 +141,7 @@ pub fn migrate<O: Disk, N: Disk>(
     }
 }
 
-/// Syncs and reads the whole old file, and finds what it holds.
+/// Syncs and reads the whole old file, and finds the value that it holds.
 fn read_old<D: Disk>(
     device: &mut D,
     file: &mut [u8],

@@ -1,4 +1,4 @@
--- A file that is being formatted.
+-- A file that is being formatted, and the file of a new segment.
 use Rattle.std.proofs.Common.{false, ◌≡◌, ◌≢◌, ◌⊎◌, inl, inr, ⊎_elim, ℕ, ◌+◌, ◌*◌, ◌%◌, ◌<◌, ◌≤◌, List, [], ◌∷◌, ◌++◌, length}
 use Rattle.std.proofs.Common.{slice_index, refl, sym, ◌∙◌, ap, arith, append_assoc, length-append}
 use Rattle.std.proofs.lemmas.List.{append-nil}
@@ -10,7 +10,7 @@ use Rattle.snap_slot.specs.Layout.{slot_of, next_slot, spare_slot, body_at, head
 use Rattle.snap_slot.specs.States.{IsAtRest, IsPrepared}
 use Rattle.snap_slot.proofs.Blocks.{part-between, part-part, length-header_front, slots_gate, slots_body, slots_closed, length-slots_of}
 
--- the header's gate is the only byte that may still change
+-- a prepared file, of which only the header's gate may still change
 module _ (i n k : ℕ) (v : List ℕ) (below : i < n) (few : n ≤ 16) (small : IsNumber k) (fits : IsShort
     v) (d : Device) (is : IsPrepared i n k v d) where
   block : (at : ℕ) (b : List ℕ) → DiffersWithin 4095 1 d.bytes b → at + 4096 ≤ 24576
@@ -58,7 +58,7 @@ module _ (i n k : ℕ) (v : List ℕ) (below : i < n) (few : n ≤ 16) (small : 
     few = few;
   }
 
-  -- once it is open, the file is whole
+  -- once that gate is open, the file is whole
   pub whole : (b : List ℕ) → DiffersWithin 4095 1 d.bytes b → slice_index b 4095 ≡ 0xA5
       → IsFileOf i n k v b
   whole b same opens = record {
@@ -77,7 +77,7 @@ module _ (i n k : ℕ) (v : List ℕ) (below : i < n) (few : n ≤ 16) (small : 
       ⊎_elim (λ opens. inr (whole b same opens)) (λ closes.
       inl closes) (cases_eq (slice_index b 4095) 0xA5)
 
-  -- what a crash leaves of the write that opens it
+  -- a crash during the write of the gate leaves an unformatted file or the whole one
   pub gate_leaves : (b : List ℕ) → MayLeave (opened 4095 1 d) b → IsUnformatted b
       ⊎ IsFileOf i n k v b
   gate_leaves b left = unformatted_or_whole b (settled_opened 4095 1 d b is.settled left)
@@ -93,13 +93,13 @@ module _ (i n k : ℕ) (v : List ℕ) (below : i < n) (few : n ≤ 16) (small : 
     spare = spare_closed e.bytes same;
   }
 
-  -- what stands after that write and a sync
+  -- after that write and a sync the device is at rest
   pub formatted : (d2 : Device) → IsWritten 4095 (0xA5 ∷ []) d d2 → IsAtRest i n k v false d2
   formatted d2 done = at_rest d2 done.settled done.elsewhere
       (sym (index-part 4095 1 0 d2.bytes (omega arith))
       ∙ ap (λ (l : List ℕ). slice_index l 0) done.stands)
 
--- after the write of a header's front, that of the slots, and a sync
+-- after writes of the header's front and of the slots, and a sync, the file is prepared
 pub prepared : (i n k : ℕ) (v front slots : List ℕ) (a b c : Device) → IsShort v
     → length b.bytes ≡ 28672
     → front ≡ header_front i n → length front ≡ 4095 → slots ≡ slots_of k v
@@ -120,7 +120,7 @@ prepared i n k v front slots a b c fits size is_header long is_slots header touc
           ∙ ap (λ (m : ℕ). part 4096 m b.bytes) (sym all) ∙ there ∙ is_slots;
     }
 
--- the header's gate, as it was read
+-- the header's gate in a block that was read
 pub gate_read : (block bytes : List ℕ) → block ≡ part 0 4096 bytes
     → slice_index block 4095 ≡ slice_index bytes 4095
 gate_read block bytes is = ap (λ (l : List ℕ). slice_index l 4095) is
@@ -163,7 +163,7 @@ module _ (i n : ℕ) where
     fresh_length,
   )
 
--- a device that holds it, with no open place, is at rest
+-- a settled device that holds the file of a new segment is at rest
 pub fresh_rests : (i n : ℕ) → i < n → n ≤ 16 → (d : Device) → IsSettled d → d.bytes ≡ fresh_file i n
     → IsAtRest i n 0 [] false d
 fresh_rests i n below few d settled same =

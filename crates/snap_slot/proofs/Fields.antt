@@ -1,4 +1,4 @@
--- From the fields that were read of a block to the block.
+-- From the fields read from a block to the block itself.
 use Rattle.std.proofs.Common.{◌≡◌, ℕ, suc, ◌<◌, ◌^◌, List, [], ◌∷◌, length, slice_index, sym, ◌∙◌, ap, arith}
 use Rattle.std.proofs.lemmas.List.{append-nil}
 use Rattle.snap_disk.specs.Device.{part}
@@ -6,7 +6,7 @@ use Rattle.snap_disk.specs.Laws.{part_whole, part-cons}
 use Rattle.snap_slot.specs.Layout.{zeros, big, number_in, gate_block, length_field}
 use Rattle.snap_slot.proofs.Blocks.{number_in-big}
 
--- the length field of a block in which these bytes stand
+-- the length field of a block with the bytes of the number n there is n
 pub length_read : (b : List ℕ) (n : ℕ) → part 8 4 b ≡ big 4 n → n < 2 ^ 32 → length_field b ≡ n
 length_read b n is low = ap (λ (l : List ℕ). number_in 4 l) (is ∙ sym (append-nil (big 4 n)))
     ∙ number_in-big 4 n [] (omega (arith, low))

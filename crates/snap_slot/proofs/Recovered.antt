@@ -1,4 +1,4 @@
--- Which slots a file has that holds a number.
+-- The slots of a file that holds a number.
 use Rattle.std.proofs.Common.{◌≡◌, ◌⊎◌, inl, inr, ⊎_elim, ℕ, ◌-◌, ◌<◌, List, length, subst, arith, Option, Some, None, MatchOption}
 use Rattle.std.proofs.lemmas.Bool.{cases_eq}
 use Rattle.snap_disk.specs.Device.{part}
@@ -11,8 +11,8 @@ use Rattle.snap_slot.specs.declared.findings.Found.{Found}
 use Rattle.snap_slot.specs.declared.slot.Slot.{Slot}
 use Rattle.snap_slot.specs.declared.slot.Slot.TheVariants.{Closed, Open}
 
--- The slot of the number that a file holds is open, the next one is closed, and the spare one is
--- closed or open with the number before
+-- The slot of the newest number is open, the next slot is closed, and the spare slot is closed or
+-- open with the previous number.
 pub record AreSlotsOf (k : ℕ) (v : List ℕ) (first second third : Slot) : Type 0 where
   pub here : first ≡ Open k (length v)
   pub next : second ≡ Closed
@@ -41,7 +41,7 @@ slots_read b s here next spare here_is next_is spare_is k v at is = record {
       is.spare;
 }
 
--- The slots of a file are asked in turn, and none of the first two answers:
+-- The slots of a file are tried in turn; neither of the first two holds the newest number:
 pub answers_in : (b : List ℕ) (result : Option Found)
     → ((k : ℕ) (v : List ℕ) → slot_of k ≡ 0 → Holds b k v → ⊥)
     → ((k : ℕ) (v : List ℕ) → slot_of k ≡ 1 → Holds b k v → ⊥)

@@ -27,7 +27,7 @@ use Rattle.snap_told.specs.Told.{Stands, IsSendable, AreTold}
 use Rattle.snap_told.specs.Laws.{Converses, AllStand}
 use Rattle.snap_told.proofs.Payloads.{head_is}
 
--- ---- what is known of the connection
+-- ---- what follows of the connection
 
 pub written : (o n : Option (List ℕ)) (bytes : List ℕ) → o ≡ Some [] → Appends o n bytes
     → n ≡ Some bytes
@@ -46,7 +46,7 @@ read_all o n read left came eo en is =
 
 -- ---- what a client wrote and read over some calls
 
--- the payloads that came say these replies to as many requests
+-- the payloads received say these replies to the requests, one each
 abbrev pub Spoken : List Request → List Reply → List (List ℕ) → Type 0
 Spoken [] [] [] = Unit {0}
 Spoken (q ∷ qs) (r ∷ rs) (x ∷ xs) = Says x r × Spoken qs rs xs
@@ -123,7 +123,7 @@ run_fits a b (x ∷ xs) (y ∷ ys) run =
     ((run.3.0, rest.0), (answer_fits run.0 run.1 x y run.3, rest.1))
 run_fits a b xs ys run = absurd run
 
--- what is behind all replies
+-- the bytes after all replies
 pub tail_is : (o : Option Failure) (taken : List ℕ) (ps rs us : List (List ℕ))
     (rest held tail : List ℕ) → Phase None o taken ps rs us rest held tail
     → (tail ≡ []) ⊎ (tail ≡ frame refused_too_large)
@@ -140,15 +140,15 @@ some_frame x rest e = absurd (omega (
   length-append (to_be_bytes w32 (length x)) x,
 ))
 
--- one frame stands first
+-- the first frame is unique
 first_same : (x y r s : List ℕ) → length x ≤ max_payload → length y ≤ max_payload
     → frame x ++ r ≡ frame y ++ s → (x ≡ y) × (r ≡ s)
 first_same x y r s x_fits y_fits e = same_frame (frame x ++ r) x y r s
     (record { fits = x_fits; split = refl }) (record { fits = y_fits; split = e })
 
--- ---- what the client answered is what the session replied
+-- ---- the client's results are the session's replies
 
--- a refusal tells nothing of the history
+-- a refusal says nothing about the history
 refusal_stands : (n : ℕ) (start : Start) (h : List Update) (q : Request) (r : Reply) (why : Refusal)
     (detail : ℕ) → says r ≡ says (Refused why detail) → Stands n start h q r
 refusal_stands n start h (request.Update i k v) (Stored m) why detail e =
@@ -163,7 +163,7 @@ said_fits : (x : List ℕ) (r : Reply) → Says x r → length x ≤ max_payload
 said_fits x r said = rw (said.1) (says_fits r said.0)
 
 module _ (n : ℕ) (start : Start) (h : List Update) where
-  -- no byte is left for a further reply
+  -- no byte is left for another reply
   none_left : (qs : List Request) (rs : List Reply) (xs : List (List ℕ)) (more : List ℕ)
       → Spoken qs rs xs → frames xs ++ more ≡ [] → AllStand n start h qs rs
   none_left [] [] [] more spoken e = tt
@@ -171,7 +171,7 @@ module _ (n : ℕ) (start : Start) (h : List Update) where
       absurd (some_frame x (frames xs ++ more) (sym (append_assoc (frame x) (frames xs) more) ∙ e))
   none_left qs rs xs more spoken e = absurd spoken
 
-  -- the session replied no more than that a length is above the limit
+  -- the session's only reply was that a length is above the limit
   refused_then : (q : Request) (r : Reply) (qs : List Request) (rs : List Reply) (x : List ℕ)
       (xs : List (List ℕ)) (more tail : List ℕ) → Says x r → Spoken qs rs xs
       → frame x ++ (frames xs ++ more) ≡ tail → (tail ≡ []) ⊎ (tail ≡ frame refused_too_large)

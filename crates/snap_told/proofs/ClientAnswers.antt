@@ -1,4 +1,4 @@
--- What a client answered its caller over an honest connection stands in what the service has seen.
+-- What a client returned to its caller over an honest connection is in what the service has seen.
 use Rattle.std.proofs.Common.{◌≡◌, ℕ, List, ◌++◌, map, Option, refl, ap, sym, ◌∙◌, append_assoc}
 use Rattle.std.proofs.lemmas.Option.{same_Some}
 use Rattle.snap_register.specs.History.{starts}

@@ -1,4 +1,4 @@
--- What was told stands in what a crash at a moment leaves, and in what any number of crashes leave.
+-- What was replied is in what a crash leaves, and in what any number of crashes leave.
 use Rattle.std.proofs.Common.{◌≡◌, ⊎_elim, ℕ, inl, inr, List, [], ◌∷◌, ◌++◌, length, Option, sym, subst, ◌∙◌, append_assoc}
 use Rattle.snap_register.specs.Registers.{Moment}
 use Rattle.snap_history.specs.History.{Update, Start, IsBeginning}
@@ -25,7 +25,7 @@ use Rattle.snap_told.proofs.Runs.{session_told}
 use Rattle.snap_told.proofs.Stands.{stands_on, stands_earlier, beside_map, beside_at}
 use Rattle.snap_disk.specs.declared.disk.Disk as Disk
 
--- what a seat had seen is a beginning of the history of the moment
+-- what a seat had seen is a beginning of the history at the moment
 pub seen_then : (plan : Plan) (s : Moment) (kept : Kept plan s)
     (seen : List Update) → WasSeenIn s.views seen → IsBeginning seen (updates kept.history)
 seen_then plan s kept seen was = beginning-trans seen was.0 (updates kept.history) was.2
@@ -51,7 +51,7 @@ module _ {D : Type 0} (disk : Disk.Ghosts D) (devices : List D)
 
   -- a service of this opening
   module _ (b : Known) (same : b.plan ≡ opened.plan) (was : WasSeenIn s.views b.seen) where
-    -- what stands in the history of this opening stands behind the one before
+    -- what is in the history of this opening is in the whole history, after the earlier one
     stood : (q : Request) (r : Reply) → Stands (segments b.plan) (starts b.plan) now q r
         → Stands n start (base ++ now) q r
     stood q r is = stands_earlier n start base (starts opened.plan) after now q r

@@ -1,4 +1,4 @@
--- Payloads, read as a request and its reply, are those that the service had and gave.
+-- A payload can be read as one request or reply only: the one that the service got or gave.
 use Rattle.std.proofs.Common.{◌≡◌, ℕ, ◌<◌, ◌^◌, inl, inr, List, [], ◌∷◌, ◌++◌, drop, get_or, map, ap, sym, subst, ◌∙◌, arith}
 use Rattle.snap_history.specs.History.{Update, IsBeginning}
 use Rattle.snap_register.specs.History.{starts}
@@ -20,11 +20,11 @@ use Rattle.snap_cut.specs.Crash.{Has}
 use Rattle.snap_told.specs.Told.{IsMemoryAfter, IsPartAfter, Stands, IsTold}
 use Rattle.snap_told.proofs.Replies.{stored, replied}
 
--- the first of both
+-- the first elements are equal
 pub head_is : (m n : ℕ) (xs ys : List ℕ) → m ∷ xs ≡ n ∷ ys → m ≡ n
 head_is m n xs ys e = ap (λ (l : List ℕ). get_or l 0 0) e
 
--- and the second
+-- the second elements are equal
 second_is : (l m n o : ℕ) (xs ys : List ℕ) → l ∷ m ∷ xs ≡ n ∷ o ∷ ys → m ≡ o
 second_is l m n o xs ys e = ap (λ (z : List ℕ). get_or z 1 0) e
 

@@ -1,4 +1,4 @@
--- The premises of the laws are met: by a session that answers one request, and a client that calls it.
+-- The laws' premises can be met: a session answers one request, and a client makes that call.
 use Rattle.std.proofs.Common.{◌≡◌, ℕ, inl, List, [], ◌∷◌, ◌++◌, Option, Some, None, Result, Ok, Err, IfOk, refl, ap, sym, ◌∙◌, arith, append-nil}
 use Rattle.std.proofs.lemmas.List.Elements.{All-cons}
 use Rattle.std.proofs.lemmas.Option.{same_Some}
@@ -58,7 +58,7 @@ one_turn a b q r can low is = record {
 
 -- ---- a call of a client
 
--- what was left to be read, once these bytes of it came
+-- what is left to be read after these bytes were read
 read_on : (o n : Option (List ℕ)) (all came : List ℕ) → o ≡ Some all → Consumes o n came
     → (left : List ℕ) × (n ≡ Some left) × (all ≡ came ++ left)
 read_on None n all came has is = absurd (cc has)

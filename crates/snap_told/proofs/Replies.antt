@@ -1,4 +1,4 @@
--- What a service replies, and what it has seen then.
+-- What a service replies, and what it has seen when it does.
 use Rattle.std.proofs.Common.{◌≡◌, ⊎_elim, ℕ, ◌^◌, ◌<◌, List, map, refl, sym, subst, ◌∙◌}
 use Rattle.snap_disk.specs.declared.refusal.Refusal.{Refusal}
 use Rattle.snap_history.specs.History.{Update, IsBeginning}
@@ -19,7 +19,7 @@ use Rattle.snap_service.specs.Answers.{Answers, AnswersUpdate, AnswersScan, Answ
 use Rattle.snap_cut.specs.Crash.{Has}
 use Rattle.snap_told.specs.Told.{IsPartAfter, Stands}
 
--- the service has seen that much and maybe more, of the same registers
+-- b has seen all that a has, and maybe more, of the same registers
 abbrev pub Sees : Known → Known → Type 0
 Sees a b = (b.plan ≡ a.plan) × IsBeginning a.seen b.seen
 
@@ -35,7 +35,7 @@ sees_then a b c one two = (two.0 ∙ one.0, beginning-trans a.seen b.seen c.seen
 sees_grown : (a b : Known) → Grows a b → Sees a b
 sees_grown a b grows = (grows.plan, grows.later)
 
--- ---- a reply leaves what was seen
+-- ---- a reply keeps what was seen
 
 updated : (a b : Known) (i k : ℕ) (v : List ℕ) (r : Reply) → AnswersUpdate a i k v r b → Sees a b
 updated a b i k v r (Outside far is same) = sees_same a b same
@@ -73,7 +73,7 @@ answered a b request.Scan r is = scanned a b r is
 answered a b request.Status r is = stated a b r is
 answered a b (request.Part set) r is = scanned_part a b set.bits r is
 
--- ---- it tells what stands there
+-- ---- what a reply says is in the history
 
 pub stored : (a b : Known) (i k n : ℕ) (v : List ℕ) (h : List Update)
     → AnswersUpdate a i k v (Stored n) b → IsBeginning b.seen h

@@ -1,4 +1,4 @@
--- Runs of a service: what was replied on the way stands in what it has seen at the end.
+-- Runs of a service: what it replied during a run is in what it has seen after the run.
 use Rattle.std.proofs.Common.{ℕ, inl, inr, List, [], ◌∷◌, ◌++◌, sym, subst}
 use Rattle.snap_history.specs.History.{Update, IsBeginning}
 use Rattle.snap_history.proofs.Beginnings.{beginning-trans}

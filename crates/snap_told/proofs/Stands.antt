@@ -1,4 +1,4 @@
--- What stands in a history stands in each longer one, and in one that began earlier.
+-- What is in a history is in each longer one, and in one that began earlier.
 use Rattle.std.proofs.Common.{◌≡◌, ℕ, zero, suc, ◌<◌, List, [], ◌∷◌, ◌++◌, Some, slice_get, ap, sym, subst, ◌∙◌, append_assoc}
 use Rattle.std.proofs.lemmas.Option.{same_Some}
 use Rattle.snap_history.specs.History.{Update, Start, IsBeginning, number_after, value_after}
@@ -10,7 +10,7 @@ use Rattle.snap_frame.specs.declared.reply.Reply.TheVariants.{Stored, Snapshot, 
 use Rattle.snap_cut.proofs.Starts.{StartsAfter, number_on, value_on}
 use Rattle.snap_told.specs.Told.{Stands, SideBySide}
 
--- ---- longer
+-- ---- a longer history
 
 pub stands_on : (n : ℕ) (start : Start) (h whole : List Update) (q : Request) (r : Reply)
     → IsBeginning h whole → Stands n start h q r → Stands n start whole q r
@@ -22,9 +22,9 @@ stands_on n start h whole (request.Part set) (Part values) longer is =
     (is.0, beginning-trans is.0 h whole is.1 longer, is.2)
 stands_on n start h whole q r longer is = tt
 
--- ---- from an earlier start on
+-- ---- a history from an earlier start on
 
--- the number and the value of a segment after this list of updates
+-- the number and the value of a segment after the updates `part`
 abbrev memory_at : Start → List Update → ℕ → ℕ × List ℕ
 memory_at start part i = (number_after start part i, value_after start part i)
 
@@ -77,7 +77,7 @@ module _ (n : ℕ) (start : Start) (base : List Update) (next : Start)
   )
   stands_earlier h q r is = tt
 
--- ---- side by side
+-- ---- two lists side by side
 
 pub beside_map : {A B : Type 0} (P Q : A → B → Type 0) → ((x : A) (y : B) → P x y → Q x y)
     → (xs : List A) (ys : List B) → SideBySide P xs ys → SideBySide Q xs ys
@@ -85,7 +85,7 @@ beside_map P Q f [] [] is = tt
 beside_map P Q f (x ∷ xs) (y ∷ ys) is = (f x y is.0, beside_map P Q f xs ys is.1)
 beside_map P Q f xs ys is = absurd is
 
--- one of them
+-- the pair at place j
 pub beside_at : {A B : Type 0} (P : A → B → Type 0) (xs : List A) (ys : List B) (j : ℕ) (x : A)
     (y : B) → SideBySide P xs ys → slice_get xs j ≡ Some x → slice_get ys j ≡ Some y → P x y
 beside_at {A} {B} P (a ∷ xs) (b ∷ ys) zero x y is ex ey =

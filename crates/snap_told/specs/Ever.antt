@@ -1,4 +1,4 @@
--- What was told over any number of crashes and starts.
+-- What was replied over any number of crashes and starts.
 use Rattle.std.specs.Prelude.{◌≡◌, ◌⊎◌, ℕ, List, [], ◌∷◌, ◌++◌, Option, Some, slice_get}
 use Rattle.snap_history.specs.History.{Update, Start}
 use Rattle.snap_register.specs.declared.plan.Plan.{Plan}
@@ -12,7 +12,7 @@ use Rattle.snap_told.specs.Told.{Stands, HasNumber}
 use Rattle.snap_told.specs.Laws.{SessionUpTo, WasAnswered, WasSeenIn}
 use Rattle.snap_disk.specs.declared.disk.Disk as Disk
 
--- Some session, of a service that has come to the state b since, gave out, or owed, bytes that say
+-- Some session of the service, which has reached the state b since, gave out or owed bytes that say
 -- this reply to this request.
 pub record WasReplied (b : Known) (q : Request) (r : Reply) : Type 0 where
   pub served : SessionUpTo b
@@ -25,7 +25,7 @@ pub record WasReplied (b : Known) (q : Request) (r : Reply) : Type 0 where
   pub asks : Asks payload q
   pub says : Says reply r
 
--- Some client over an honest connection to such a session answered its caller so.
+-- Some client over an honest connection to such a session returned this reply to its caller.
 pub record WasHeard {R W : Type 0} (remaining : R → Option (List ℕ))
     (contents : W → Option (List ℕ)) (b : Known) (q : Request) (r : Reply) : Type 0 where
   pub asked : List Request
@@ -35,8 +35,8 @@ pub record WasHeard {R W : Type 0} (remaining : R → Option (List ℕ))
   pub asked_is : slice_get asked place ≡ Some q
   pub answer_is : slice_get answers place ≡ Some r
 
--- by this moment of an opening's registers somebody was told this: a session's peer, or a client's
--- caller
+-- by this moment of an opening's registers a session had given this reply to its peer, or a client
+-- to its caller
 abbrev pub WasTold : {R W : Type 0} → (R → Option (List ℕ)) → (W → Option (List ℕ)) → Plan
     → List SeatView → Request → Reply → Type 0
 WasTold remaining contents plan views q r = (b : Known) × (b.plan ≡ plan)
@@ -44,7 +44,7 @@ WasTold remaining contents plan views q r = (b : Known) × (b.plan ≡ plan)
 
 module _ {D R W : Type 0} (disk : Disk.Ghosts D) (remaining : R → Option (List ℕ))
     (contents : W → Option (List ℕ)) where
-  -- in some opening of these files somebody was told this, by the moment at which its crash came
+  -- in some opening of these files somebody got this reply before the crash that ended the opening
   abbrev pub WasEverTold : (n : ℕ) (start : Start) (moments : List (List Update))
       (devices : List D) → Restarts disk n start moments devices
       → Request → Reply → Type 0
@@ -56,8 +56,9 @@ module _ {D R W : Type 0} (disk : Disk.Ghosts D) (remaining : R → Option (List
   WasEverTold n start _ _ (Interrupted moments devices news nexts past stay follow) q r =
       WasEverTold n start moments devices past q r
 
-  -- Over any number of crashes and starts: files keep the memory after one history, of the whole ones
-  -- of all moments at which a crash came, and in it stands all that anybody was told in any opening.
+  -- Over any number of crashes and starts: the files keep the memory after one history, made of the
+  -- whole histories of all moments at which a crash came, and it has all that was replied to
+  -- anybody in any opening.
   abbrev pub EverLaw : Type 0
   EverLaw = (n : ℕ) (start : Start) (moments : List (List Update)) (devices : List D)
       (past : Restarts disk n start moments devices)

@@ -1,4 +1,4 @@
--- Clients that hear what a service replies: so the premises of the laws are met.
+-- Clients that receive what a service replies: the laws' premises can be met.
 use Rattle.std.specs.Prelude.{◌≡◌, ℕ, ◌^◌, List, [], ◌∷◌, Option, Some}
 use Rattle.snap_history.specs.History.{Update}
 use Rattle.snap_register.specs.declared.plan.Plan.{Plan}
@@ -16,25 +16,26 @@ use Rattle.snap_cut.specs.Crash.{Has}
 use Rattle.snap_told.specs.Told.{IsSendable}
 use Rattle.snap_told.specs.Laws.{SessionUpTo, WasAnswered}
 
--- a reader that has these bytes left, or a writer that has got them
+-- a reader that has these bytes left, or a writer that has received them
 abbrev pub bytes_of : List ℕ → Option (List ℕ)
 bytes_of bytes = Some bytes
 
--- Whatever a service answers to a request that a client may call, a client may have answered its
--- caller, over an honest connection to a session of that service.
+-- Whatever a service replies to a request that a client may send, a client may have returned to its
+-- caller over an honest connection to a session of that service.
 abbrev pub HeardLaw : Type 0
 HeardLaw = (a b : Known) (q : Request) (r : Reply) → IsSendable q → IsInLimits r
     → calls.Answers q r → Answers a q r b → WasAnswered bytes_of bytes_of b (q ∷ []) (r ∷ [])
 
--- Whatever service was asked: if a session of it has taken in what this request's client writes, and
--- the reader has what the session gave out, then the client was answered so over an honest connection.
+-- For any service: if a session of it took in exactly what a client writes for this request, and
+-- the reader has exactly what the session gave out, then the client got this reply over an honest
+-- connection.
 abbrev pub HearsFrom : {R W : Type 0} → (R → Option (List ℕ)) → (W → Option (List ℕ)) → R
     → Request → Reply → Type 0
 HearsFrom remaining contents reader q r = (b : Known) (s : SessionUpTo b)
     → s.turns.taken ≡ frame (payload q) → remaining reader ≡ Some s.turns.given
     → WasAnswered remaining contents b (q ∷ []) (r ∷ [])
 
--- the registers of one file with number 0 and no bytes
+-- the registers of one file with number 0 and the empty value
 abbrev pub one_file : Plan
 one_file = record {
   scanners = 1;
@@ -43,7 +44,7 @@ one_file = record {
   start = record { number = 0; words = [] } ∷ [];
 }
 
--- a scanner there that has seen these updates
+-- a scanner of that file that has seen these updates
 abbrev pub scanner_after : List Update → Known
 scanner_after seen = record {
   table = no_registers;
@@ -60,7 +61,7 @@ scanner_after seen = record {
 abbrev pub first_update : Update
 first_update = record { segment = 0; value = 7 ∷ [] }
 
--- A client has heard that the first update of that file is stored, and so that it stands in the history.
+-- A client has heard that the first update of that file is stored; and it is in the history.
 abbrev pub FirstHeard : Type 0
 FirstHeard = WasAnswered bytes_of bytes_of (scanner_after (first_update ∷ []))
     (request.Update 0 1 (7 ∷ []) ∷ []) (Stored 1 ∷ [])

@@ -1,5 +1,5 @@
--- What a service, a session and a client tell stands in every history that begins with what the
--- service's scanner had seen. So it stands in what a crash at any moment leaves.
+-- What a service, a session and a client reply is in each history that begins with what the
+-- service's scanner had seen. So it is in what a crash at any moment leaves.
 use Rattle.std.specs.Prelude.{◌≡◌, ℕ, ◌<◌, List, [], ◌∷◌, ◌++◌, length, map, All, Option, Some, Ok, slice_get}
 use Rattle.snap_register.specs.Registers.{Moment}
 use Rattle.snap_history.specs.History.{Update, Start, IsBeginning}
@@ -28,36 +28,35 @@ use Rattle.snap_disk.specs.declared.disk.Disk as Disk
 
 -- ---- a reply
 
--- the update stands there, with its number and its value
+-- the acknowledged update is in the history, with its number and its value
 abbrev pub StoredLaw : Type 0
 StoredLaw = (a b : Known) (i k n : ℕ) (v : List ℕ) (h : List Update)
     → AnswersUpdate a i k v (Stored n) b → IsBeginning b.seen h
     → (i < segments b.plan) × (n ≡ k) × Has (starts b.plan) h i k v
 
--- the values are the memory after a beginning of it, which begins with what the service had seen
--- before the request, and at the first look of its scan
+-- the values are the memory after a beginning of the history, and that has all that the service had
+-- seen before the request and at the first look of its scan
 abbrev pub ScannedLaw : Type 0
 ScannedLaw = (a b : Known) (values : _) (h : List Update)
     → AnswersScan a (Snapshot values) b → IsBeginning b.seen h
     → (part : List Update) × IsBeginning a.seen part × BeginsFresh a b part × IsBeginning part h
     × IsMemory b part (map pair_of values.items)
 
--- so it is with the named segments, which are all there: each has its number and its value after such
--- a beginning
+-- the named segments exist, and each has its number and its value after such a beginning
 abbrev pub ScannedPartLaw : Type 0
 ScannedPartLaw = (a b : Known) (set : ℕ) (values : _) (h : List Update)
     → AnswersPart a set (Part values) b → IsBeginning b.seen h
     → (part : List Update) × IsBeginning a.seen part × BeginsFresh a b part × IsBeginning part h
     × IsPartAfter (segments b.plan) (starts b.plan) set part values.items
 
--- whatever the request, what it was replied stands there
+-- whatever the request, its reply is in the history
 abbrev pub RepliedLaw : Type 0
 RepliedLaw = (a b : Known) (q : Request) (r : Reply) (h : List Update) → Answers a q r b
     → IsBeginning b.seen h → Stands (segments b.plan) (starts b.plan) h q r
 
 -- ---- a session
 
--- some session, of a service that has come to the state b since
+-- a session of the service, which has reached the state b since
 pub record SessionUpTo (b : Known) : Type 0 where
   pub began : Known
   pub talk : Talk
@@ -68,25 +67,25 @@ pub record SessionUpTo (b : Known) : Type 0 where
   pub turns : Turns (Moves Answers) Answers began b session.start read_old read_new written_old
       written_new talk
 
--- what it was asked and what it replied, owed until now
+-- all requests that the session got, with the replies that it has owed until now
 abbrev pub SessionTold : {b : Known} → SessionUpTo b → ℕ → Start → List Update → Type 0
 SessionTold s n start h =
     AreTold n start h s.turns.goes.payloads (s.turns.goes.replies ++ s.turns.goes.unsaid)
 
--- Of a session that shares its service with others, all replies that were owed until now: whoever
--- reads them was told what stands in each history that begins with what the service has seen now.
+-- Of a session that shares its service with others, all replies owed until now: what they say is in
+-- each history that begins with what the service has seen by now.
 abbrev pub SessionLaw : Type 0
 SessionLaw = (b : Known) (s : SessionUpTo b) (h : List Update) → IsBeginning b.seen h
     → SessionTold s (segments b.plan) (starts b.plan) h
 
 -- ---- a client
 
--- These bytes are a beginning of those.
+-- `early` is a beginning of `late`.
 abbrev pub Begins : List ℕ → List ℕ → Type 0
 Begins early late = (rest : List ℕ) × (late ≡ early ++ rest)
 
--- A connection that tells its bytes and keeps them: the session at its other end took in a beginning
--- of what the client wrote, and what the client read is a beginning of what the session gave out.
+-- A connection that neither changes nor loses bytes: the session took in a beginning of what the
+-- client wrote, and the client read a beginning of what the session gave out.
 pub record IsHonestConnection {R W : Type 0} (remaining : R → Option (List ℕ))
     (contents : W → Option (List ℕ)) (old new : ClientState R W) (taken given : List ℕ)
     : Type 0 where
@@ -100,7 +99,7 @@ pub record IsHonestConnection {R W : Type 0} (remaining : R → Option (List ℕ
   pub read_is : remaining old.reader ≡ Some (read ++ left)
   pub given_is : Begins read given
 
--- these requests were answered so by one client, one after another
+-- one client made these requests one after another, and got these replies
 abbrev pub Converses : {R W : Type 0} → (R → Option (List ℕ)) → (W → Option (List ℕ))
     → List Request → List Reply → ClientState R W → ClientState R W → Type 0
 Converses remaining contents [] [] old new = new ≡ old
@@ -108,12 +107,12 @@ Converses {R} {W} remaining contents (q ∷ qs) (r ∷ rs) old new = (mid : Clie
     × Calls remaining contents q old (Ok r) mid × Converses remaining contents qs rs mid new
 Converses remaining contents qs rs old new = ⊥
 
--- what each reply tells stands there
+-- what each reply says is in the history
 abbrev pub AllStand : ℕ → Start → List Update → List Request → List Reply → Type 0
 AllStand n start h qs rs = SideBySide (λ q r. Stands n start h q r) qs rs
 
--- What some client asked and was answered, call by call, over an honest connection. The session at its
--- other end is of a service that has come to the state b since.
+-- The requests that some client made, and the replies it got, over an honest connection to a
+-- session whose service has reached the state b since.
 pub record WasAnswered {R W : Type 0} (remaining : R → Option (List ℕ))
     (contents : W → Option (List ℕ)) (b : Known) (qs : List Request) (rs : List Reply)
     : Type 0 where
@@ -126,7 +125,7 @@ pub record WasAnswered {R W : Type 0} (remaining : R → Option (List ℕ))
   pub connection : IsHonestConnection remaining contents (fresh reader writer) now
       served.turns.taken served.turns.given
 
--- what the client of such a connection answered its caller, call by call, stands there
+-- the replies that the client of such a connection returned to its caller are in the history
 abbrev pub ClientLaw : {R W : Type 0} → (R → Option (List ℕ)) → (W → Option (List ℕ)) → Type 0
 ClientLaw remaining contents = (b : Known) (qs : List Request) (rs : List Reply) (h : List Update)
     → WasAnswered remaining contents b qs rs → IsBeginning b.seen h
@@ -134,16 +133,17 @@ ClientLaw remaining contents = (b : Known) (qs : List Request) (rs : List Reply)
 
 -- ---- a crash
 
--- a seat in the table has seen these updates, and maybe more
+-- a seat of the table has seen these updates, and maybe more
 abbrev pub WasSeenIn : List SeatView → List Update → Type 0
 WasSeenIn views seen = (later : List Update) × IsSeenIn views later × IsBeginning seen later
 
 module _ {D R W : Type 0} (disk : Disk.Ghosts D) (remaining : R → Option (List ℕ))
     (contents : W → Option (List ℕ)) where
-  -- Pull the plug: files that were opened where a history goes on, a moment of their registers, and a
-  -- crash of all devices there. It is recovered as the memory after the whole history, from the first
-  -- start on, and in that history stands all that was told: what any session of this opening had
-  -- replied by then, what any client of one had answered its caller, and what was told before it.
+  -- Pull the plug: files were opened where an earlier history continues, and a crash of all devices
+  -- comes at a moment of their registers. It is recovered as the memory after the whole history
+  -- since the first start. That history has all that was replied: what any session of this opening
+  -- had replied by then, what any client of such a session had returned to its caller, and all
+  -- earlier replies.
   abbrev pub PlugLaw : Type 0
   PlugLaw = (devices : List D) (writers : List (WriterState D)) (start : Start)
       (before : List Update) (earlier : List (Place D))

@@ -1,4 +1,4 @@
--- What a board shows of a server's segments, and what is another row than the one that was shown.
+-- Which rows of a board are equal.
 use Rattle.std.specs.Prelude.{Bool, ◌==◌, ◌&&◌, not, List, if◌then◌else◌}
 use Rattle.std.specs.List.{list_any}
 use Rattle.snap_watch.specs.declared.row.Row.{Row}
@@ -11,6 +11,6 @@ is_alike a b = if a then b else not b
 abbrev pub is_same : Row → Row → Bool
 is_same a b = a.segment == b.segment && a.number == b.number && is_alike a.is_fenced b.is_fenced
 
--- one of these rows is the same
+-- one of these rows equals `row`
 abbrev pub is_shown : List Row → Row → Bool
 is_shown shown row = list_any (λ one. is_same one row) shown

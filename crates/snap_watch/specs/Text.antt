@@ -1,4 +1,4 @@
--- What is printed of a board's rows (docs/FORMATS.md).
+-- The text of a board's rows (docs/FORMATS.md).
 use Rattle.std.specs.Prelude.{ℕ, Bool, true, false, List, [], ◌∷◌, ◌++◌, codes, flat_map, if◌then◌else◌}
 use Rattle.std.specs.Option.{option_map_or}
 use Rattle.std.specs.Fmt.{decimal}
@@ -15,16 +15,16 @@ abbrev pub fence_text : Bool → List ℕ
 fence_text true = codes "1"
 fence_text false = codes "0"
 
--- what a line says of a value: quoted text where it is printable, or else hexadecimal digits
+-- a value in a line: quoted text if it is printable, and else hexadecimal digits
 abbrev pub value_text : List ℕ → List ℕ
 value_text bytes = option_map_or (λ (text : List ℕ). codes " text " ++ text) (quote_of bytes)
     (codes " value " ++ hex_text bytes)
 
--- what a board says of a value: the same without the word before it
+-- a value on a board: as in a line, but without the word before it
 abbrev pub cell_text : List ℕ → List ℕ
 cell_text bytes = option_map_or (λ (text : List ℕ). text) (quote_of bytes) (hex_text bytes)
 
--- the segment's index and number, and whether it is fenced
+-- the part of a line before the value
 abbrev pub state_text : Row → List ℕ
 state_text row = codes "segment " ++ (decimal row.segment
     ++ (codes " number " ++ (decimal row.number ++ (codes " fenced " ++ fence_text row.is_fenced))))
@@ -42,10 +42,10 @@ abbrev pub row_text : Form → Row → List ℕ
 row_text Lines row = row_line row
 row_text Objects row = line_of (row_tokens row)
 
--- what is printed of the row where these were shown: nothing where it is the same
+-- the text of a row after these were shown: empty if it was shown already
 abbrev pub change_text : Form → List Row → Row → List ℕ
 change_text form shown row = if is_shown shown row then [] else row_text form row
 
--- what is printed of these rows: each that is another one than was shown, in order
+-- the text of these rows: those that weren't shown already, in order
 abbrev pub changes_text : Form → (shown rows : List Row) → List ℕ
 changes_text form shown rows = flat_map (change_text form shown) rows

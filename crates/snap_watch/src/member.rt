@@ -1,4 +1,4 @@
-//! A row as a JSON object.
+//! Rows as JSON objects.
 ghost use Rattle.std.specs.Prelude.{◌≡◌, ◌++◌, IfOk, OnOk};
 ghost use Rattle.snap_json.specs.Documents.{bytes_tokens, head_tokens, line_of};
 ghost use Rattle.snap_watch.specs.Text.{row_tokens};
@@ -8,7 +8,7 @@ use base64::engine::general_purpose::STANDARD;
 use json::Writer;
 use std::alloc::{AllocError, Global};
 
-/// Appends the object of a row's segment, and a line feed.
+/// Appends the object of a row, and a line feed.
 pub(crate) fn append_object(alloc: Global, text: Vec<u8>, row: &Row) -> Result<Vec<u8>, AllocError>
     ensures { IfOk result (λ whole.
         whole.items ≡ text.items ++ line_of (row_tokens row.now)) }
@@ -20,7 +20,7 @@ pub(crate) fn append_object(alloc: Global, text: Vec<u8>, row: &Row) -> Result<V
     Ok(whole)
 }
 
-/// Writes the object of a row's segment.
+/// Writes the object of a row.
 fn put_row(alloc: Global, writer: &mut Writer, row: &Row) -> Result<(), AllocError>
     ensures tokens { OnOk result (writer.new.tokens ≡ writer.old.tokens ++ row_tokens row.now) }
     ensures before { writer.new.before ≡ writer.old.before }
@@ -45,7 +45,7 @@ fn put_head(writer: &mut Writer, segment: usize, number: u64) -> Result<(), Allo
     writer.u64(number)
 }
 
-/// Writes bytes as text where they are UTF-8, and else in base64.
+/// Writes bytes as text if they are UTF-8, and else in base64.
 fn put_bytes(alloc: Global, writer: &mut Writer, bytes: &[u8]) -> Result<(), AllocError>
     ensures tokens { OnOk result (writer.new.tokens ≡ writer.old.tokens ++ bytes_tokens bytes.now) }
     ensures before { writer.new.before ≡ writer.old.before }

@@ -1,4 +1,4 @@
-//! What is printed of the rows of a board.
+//! The text of the rows that changed.
 ghost use Rattle.std.specs.Prelude.{◌≡◌, ◌++◌, IfOk, OnOk};
 ghost use Rattle.snap_watch.specs.Text.{change_text, changes_text, fence_text, row_line, row_text};
 ghost use Rattle.snap_watch.specs.Text.{state_text, value_text};
@@ -11,8 +11,8 @@ use snap_hex::put_hex;
 use snap_json::quote;
 use std::alloc::{AllocError, Global};
 
-/// What is printed where these rows come after those that were shown: a line for each row whose segment wasn't
-/// shown with that number and that fence, in order, and nothing of the others.
+/// The text of the changes between the rows that were shown and these: a line for each row whose
+/// segment wasn't shown with that number and that fence, in order.
 pub fn changes(
     alloc: Global,
     form: Form,
@@ -28,7 +28,7 @@ pub fn changes(
     Ok(text)
 }
 
-/// Appends a row, where it is another one than was shown.
+/// Appends a row, unless it was shown already.
 fn append_change(
     alloc: Global,
     text: Vec<u8>,
@@ -73,7 +73,7 @@ fn put_line(alloc: Global, out: &mut Vec<u8>, row: &Row) -> Result<(), AllocErro
     out.extend_from_slice(b"\n")
 }
 
-/// Appends what a line says of a segment but for its value.
+/// Appends the part of a line before the value.
 fn put_state(out: &mut Vec<u8>, row: &Row) -> Result<(), AllocError>
     ensures { OnOk result (out.new.items ≡ out.old.items ++ state_text row.now) }
 {
@@ -86,7 +86,7 @@ fn put_state(out: &mut Vec<u8>, row: &Row) -> Result<(), AllocError>
     put_fence(out, row.is_fenced)
 }
 
-/// Appends whether a segment is fenced.
+/// Appends `1` if a segment is fenced, and else `0`.
 fn put_fence(out: &mut Vec<u8>, is_fenced: bool) -> Result<(), AllocError>
     ensures { OnOk result (out.new.items ≡ out.old.items ++ fence_text is_fenced) }
 {
@@ -97,7 +97,7 @@ fn put_fence(out: &mut Vec<u8>, is_fenced: bool) -> Result<(), AllocError>
     }
 }
 
-/// Appends what a line says of a value.
+/// Appends a value: as quoted text if it is printable, and else in hexadecimal digits.
 fn put_value(alloc: Global, out: &mut Vec<u8>, value: &[u8]) -> Result<(), AllocError>
     ensures { OnOk result (out.new.items ≡ out.old.items ++ value_text value.now) }
 {

@@ -1,4 +1,4 @@
--- What each device promises of a crash now, and of one since some time.
+-- The promises of a device about a crash now and a crash since some time.
 use Rattle.std.proofs.Common.{ℕ, ◌≤◌, List}
 use Rattle.snap_disk.specs.Device.{MayLeave}
 use Rattle.snap_disk.specs.declared.disk.Disk as Disk
@@ -9,7 +9,7 @@ module _ {D : Type 0} (disk : Disk.Ghosts D) where
   CountsNow = (d : D) (t : ℕ) (b : List ℕ) → disk.is_honest d → t ≤ disk.clock d
       → MayLeave (disk.device d) b → disk.might_have_left d t b
 
-  -- and since now there is no other
+  -- a crash since now is a crash of the device as it is
   abbrev pub OnlyNow : Type 0
   OnlyNow = (d : D) (b : List ℕ) → disk.is_honest d → disk.might_have_left d (disk.clock d) b
       → MayLeave (disk.device d) b

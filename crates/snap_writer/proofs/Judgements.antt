@@ -1,4 +1,4 @@
--- Some rule applies to every update, and no other.
+-- Exactly one rule applies to an update.
 use Rattle.std.proofs.Common.{rules, ◌≡◌, ℕ, ◌+◌, List, length, Option, Some, None, refl, arith}
 use mathlib.Core.Logic.{dite}
 use mathlib.Core.List.{List-discrete}

@@ -1,4 +1,4 @@
--- What an update and a meeting are of a writer's life.
+-- Updates and meetings as parts of a writer's life.
 use Rattle.std.proofs.Common.{◌≡◌, ◌⊎◌, ⊎_elim, ℕ, ◌+◌, inl, inr, List, [], ◌∷◌, Some, None, true, Result, Ok, Err, refl, ap, sym, subst}
 use Rattle.std.specs.Prelude.{OnOk, OnErr}
 use Rattle.snap_disk.specs.Device.{MayLeave, IsSettled}
@@ -14,20 +14,20 @@ use Rattle.snap_writer.specs.Life.{IsShown, IsAhead, HoldsOf, Rests, Stores, Has
 use Rattle.snap_disk.specs.declared.disk.Disk as Disk
 
 module _ {D : Type 0} (disk : Disk.Ghosts D) where
-  -- an update that goes on, whatever its store answers
+  -- an update under the rule Go, whatever its store returns
   module _ (a z : WriterState D) (v : List ℕ) (shown : IsShown a)
       (unfenced : a.segment.begun ≡ None)
       (honest_then : disk.is_honest z.segment.device → disk.is_honest a.segment.device)
       (any_time : disk.is_honest z.segment.device
       → LeavesOnly disk a.segment.device z.segment.device
       (IsEither a.segment.index a.segment.count (number_of a) (value_of a) v)) where
-    -- what is said of the number and the value that were shown is said of those that are stored
+    -- the number and value shown are those stored
     of_stored : (P : ℕ → List ℕ → Type 0) → P (number_of a) (value_of a)
         → P a.segment.number a.segment.value
     of_stored P is =
         subst (λ (y : ℕ × List ℕ). P y.0 y.1) (λ t. (sym shown.0 t, sym shown.1 t)) is
 
-    -- the segment behind a store that went well, and behind one that failed
+    -- the segment after a store that succeeded, and after one that failed
     abbrev done : SegmentState D
     done = record a.segment {
       device = z.segment.device;

@@ -1,4 +1,4 @@
--- A writer's file beside what its seat has seen, after a scan and after an update.
+-- A writer's file and what its seat has seen match, after a scan and after an update.
 use Rattle.std.proofs.Common.{◌≡◌, ℕ, ◌+◌, List, ap, sym, ◌∙◌}
 use Rattle.snap_segment.specs.Segment.{SegmentState}
 use Rattle.snap_register.specs.Seat.{Known, Grows}

@@ -1,4 +1,4 @@
--- What a seat's own number and value are after it has seen more, and after an update was shown.
+-- A seat's own number and value after it has seen more, and after it has shown an update.
 use Rattle.std.proofs.Common.{◌≡◌, ℕ, ◌+◌, List, [], ◌∷◌, ◌++◌, ap, sym, ◌∙◌, arith}
 use Rattle.std.proofs.lemmas.List.{append_assoc}
 use Rattle.snap_history.specs.History.{Update, Start, updates_of, number_after, value_after}
@@ -7,7 +7,7 @@ use Rattle.snap_register.specs.History.{starts}
 use Rattle.snap_register.specs.Seat.{Known, Grows, Shows, own_of, number_in, value_in}
 use Rattle.snap_writer.specs.Update.{IsSameSeat, EndsWith}
 
--- a list that grows by no update of the segment keeps its number and value
+-- a list that grows without an update of the segment keeps its number and value
 
 pub number_kept : (start : Start) (h rest : List Update) (i : ℕ) → updates_of i rest ≡ 0
     → number_after start (h ++ rest) i ≡ number_after start h i
@@ -21,7 +21,7 @@ pub value_kept : (start : Start) (h rest : List Update) (i : ℕ) → updates_of
 value_kept start h rest i none = last-append (start i).1 i h rest
     ∙ last_none (value_after start h i) i rest none
 
--- of a seat that grew, and writes one segment
+-- a seat that grew and writes one segment
 
 pub same_grown : (a b : Known) → Grows a b → IsSameSeat a b
 same_grown a b g = record { table = g.table; plan = g.plan; low = g.low; high = g.high }
@@ -47,7 +47,7 @@ pub value_grown : (a b : Known) → Grows a b → a.high ≡ a.low + 1
 value_grown a b g alone = (λ t. value_after (starts (g.plan t)) (g.later.1 t) (g.low t))
     ∙ value_kept (starts a.plan) a.seen g.later.0 a.low (none_own a b g alone)
 
--- of a seat that grew and then showed an update
+-- a seat that grew and then showed an update
 
 pub ends_with : (a m b : Known) (v : List ℕ) → Grows a m → a.high ≡ a.low + 1 → Shows m b v
     → EndsWith a b v

@@ -1,4 +1,4 @@
--- An update under a rule by which nothing is called.
+-- An update under a rule that calls nothing.
 use Rattle.std.proofs.Common.{◌≡◌, ◌≢◌, ℕ, List, [], Option, None, Result, inl, refl, subst}
 use Rattle.snap_disk.specs.Time.{LeavesOnly}
 use Rattle.snap_disk.specs.Laws.{started}
@@ -18,7 +18,7 @@ use Rattle.snap_writer.proofs.Judgements.{one_rule}
 module _ {D : Type 0} (disk : Disk.Ghosts D) (only_now : OnlyNow disk) (w : WriterState D)
     (kept : disk.is_honest w.segment.device → IsKept w.segment.index w.segment.count (number_of w)
     (value_of w) w.segment.begun w.segment.spare_open (disk.device w.segment.device)) where
-  -- a crash leaves what a writer without a fence has shown last
+  -- a crash leaves what an unfenced writer has shown last
   rests : (v : List ℕ) → disk.is_honest w.segment.device → w.segment.begun ≡ None
       → LeavesOnly disk w.segment.device w.segment.device
       (IsEither w.segment.index w.segment.count (number_of w) (value_of w) v)

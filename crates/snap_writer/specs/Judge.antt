@@ -1,4 +1,4 @@
--- The judge: which rule an update falls under, and what it is answered.
+-- The judge: which rule decides an update, and with which result.
 use Rattle.std.specs.Prelude.{◌≡◌, ◌≢◌, ℕ, ◌+◌, ◌<◌, ◌≤◌, List, length, IsSome, None, Result, Ok, Err}
 use Rattle.snap_disk.specs.declared.refusal.Refusal.{Refusal}
 use Rattle.snap_disk.specs.declared.refusal.Refusal.TheVariants as refusal
@@ -10,11 +10,11 @@ use Rattle.snap_writer.specs.Writer.{WriterState, number_of, value_of}
 use Rattle.snap_writer.specs.declared.judgement.Judgement.{Judgement}
 use Rattle.snap_writer.specs.declared.judgement.Judgement.TheVariants.{TooLong, Stored, Conflict, OutOfStep, Exhausted, Fenced, Worn, Go}
 
--- the update is one to the number after the last one shown
+-- the update has the number after the last one shown
 abbrev pub IsNext : {D : Type 0} → WriterState D → ℕ → List ℕ → Type 0
 IsNext w k v = IsShort v × (k ≡ number_of w + 1)
 
--- an update to number k and value v falls under this rule of the writer: the first that applies
+-- this rule of the writer decides an update to number k and value v: the first that applies
 abbrev pub IsJudged : {D : Type 0} → WriterState D → ℕ → List ℕ → Judgement → Type 0
 IsJudged w k v TooLong = MAX_VALUE_LEN < length v
 IsJudged w k v Stored = IsShort v × (k ≡ number_of w) × (v ≡ value_of w)
@@ -27,7 +27,7 @@ IsJudged w k v Worn = IsNext w k v × IsNumber k × (w.segment.begun ≡ None)
 IsJudged w k v Go = IsNext w k v × IsNumber k × (w.segment.begun ≡ None)
     × (most_looks (segments w.seat.plan) ≤ w.seat.left)
 
--- what an update to number k is answered under each rule; the last one may meet a device that fails
+-- the result of an update to number k under each rule; under Go the device may fail
 abbrev pub IsAnswer : ℕ → Judgement → Result ℕ Refusal → Type 0
 IsAnswer k TooLong answer = answer ≡ Err refusal.TooLong
 IsAnswer k Stored answer = answer ≡ Ok k

@@ -1,5 +1,5 @@
--- The life of a writer: what it does, one thing after the other, each to its device alone or to its
--- seat alone, and the places in it at which a crash may find it.
+-- The life of a writer: its actions in order, each on its device alone or on its seat alone; and
+-- the places in it at which a crash may find it.
 use Rattle.std.specs.Prelude.{◌≡◌, ◌⊎◌, ℕ, ◌+◌, List, [], ◌∷◌, Option, Some, None, true}
 use Rattle.snap_disk.specs.Device.{MayLeave}
 use Rattle.snap_disk.specs.Time.{LeavesOnly}
@@ -13,9 +13,8 @@ use Rattle.snap_writer.specs.Writer.{WriterState, number_of, value_of}
 use Rattle.snap_writer.specs.Update.{IsSameSeat, EndsWith}
 use Rattle.snap_disk.specs.declared.disk.Disk as Disk
 
--- where a crash finds a writer: its segment as the last store that ended left it, what its seat
--- knows now, and the store in progress, if one is: its value, and the device as that store will
--- leave it
+-- where a crash finds a writer: the segment as the last finished store left it, what its seat knows
+-- now, and the store in progress, if any: its value, and the device as that store will leave it
 pub record Place (D : Type 0) : Type 0 where
   pub writer : WriterState D
   pub storing : Option (List ℕ × D)
@@ -26,7 +25,7 @@ resting w = record { writer = w; storing = None }
 abbrev pub in_store : {D : Type 0} → WriterState D → List ℕ → D → Place D
 in_store w v d = record { writer = w; storing = Some (v, d) }
 
--- what its seat has seen there
+-- what the seat has seen at that place
 abbrev pub seen_at : {D : Type 0} → Place D → List Update
 seen_at p = p.writer.seat.seen
 
@@ -34,7 +33,7 @@ seen_at p = p.writer.seat.seen
 abbrev pub IsShown : {D : Type 0} → WriterState D → Type 0
 IsShown w = (w.segment.number ≡ number_of w) × (w.segment.value ≡ value_of w)
 
--- or it is one update more, which was stored and is shown next
+-- what is stored is one update more, to be shown next
 abbrev pub IsAhead : {D : Type 0} → WriterState D → Type 0
 IsAhead w = (w.segment.number ≡ number_of w + 1) × (w.segment.begun ≡ None)
 
@@ -42,33 +41,31 @@ abbrev pub IsStoring : {D : Type 0} → Option (List ℕ × D) → List ℕ → 
 IsStoring None v = ⊥
 IsStoring (Some s) v = v ≡ s.0
 
--- there is an update to v that was begun, and is not shown: its store is in progress, or has
--- failed, or has ended
+-- an update to v was begun and isn't shown: its store is in progress, has failed, or has ended
 abbrev pub HasBegun : {D : Type 0} → Place D → List ℕ → Type 0
 HasBegun p v = IsStoring p.storing v
     ⊎ ((p.writer.segment.begun ≡ Some v) ⊎ (IsAhead p.writer × (v ≡ p.writer.segment.value)))
 
--- these bytes are the segment's file with its number and value, or with the next number and the
--- value whose store failed
+-- the bytes are the segment's file with its number and value, or with the next number and the value
+-- whose store failed
 abbrev pub HoldsOf : {D : Type 0} → SegmentState D → List ℕ → Type 0
 HoldsOf s b = IsFileOf s.index s.count s.number s.value b
     ⊎ ((u : List ℕ) × (s.begun ≡ Some u) × IsFileOf s.index s.count (s.number + 1) u b)
 
 module _ {D : Type 0} (disk : Disk.Ghosts D) where
-  -- between two stores a crash leaves what is stored, or after a store that failed the next number
+  -- between stores a crash leaves what is stored, or after a failed store perhaps the next number
   -- with the value that was begun
   abbrev pub Rests : WriterState D → Type 0
   Rests w = disk.is_honest w.segment.device → (b : List ℕ)
       → MayLeave (disk.device w.segment.device) b
       → HoldsOf w.segment b
 
-  -- its seat sees more, at the end of its list, and no further update of its own segment: by a
-  -- look, or by a meeting
+  -- its seat sees more updates, by a look or a meeting, and none of its own segment
   pub record Sees (a b : WriterState D) : Type 0 where
     pub segment_is : b.segment ≡ a.segment
     pub grows : Grows a.seat b.seat
 
-  -- it stores v as the next number, or fails to: what was stored before has been shown
+  -- it stores v under the next number, or fails to; what was stored before has been shown
   pub record Stores (v : List ℕ) (a b : WriterState D) : Type 0 where
     pub seat_is : b.seat ≡ a.seat
     pub unfenced : a.segment.begun ≡ None
@@ -95,28 +92,28 @@ module _ {D : Type 0} (disk : Disk.Ghosts D) where
   abbrev pub Does : WriterState D → WriterState D → Type 0
   Does a b = Sees a b ⊎ (((v : List ℕ) × Stores v a b) ⊎ Shows a b)
 
-  -- from a on it did these things, and stands at z now
+  -- from a on it did these things, and is z now
   abbrev pub Lived : WriterState D → List (WriterState D) → WriterState D → Type 0
   Lived a [] z = z ≡ a
   Lived a (b ∷ life) z = Does a b × Lived b life z
 
-  -- the place is the writer a, whose seat may have seen more by then, up to what it has seen at z,
-  -- and no further update of its own segment
+  -- the place is the writer a, whose seat may have seen more by then: at most what it has seen at
+  -- z, and no update of its own segment
   abbrev pub IsAt : WriterState D → WriterState D → Place D → Type 0
   IsAt z a p = (m : WriterState D) × Sees a m × IsBeginning m.seat.seen z.seat.seen
       × (p ≡ resting m)
 
-  -- or it is inside the store that a does next
+  -- the place is inside the store that a does next
   abbrev pub IsInStore : WriterState D → WriterState D → WriterState D → Place D → Type 0
   IsInStore z a b p = (m : WriterState D) × (v : List ℕ) × Sees a m
       × IsBeginning m.seat.seen z.seat.seen × Stores v a b × (p ≡ in_store m v b.segment.device)
 
-  -- the place lies in this life, from a on, which has come to z
+  -- the place is in this life, which began at a and has reached z
   abbrev pub IsIn : WriterState D → WriterState D → List (WriterState D) → Place D → Type 0
   IsIn z a [] p = IsAt z a p
   IsIn z a (b ∷ life) p = IsAt z a p ⊎ (IsInStore z a b p ⊎ IsIn z b life p)
 
-  -- the device is honest, and this is what a crash there may leave of it: at a moment between two
+  -- the device is honest, and a crash at that place may leave b of it: at a moment between two
   -- stores, or at any time since a store began
   abbrev pub Leaves : WriterState D → Option (List ℕ × D) → List ℕ → Type 0
   Leaves w None b = disk.is_honest w.segment.device × MayLeave (disk.device w.segment.device) b
@@ -126,8 +123,8 @@ module _ {D : Type 0} (disk : Disk.Ghosts D) where
   abbrev pub CrashLeaves : Place D → List ℕ → Type 0
   CrashLeaves p b = Leaves p.writer p.storing b
 
-  -- it is the writer of segment i of n, its device is at rest, and what is stored is what was shown
-  -- last or one update more
+  -- the writer of segment i of n: its device is at rest, and what is stored is what was shown last
+  -- or one update more
   pub record IsWriterOf (plan : Plan) (n i : ℕ) (w : WriterState D) : Type 0 where
     pub plan_is : w.seat.plan ≡ plan
     pub low_is : w.seat.low ≡ i
@@ -137,7 +134,7 @@ module _ {D : Type 0} (disk : Disk.Ghosts D) where
     pub stored : IsShown w ⊎ IsAhead w
     pub rests : Rests w
 
-  -- and if a store is in progress, a crash leaves what was shown last or the begun value
+  -- if a store is in progress, a crash leaves what was shown last or the value being stored
   abbrev pub IsMidStore : WriterState D → Option (List ℕ × D) → Type 0
   IsMidStore w None = Unit {0}
   IsMidStore w (Some s) = IsShown w × (disk.is_honest s.1 → (b : List ℕ)
@@ -148,10 +145,10 @@ module _ {D : Type 0} (disk : Disk.Ghosts D) where
     pub writer_is : IsWriterOf plan n i p.writer
     pub storing_is : IsMidStore p.writer p.storing
 
-  -- by what it has done since some time it came from a to z
+  -- it came from a to z by what it did in between
   abbrev pub HasLived : WriterState D → WriterState D → Type 0
   HasLived a z = (life : List (WriterState D)) × Lived a life z
 
-  -- it stored v first, or failed to, and then it showed what is stored, or its seat saw more
+  -- it stored v first, or failed to; then it showed what is stored, or its seat saw more
   abbrev pub StoresFirst : List ℕ → WriterState D → WriterState D → Type 0
   StoresFirst v a z = (b : WriterState D) × Stores v a b × (Shows b z ⊎ Sees b z)

@@ -1,18 +1,18 @@
--- What an update does that goes on: it scans, stores and shows.
+-- The effects of an update under the rule Go: it scans, stores and shows.
 use Rattle.std.specs.Prelude.{◌≡◌, ℕ, ◌+◌, List, [], ◌∷◌, ◌++◌, Some, true}
 use Rattle.snap_history.specs.History.{Update, updates_of}
 use Rattle.snap_register.specs.Seat.{Known, Grows, own_of}
 use Rattle.snap_writer.specs.Writer.{WriterState}
 
--- the seat is where it was: at the same table, with the same segment to write
+-- the seat is the same: of the same table, with the same segment to write
 pub record IsSameSeat (a b : Known) : Type 0 where
   pub table : b.table ≡ a.table
   pub plan : b.plan ≡ a.plan
   pub low : b.low ≡ a.low
   pub high : b.high ≡ a.high
 
--- the update of the own segment to this value is the end of what the seat has seen, and the only
--- one of that segment that is new
+-- the last update that the seat has seen is that of its own segment to this value, and the only new
+-- one of that segment
 pub record EndsWith (a b : Known) (value : List ℕ) : Type 0 where
   pub between : List Update
   pub seen : b.seen ≡ (a.seen ++ between) ++ record { segment = own_of a; value = value } ∷ []

@@ -1,23 +1,21 @@
--- A writer as its callers see it.
+-- The model of a writer.
 use Rattle.std.specs.Prelude.{◌≡◌, ℕ, ◌+◌, List}
 use Rattle.snap_segment.specs.Segment.{SegmentState}
 use Rattle.snap_register.specs.Seat.{Known, own_of, number_in, value_in}
 
--- its file, and its seat at the registers
+-- the file, and the seat at the registers
 pub record WriterState (D : Type 0) : Type 0 where
   pub segment : SegmentState D
   pub seat : Known
 
--- the number and the value that were shown last: those of the own segment after all that the seat
--- has seen
+-- the number and value shown last: those of the own segment after all that the seat has seen
 abbrev pub number_of : {D : Type 0} → WriterState D → ℕ
 number_of w = number_in w.seat w.seat.seen (own_of w.seat)
 
 abbrev pub value_of : {D : Type 0} → WriterState D → List ℕ
 value_of w = value_in w.seat w.seat.seen (own_of w.seat)
 
--- the file has the number and the value that were shown last, of the one segment that the seat
--- writes
+-- the file has the number and value shown last, and the seat writes one segment
 pub record IsPaired {D : Type 0} (w : WriterState D) : Type 0 where
   pub number_is : w.segment.number ≡ number_of w
   pub value_is : w.segment.value ≡ value_of w

@@ -1,22 +1,22 @@
-//! The rules that an update may fall under.
+//! The rules that decide an update.
 
-/// The first rule that applies to an update, in the order in which they are asked.
+/// The rule that decides an update: the first that applies, in this order.
 #[derive(Clone, Copy, Debug, Drop, PartialEq, Eq)]
 pub enum Judgement {
-    /// The value is longer than a segment holds.
+    /// The value is longer than a segment can hold.
     TooLong,
-    /// This very update was shown last.
+    /// The number and value are those shown last.
     Stored,
-    /// Its number was shown with another value.
+    /// The number was shown last, with another value.
     Conflict,
-    /// Its number is neither the last one shown nor the next.
+    /// The number is neither the last one shown nor the next.
     OutOfStep,
     /// There is no next number.
     Exhausted,
-    /// A store failed before, so nobody knows what the file will hold.
+    /// A store has failed, so a crash may leave either of two values.
     Fenced,
-    /// Too few looks are left for the scan that an update takes along.
+    /// Too few looks are left for the scan inside an update.
     Worn,
-    /// None of these: it is scanned, stored and shown.
+    /// None of these: the update is scanned, stored and shown.
     Go,
 }

@@ -1,5 +1,4 @@
-//! What the judge obeys, whatever the writer and the update: the contract of a call that does
-//! nothing.
+//! Laws of the judge, for every writer and update: the contract of a function that does nothing.
 ghost use Rattle.std.specs.Prelude.{◌≡◌, ℕ, List};
 ghost use Rattle.snap_history.specs.Limits.{IsNumber};
 ghost use Rattle.snap_writer.specs.Writer.{WriterState, number_of};
@@ -8,7 +7,7 @@ ghost use Rattle.snap_writer.specs.declared.judgement.Judgement.{Judgement};
 
 use snap_disk::Disk;
 
-/// Each update falls under a rule of the writer, and under no other.
+/// Each update falls under exactly one rule of the writer.
 pub fn judge_laws<D: Disk>()
     ensures some { (w : WriterState D) (k : ℕ) (v : List ℕ) → IsNumber (number_of w)
         → (rule : Judgement) × IsJudged w k v rule }

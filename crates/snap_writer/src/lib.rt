@@ -1,9 +1,9 @@
 //! Durable updates of one segment: its only writer stores a value in its file first, and shows it
 //! in the registers second.
 //!
-//! [`Writer::update`] is the whole of it. What it answers is what the judge of specs/Judge.antt
-//! says, and what it does is in specs/Update.antt. A caller that doesn't know whether its last
-//! update arrived sends the same number and value again: they are stored exactly once.
+//! [`Writer::update`] does both. specs/Judge.antt defines its result, and specs/Update.antt what it
+//! does. A caller that doesn't know whether its last update arrived sends the same number and value
+//! again: they are stored exactly once.
 #![tactic(auto)]
 
 mod judgement;

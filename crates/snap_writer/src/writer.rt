@@ -43,8 +43,8 @@ use std::marker::Model;
 
 /// The only writer of a segment: its file and its seat at the registers.
 ///
-/// The file's number and value are those that the writer showed last. It waits for nobody, and takes
-/// no memory.
+/// The file has the number and value that the writer showed last. It allocates nothing, and waits
+/// for its device alone.
 #[derive(Drop)]
 pub struct Writer<D: Disk> {
     segment: Segment<D>,
@@ -62,19 +62,19 @@ impl<D: Disk> Model for Writer<D> {
 }
 
 impl<D: Disk> Writer<D> {
-    /// The writer with this file and this seat, which have the same number and value.
+    /// A writer with this file and this seat, which have the same number and value.
     pub fn new(segment: Segment<D>, seat: WriteSeat) -> Writer<D>
         requires number { segment.number ≡ number_in seat seat.seen (own_of seat) }
         requires value { segment.value ≡ value_in seat seat.seen (own_of seat) }
         ensures segment { result.segment ≡ segment }
         ensures seat { result.seat ≡ seat }
     {
-        // for what it says of the seat: that it writes no other segment (docs/DECISIONS.md, 180)
+        // Called for its contract: the seat writes no other segment (docs/DECISIONS.md, 180).
         let _own = seat.segment();
         Writer { segment, seat }
     }
 
-    /// The segment that it writes, and no other.
+    /// The one segment that it writes.
     pub fn segment(&self) -> usize
         ensures own { result ≡ own_of self.now.seat }
         ensures alone { self.now.seat.high ≡ self.now.seat.low + 1 }
@@ -82,7 +82,7 @@ impl<D: Disk> Writer<D> {
         self.seat.segment()
     }
 
-    /// The number that was shown last: how many values were stored since the file was formatted.
+    /// The number shown last: how many values were stored since the file was formatted.
     pub fn number(&self) -> u64
         ensures number { result ≡ number_of self.now }
         ensures stored { result ≡ self.now.segment.number }
@@ -91,7 +91,7 @@ impl<D: Disk> Writer<D> {
         self.segment.number()
     }
 
-    /// The value that was shown last, at most [`MAX_VALUE_LEN`] bytes.
+    /// The value shown last, at most [`MAX_VALUE_LEN`] bytes.
     pub fn value(&self) -> &[u8]
         ensures value { result.now ≡ value_of self.now }
         ensures stored { result.now ≡ self.now.segment.value }
@@ -100,9 +100,9 @@ impl<D: Disk> Writer<D> {
         self.segment.value()
     }
 
-    /// Whether a store has failed since the file was opened. If none has, no place of the device is
-    /// open, and it holds the number and the value that were shown last; else a crash leaves these,
-    /// or one number more with the value whose store failed.
+    /// Whether a store has failed since the file was opened. If not, no place of the device is
+    /// open, and it holds the number and the value shown last. If so, a crash leaves these, or the
+    /// next number with the value whose store failed.
     pub fn is_fenced(&self) -> bool
         ensures fence { IsTrue result ↔ IsSome self.now.segment.begun }
         ensures kept { D.is_honest self.now.segment.device
@@ -113,31 +113,33 @@ impl<D: Disk> Writer<D> {
         self.segment.is_fenced()
     }
 
-    /// The value whose store failed, where one did.
+    /// The value whose store failed, if one has.
     pub fn begun(&self) -> Option<&[u8]>
         ensures { option_copied result ≡ self.now.segment.begun }
     {
         self.segment.begun()
     }
 
-    /// How many looks its seat may still take. An update takes off those of its scan.
+    /// How many looks its seat has left. An update uses up those of its scan.
     pub fn looks_left(&self) -> u64
         ensures { result ≡ self.now.seat.left }
     {
         self.seat.looks_left()
     }
 
-    /// Stores `value` as the number `number` and then shows it, and answers the number. An update
-    /// that was shown last is answered again, so a caller who doesn't know whether it arrived sends
-    /// the same again, also to another writer of the file after a restart.
+    /// Stores `value` under `number`, then shows it, and returns the number. An update that was
+    /// shown last is acknowledged again. So a caller that doesn't know whether its update arrived
+    /// sends it again, also to another writer of the file after a restart.
     ///
-    /// The first of these that applies decides. Refused as `TooLong` above [`MAX_VALUE_LEN`] bytes;
-    /// answered as before where number and value are those shown last; `Conflict` at that number
-    /// with another value; `OutOfStep` at any number but the next; `Exhausted` where the last one is
-    /// [`LAST_NUMBER`]; `Fenced` on a fenced writer; `Worn` where fewer looks are left than a scan
-    /// might take ([`most_looks`]). All of these make no device call and change nothing. Else it
-    /// scans, stores and shows. `DeviceFailed` where a device call failed: the number, the value and
-    /// what scans show stay as they were, and the writer is fenced from then on.
+    /// The first of these rules that applies decides: `TooLong` above [`MAX_VALUE_LEN`] bytes; `Ok`
+    /// again for the number and value shown last; `Conflict` for that number with another value;
+    /// `OutOfStep` for any number but the next; `Exhausted` if the last one is [`LAST_NUMBER`];
+    /// `Fenced` if the writer is fenced; `Worn` if fewer looks are left than a scan might take
+    /// ([`most_looks`]). None of these calls the device or changes anything. Else the writer scans,
+    /// stores and shows.
+    ///
+    /// `DeviceFailed` if a device call failed: the number, the value and the results of scans stay,
+    /// and the writer is fenced from now on.
     pub fn update(&mut self, number: u64, value: &[u8]) -> Result<u64, Refusal>
         ensures updated { IsUpdated D.Disk self.old self.new number value.now result }
     {
@@ -147,8 +149,8 @@ impl<D: Disk> Writer<D> {
         }
     }
 
-    /// Afterwards the scanner and the writer have seen the same, so the scanner's next scan has all
-    /// that the writer showed. It is no look.
+    /// Joins what the scanner and the writer have seen, so that the scanner's next scan has all
+    /// that the writer showed. It isn't a look.
     pub fn meet(&mut self, scanner: &mut Scanner)
         requires together { AreTogether scanner.old self.old.seat }
         ensures scanner { Meets scanner.old scanner.new }
@@ -161,8 +163,8 @@ impl<D: Disk> Writer<D> {
         scanner.meet(&mut self.seat);
     }
 
-    /// The file, as it is: with the number and the value that were shown last. The seat ends here, so
-    /// that nobody shows by it what isn't stored.
+    /// Returns the file, with the number and the value shown last. This ends the seat, so that
+    /// nobody can show by it what isn't stored.
     pub fn into_segment(self) -> Segment<D>
         ensures segment { result ≡ self.segment }
         ensures number { self.segment.number ≡ number_of self }
@@ -172,8 +174,8 @@ impl<D: Disk> Writer<D> {
         segment
     }
 
-    // The rule that an update falls under. Lengths are judged before numbers, and a repeat before
-    // the fence. Whatever it is, nothing was called, so the file is as it rests.
+    // The rule that decides an update. Lengths are checked before numbers, and a repeat before the
+    // fence. Nothing was called, so the file is at rest.
     fn judge(&self, number: u64, value: &[u8]) -> Judgement
         ensures rule { IsJudged self.now number value.now result }
         ensures shown { IsShown self.now }
@@ -209,7 +211,7 @@ impl<D: Disk> Writer<D> {
         Judgement::Go
     }
 
-    // Scans, stores and shows.
+    // Scans, stores and shows an update.
     fn advance(&mut self, value: &[u8]) -> Result<u64, Refusal>
         requires size { IsShort value.now }
         requires next { IsNumber (number_of self.old + 1) }
@@ -247,7 +249,7 @@ impl<D: Disk> Writer<D> {
     }
 }
 
-/// What an update to this number is answered under a rule by which nothing is called.
+/// The result of an update to `number`, under a rule that calls nothing.
 fn answer(rule: Judgement, number: u64) -> Result<u64, Refusal>
     requires { rule ≢ Judgement.Go }
     ensures answer { IsAnswer number rule result }
@@ -265,9 +267,9 @@ fn answer(rule: Judgement, number: u64) -> Result<u64, Refusal>
     }
 }
 
-/// Shows the update that the segment has stored, with this view, and answers its number: the segment
-/// is one update ahead of what the seat has shown, and no store of it has failed, so its device holds
-/// what is shown.
+/// Shows the update that the segment has stored, with this view, and returns its number. The
+/// segment is one update ahead of what the seat has shown, and no store of it has failed, so its
+/// device holds what is shown.
 fn show_stored<D: Disk>(segment: &Segment<D>, seat: &mut WriteSeat, view: View) -> u64
     requires ahead { segment.now.number
         ≡ number_in seat.old seat.old.seen (own_of seat.old) + 1 }

@@ -1,4 +1,4 @@
--- The premises of a next start, where the first writers are back at rest.
+-- The premises of a next start, after the first writers have ended at rest.
 use Rattle.std.proofs.Common.{◌≡◌, ℕ, ◌<◌, List, length, map, get_or, All, sym, subst, ◌∙◌, arith}
 use Rattle.std.proofs.lemmas.List.{length-map}
 use Rattle.std.proofs.lemmas.Option.{slice_get_within, slice_get-get_or, get_or_from_slice_get}
@@ -56,7 +56,7 @@ module _ {D : Type 0} (disk : Disk.Ghosts D) where
             r.recovered) hon,
       )
 
-  -- an opening that goes well leaves the devices' failure counts as they were
+  -- an opening that succeeds leaves the devices' failure counts unchanged
   pub still_headroom : (most : ℕ) (devices : List D) (writers : List (WriterState D))
       → Pairs (IsOpened disk (length devices)) devices (map its_segment writers)
       → All (λ (d : D). disk.failure_count d < most) devices

@@ -1,4 +1,4 @@
--- A life goes on behind a life, and loses nothing that was stored.
+-- One life continues another, and loses nothing that was stored.
 use Rattle.std.proofs.Common.{◌≡◌, List, [], ◌∷◌, ◌++◌, length, Option, Some, refl, sym, subst}
 use Rattle.std.specs.Option.{option_to_list}
 use Rattle.snap_memory.proofs.Popped.{last_has}
@@ -36,7 +36,7 @@ module _ {D : Type 0} (disk : Disk.Ghosts D) where
         k.same_value,
       )
 
-  -- the last writer of an opening is one, and stays one
+  -- the last writer of an opening is a writer, and stays one
   pub is_a_writer : (devices : List D) (writers mid : List (WriterState D))
       (popped : Option (WriterState D)) (w z : WriterState D)
       → AreOpened disk devices writers

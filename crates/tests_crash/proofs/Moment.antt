@@ -1,4 +1,4 @@
--- The registers as they were made, with all writers' seats handed out, keep their rule.
+-- New registers, after all writers' seats are split off, keep their rule.
 use Rattle.std.proofs.Common.{◌≡◌, ℕ, zero, suc, ◌+◌, ◌-◌, ◌<◌, ◌≤◌, List, [], ◌∷◌, ◌++◌, length, Some, slice_get, refl, ap, sym, subst, ◌∙◌, arith, length-append}
 use Rattle.std.proofs.lemmas.Option.{slice_get_within}
 use mathlib.Core.Logic.{dite}
@@ -40,7 +40,7 @@ module _ (p : Plan) (ready : IsReady p) where
   abbrev table : List SeatView → Moment
   table views = record { words = opening_words p; homes = []; views = views }
 
-  -- the first seat has handed out the seats of the first k writers, and has seats left for others
+  -- the first seat has split off the seats of the first k writers, and can split off more
   record Handed (k : ℕ) : Type 0 where
     pub first : SeatView
     pub others : List SeatView
@@ -111,7 +111,7 @@ module _ (p : Plan) (ready : IsReady p) where
   handed zero low = start
   handed (suc k) low = one_more k (omega arith) (handed k (omega arith))
 
-  -- a moment of these registers at which each writer's seat is there, and nothing was shown
+  -- a moment of these registers at which each writer has its seat, and nothing was shown
   pub record AtOnce : Type 0 where
     pub state : Moment
     pub kept : Kept p state
@@ -128,7 +128,7 @@ module _ (p : Plan) (ready : IsReady p) where
             let w = all.writers i low in (suc i, w.0, w.1, w.2, w.3));
       }
 
-  -- nothing stands in its history
+  -- its history has no update of the n files
   pub none_stands : (m : AtOnce) → HasNone (segments p) (updates m.kept.history)
   none_stands m i low =
       let seat = m.seat i low in

@@ -1,5 +1,5 @@
--- The premises of the law of a cut, where all writers are at rest and all are back, and of what follows
--- any number of starts.
+-- The premises of the law of a cut if all writers are at rest and all are back, and what follows
+-- for any number of starts.
 use Rattle.std.proofs.Common.{◌≡◌, ℕ, List, [], length, map, refl, ap, sym, subst, ◌∙◌, arith}
 use Rattle.std.proofs.lemmas.List.{length-map}
 use Rattle.std.proofs.lemmas.Option.{same_Some, slice_get_within}
@@ -99,7 +99,7 @@ module _ {D : Type 0} (disk : Disk.Ghosts D) where
     recovered = at_rest_recovers opened.plan h writers scanners opened.writers_are history cut;
   }
 
-  -- as they were opened they keep the memory that the writers start with
+  -- devices as they were opened keep the memory that the writers start with
   pub keep_a_start : (olds : List D) (writers : List (WriterState D))
       → Pairs (IsOpened disk (length olds)) olds (map its_segment writers)
       → AreOpened disk olds writers → KeepAStart disk (map its_device writers)

@@ -1,4 +1,4 @@
--- The premises of the law of a cut, where two writers are at work.
+-- The premises of the law of a cut if two writers are at work.
 use Rattle.std.proofs.Common.{◌≡◌, ◌⊎◌, ℕ, zero, suc, ◌+◌, ◌≤◌, inl, inr, List, [], ◌∷◌, ◌++◌, length, Option, Some, slice_get, refl, ap, sym, subst, ◌∙◌, arith, length-append}
 use Rattle.std.specs.Option.{option_to_list}
 use Rattle.std.proofs.lemmas.Bool.{cases_lt}
@@ -26,7 +26,7 @@ use Rattle.tests_crash.proofs.Premises.{sees_itself}
 use Rattle.snap_disk.specs.declared.disk.Disk as Disk
 
 module _ {D : Type 0} (disk : Disk.Ghosts D) where
-  -- what is shown, or seen more, leaves the segment as it was
+  -- to show an update, or to see more, leaves the segment unchanged
   same_segment : (b z : WriterState D) → (Shows disk b z)
       ⊎ (Sees disk b z) → z.segment ≡ b.segment
   same_segment b z (inl shows) = shows.segment_is
@@ -108,7 +108,7 @@ module _ {D : Type 0} (disk : Disk.Ghosts D) where
         omega (arith, one, two)))
         left
 
-  -- both were updated, first stored and then shown
+  -- both made an update, stored first and then shown
   module _ (first second first_new second_new : WriterState D) (v w : List ℕ)
       (two : AreTwo disk first second)
       (one : StoresFirst disk v first first_new)
@@ -122,7 +122,8 @@ module _ {D : Type 0} (disk : Disk.Ghosts D) where
     second_between : IsLivedIn disk plan 2 [] 1 (stored_unshown second second_new)
     second_between = lived_between plan 1 w second second_new two.second_is two.second_fresh other
 
-    -- both inside their stores, one of them so, and both between their stores and their shows
+    -- both inside their stores; one inside its store and the other stored; both stored and not yet
+    -- shown
     pub at_work : IsRecoveredAt disk plan (in_store first v first_new.segment.device
         ∷ in_store second w second_new.segment.device ∷ [])
         × IsRecoveredAt disk plan (in_store first v first_new.segment.device
@@ -139,7 +140,7 @@ module _ {D : Type 0} (disk : Disk.Ghosts D) where
           second_between two.first_fresh two.second_fresh,
     )
 
--- ---- they are met by what an opening ensures
+-- ---- an opening meets these premises
 
 pub two_popped : {A : Type 0} (all mid rest : List A) (r s : Option A) (x y : A) → length all ≡ 2
     → all ≡ mid ++ option_to_list r → r ≡ Some y → mid ≡ rest ++ option_to_list s → s ≡ Some x

@@ -1,4 +1,4 @@
--- An opening behind another one.
+-- One opening after another.
 use Rattle.std.specs.Prelude.{◌≡◌, ℕ, List, length, map, Some, slice_get}
 use Rattle.snap_history.specs.History.{Update, IsBeginning}
 use Rattle.snap_register.specs.declared.plan.Plan.{Plan}
@@ -11,14 +11,14 @@ use Rattle.snap_restart.specs.Crash.{AllHonest, GoesOn}
 use Rattle.snap_disk.specs.declared.disk.Disk as Disk
 
 module _ {D : Type 0} (disk : Disk.Ghosts D) where
-  -- they are the writers of one opening, in order of their segments, whatever they have done since
+  -- the writers of one opening, in the order of their segments, whatever they have done since
   abbrev pub AreOfOne : Plan → List (WriterState D) → Type 0
   AreOfOne plan writers = (i : ℕ) (w : WriterState D) → slice_get writers i ≡ Some w
       → IsWriterOf disk plan (length writers) i w
 
-  -- The second writers go on where the first ones stopped: behind one history, from the first ones'
-  -- start on, which begins with all that any of these and of the scanners beside them had seen, and at
-  -- most one update of each that was begun and not shown.
+  -- The second writers continue where the first ones stopped. From the first ones' start on there
+  -- is one history, which begins with all that these and their scanners had seen; then come at most
+  -- one update of each writer that was begun and not shown, and the second writers' updates.
   abbrev pub GoOnBehind : List (WriterState D) → List Known → List (WriterState D) → Type 0
   GoOnBehind firsts scanners seconds =
       AllHonest disk seconds

@@ -7,12 +7,12 @@ use Rattle.snap_writer.specs.Life.{IsWriterOf}
 use Rattle.snap_disk.specs.declared.disk.Disk as Disk
 
 module _ {D : Type 0} (disk : Disk.Ghosts D) where
-  -- it is a writer of some opening
+  -- w is a writer of some opening
   abbrev pub IsAWriter : WriterState D → Type 0
   IsAWriter w = (plan : Plan) × (n : ℕ) × (i : ℕ)
       × IsWriterOf disk plan n i w
 
-  -- a crash at any time since leaves the number that was stored, with its value, or a later number
+  -- a crash at any time since leaves the number stored then, with its value, or a later number
   abbrev pub LosesNothing : WriterState D → WriterState D → Type 0
   LosesNothing old new = disk.is_honest new.segment.device → (b : List ℕ)
       → disk.might_have_left new.segment.device (disk.clock old.segment.device) b

@@ -1,4 +1,4 @@
--- A crash at the moment at which the registers of an opening were just made.
+-- A crash at the moment at which an opening has just made its registers.
 use Rattle.std.specs.Prelude.{◌≡◌, ℕ, ◌<◌, List, [], ◌∷◌, length, Some, slice_get}
 use Rattle.snap_history.specs.History.{Update, Start, updates_of}
 use Rattle.snap_history.specs.Pairs.{Pairs}
@@ -11,19 +11,19 @@ use Rattle.snap_restart.specs.Crash.{IsLifeFrom, AllHonest, AreOpened}
 use Rattle.snap_restart.specs.Restarts.{FollowCrash, Restarts}
 use Rattle.snap_disk.specs.declared.disk.Disk as Disk
 
--- no update of any of n files
+-- h has no update of any of the n files
 abbrev pub HasNone : ℕ → List Update → Type 0
 HasNone n h = (i : ℕ) → i < n → updates_of i h ≡ 0
 
 module _ {D : Type 0} (disk : Disk.Ghosts D) where
-  -- each of these places lies in the life of a writer of the opening, before it has shown an update:
-  -- before its first store, inside it, or behind it
+  -- each of these places is in the life of a writer of the opening before it has shown an update:
+  -- before its first store, inside it, or after it
   abbrev pub ShowNothing : List (WriterState D) → List (Place D) → Type 0
   ShowNothing writers places = (i : ℕ) (p : Place D) → slice_get places i ≡ Some p
       → IsLifeFrom disk writers i p × (seen_at p ≡ [])
 
-  -- The registers as they were made are a moment of theirs, at which nothing is shown: a crash there
-  -- leaves what the files were opened with, and at most one update of each that was begun.
+  -- New registers are at a moment at which nothing is shown: a crash there leaves what the files
+  -- were opened with, and at most one update of each that was begun.
   abbrev pub AtOnceLaw : Type 0
   AtOnceLaw = (devices : List D) (writers : List (WriterState D))
       (opened : AreOpened disk devices writers)
@@ -33,7 +33,7 @@ module _ {D : Type 0} (disk : Disk.Ghosts D) where
       → (h : List Update) × HasNone (length writers) h
       × IsRecovered (length writers) (starts opened.plan) h (Begun places) files
 
-  -- And files have come over it to the next opening, whatever happened to them before.
+  -- And the files may be opened again after it, whatever happened to them before.
   abbrev pub OverLaw : Type 0
   OverLaw = (n : ℕ) (start : Start) (moments : List (List Update)) (devices : List D)
       (writers : List (WriterState D)) (places : List (Place D)) (nexts : List D)

@@ -1,4 +1,4 @@
--- The writers of an opening, before they have done anything.
+-- The writers of an opening before they have done anything.
 use Rattle.std.specs.Prelude.{◌≡◌, ℕ, List, length, map, Some, slice_get}
 use Rattle.snap_history.specs.Pairs.{Pairs}
 use Rattle.snap_writer.specs.Writer.{WriterState}
@@ -6,7 +6,7 @@ use Rattle.snap_restart.specs.Opened.{IsOpened, IsFresh}
 use Rattle.snap_restart.specs.Crash.{AreOpened}
 use Rattle.snap_disk.specs.declared.disk.Disk as Disk
 
--- these are the writers with which the files on these devices were opened
+-- the writers with which the files on these devices were opened
 pub record AreNew {D : Type 0} (disk : Disk.Ghosts D) (devices : List D)
     (writers : List (WriterState D)) : Type 0 where
   pub were : Pairs (IsOpened disk (length devices)) devices

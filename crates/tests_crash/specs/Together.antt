@@ -8,13 +8,13 @@ use Rattle.snap_writer.specs.Life.{Place, resting, CrashLeaves, IsWriterOf}
 use Rattle.snap_cut.specs.Crash.{Recovers}
 use Rattle.snap_disk.specs.declared.disk.Disk as Disk
 
--- the update of the writer is stored, or its store has failed, and it isn't shown: the segment as the
--- update leaves it, and the seat as it was before
+-- the writer's update is stored, or its store has failed, and it isn't shown: the segment after the
+-- update, with the seat before it
 abbrev pub stored_unshown : {D : Type 0} → WriterState D → WriterState D → Place D
 stored_unshown old new = resting (record { segment = new.segment; seat = old.seat })
 
 module _ {D : Type 0} (disk : Disk.Ghosts D) where
-  -- they are the writers of both segments of one opening, and nobody has shown an update
+  -- the writers of both segments of one opening; nobody has shown an update
   pub record AreTwo (first second : WriterState D) : Type 0 where
     pub first_is : IsWriterOf disk first.seat.plan 2 0 first
     pub second_is : IsWriterOf disk first.seat.plan 2 1 second

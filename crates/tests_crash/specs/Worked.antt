@@ -1,4 +1,4 @@
--- A crash now, of all devices that a closing gave back; and such devices among any number of starts.
+-- A crash of all devices that were returned by closing, and such devices in any number of starts.
 use Rattle.std.specs.Prelude.{◌≡◌, ℕ, List, [], length, map, Some, slice_get}
 use Rattle.snap_disk.specs.Device.{MayLeave}
 use Rattle.snap_history.specs.History.{Update, Start}
@@ -16,7 +16,7 @@ module _ {D : Type 0} (disk : Disk.Ghosts D) where
   abbrev pub IsLeft : ℕ → D → List ℕ → Type 0
   IsLeft i d b = disk.is_honest d × MayLeave (disk.device d) b
 
-  -- there are writers and scanners that had these devices, and what a crash leaves of all of them
+  -- there are writers and scanners that had these devices, and what a crash leaves of all devices
   -- is recovered
   pub record IsRecoveredNow (devices : List D) : Type 0 where
     pub plan : Plan
@@ -32,13 +32,13 @@ module _ {D : Type 0} (disk : Disk.Ghosts D) where
   abbrev pub AreHonest : List D → Type 0
   AreHonest devices = (i : ℕ) (d : D) → slice_get devices i ≡ Some d → disk.is_honest d
 
-  -- if they are honest, these devices keep the memory of a start, from which any number of crashes and
-  -- starts may follow
+  -- if they are honest, these devices keep the memory of a start, from which any number of crashes
+  -- and starts may follow
   abbrev pub KeepAStart : List D → Type 0
   KeepAStart devices = AreHonest devices → (start : Start)
       × Restarts disk (length devices) start [] devices
 
-  -- if they are honest, whatever became of the first devices is what became of the second ones
+  -- if the second devices are honest, all that happened to the first ones happened to them too
   abbrev pub ComeThrough : List D → List D → Type 0
   ComeThrough olds news = AreHonest news → (n : ℕ) (start : Start)
       (moments : List (List Update))

@@ -1,5 +1,5 @@
-//! The laws of a crash at real calls: their premises are met by what these calls ensure, so they aren't
-//! empty.
+//! Checks that the laws of a crash aren't empty: their premises follow from the contracts of real
+//! calls.
 #![tactic(auto)]
 
 ghost use Rattle.std.specs.Prelude.{◌≡◌, ℕ, ◌-◌, ◌^◌, ◌<◌, ◌≤◌, [], ◌∷◌, length, map, All, IfOk, IfSome};
@@ -23,8 +23,9 @@ use snap_restart::{Stopped, Store, open_all};
 use snap_writer::{Judgement, Writer};
 use std::alloc::Global;
 
-/// Opens all files and closes them. A crash of all devices then is recovered by the law of a cut. And
-/// honest devices keep the memory of a start then, so any number of crashes and starts may follow.
+/// Opens all files and closes them. A crash of all devices afterwards is recovered by the law of a
+/// cut. Honest devices then keep the memory of a start, so any number of crashes and starts may
+/// follow.
 pub fn worked<D: Disk + Drop>(alloc: Global, devices: Vec<D>) -> Result<Vec<D>, Stopped<D>>
     requires count { (0 < length devices.items) × (length devices.items ≤ MAX_COUNT) }
     requires headroom { All (λ d. D.failure_count d < 2 ^ 64 - 1) devices.items }
@@ -37,8 +38,8 @@ pub fn worked<D: Disk + Drop>(alloc: Global, devices: Vec<D>) -> Result<Vec<D>, 
     }
 }
 
-/// Opens all files, however that ends, and gives them back. Whatever became of honest devices before,
-/// they have come through this opening, too.
+/// Opens all files and returns their devices, however the opening ends. Whatever happened to honest
+/// devices before, this opening may be appended to it.
 pub fn open_and_give_back<D: Disk + Drop>(alloc: Global, devices: Vec<D>) -> Vec<D>
     requires count { (0 < length devices.items) × (length devices.items ≤ MAX_COUNT) }
     requires headroom { All (λ d. D.failure_count d < 2 ^ 64 - 1) devices.items }
@@ -51,8 +52,8 @@ pub fn open_and_give_back<D: Disk + Drop>(alloc: Global, devices: Vec<D>) -> Vec
     }
 }
 
-/// Closes a [`Store`], whatever its writers did, and opens its files again. The writers of the second
-/// opening go on where those of the first one stopped.
+/// Closes a [`Store`], whatever its writers did, and opens its files again. The new writers
+/// continue where the old ones stopped.
 pub fn reopen<D: Disk + Drop>(alloc: Global, store: Store<D>) -> Result<Store<D>, Stopped<D>>
     requires back { AreBack store.writers.items store.scanners.items }
     requires writers { (plan : Plan) × AreOfOne D.Disk plan store.writers.items }
@@ -67,7 +68,7 @@ pub fn reopen<D: Disk + Drop>(alloc: Global, store: Store<D>) -> Result<Store<D>
     }
 }
 
-/// Opens all files and opens them again: so the premises of [`reopen`] are met by a real call.
+/// Opens all files twice, so the premises of [`reopen`] are met by a real call.
 pub fn open_twice<D: Disk + Drop>(alloc: Global, devices: Vec<D>)
     requires count { (0 < length devices.items) × (length devices.items ≤ MAX_COUNT) }
     requires headroom { All (λ d. D.failure_count d < 2 ^ 64 - 1) devices.items }
@@ -77,9 +78,9 @@ pub fn open_twice<D: Disk + Drop>(alloc: Global, devices: Vec<D>)
     }
 }
 
-/// Both writers of an opening update, and their seats are those that the opening gave them. A crash
-/// that finds both inside their stores is recovered, and so is one that finds the second with its
-/// update stored and not shown, and one that finds both so. Nothing says which of them was first.
+/// Both writers of an opening update once, from the seats that the opening gave them. A crash is
+/// recovered that finds both inside their stores, or the second with its update stored but not
+/// shown, or both so. Nothing says which of them was first.
 pub fn two_at_once<D: Disk>(
     first: &mut Writer<D>,
     second: &mut Writer<D>,
@@ -104,7 +105,7 @@ pub fn two_at_once<D: Disk>(
     let _ = second.update(two, other);
 }
 
-/// The writers of all files, if these can be opened.
+/// The writers of all files, or `None` if a file can't be opened.
 fn writers_of<D: Disk + Drop>(alloc: Global, devices: Vec<D>) -> Option<Vec<Writer<D>>>
     requires count { (0 < length devices.items) × (length devices.items ≤ MAX_COUNT) }
     requires headroom { All (λ d. D.failure_count d < 2 ^ 64 - 1) devices.items }
@@ -116,8 +117,8 @@ fn writers_of<D: Disk + Drop>(alloc: Global, devices: Vec<D>) -> Option<Vec<Writ
     }
 }
 
-/// Opens two files, takes their writers and updates both, where no number is the last: so the premises
-/// of [`two_at_once`] are met by real calls.
+/// Opens two files, takes their writers and updates both, unless a number is the last one. So the
+/// premises of [`two_at_once`] are met by real calls.
 pub fn open_two<D: Disk + Drop>(alloc: Global, devices: Vec<D>, value: &[u8], other: &[u8])
     requires count { length devices.items ≡ 2 }
     requires headroom { All (λ d. D.failure_count d < 2 ^ 64 - 1) devices.items }
@@ -140,8 +141,8 @@ pub fn open_two<D: Disk + Drop>(alloc: Global, devices: Vec<D>, value: &[u8], ot
     }
 }
 
-/// Two updates of one writer, whatever they are answered. A crash at any time since before the first
-/// of them leaves the number that was stored then, with its value, or a later number.
+/// Two updates of one writer, whatever their results. A crash at any time since before the first
+/// one leaves the number stored then, with its value, or a later number.
 pub fn goes_on<D: Disk>(writer: &mut Writer<D>, one: u64, value: &[u8], two: u64, other: &[u8])
     requires { IsAWriter D.Disk writer.old }
     ensures { LosesNothing D.Disk writer.old writer.new }
@@ -151,8 +152,8 @@ pub fn goes_on<D: Disk>(writer: &mut Writer<D>, one: u64, value: &[u8], two: u64
     let _ = writer.update(two, other);
 }
 
-/// Opens all files, takes the last writer and goes on once an update of it was answered: so the premise
-/// of [`goes_on`] is met by real calls.
+/// Opens all files and updates the last writer; if that succeeds, calls [`goes_on`] with it. So the
+/// premise of [`goes_on`] is met by real calls.
 pub fn open_and_go_on<D: Disk + Drop>(alloc: Global, devices: Vec<D>, number: u64, value: &[u8])
     requires count { (0 < length devices.items) × (length devices.items ≤ MAX_COUNT) }
     requires headroom { All (λ d. D.failure_count d < 2 ^ 64 - 1) devices.items }
@@ -168,10 +169,10 @@ pub fn open_and_go_on<D: Disk + Drop>(alloc: Global, devices: Vec<D>, number: u6
     }
 }
 
-/// The registers as an opening made them keep their rule, so there is a moment at which a crash may
-/// come before anything is shown, wherever the writers are by then: before their first stores, inside
-/// them, or behind them. And files come over it to the next opening. The plan of the registers has to
-/// be ready, as it is wherever they are made.
+/// Registers keep their rule as an opening made them, so a crash may come before anything is shown,
+/// wherever the writers are by then: before their first stores, inside them, or after them. The
+/// files may then be opened again. The plan of the registers has to be ready, as it is wherever
+/// registers are made.
 pub fn moment_laws<D: Disk>()
     ensures at_once { AtOnceLaw D.Disk }
     ensures over { OverLaw D.Disk }

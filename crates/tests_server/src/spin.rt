@@ -4,11 +4,12 @@ use snap_spin::{Spin, WAITS_IN_A_REST};
 #[test]
 fn spins_again_after_a_rest(rt: HostRuntime) {
     let mut spin = Spin::new();
-    assert!(rt; spin.is_due());
-    assert!(rt; spin.is_due());
-    spin.rest();
-    for _ in 0..WAITS_IN_A_REST {
-        assert!(rt; !spin.is_due());
+    for _ in 0..2 {
+        for _ in 0..WAITS_IN_A_REST {
+            assert!(rt; !spin.is_due());
+        }
+        assert!(rt; spin.is_due());
+        assert!(rt; spin.is_due());
+        spin.rest();
     }
-    assert!(rt; spin.is_due());
 }

@@ -1,4 +1,4 @@
-//! The record of an update, as its writer drafts it word by word in a free buffer.
+//! The record of an update, drafted word by word in a free buffer.
 ghost use Rattle.std.specs.Prelude.{◌≡◌, ◌+◌, ◌*◌, ◌<◌, ◌≤◌, ◌++◌, ◌∷◌, length, take, []};
 ghost use mathlib.Core.List.{IsPrefix};
 ghost use Rattle.snap_history.specs.Limits.{IsShort};
@@ -16,8 +16,8 @@ use crate::view::View;
 use crate::words::{block_size, tail_word, word_of};
 
 impl Access {
-    /// Stores the block of this number and this value as the first of the free buffer. Answers how
-    /// many words it takes.
+    /// Stores the block of this number and value at the start of the free buffer. Returns how many
+    /// words it takes.
     pub(crate) fn draft_value(&mut self, i: usize, b: usize, number: u64, value: &[u8]) -> usize
         requires own { Owns (view_of self.old) i }
         requires buffer { IsFree (view_of self.old) b }
@@ -39,7 +39,7 @@ impl Access {
         block_size(value.len())
     }
 
-    // Stores the bytes of the value behind its whole words, if there are some, as one more word.
+    // Stores the bytes after the value's whole words, if there are any, as one more word.
     fn draft_tail(&mut self, i: usize, b: usize, value: &[u8], whole: usize)
         requires own { Owns (view_of self.old) i }
         requires buffer { IsFree (view_of self.old) b }
@@ -60,7 +60,7 @@ impl Access {
         }
     }
 
-    /// Stores the memory that the update takes along behind what is stored.
+    /// Appends the memory that the update carries to the draft.
     pub(crate) fn copy_view(&mut self, i: usize, b: usize, at: usize, view: &View)
         requires own { Owns (view_of self.old) i }
         requires buffer { IsFree (view_of self.old) b }
@@ -77,7 +77,7 @@ impl Access {
         }
     }
 
-    // Stores the values of the last looks, one of each segment, behind what is stored.
+    // Appends the values of the last looks, one of each segment, to the draft.
     fn copy_collected(&mut self, i: usize, b: usize, at: usize)
         requires own { Owns (view_of self.old) i }
         requires buffer { IsFree (view_of self.old) b }
@@ -94,7 +94,7 @@ impl Access {
         }
     }
 
-    // Stores the view of the pinned record of j behind what is stored.
+    // Appends the view of the pinned record of `j` to the draft.
     fn copy_borrowed(&mut self, i: usize, b: usize, at: usize, j: usize)
         requires own { Owns (view_of self.old) i }
         requires buffer { IsFree (view_of self.old) b }
@@ -114,8 +114,8 @@ impl Access {
         }
     }
 
-    // Stores the block at this place of the pinned record of j behind what is stored. Answers how
-    // many words it takes.
+    // Appends the block at place `from` of the pinned record of `j` to the draft. Returns how many
+    // words it takes.
     fn copy_block(&mut self, i: usize, b: usize, to: usize, j: usize, from: usize) -> usize
         requires own { Owns (view_of self.old) i }
         requires buffer { IsFree (view_of self.old) b }
@@ -138,9 +138,9 @@ impl Access {
         count
     }
 
-    // Has x as the next word of the free buffer of the own register, which lies at this place. Most
-    // words of an update stand there already, from the one that the buffer held before, and a load
-    // takes a fraction of the time of a store that all threads see in one order.
+    // Makes x the next word of the free buffer, which is at this place. Most words of an update are
+    // there already, from the record that the buffer held before, and a load takes a fraction of
+    // the time of a sequentially consistent store.
     fn draft(&mut self, place: usize, x: u64)
         requires place { IsNext (view_of self.old) place }
         ensures { HasDrafted self.old self.new (draft_of self.old ++ x ∷ []) }
@@ -150,7 +150,7 @@ impl Access {
         }
     }
 
-    // Takes the next word of the free buffer of the own register as it stands.
+    // Takes the next word of the free buffer into the draft as it is.
     fn reuse(&mut self, place: usize) -> u64
         requires place { IsNext (view_of self.old) place }
         ensures { HasDrafted self.old self.new (draft_of self.old ++ result ∷ []) }
@@ -158,7 +158,7 @@ impl Access {
         self.table.shared.load::<Reuse>(&mut self.seat, place)
     }
 
-    // Stores x in place of the word that was drafted last, which lies at this place.
+    // Stores x in place of the last drafted word, which is at this place.
     fn redraft(&mut self, place: usize, x: u64)
         requires place { IsLast (view_of self.old) place }
         ensures { HasDrafted self.old self.new (without_last (draft_of self.old) ++ x ∷ []) }

@@ -1,4 +1,4 @@
-//! Looks: a seat gives its old pin back, pins the current buffer, and reads what is pinned.
+//! Looks: a seat returns its old pin, pins the current buffer, and reads what it pins.
 ghost use Rattle.std.specs.Prelude.{◌≡◌, ℕ, ◌+◌, ◌^◌, ◌<◌, ◌≤◌, length, slice_index};
 ghost use Rattle.std.specs.Prelude.{◌*◌, ◌++◌, ◌∷◌, [], slice_set, take, slice_get, IfOk, MatchBool};
 ghost use Rattle.snap_history.specs.Limits.{IsShort};
@@ -22,7 +22,7 @@ use snap_scan::SegmentSet;
 use std::alloc::{AllocError, Global};
 
 impl Access {
-    /// The published number of j, whose record is pinned from here on.
+    /// A look: pins the current record of `j`, and returns its number.
     pub(crate) fn look(&mut self, j: usize) -> u64
         requires { (j < segments (view_of self.old).plan) × (0 < self.old.left) }
         ensures seen { Grows (known_of self.old) (known_of self.new) }
@@ -42,7 +42,7 @@ impl Access {
         self.read(j, 0)
     }
 
-    // Gives the pin on j back, if there is one.
+    // Returns the pin on `j`, if there is one.
     fn give_back(&mut self, j: usize)
         requires { j < segments (view_of self.old).plan }
         ensures { (self.new.left ≡ self.old.left)
@@ -79,7 +79,7 @@ impl Access {
         self.left -= 1;
     }
 
-    /// Where the word q of the pinned record of j lies. The words behind it lie behind it.
+    /// The place of word `q` of the pinned record of `j`. The record's next words follow there.
     pub(crate) fn place(&self, j: usize, q: usize) -> usize
         requires pinned { HasPin (view_of self.now) j }
         requires word { q < length (held (view_of self.now) j) }
@@ -91,7 +91,7 @@ impl Access {
         self.cell(j, b, q)
     }
 
-    /// The word at this place, which is of a pinned record.
+    /// Loads the word at this place, which belongs to a pinned record.
     pub(crate) fn load(&mut self, place: usize) -> u64
         requires place { (j : ℕ) × (q : ℕ) × LiesAt (view_of self.old) j q place }
         ensures word { (j q : ℕ) → LiesAt (view_of self.old) j q place
@@ -102,7 +102,7 @@ impl Access {
         load_word(&self.table, &mut self.seat, place)
     }
 
-    /// The word q of the pinned record of j.
+    /// Loads word `q` of the pinned record of `j`.
     pub(crate) fn read(&mut self, j: usize, q: usize) -> u64
         requires pinned { HasPin (view_of self.old) j }
         requires place { q < length (held (view_of self.old) j) }
@@ -114,7 +114,7 @@ impl Access {
         self.load(place)
     }
 
-    /// How many words the block at this place of the pinned record of j takes.
+    /// How many words the block at this place of the pinned record of `j` takes.
     pub(crate) fn size_at(&mut self, j: usize, at: usize) -> usize
         requires pinned { HasPin (view_of self.old) j }
         requires block { IsWhole (held (view_of self.old) j) at }
@@ -126,7 +126,7 @@ impl Access {
         block_size(length)
     }
 
-    /// The value of the pinned record of j. Answers its length.
+    /// Copies the value of the pinned record of `j` to the front of `out`. Returns its length.
     pub(crate) fn value(&mut self, j: usize, out: &mut [u8]) -> usize
         requires segment { j < segments (view_of self.old).plan }
         requires looked { HasLooked (known_of self.old) j }
@@ -138,7 +138,7 @@ impl Access {
         self.read_value(j, 0, out)
     }
 
-    // The value of the block at this place of the pinned record of j. Answers its length.
+    // Copies the value of the block at place `at` of the pinned record of `j`. Returns its length.
     fn read_value(&mut self, j: usize, at: usize, out: &mut [u8]) -> usize
         requires pinned { HasPin (view_of self.old) j }
         requires block { IsWhole (held (view_of self.old) j) at }
@@ -155,7 +155,7 @@ impl Access {
         length
     }
 
-    /// The value of the pinned record of j, in memory of its own.
+    /// The value of the pinned record of `j`, in new memory.
     pub(crate) fn value_bytes(&mut self, alloc: Global, j: usize) -> Result<Bytes, AllocError>
         requires segment { j < segments (view_of self.old).plan }
         requires looked { HasLooked (known_of self.old) j }
@@ -171,7 +171,8 @@ impl Access {
         Ok(Bytes::from_vec(value)?)
     }
 
-    /// What the view of the pinned record of j, which is an update's, has of the named segments.
+    /// Copies the named segments' part of the view in the pinned record of `j`, an update's, to
+    /// `out`.
     pub(crate) fn view(&mut self, j: usize, set: SegmentSet, out: &mut SnapshotBuf)
         requires segment { j < segments (view_of self.old).plan }
         requires updated { HasFoundUpdate (known_of self.old) j }
@@ -188,8 +189,7 @@ impl Access {
         }
     }
 
-    // The number and the value of the block at this place, where its segment is named. Answers how
-    // many words it takes.
+    // Reads the block at this place if `is_named`. Returns how many words it takes.
     fn read_named(&mut self, j: usize, at: usize, is_named: bool, out: &mut Held) -> usize
         requires pinned { HasPin (view_of self.old) j }
         requires block { IsWhole (held (view_of self.old) j) at }
@@ -207,7 +207,7 @@ impl Access {
         }
     }
 
-    // The number and the value of the block at this place. Answers how many words it takes.
+    // Reads the number and the value of the block at this place. Returns how many words it takes.
     fn read_block(&mut self, j: usize, at: usize, out: &mut Held) -> usize
         requires pinned { HasPin (view_of self.old) j }
         requires block { IsWhole (held (view_of self.old) j) at }
@@ -224,8 +224,8 @@ impl Access {
     }
 }
 
-// Writes the value of the block at this place of a pinned record, which takes this many words, to
-// the front of `out`. The table comes by itself, so that no word needs a look-up of where it is.
+// Copies the value of the block at this place of a pinned record, `count` words, to the front of
+// `out`. The table is an argument of its own, so that no word needs a lookup of where it is.
 fn copy_value(table: &WordTable, seat: &mut TableSeat, place: usize, count: usize, out: &mut [u8])
     requires own { seat.old.table_id ≡ table.now.shared.table_id }
     requires seated { HasSeat seat.old }
@@ -247,7 +247,7 @@ fn copy_value(table: &WordTable, seat: &mut TableSeat, place: usize, count: usiz
     }
 }
 
-// The word at this place of the table.
+// Loads the word at this place of the table.
 fn load_word(table: &WordTable, seat: &mut TableSeat, place: usize) -> u64
     requires own { seat.old.table_id ≡ table.now.shared.table_id }
     requires seated { HasSeat seat.old }

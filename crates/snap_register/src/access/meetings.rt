@@ -1,4 +1,4 @@
-//! Meetings: two seats tell one another what they have seen.
+//! Meetings: two seats share what they have seen.
 ghost use Rattle.std.specs.Prelude.{◌≡◌, ℕ, ◌<◌, false};
 ghost use mathlib.Core.List.{IsPrefix};
 ghost use Rattle.snap_register.specs.History.{only};
@@ -9,8 +9,8 @@ use crate::access::Access;
 use crate::setup::{Hear, JoinAnswer, JoinMessage, SplitMessenger, TableSeat, WordTable};
 
 impl Access {
-    /// Afterwards this seat, which writes nothing, has seen what the other has: all that either had
-    /// seen. It isn't a look.
+    /// Joins what both seats have seen: afterwards this seat, which writes nothing, has seen what
+    /// the other has, all that either had seen. It isn't a look.
     pub(crate) fn meet(&mut self, other: &mut Access)
         requires { (other.old.seat.table_id ≡ self.old.seat.table_id)
             × ((view_of other.old).plan ≡ (view_of self.old).plan)
@@ -52,7 +52,7 @@ impl Access {
     }
 }
 
-// The seat sees all that stands in the history at this moment, and what it was told.
+// The seat sees all that is in the history now, and all that it has received.
 fn hear(table: &WordTable, seat: &mut TableSeat)
     requires own { seat.old.table_id ≡ table.now.shared.table_id }
     requires words { 0 < table.now.shared.table_id.words }

@@ -16,9 +16,9 @@ use crate::setup::{Check, Publish};
 use crate::view::View;
 
 impl Access {
-    /// Fills a free buffer of the own register i with the record of the number `next`, this value
-    /// and this view, and makes it the current one. Answers the buffer, and the pins that the old
-    /// current word counted.
+    /// Fills a free buffer of the seat's own register `i` with the record of the number `next`,
+    /// this value and this view, and makes it the current one. Returns the buffer, and how many
+    /// pins the old current word had counted.
     pub(crate) fn publish(
         &mut self,
         i: usize,
@@ -48,14 +48,15 @@ impl Access {
         (b, pins)
     }
 
-    // A free buffer of the own register i: one that isn't current and that nobody pins.
+    // Finds a free buffer of the seat's own register `i`: one that isn't current and that nobody
+    // pins.
     //
-    // The writer knows, for each buffer, all pins that were ever taken on it: those that the
-    // current word counted while the buffer was current. The buffer's given-back count has those
-    // that were given back. Where both are equal nobody pins the buffer, and nobody will before it
-    // is current again, since pins are taken on the current buffer alone. Each of the n + S seats
-    // pins at most one buffer of a register, and there are n + S + 1 buffers that aren't current,
-    // so one of them is free: the loop always ends in its `return`.
+    // The writer knows for each buffer all pins ever taken on it: those that the current word
+    // counted while the buffer was current. The given-back count has the pins that were returned.
+    // If both are equal, nobody pins the buffer, and nobody will before it is current again,
+    // because only the current buffer is pinned. Each of the n + S seats pins at most one buffer of
+    // a register, and n + S + 1 buffers aren't current, so one of them is free: the loop always
+    // ends by its `return`.
     fn find_free(&mut self, i: usize, current: usize, counted: &[u64; MAX_BUFFERS]) -> usize
         requires own { Owns (view_of self.old) i }
         requires current { (current ≡ (pool_of self.old).current)
@@ -81,8 +82,8 @@ impl Access {
         unreachable!()
     }
 
-    // Whether the buffer b of the own register i, which is the next of those that aren't current,
-    // is free, where so many pins were counted for it.
+    // Whether buffer `b` of the seat's own register `i`, the next that isn't current, is free, if
+    // `counted` pins were taken on it.
     fn check(&mut self, i: usize, b: usize, counted: u64) -> bool
         requires own { Owns (view_of self.old) i }
         requires buffer { (b ≡ next_other (pool_of self.old))
@@ -100,8 +101,8 @@ impl Access {
         found == counted
     }
 
-    // Makes the free buffer b, which is filled, the current one in place of `current`, and answers
-    // the pins that the old current word counted.
+    // Makes the filled free buffer `b` the current one in place of `current`. Returns how many pins
+    // the old current word had counted.
     fn swap(&mut self, i: usize, current: usize, b: usize) -> u64
         requires own { Owns (view_of self.old) i }
         requires buffer { IsFree (view_of self.old) b }

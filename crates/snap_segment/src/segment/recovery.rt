@@ -1,4 +1,4 @@
-//! How the file of a segment is opened.
+//! Opens the file of a segment.
 ghost use Rattle.std.specs.Prelude.{◌≡◌, ◌≢◌, ◌+◌, ◌-◌, ◌^◌, ◌<◌, ◌≤◌, ℕ, List, None, length, IfOk, IfErr};
 ghost use Rattle.snap_disk.specs.Device.{Device, part, MayLeave};
 ghost use Rattle.snap_disk.specs.Time.{LeavesOnly};
@@ -17,15 +17,15 @@ use snap_slot::{BLOCK_LEN, FILE_LEN, body_at, recover, slot_of};
 use std::alloc::{AllocError, Global};
 
 impl<D: Disk> Segment<D> {
-    /// Opens segment `index` of `count`, with the number and value that its file holds, and without
-    /// a fence.
+    /// Opens segment `index` of `count` with the number and value that its file holds. The new
+    /// segment isn't fenced.
     ///
-    /// It syncs before it reads, so what it answers stands after any later crash, and it writes
-    /// nothing. The device comes back with a refusal: `WrongFile` where the length is another than
-    /// a segment file's, and `NoMemory` where a growth was refused, both before any device call;
-    /// `DeviceFailed` where a device call failed; `Unformatted` where the header's gate is closed,
-    /// `WrongFile` where the header is not that of segment `index` of `count`, and `Damaged` where
-    /// the slots give no answer.
+    /// It syncs before it reads, so the value survives any later crash. It writes nothing.
+    ///
+    /// Each error returns the device: `WrongFile` if the device doesn't have the length of a
+    /// segment file, `NoMemory` if memory ran out, both before any device call; `DeviceFailed` if a
+    /// device call failed; `Unformatted` if the header's gate is closed, `WrongFile` if the header
+    /// isn't that of segment `index` of `count`, `Damaged` if the slots hold no value.
     pub fn open(
         alloc: Global,
         mut device: D,
@@ -36,8 +36,8 @@ impl<D: Disk> Segment<D> {
         requires few { count ≤ MAX_COUNT }
         requires headroom { D.failure_count device < 2 ^ 64 - 1 }
 
-        // The failure count grows exactly where it answers `DeviceFailed`. It makes two calls, and
-        // where it is refused no more.
+        // The failure count grows by one exactly at `DeviceFailed`. Ok takes two calls, an error at
+        // most two.
         ensures count_ok { IfOk result (λ s. D.failure_count s.device ≡ D.failure_count device) }
         ensures count_err { IfErr result (λ e.
             CountsFailed e.0 (D.failure_count device) (D.failure_count e.1)) }
@@ -46,7 +46,7 @@ impl<D: Disk> Segment<D> {
         ensures honest_ok { IfOk result (λ s. D.is_honest s.device → D.is_honest device) }
         ensures honest_err { IfErr result (λ e. D.is_honest e.1 → D.is_honest device) }
 
-        // What is open is what the bytes hold, no place is open, and there is no fence.
+        // The segment has what the bytes hold, no place is open, and it isn't fenced.
         ensures opened { IfOk result (λ s. (s.index ≡ index) × (s.count ≡ count)
             × (s.begun ≡ None)) }
         ensures holds { IfOk result (λ s. D.is_honest s.device
@@ -55,7 +55,8 @@ impl<D: Disk> Segment<D> {
         ensures at_rest { IfOk result (λ s. D.is_honest s.device
             → IsAtRest index count s.number s.value s.spare_open (D.device s.device)) }
 
-        // Each refusal says what the bytes are. The first two leave the device untouched.
+        // What the bytes are at each refusal. A wrong length and `NoMemory` leave the device
+        // untouched.
         ensures refusals { IfErr result (λ e. IsOpenRefusal e.0) }
         ensures refused { IfErr result (λ e. D.is_honest e.1
             → IsNoOpening index count (D.device device).bytes e.0) }
@@ -64,7 +65,7 @@ impl<D: Disk> Segment<D> {
             → IfErr result (λ e. (e.0 ≡ Refusal.WrongFile) × (e.1 ≡ device)) }
         ensures no_memory { IfErr result (λ e. e.0 ≡ Refusal.NoMemory → e.1 ≡ device) }
 
-        // A crash leaves what one before could leave.
+        // A crash leaves only what it could have left before.
         ensures any_time_ok { IfOk result (λ s. D.is_honest s.device
             → LeavesOnly D.Disk device s.device (MayLeave (D.device device))) }
         ensures any_time_err { IfErr result (λ e. D.is_honest e.1
@@ -102,7 +103,7 @@ impl<D: Disk> Segment<D> {
     }
 }
 
-/// The two body blocks of a segment.
+/// Allocates the two body blocks of a segment.
 fn body_blocks(alloc: Global) -> Result<(Box<[u8; BLOCK_LEN]>, Box<[u8; BLOCK_LEN]>), AllocError> {
     Ok((
         Box::new(alloc, [0; BLOCK_LEN])?,
@@ -110,7 +111,7 @@ fn body_blocks(alloc: Global) -> Result<(Box<[u8; BLOCK_LEN]>, Box<[u8; BLOCK_LE
     ))
 }
 
-/// The body block of a slot.
+/// The body block of a slot in a file.
 #[tactic(auto, unfolding(snap_disk::specs::Device::part))]
 fn body_in(file: &[u8], slot: u64) -> &[u8]
     requires size { length file.now ≡ FILE_LEN }

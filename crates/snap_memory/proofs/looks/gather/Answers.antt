@@ -15,7 +15,7 @@ use Rattle.snap_memory.proofs.looks.gather.Goals as goal
 not_both : (v : Next) (j : ℕ) → v ≡ Clean → v ≡ Borrow j → ⊥
 not_both v j clean borrow = cc
 
--- where the numbers told are clean no place of the set is borrowed from
+-- if the numbers are clean, no place of the set is borrowed from
 no_borrow : (set : ℕ) (told : List ℕ) (v : Next) → IsNext set told v → v ≡ Clean → (p : ℕ)
     → IsBorrow (size set) told p → ⊥
 no_borrow set told v decides clean p b = not_both v _ clean

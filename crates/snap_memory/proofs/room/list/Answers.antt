@@ -24,7 +24,7 @@ loop-i-init g c = record {
       (sym c.in_ok-values.ensures.items) (record { count = refl; each = λ p i at. absurd (let none : None ≡ Some i = at in cc) });
 }
 
--- what is kept of the segment was seen
+-- the segment's cached entry was seen
 pub take_entry-requires-clause-kept : goal.take_entry-requires-clause-kept
 take_entry-requires-clause-kept g c =
     let inv = c.loop-i.invariant in
@@ -32,7 +32,7 @@ take_entry-requires-clause-kept g c =
     c.requires.room c.segments-i-end.ensures.count c.loop-i-test.true c.index_mut.result.now inv.same
     inv.kept c.index_mut.ensures.value
 
--- and what is kept of it then
+-- the entry cached in its stead was seen
 pub returns-in_err-entry-clause-kept : goal.returns-in_err-entry-clause-kept
 returns-in_err-entry-clause-kept g c =
     let inv = c.loop-i.invariant in

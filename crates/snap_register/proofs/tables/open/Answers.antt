@@ -14,7 +14,7 @@ use Rattle.snap_register.proofs.tables.open.Goals.{After-as_slice}
 abbrev plan : After-as_slice → Plan
 plan c = plan_with c.args.scanners c.args.looks c.args.block_words c.args.values.now.items
 
--- the plan that the table is told is that of the values
+-- the plan that the table is made with is that of the values
 plan_is : (c : After-as_slice)
     → plan_with c.args.scanners c.args.looks c.args.block_words c.of.result.value.items ≡ plan c
 plan_is c = λ i. plan_with c.args.scanners c.args.looks c.args.block_words (c.of.ensures i).items

@@ -13,7 +13,7 @@ at : (g : _) (c : After-index_mut g)
 at g c = slice_get_read c.loop-k.scanners.items (length c.loop-k.scanners.items) c.loop-k.k
     c.index_mut.result.now refl (search rules) (search rules)
 
--- the scanner that is met next, at first and now
+-- the scanner to be met next: at first, and now
 next : (g : _) (c : After-index_mut g) → (b : Known)
     × (slice_get c.args.scanners.now.items c.loop-k.k ≡ Some b) × Grows b c.index_mut.result.now
 next g c =

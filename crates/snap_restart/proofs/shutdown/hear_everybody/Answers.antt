@@ -11,7 +11,7 @@ use Rattle.snap_restart.proofs.Meetings.{met_more, together_after, first_met, hi
 use Rattle.snap_restart.proofs.shutdown.hear_everybody.Goals as goal
 use Rattle.snap_restart.proofs.shutdown.hear_everybody.Goals.{After-index_mut-scanner}
 
--- the first writer has heard all scanners
+-- the first writer has met all scanners
 heard : (g : _) (c : After-index_mut-scanner g) → Pairs (λ _. HasMet) c.args.writers.now.items
     (slice_set c.args.writers.now.items 0 c.hear_all.new.writer)
 heard g c =
@@ -20,7 +20,7 @@ heard g c =
     (slice_get_read w0 (length w0) 0 c.index_mut.result.now refl c.requires.back.some
     c.index_mut.ensures.value) c.hear_all.ensures.writer
 
--- the first scanner, at first and then
+-- the first scanner: at first, and after that
 scanner : (g : _) (c : After-index_mut-scanner g) → (b : Known)
     × (slice_get c.args.scanners.now.items 0 ≡ Some b) × Grows b c.index_mut-scanner.result.now
 scanner g c =

@@ -14,7 +14,7 @@ at : (g : _) (c : After-index_mut g)
 at g c = slice_get_read c.loop-i.writers.items (length c.loop-i.writers.items) c.loop-i.i
     c.index_mut.result.now refl (search rules) (search rules)
 
--- the writer that is met next, at first and now
+-- the writer to be met next: at first, and now
 next : (g : _) (c : After-index_mut g) → (w : WriterState g.row.D.Denot)
     × (slice_get c.args.writers.now.items c.loop-i.i ≡ Some w) × HasMet w c.index_mut.result.now
 next g c =

@@ -11,7 +11,7 @@ use Rattle.snap_segment.proofs.Leaves.{then, weaker}
 use Rattle.snap_segment.proofs.Made.{made_bytes}
 use Rattle.snap_segment.proofs.creation.create.Goals as goal
 
--- what follows where the call succeeded follows where its answer does
+-- from a call that succeeds exactly if the result is Ok, what holds at Ok carries over
 on_ok_too : {T E F P Q : Type 0} (call : Result T E) (answer : Result T F)
     → is_ok answer ≡ is_ok call → (P → Q) → OnOk call P → OnOk answer Q
 on_ok_too (Ok x) (Ok y) same more holds = more holds
@@ -19,7 +19,7 @@ on_ok_too (Ok x) (Err e) same more holds = tt
 on_ok_too (Err e) (Ok y) same more holds = absurd cc
 on_ok_too (Err e) (Err f) same more holds = tt
 
--- the look at the gate, which was found closed, and the front
+-- after the gate was read and found closed, and the front was written
 front_leaves : {D : Type 0} (disk : Disk.Ghosts D) (i n k : ℕ) (v : List ℕ) (old looked front : D)
     (found : Bool) → LeavesAsBefore disk old looked → IsSynced (disk.device old) (disk.device looked)
     → found ≡ true → IsTrue found ↔ IsUnformatted (disk.device old).bytes

@@ -11,7 +11,7 @@ use Rattle.snap_register.proofs.Spots.{lies_more, next_more}
 use Rattle.snap_register.proofs.access.Access.copy_block.Goals as goal
 use Rattle.snap_register.proofs.access.Access.copy_block.Goals.{In-loop-q}
 
--- where the next word of the block lies
+-- the place of the block's next word
 lies : (c : In-loop-q)
     → LiesAt (view_of c.loop-q.self) c.args.j (c.args.from + c.loop-q.q)
     (c.place-source.result + c.loop-q.q)

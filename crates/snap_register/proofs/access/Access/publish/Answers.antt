@@ -22,7 +22,7 @@ taken_pool : (v : SeatView) (p : Pool) (view : View)
 taken_pool v p Collected = refl
 taken_pool v p (Borrowed j) = refl
 
--- nothing changed but the pool
+-- only the pool has changed
 abbrev WithPool : SeatView → Pool → SeatView
 WithPool v p = record v { pool = p }
 

@@ -7,13 +7,13 @@ use Rattle.snap_register.specs.Steps.{view_of, LiesAt}
 use Rattle.snap_register.proofs.access.Access.read_value.Goals as goal
 use Rattle.snap_register.proofs.access.Access.read_value.Goals.{After-read-length}
 
--- where the block lies
+-- the place of the block
 lies : (c : After-read-length) → LiesAt (view_of c.read-length.new.self) c.args.j c.args.at
     c.place-place.result
 lies c = subst (λ (m : Mine). LiesAt m.0 c.args.j c.args.at c.place-place.result)
     (sym c.read-length.ensures.same.2) c.place-place.ensures.place
 
--- its value lies in the record
+-- the value is within the record
 fits : (c : After-read-length) → c.args.at + 2 + (c.read-length.result + 7) / 8
     ≤ length (held (view_of c.read-length.new.self) c.args.j)
 fits c =

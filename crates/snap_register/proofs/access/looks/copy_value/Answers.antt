@@ -11,7 +11,7 @@ use Rattle.snap_register.proofs.Spots.{lies_more}
 use Rattle.snap_register.proofs.access.looks.copy_value.Goals as goal
 use Rattle.snap_register.proofs.access.looks.copy_value.Goals.{In-loop-q}
 
--- where the next word of the value lies
+-- the place of the value's next word
 lies : (c : In-loop-q) (j at : ℕ) → LiesAt c.args.seat.now.me.0 j at c.args.place
     → at + 2 + c.args.count ≤ length (held c.args.seat.now.me.0 j)
     → LiesAt c.loop-q.seat.me.0 j (at + 2 + c.loop-q.q) (c.args.place + 2 + c.loop-q.q)

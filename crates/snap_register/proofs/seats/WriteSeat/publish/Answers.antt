@@ -16,7 +16,7 @@ use Rattle.snap_register.proofs.Later.{set_each}
 use Rattle.snap_register.proofs.Updates.{can_take, may_take, shown_is, below_is, number_is}
 use Rattle.snap_register.proofs.seats.WriteSeat.publish.Goals as goal
 
--- the next number is within the limit
+-- the next number is valid
 next_small : (a : Access) (i k : ℕ) (x : Known) → known_of a ≡ x
     → number_in x x.seen (own_of x) + 1 < 2 ^ 63 → (view_of a).low ≡ i
     → k ≡ number (view_of a).plan (view_of a).seen i → k + 1 < 2 ^ 63

@@ -1,4 +1,4 @@
--- `none` makes a value that takes no memory, at the empty list.
+-- `none` makes the empty list, a value that takes no memory.
 use mathlib.Core.Path.{refl}
 use mathlib.Core.List.{[], ◌∷◌}
 use seplogic.Ra.Ura.{Ura}

@@ -1,4 +1,4 @@
--- `then` makes a value that takes no memory, at the longer list. It reads neither argument.
+-- `then` makes the longer list, a value that takes no memory. It reads neither argument.
 use mathlib.Core.Path.{refl}
 use mathlib.Core.List.{[], ◌∷◌, ◌++◌}
 use seplogic.Ra.Ura.{Ura}

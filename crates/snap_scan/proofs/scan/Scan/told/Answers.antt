@@ -7,7 +7,7 @@ use Rattle.snap_scan.specs.declared.next.Next.TheVariants.{Look}
 use Rattle.snap_scan.proofs.Verdict.{says_next, at_look, turn_at}
 use Rattle.snap_scan.proofs.scan.Scan.told.Goals as goal
 
--- the segment's place
+-- the segment has a place
 pub told-requires : goal.told-requires
 told-requires c =
     let s = c.self.inside in

@@ -56,7 +56,7 @@ returns-clause-advances g c =
     (ends g c) in
     record { stored = search rules; shown = shown }
 
--- what holds anyway holds behind an error
+-- a fact that holds in any case holds at an error
 on_err : {T E P : Type 0} (r : Result T E) → P → OnErr r P
 on_err (Ok x) p = search rules
 on_err (Err e) p = p
