@@ -34,7 +34,7 @@ def test_readme_shows_what_is_printed(snapd, random):
         run = subprocess.run(command, shell=True, cwd=snapd.folder, env=env, capture_output=True, text=True, timeout=2 * PATIENCE)
         assert (run.returncode, run.stdout, run.stderr) == (0, printed, ""), (command, run)
         count += 1
-    assert count == 4
+    assert count == 3
 
 
 def test_readme_script_prints_what_it_shows(snapd, random):

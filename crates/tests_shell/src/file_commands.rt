@@ -1,7 +1,7 @@
 //! Whether the errors of a command were written: `snapd` ends by the status alone.
 use snap_devices::MemDisk;
 use snap_disk::Disk;
-use snap_file_commands::act;
+use snap_file_commands::{act, finish};
 use snap_order::{FileOrder, Status};
 use snap_slot::FILE_LEN;
 use snap_stream::{TestStream, Unknown};
@@ -40,15 +40,8 @@ fn is_told(rt: &(impl Abort + AllocGlobal), passes: usize) -> Result<(), Fail> {
         passes,
         step: 2,
     };
-    let (_disk, ended) = act(
-        rt.alloc(),
-        &order,
-        disk,
-        &Unknown,
-        &mut reader,
-        &mut output,
-        &mut errors,
-    );
+    let (disk, end) = act(rt.alloc(), &order, disk, &mut reader, &mut output);
+    let ended = finish(rt.alloc(), &order, disk.len(), end, &Unknown, &mut errors);
     assert!(rt; ended.status == Status::Refused && output.is_empty());
     assert!(rt; ended.is_told == (passes == UNFORMATTED.len()));
     assert_eq!(rt; errors.bytes.as_slice(), &UNFORMATTED.as_bytes()[..passes]);

@@ -1,5 +1,5 @@
 //! Files and names that no folder of a system has, or that are judged before they come so far.
-use snap_folder::{FolderFault, SegmentPlace, is_further, is_segment_name, order_files};
+use snap_file_commands::{FolderFault, SegmentPlace, is_further, is_segment_name, order_files};
 use std::test::Fail;
 
 /// A file whose header is wrong is told before its place is asked for.
