@@ -1,5 +1,5 @@
 #!/usr/bin/env python3
-"""Works out what `try_faults restart-threads` must print, from the disk model and the order of a store's calls alone.
+"""Works out what `try_parts restart-threads` must print, from the disk model and the order of a store's calls alone.
 
 A body is written behind a closed gate and synced before its gate is written, so of a file all that has to be known is which
 number stands in each slot, the gates, and which gates' places are open. What the threads do changes none of it.

@@ -1,4 +1,4 @@
-//! What was counted, as a document for programs and for the page. No clause states this text: tests_http and tests/test_http.py
+//! What was counted, as a document for programs and for the page. No clause states this text: tests_server and tests/test_http.py
 //! have it to the byte.
 
 use crate::document::{

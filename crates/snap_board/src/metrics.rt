@@ -1,4 +1,4 @@
-//! What was counted, as text for Prometheus. No clause states this text: tests_http and tests/test_http.py have it to the byte.
+//! What was counted, as text for Prometheus. No clause states this text: tests_server and tests/test_http.py have it to the byte.
 
 use crate::amount::{Amount, Unit};
 use crate::facts::Facts;

@@ -1,4 +1,4 @@
-//! What is told of the process and of the segments' names, for Prometheus. No clause states this text: tests_http has it to the
+//! What is told of the process and of the segments' names, for Prometheus. No clause states this text: tests_server has it to the
 //! byte.
 
 use crate::amount::Unit;
