@@ -6,9 +6,9 @@
 #[cfg(test)]
 mod checks;
 #[cfg(test)]
-mod disk;
+mod devices;
 #[cfg(test)]
-mod files;
+mod disk;
 #[cfg(test)]
 mod restart;
 #[cfg(test)]

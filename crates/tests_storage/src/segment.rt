@@ -1,5 +1,4 @@
 //! The tests of `snap_segment`.
 mod damage;
-mod devices;
 mod migrations;
 mod stores;

@@ -1,31 +1,18 @@
 //! Worked updates: answers in the order of the rules, faults, restarts and limits.
-ghost use Rattle.std.specs.Prelude.{◌≡◌, ◌^◌, ◌≤◌, IfOk};
-ghost use Rattle.snap_register.specs.Seat.{AreTogether};
-
-use crate::files::{file, plan_fault};
+use crate::checks::Host;
+use crate::devices::{fresh, plan_fault};
 use snap_devices::{FaultPlan, MemDisk};
 use snap_disk::{Disk, Fill, Refusal};
 use snap_history::{LAST_NUMBER, MAX_VALUE_LEN};
 use snap_memory::{Scanner, Snapshot};
 use snap_register::{Parts, Registers};
 use snap_segment::Segment;
-use snap_slot::{
-    BLOCK_LEN, CLOSED_GATE, FILE_LEN, OPEN_GATE, body_at, encode_body, gate_at, slot_of,
-};
+use snap_slot::{BLOCK_LEN, CLOSED_GATE, OPEN_GATE, body_at, encode_body, gate_at, slot_of};
 use snap_writer::Writer;
-use std::process::Abort;
 use std::test::Fail;
 
 /// The file, opened, in registers of its own with so many looks for each seat.
-fn seated(
-    rt: &(impl Abort + AllocGlobal),
-    disk: MemDisk,
-    looks: u64,
-) -> Result<(Writer<MemDisk>, Scanner), Fail>
-    requires looks { looks ≤ 2 ^ 50 }
-    ensures together { IfOk result (λ r. AreTogether r.1 r.0.seat) }
-{
-    assert!(rt; disk.failures() < 9);
+fn seated(rt: &impl Host, disk: MemDisk, looks: u64) -> Result<(Writer<MemDisk>, Scanner), Fail> {
     let segment = Segment::open(rt.alloc(), disk, 0, 1).map_err(|(why, _)| why)?;
     let mut values = Vec::new(rt.alloc());
     values.push((segment.number(), segment.value().to_vec(rt.alloc())?))?;
@@ -39,76 +26,73 @@ fn seated(
     Ok((Writer::new(segment, seat), Scanner::new(scanner)))
 }
 
-/// The update is answered so.
-fn answers(
-    rt: &impl Abort,
-    writer: &mut Writer<MemDisk>,
-    number: u64,
-    value: &[u8],
-    answer: Result<u64, Refusal>,
-)
-    ensures table { writer.new.seat.table ≡ writer.old.seat.table }
-    ensures plan { writer.new.seat.plan ≡ writer.old.seat.plan }
-{
-    let answered = writer.update(number, value);
-    assert!(rt; answered == answer);
+/// An update's number and value, and its answer.
+type Row<'a> = (u64, &'a [u8], Result<u64, Refusal>);
+
+/// These updates are answered so, and leave the writer at this number.
+fn answers(rt: &impl Host, writer: &mut Writer<MemDisk>, updates: &[Row<'_>], number: u64) {
+    for (sent, value, answer) in updates {
+        assert!(rt; writer.update(*sent, *value) == *answer, "number {sent}");
+        assert!(rt; writer.number() == number, "number {sent}");
+    }
 }
 
 /// The writer has this number and value, and so many looks left.
-fn stands(rt: &impl Abort, writer: &Writer<MemDisk>, number: u64, value: &[u8], left: u64) {
+fn has(rt: &impl Host, writer: &Writer<MemDisk>, number: u64, value: &[u8], left: u64) {
     assert!(rt; writer.number() == number && writer.looks_left() == left);
     assert!(rt; writer.value() == value);
 }
 
-/// A scan of one segment answers this number and value.
-fn shows(rt: &impl Abort, scanner: &mut Scanner, out: &mut Snapshot, number: u64, value: &[u8]) {
-    assert!(rt; scanner.segments() == 1 && out.len() == 1);
-    let scanned = scanner.scan_into(out);
-    assert!(rt; scanned == Ok(()) && out.len() == 1);
+/// A scan that has met the writer shows this number and value.
+fn shows(
+    rt: &impl Host,
+    writer: &mut Writer<MemDisk>,
+    scanner: &mut Scanner,
+    number: u64,
+    value: &[u8],
+) -> Result<(), Fail> {
+    let mut out = Snapshot::new(rt.alloc(), 1)?;
+    writer.meet(scanner);
+    assert!(rt; scanner.scan_into(&mut out) == Ok(()));
     assert!(rt; out.number(0) == number && out.value(0) == value);
+    Ok(())
 }
 
-/// Its device was called so often, and failed so often.
-fn called(rt: &impl Abort, writer: Writer<MemDisk>, calls: u64, failures: u64) -> MemDisk {
+/// The device of the writer, which was called so often, and failed so often.
+fn called(rt: &impl Host, writer: Writer<MemDisk>, calls: u64, failures: u64) -> MemDisk {
     let disk = writer.into_segment().into_device();
     assert!(rt; disk.calls() == calls && disk.failures() == failures);
     disk
 }
 
 /// A writer at number 0 whose update to 1 and `hi` failed at its fourth call, a sync.
-fn faulted(rt: &(impl Abort + AllocGlobal)) -> Result<(Writer<MemDisk>, Scanner), Fail>
-    ensures together { IfOk result (λ r. AreTogether r.1 r.0.seat) }
-{
-    let mut disk = file(rt, 0, 1)?;
+fn faulted(rt: &impl Host) -> Result<(Writer<MemDisk>, Scanner), Fail> {
+    let mut disk = fresh(rt)?;
     // An opening makes two calls.
-    plan_fault(rt, &mut disk, 5, Fill::Keep)?;
+    plan_fault(rt, &mut disk, 5)?;
     let (mut writer, scanner) = seated(rt, disk, 100)?;
-    answers(rt, &mut writer, 1, b"hi", Err(Refusal::DeviceFailed));
+    answers(
+        rt,
+        &mut writer,
+        &[(1, b"hi", Err(Refusal::DeviceFailed))],
+        0,
+    );
     Ok((writer, scanner))
 }
 
 #[test]
 fn stored_and_then_shown(rt: HostRuntime) -> Result<(), Fail> {
-    let mut out = Snapshot::new(rt.alloc(), 1)?;
-    let (mut writer, mut scanner) = seated(&rt, file(&rt, 0, 1)?, 100)?;
-    stands(&rt, &writer, 0, b"", 100);
-    answers(&rt, &mut writer, 1, b"hi", Ok(1));
-    stands(&rt, &writer, 1, b"hi", 98);
+    let (mut writer, mut scanner) = seated(&rt, fresh(&rt)?, 100)?;
+    has(&rt, &writer, 0, b"", 100);
+    answers(&rt, &mut writer, &[(1, b"hi", Ok(1))], 1);
+    has(&rt, &writer, 1, b"hi", 98);
     assert!(rt; !writer.is_fenced() && writer.begun().is_none());
-    writer.meet(&mut scanner);
-    shows(&rt, &mut scanner, &mut out, 1, b"hi");
-    Ok(())
-}
-
-#[test]
-fn stored_for_good(rt: HostRuntime) -> Result<(), Fail> {
-    let (mut writer, _) = seated(&rt, file(&rt, 0, 1)?, 100)?;
-    answers(&rt, &mut writer, 1, b"hi", Ok(1));
+    shows(&rt, &mut writer, &mut scanner, 1, b"hi")?;
     // A formatting makes seven calls, an opening two, and the update four.
     let mut disk = called(&rt, writer, 7 + 2 + 4, 0);
     disk.crash(&Fill::All(0xA5));
     let (writer, _) = seated(&rt, disk, 100)?;
-    stands(&rt, &writer, 1, b"hi", 100);
+    has(&rt, &writer, 1, b"hi", 100);
     Ok(())
 }
 
@@ -116,9 +100,9 @@ fn stored_for_good(rt: HostRuntime) -> Result<(), Fail> {
 fn answers_in_the_order_of_the_rules(rt: HostRuntime) -> Result<(), Fail> {
     let more = [7; MAX_VALUE_LEN + 1];
     let longest = &more[1..];
-    let (mut writer, _) = seated(&rt, file(&rt, 0, 1)?, 100)?;
-    answers(&rt, &mut writer, 1, longest, Ok(1));
-    let updates: [(u64, &[u8], Result<u64, Refusal>); 8] = [
+    let (mut writer, _) = seated(&rt, fresh(&rt)?, 100)?;
+    let updates: [Row<'_>; 9] = [
+        (1, longest, Ok(1)),
         (1, &more, Err(Refusal::TooLong)),
         (2, &more, Err(Refusal::TooLong)),
         (9, &more, Err(Refusal::TooLong)),
@@ -128,113 +112,83 @@ fn answers_in_the_order_of_the_rules(rt: HostRuntime) -> Result<(), Fail> {
         (3, longest, Err(Refusal::OutOfStep)),
         (u64::MAX, b"", Err(Refusal::OutOfStep)),
     ];
-    for (number, value, answer) in updates {
-        answers(&rt, &mut writer, number, value, answer);
-        stands(&rt, &writer, 1, longest, 98);
-    }
-    answers(&rt, &mut writer, 2, b"yo", Ok(2));
+    answers(&rt, &mut writer, &updates, 1);
+    has(&rt, &writer, 1, longest, 98);
+    answers(&rt, &mut writer, &[(2, b"yo", Ok(2))], 2);
     Ok(())
 }
 
 #[test]
 fn fault_fences_the_segment(rt: HostRuntime) -> Result<(), Fail> {
-    let mut out = Snapshot::new(rt.alloc(), 1)?;
     let (mut writer, mut scanner) = faulted(&rt)?;
-    assert!(rt; writer.is_fenced());
-    assert!(rt;
-        writer
-            .begun()
-            .is_some_and(|begun| begun == b"hi".as_slice())
-    );
-    writer.meet(&mut scanner);
-    shows(&rt, &mut scanner, &mut out, 0, b"");
-    let updates: [(u64, &[u8], Result<u64, Refusal>); 4] = [
+    assert!(rt; writer.is_fenced() && writer.begun() == Some(b"hi".as_slice()));
+    shows(&rt, &mut writer, &mut scanner, 0, b"")?;
+    let updates: [Row<'_>; 4] = [
         (1, b"hi", Err(Refusal::Fenced)),
         (0, b"", Ok(0)),
         (0, b"hi", Err(Refusal::Conflict)),
         (5, b"hi", Err(Refusal::OutOfStep)),
     ];
-    for (number, value, answer) in updates {
-        answers(&rt, &mut writer, number, value, answer);
-    }
+    answers(&rt, &mut writer, &updates, 0);
     called(&rt, writer, 7 + 2 + 4, 1);
     Ok(())
 }
 
-/// After the faulted update the machine crashes, and the client sends the update again.
-fn sent_again(
-    rt: &(impl Abort + AllocGlobal),
-    fill: &Fill,
-    recovered: u64,
-    calls: u64,
-) -> Result<(), Fail> {
-    let (writer, _) = faulted(rt)?;
-    let mut disk = called(rt, writer, 7 + 2 + 4, 1);
-    disk.set_plan(FaultPlan::new(rt.alloc()));
-    disk.crash(fill);
-    let (mut writer, _) = seated(rt, disk, 100)?;
-    assert!(rt; writer.number() == recovered && calls < 9);
-    answers(rt, &mut writer, 1, b"hi", Ok(1));
-    answers(rt, &mut writer, 1, b"yo", Err(Refusal::Conflict));
-    called(rt, writer, 13 + 2 + calls, 1);
+/// After the faulted update the machine crashes, and the client sends the update again. The fill, the number that is
+/// recovered, and how many calls the update then makes.
+#[test]
+fn the_client_sends_again(rt: HostRuntime) -> Result<(), Fail> {
+    for (fill, recovered, calls) in [(0x00, 0, 4), (0xA5, 1, 0)] {
+        let (writer, _) = faulted(&rt)?;
+        let mut disk = called(&rt, writer, 7 + 2 + 4, 1);
+        disk.set_plan(FaultPlan::new(rt.alloc()));
+        disk.crash(&Fill::All(fill));
+        let (mut writer, _) = seated(&rt, disk, 100)?;
+        assert!(rt; writer.number() == recovered);
+        let updates: [Row<'_>; 2] = [(1, b"hi", Ok(1)), (1, b"yo", Err(Refusal::Conflict))];
+        answers(&rt, &mut writer, &updates, 1);
+        called(&rt, writer, 13 + 2 + calls, 1);
+    }
     Ok(())
 }
 
-#[test]
-fn the_client_sends_again(rt: HostRuntime) -> Result<(), Fail> {
-    sent_again(&rt, &Fill::All(0x00), 0, 4)?;
-    sent_again(&rt, &Fill::All(0xA5), 1, 0)
-}
-
-/// Writes these bytes into the device.
-fn put(rt: &impl Abort, disk: &mut MemDisk, at: u64, bytes: &[u8]) {
-    assert!(rt; disk.failures() < 9);
-    assert!(rt; at < FILE_LEN && bytes.len() <= BLOCK_LEN);
-    let end = at + bytes.len() as u64;
-    let length = disk.len();
-    assert!(rt; end <= length);
-    assert!(rt; disk.write_at(at, bytes).is_ok());
-}
-
-/// A file of which only the largest number is left, with the empty value.
-fn at_the_end(rt: &(impl Abort + AllocGlobal)) -> Result<MemDisk, Fail> {
-    let mut disk = file(rt, 0, 1)?;
+/// A file that has the largest number alone, with the empty value.
+fn at_the_end(rt: &impl Host) -> Result<MemDisk, Fail> {
+    let mut disk = fresh(rt)?;
     let mut body = [0; BLOCK_LEN];
     encode_body(LAST_NUMBER, b"", &mut body);
     let slot = slot_of(LAST_NUMBER);
-    put(rt, &mut disk, body_at(slot), &body);
-    put(rt, &mut disk, gate_at(0), &[CLOSED_GATE]);
-    put(rt, &mut disk, gate_at(slot), &[OPEN_GATE]);
+    disk.write_at(body_at(slot), &body)?;
+    disk.write_at(gate_at(0), &[CLOSED_GATE])?;
+    disk.write_at(gate_at(slot), &[OPEN_GATE])?;
     Ok(disk)
 }
 
 #[test]
 fn largest_number(rt: HostRuntime) -> Result<(), Fail> {
+    let last = 9_223_372_036_854_775_807;
     let (mut writer, _) = seated(&rt, at_the_end(&rt)?, 100)?;
-    stands(&rt, &writer, 9_223_372_036_854_775_807, b"", 100);
-    let updates: [(u64, &[u8], Result<u64, Refusal>); 3] = [
-        (9_223_372_036_854_775_808, b"x", Err(Refusal::Exhausted)),
+    has(&rt, &writer, last, b"", 100);
+    let updates: [Row<'_>; 3] = [
+        (last + 1, b"x", Err(Refusal::Exhausted)),
         (1, b"x", Err(Refusal::OutOfStep)),
-        (
-            9_223_372_036_854_775_807,
-            b"",
-            Ok(9_223_372_036_854_775_807),
-        ),
+        (last, b"", Ok(last)),
     ];
-    for (number, value, answer) in updates {
-        answers(&rt, &mut writer, number, value, answer);
-    }
+    answers(&rt, &mut writer, &updates, last);
     called(&rt, writer, 7 + 3 + 2, 0);
     Ok(())
 }
 
 #[test]
 fn worn_scanner_and_writer(rt: HostRuntime) -> Result<(), Fail> {
-    let (mut writer, _) = seated(&rt, file(&rt, 0, 1)?, 4)?;
-    answers(&rt, &mut writer, 1, b"hi", Ok(1));
-    answers(&rt, &mut writer, 2, b"yo", Err(Refusal::Worn));
-    answers(&rt, &mut writer, 1, b"hi", Ok(1));
-    stands(&rt, &writer, 1, b"hi", 2);
+    let (mut writer, _) = seated(&rt, fresh(&rt)?, 4)?;
+    let updates: [Row<'_>; 3] = [
+        (1, b"hi", Ok(1)),
+        (2, b"yo", Err(Refusal::Worn)),
+        (1, b"hi", Ok(1)),
+    ];
+    answers(&rt, &mut writer, &updates, 1);
+    has(&rt, &writer, 1, b"hi", 2);
     called(&rt, writer, 7 + 2 + 4, 0);
     Ok(())
 }

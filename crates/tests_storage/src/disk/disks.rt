@@ -1,14 +1,8 @@
-//! What no clause says of devices in memory: texts, and the happy path of each call.
+//! Refusals, and devices in memory: texts, and a success of each call.
 use crate::checks::{are, prints};
 use snap_devices::{FaultPlan, MemDisk};
-use snap_disk::{DeviceFault, Disk, Fill, Image, Refusal};
-use std::process::Abort;
+use snap_disk::{Disk, Fill, Image, Refusal};
 use std::test::Fail;
-
-/// Whether a refusal has this code, both ways.
-fn has_code(refusal: Refusal, code: u8) -> bool {
-    refusal.code() == code && Refusal::of_code(code) == Some(refusal)
-}
 
 /// Each refusal with its code and its text.
 const REFUSALS: [(Refusal, u8, &str); 17] = [
@@ -34,7 +28,10 @@ const REFUSALS: [(Refusal, u8, &str); 17] = [
 #[test]
 fn refusal_codes_and_names(rt: HostRuntime) -> Result<(), Fail> {
     for (refusal, code, text) in &REFUSALS {
-        assert!(rt; has_code(*refusal, *code), "at {code}");
+        assert!(rt;
+            refusal.code() == *code && Refusal::of_code(*code) == Some(*refusal),
+            "{code}"
+        );
         prints(&rt, refusal, text)?;
     }
     for code in [0, 18, 255] {
@@ -43,7 +40,7 @@ fn refusal_codes_and_names(rt: HostRuntime) -> Result<(), Fail> {
     Ok(())
 }
 
-/// What five bytes 1 are under this fill.
+/// Five bytes 1 after this fill.
 fn filled(fill: &Fill) -> [u8; 5] {
     let mut bytes = [1; 5];
     for place in 0..5 {
@@ -66,7 +63,7 @@ fn image_by_the_table(rt: HostRuntime) -> Result<(), Fail> {
     let mut image = Image::new(rt.alloc(), 4)?;
     image.put(1, &[1, 2]);
     are(&rt, image.bytes(), &[0, 1, 2, 0]);
-    // A crash shows which places are open.
+    // A crash fills the open places.
     image.crash(&Fill::All(9));
     are(&rt, image.bytes(), &[0, 9, 9, 0]);
     image.settle();
@@ -82,69 +79,50 @@ fn image_by_the_table(rt: HostRuntime) -> Result<(), Fail> {
     Ok(())
 }
 
-/// A plan that fails calls 1 and 3, the third twice over, and every call from 4 on.
-fn plan(rt: &impl AllocGlobal) -> Result<FaultPlan, Fail> {
-    let mut plan = FaultPlan::new(rt.alloc());
-    plan.fail_call(1, Fill::All(5))?;
-    plan.fail_call(3, Fill::Keep)?;
-    plan.fail_call(3, Fill::All(6))?;
-    plan.fail_after(4, Fill::All(7));
-    Ok(plan)
+/// A call of a device of two bytes.
+enum Call {
+    Write(u64, u8),
+    Sync,
+    Read,
 }
 
-/// A write of this byte answers so, and so many calls have failed behind it.
-fn writes(
-    rt: &impl Abort,
-    disk: &mut MemDisk,
-    at: u64,
-    byte: u8,
-    want: Result<(), DeviceFault>,
-    failures: u64,
-) {
-    assert!(rt; at < 2 && disk.len() == 2 && disk.failures() < 9);
-    let answer = disk.write_at(at, &[byte]);
-    assert!(rt; answer == want && disk.failures() == failures);
-}
-
-fn syncs(rt: &impl Abort, disk: &mut MemDisk, want: Result<(), DeviceFault>, failures: u64) {
-    assert!(rt; disk.failures() < 9);
-    let answer = disk.sync();
-    assert!(rt; answer == want && disk.failures() == failures);
-}
-
-/// A read of both bytes answers so. Where it succeeds, it gives these.
-fn reads(
-    rt: &impl Abort,
-    disk: &mut MemDisk,
-    want: Result<(), DeviceFault>,
-    bytes: [u8; 2],
-    failures: u64,
-) {
-    assert!(rt; disk.len() == 2 && disk.failures() < 9);
-    let mut buf = [0; 2];
-    let answer = disk.read_at(0, &mut buf);
-    assert!(rt; answer == want && disk.failures() == failures);
-    assert!(rt; want.is_err() || buf == bytes);
-}
+/// Calls under a plan that fails calls 1 and 3, and each one after 4: whether each succeeds, how many have failed then, and
+/// what the device has.
+const CALLS: [(Call, bool, u64, [u8; 2]); 6] = [
+    (Call::Write(1, 1), false, 1, [0, 5]),
+    (Call::Read, true, 1, [0, 5]),
+    (Call::Sync, false, 2, [0, 5]),
+    (Call::Write(0, 2), true, 2, [2, 5]),
+    (Call::Sync, false, 3, [7, 7]),
+    (Call::Read, false, 4, [7, 7]),
+];
 
 #[test]
 fn faults_by_the_call_number(rt: HostRuntime) -> Result<(), Fail> {
-    let fault = Err(DeviceFault);
+    let mut plan = FaultPlan::new(rt.alloc());
+    plan.fail_call(1, Fill::All(5))?;
+    plan.fail_call(3, Fill::Keep)?;
+    // The first plan of a call counts.
+    plan.fail_call(3, Fill::All(6))?;
+    plan.fail_after(4, Fill::All(7));
     let mut disk = MemDisk::zeroed(rt.alloc(), 2)?;
-    disk.set_plan(plan(&rt)?);
-    writes(&rt, &mut disk, 1, 1, fault, 1);
-    reads(&rt, &mut disk, Ok(()), [0, 5], 1);
-    syncs(&rt, &mut disk, fault, 2);
-    writes(&rt, &mut disk, 0, 2, Ok(()), 2);
-    are(&rt, disk.image().bytes(), &[2, 5]);
-    syncs(&rt, &mut disk, fault, 3);
-    reads(&rt, &mut disk, fault, [0, 0], 4);
-    are(&rt, disk.image().bytes(), &[7, 7]);
+    disk.set_plan(plan);
+    for (call, succeeds, failures, bytes) in &CALLS {
+        let mut buf = *bytes;
+        let answer = match call {
+            Call::Write(at, byte) => disk.write_at(*at, &[*byte]),
+            Call::Sync => disk.sync(),
+            Call::Read => disk.read_at(0, &mut buf),
+        };
+        assert!(rt; answer.is_ok() == *succeeds && disk.failures() == *failures);
+        are(&rt, disk.image().bytes(), bytes);
+        assert!(rt; !*succeeds || buf == *bytes);
+    }
 
     // The next plan counts on from the calls made so far.
     assert!(rt; disk.calls() == 6);
     disk.set_plan(FaultPlan::new(rt.alloc()));
-    syncs(&rt, &mut disk, Ok(()), 4);
+    assert!(rt; disk.sync().is_ok() && disk.failures() == 4);
     disk.crash(&Fill::All(9));
     assert!(rt; disk.calls() == 7 && disk.failures() == 4);
     are(&rt, disk.image().bytes(), &[7, 7]);

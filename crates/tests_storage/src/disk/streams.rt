@@ -14,17 +14,12 @@ fn slow(bytes: Vec<u8>) -> TestStream {
 }
 
 #[test]
-fn a_slow_writer_gets_all(rt: HostRuntime) -> Result<(), Fail> {
+fn slow_streams_pass_all(rt: HostRuntime) -> Result<(), Fail> {
     let mut writer = slow(Vec::new(rt.alloc()));
     write_whole(&mut writer, b"seven..")?;
     are(&rt, &writer.bytes, b"seven..");
     assert!(rt; complain(rt.alloc(), &mut writer, &"why"));
     are(&rt, &writer.bytes, b"seven..snapd: why\n");
-    Ok(())
-}
-
-#[test]
-fn a_slow_reader_gives_all(rt: HostRuntime) -> Result<(), Fail> {
     let mut reader = slow(Vec::from_slice(rt.alloc(), b"seven..")?);
     let mut buffer = [0; 5];
     for want in [b"seven".as_slice(), b"..", b""] {

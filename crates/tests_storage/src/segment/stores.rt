@@ -1,12 +1,12 @@
 //! Worked examples of formats, stores and crashes, and the bytes of a file.
-use crate::segment::devices::{
-    GATE_0, GATE_1, HEADER, HEADER_GATE, Part, after_crash, blank, crashed, device, failing, finds,
-    formats, fresh, has_bytes, holds, littered, made, opened, stored, stores,
+use crate::checks::Host;
+use crate::devices::{
+    BODY_1, GATE_0, GATE_1, HEADER, HEADER_GATE, Part, after_crash, blank, crashed, device,
+    failing, finds, fresh, has_bytes, holds, littered, made, opened, plan_fault, stored,
 };
-use snap_devices::{FaultPlan, MemDisk};
+use snap_devices::MemDisk;
 use snap_disk::{Disk, Fill, Refusal};
 use snap_segment::{Segment, format};
-use std::process::Abort;
 use std::test::Fail;
 
 #[test]
@@ -15,7 +15,7 @@ fn formats_once(rt: HostRuntime) -> Result<(), Fail> {
     made(&rt, &disk, 0, 7);
     let mut disk = holds(&rt, disk, 0, b"")?;
     let calls = disk.calls();
-    formats(&rt, &mut disk, Err(Refusal::AlreadyFormatted));
+    assert!(rt; format(&mut disk, 0, 1) == Err(Refusal::AlreadyFormatted));
     // A sync and a read.
     made(&rt, &disk, calls, 2);
     // No place is open: a crash changes nothing.
@@ -24,49 +24,36 @@ fn formats_once(rt: HostRuntime) -> Result<(), Fail> {
     Ok(())
 }
 
+/// A format of a formatted file that fails after so many calls, and a crash then, change nothing.
 #[test]
 fn format_keeps_a_formatted_file(rt: HostRuntime) -> Result<(), Fail> {
-    let refusals = [
+    for (passes, why) in [
         (0, Refusal::DeviceFailed),
         (1, Refusal::DeviceFailed),
         (2, Refusal::AlreadyFormatted),
-    ];
-    for (passes, why) in refusals {
-        is_kept(&rt, passes, why)?;
+    ] {
+        let disk = stored(&rt, fresh(&rt)?, b"hi", 1)?;
+        let call = disk.calls() + passes;
+        let mut disk = failing(&rt, disk, call, Fill::All(0x00));
+        assert!(rt; format(&mut disk, 0, 1) == Err(why));
+        holds(&rt, after_crash(&rt, disk, 0x00), 1, b"hi")?;
     }
-    Ok(())
-}
-
-/// A formatting that fails behind so many calls is refused so, and a crash then changes nothing.
-fn is_kept(rt: &(impl Abort + AllocGlobal), passes: u64, why: Refusal) -> Result<(), Fail> {
-    let disk = stored(rt, fresh(rt)?, b"hi", 1)?;
-    let call = disk.calls().saturating_add(passes);
-    let mut disk = failing(rt, disk, call, Fill::All(0x00));
-    formats(rt, &mut disk, Err(why));
-    let disk = after_crash(rt, disk, &Fill::All(0x00));
-    holds(rt, disk, 1, b"hi")?;
     Ok(())
 }
 
 #[test]
 fn bytes_of_a_file(rt: HostRuntime) -> Result<(), Fail> {
     let mut disk = blank(&rt)?;
-    assert!(rt; disk.failures() == 0);
     format(&mut disk, 1, 2)?;
     let header: Part = (0, b"\x53\x4E\x41\x50\x53\x45\x47\x32\x01\x02");
     has_bytes(&rt, &disk, &[header, HEADER_GATE, GATE_0])?;
-
     let mut segment = Segment::open(rt.alloc(), disk, 1, 2).map_err(|(why, _)| why)?;
-    stores(&rt, &mut segment, b"hi", Ok(1));
-    let body: Part = (16_384, b"\0\0\0\0\0\0\0\x01\0\0\0\x02\0\0\0\0\x68\x69");
-    let parts = [header, HEADER_GATE, GATE_0, GATE_1, body];
-    has_bytes(&rt, &segment.into_device(), &parts)
-}
-
-#[test]
-fn format_leaves_no_old_byte(rt: HostRuntime) -> Result<(), Fail> {
+    assert!(rt; segment.store(b"hi") == Ok(1));
+    let parts = [header, HEADER_GATE, GATE_0, GATE_1, BODY_1];
+    has_bytes(&rt, &segment.into_device(), &parts)?;
+    // A format leaves no old byte.
     let mut disk = littered(&rt)?;
-    formats(&rt, &mut disk, Ok(()));
+    assert!(rt; format(&mut disk, 0, 1).is_ok());
     has_bytes(&rt, &disk, &[HEADER, HEADER_GATE, GATE_0])
 }
 
@@ -76,7 +63,7 @@ fn longest_value_and_one_more(rt: HostRuntime) -> Result<(), Fail> {
     let disk = stored(&rt, fresh(&rt)?, &longest, 1)?;
     let calls = disk.calls();
     let mut segment = opened(&rt, disk)?;
-    stores(&rt, &mut segment, &more, Err(Refusal::TooLong));
+    assert!(rt; segment.store(&more) == Err(Refusal::TooLong));
     let disk = segment.into_device();
     // The opening's calls.
     made(&rt, &disk, calls, 2);
@@ -86,9 +73,8 @@ fn longest_value_and_one_more(rt: HostRuntime) -> Result<(), Fail> {
     Ok(())
 }
 
-/// The file isn't that of this segment of so many. The device comes back.
-fn is_of_another(rt: &(impl Abort + AllocGlobal), disk: MemDisk, index: u8, count: u8) -> MemDisk {
-    assert!(rt; disk.failures() < 9 && index < count && count <= 16);
+/// The file isn't the one of this segment of so many. The device comes back.
+fn is_of_another(rt: &impl Host, disk: MemDisk, index: u8, count: u8) -> MemDisk {
     let (why, disk) = match Segment::open(rt.alloc(), disk, index, count) {
         Ok(segment) => (None, segment.into_device()),
         Err((why, disk)) => (Some(why), disk),
@@ -98,106 +84,78 @@ fn is_of_another(rt: &(impl Abort + AllocGlobal), disk: MemDisk, index: u8, coun
 }
 
 #[test]
-fn torn_body_is_not_opened(rt: HostRuntime) -> Result<(), Fail> {
-    let disk = crashed(&rt, fresh(&rt)?, b"hi", 1, &Fill::All(0xA5))?;
-    holds(&rt, disk, 0, b"")?;
-    Ok(())
-}
-
-#[test]
 fn four_calls_after_a_torn_body(rt: HostRuntime) -> Result<(), Fail> {
-    let disk = crashed(&rt, fresh(&rt)?, b"hi", 1, &Fill::All(0xA5))?;
-    let disk = crashed(&rt, disk, b"hi", 1, &Fill::All(0xA5))?;
+    let disk = crashed(&rt, fresh(&rt)?, b"hi", 1, 0xA5)?;
+    let disk = holds(&rt, disk, 0, b"")?;
+    let disk = crashed(&rt, disk, b"hi", 1, 0xA5)?;
     let disk = holds(&rt, disk, 0, b"")?;
     let calls = disk.calls();
     let mut segment = opened(&rt, disk)?;
     assert!(rt; !segment.spare_open());
-    stores(&rt, &mut segment, b"hi", Ok(1));
-    assert!(rt; segment.spare_open());
+    assert!(rt; segment.store(b"hi") == Ok(1) && segment.spare_open());
     made(&rt, &segment.into_device(), calls, 2 + 4);
     Ok(())
 }
 
-/// The first store makes four calls, and the next one five: with the closing of the slot behind.
+/// The first store makes four calls, and the next one five: it closes the spare slot first.
 #[test]
 fn five_calls(rt: HostRuntime) -> Result<(), Fail> {
     let disk = stored(&rt, fresh(&rt)?, b"hi", 1)?;
     made(&rt, &disk, 0, 7 + 2 + 4);
     let disk = stored(&rt, disk, b"yo", 2)?;
     made(&rt, &disk, 7 + 2 + 4, 2 + 5);
-    // What is behind so many of its calls, the fill of a crash, and what is there then.
-    second_crashes(&rt, 2, 0xA5, 1, b"hi")?;
-    second_crashes(&rt, 2, 0x00, 1, b"hi")?;
-    second_crashes(&rt, 4, 0xA5, 2, b"yo")?;
-    second_crashes(&rt, 4, 0x00, 1, b"hi")
-}
-
-/// The store of `yo` behind that of `hi` stops behind so many of its calls, and the machine
-/// crashes.
-fn second_crashed(rt: &(impl Abort + AllocGlobal), passes: u64, fill: u8) -> Result<MemDisk, Fail> {
-    let disk = stored(rt, fresh(rt)?, b"hi", 1)?;
-    crashed(rt, disk, b"yo", passes, &Fill::All(fill))
-}
-
-fn second_crashes(
-    rt: &(impl Abort + AllocGlobal),
-    passes: u64,
-    fill: u8,
-    number: u64,
-    value: &[u8],
-) -> Result<(), Fail> {
-    holds(rt, second_crashed(rt, passes, fill)?, number, value)?;
     Ok(())
 }
 
+/// Crashes in the first store, of `hi`, and in the second one, of `yo`: after how many of its calls, the fill, and what the
+/// file has then: its number, its value, and whether its spare gate is open.
+const CRASHES: [(bool, u64, u8, u64, &[u8], bool); 8] = [
+    (false, 3, 0xA5, 1, b"hi", true),
+    (false, 3, 0x00, 0, b"", false),
+    (true, 1, 0xA5, 1, b"hi", true),
+    (true, 1, 0x00, 1, b"hi", false),
+    (true, 2, 0xA5, 1, b"hi", true),
+    (true, 2, 0x00, 1, b"hi", false),
+    (true, 4, 0xA5, 2, b"yo", true),
+    (true, 4, 0x00, 1, b"hi", false),
+];
+
 #[test]
-fn crash_after_the_closing_write(rt: HostRuntime) -> Result<(), Fail> {
-    for (fill, spare_open) in [(0xA5, true), (0x00, false)] {
-        let disk = holds(&rt, second_crashed(&rt, 1, fill)?, 1, b"hi")?;
-        assert!(rt; opened(&rt, disk)?.spare_open() == spare_open);
+fn crashes_in_a_store(rt: HostRuntime) -> Result<(), Fail> {
+    for (is_second, passes, fill, number, value, spare_open) in &CRASHES {
+        let disk = if *is_second {
+            let disk = stored(&rt, fresh(&rt)?, b"hi", 1)?;
+            crashed(&rt, disk, b"yo", *passes, *fill)?
+        } else {
+            crashed(&rt, fresh(&rt)?, b"hi", *passes, *fill)?
+        };
+        let disk = holds(&rt, disk, *number, *value)?;
+        let is_open = opened(&rt, disk)?.spare_open();
+        assert!(rt;
+            is_open == *spare_open,
+            "{is_second} {passes} {fill}: {is_open}"
+        );
     }
     Ok(())
 }
 
-#[test]
-fn crash_before_the_last_sync(rt: HostRuntime) -> Result<(), Fail> {
-    let disk = crashed(&rt, fresh(&rt)?, b"hi", 3, &Fill::All(0xA5))?;
-    holds(&rt, disk, 1, b"hi")?;
-    let disk = crashed(&rt, fresh(&rt)?, b"hi", 3, &Fill::All(0x00))?;
-    holds(&rt, disk, 0, b"")?;
-    Ok(())
-}
-
-/// A segment of the empty file whose first store failed in its last sync.
-fn fenced(rt: &(impl Abort + AllocGlobal)) -> Result<Segment<MemDisk>, Fail> {
-    let mut disk = fresh(rt)?;
-    let mut plan = FaultPlan::new(rt.alloc());
-    // An opening makes two calls.
-    plan.fail_call(disk.calls().saturating_add(2 + 4), Fill::Keep)?;
-    disk.set_plan(plan);
-    let mut segment = opened(rt, disk)?;
-    stores(rt, &mut segment, b"hi", Err(Refusal::DeviceFailed));
-    Ok(segment)
-}
-
-/// The fenced segment refuses this value so, and is as it was.
-fn is_fenced(rt: &impl Abort, segment: &mut Segment<MemDisk>, value: &[u8], why: Refusal) {
-    stores(rt, segment, value, Err(why));
-    assert!(rt; segment.number() == 0 && segment.value().is_empty());
-    assert!(rt; segment.is_fenced());
-    assert!(rt;
-        segment
-            .begun()
-            .is_some_and(|begun| begun == b"hi".as_slice())
-    );
-}
-
+/// The last sync of the first store fails.
 #[test]
 fn fault_fences_the_segment(rt: HostRuntime) -> Result<(), Fail> {
-    let mut segment = fenced(&rt)?;
-    is_fenced(&rt, &mut segment, b"hi", Refusal::Fenced);
-    is_fenced(&rt, &mut segment, b"", Refusal::Fenced);
-    is_fenced(&rt, &mut segment, &[7; 4081], Refusal::TooLong);
+    let mut disk = fresh(&rt)?;
+    // An opening makes two calls.
+    plan_fault(&rt, &mut disk, 2 + 3)?;
+    let mut segment = opened(&rt, disk)?;
+    assert!(rt; segment.store(b"hi") == Err(Refusal::DeviceFailed));
+    for (value, why) in [
+        (b"hi".as_slice(), Refusal::Fenced),
+        (b"", Refusal::Fenced),
+        (&[7; 4081], Refusal::TooLong),
+    ] {
+        assert!(rt; segment.store(value) == Err(why));
+        assert!(rt; segment.number() == 0 && segment.value().is_empty() && segment.is_fenced());
+        assert!(rt; segment.begun() == Some(b"hi".as_slice()));
+    }
     let disk = segment.into_device();
     made(&rt, &disk, 7 + 2, 4);
     assert!(rt; disk.failures() == 1);
@@ -209,11 +167,8 @@ fn fault_fences_the_segment(rt: HostRuntime) -> Result<(), Fail> {
 fn findings_of_three_slots(rt: HostRuntime) -> Result<(), Fail> {
     let mut disk = stored(&rt, fresh(&rt)?, b"hi", 1)?;
     let calls = disk.calls();
-    let want = "header index 0 count 1\n\
-        slot 0 open number 0 length 0\n\
-        slot 1 open number 1 length 2\n\
-        slot 2 closed\n\
-        answer number 1\n";
+    let want = "header index 0 count 1\nslot 0 open number 0 length 0\n\
+        slot 1 open number 1 length 2\nslot 2 closed\nanswer number 1\n";
     finds(&rt, &mut disk, want)?;
     made(&rt, &disk, calls, 1);
     Ok(())
@@ -221,15 +176,14 @@ fn findings_of_three_slots(rt: HostRuntime) -> Result<(), Fail> {
 
 #[test]
 fn largest_number(rt: HostRuntime) -> Result<(), Fail> {
+    // 2^63 - 1 is in slot 1.
     let last: Part = (16_384, b"\x7F\xFF\xFF\xFF\xFF\xFF\xFF\xFF");
-    // 2^63 - 1 lies in slot 1.
     let parts = [HEADER, HEADER_GATE, GATE_1, last];
-    let disk = device(&rt, &parts)?;
+    let disk = device(&rt, 28_672, &parts)?;
     let calls = disk.calls();
     let mut segment = opened(&rt, disk)?;
     assert!(rt; segment.number() == 9_223_372_036_854_775_807);
-    stores(&rt, &mut segment, b"x", Err(Refusal::Exhausted));
-    assert!(rt; !segment.is_fenced());
+    assert!(rt; segment.store(b"x") == Err(Refusal::Exhausted) && !segment.is_fenced());
     let disk = segment.into_device();
     // The opening's calls.
     made(&rt, &disk, calls, 2);

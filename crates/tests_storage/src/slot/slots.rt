@@ -1,14 +1,11 @@
 //! Bytes and texts of the format, as docs/FORMATS.md gives them.
-ghost use Rattle.std.specs.Prelude.{◌+◌, ◌<◌, ◌≤◌, length};
-
-use crate::checks::{are, prints};
+use crate::checks::{Host, are, prints};
 use snap_disk::Refusal;
 use snap_slot::{
     Flaw, Found, Header, MARK, Slot, encode_body, encode_fresh_file, encode_header, encode_slots,
     inspect, read_header, read_slot, recover,
 };
 use std::alloc::AllocError;
-use std::process::Abort;
 
 fn body_of(number: u32) -> [u8; 4096] {
     let mut body = [0xFF; 4096];
@@ -21,23 +18,17 @@ fn file_of(slots: [(u8, u32); 3]) -> [u8; 28672] {
     let mut file = [0; 28672];
     let mut front = [0; 4095];
     encode_header(0, 1, &mut front);
-    put(&mut file, 0, &front);
-    put(&mut file, 4095, &[0xA5, slots[0].0]);
-    put(&mut file, 8192, &body_of(slots[0].1));
-    put(&mut file, 12288, &[slots[1].0]);
-    put(&mut file, 16384, &body_of(slots[1].1));
-    put(&mut file, 20480, &[slots[2].0]);
-    put(&mut file, 24576, &body_of(slots[2].1));
+    file[..4095].copy_from_slice(&front);
+    file[4095] = 0xA5;
+    for (slot, (gate, number)) in slots.into_iter().enumerate() {
+        let at = 4096 + slot * 8192;
+        file[at] = gate;
+        file[at + 4096..at + 8192].copy_from_slice(&body_of(number));
+    }
     file
 }
 
-fn put(file: &mut [u8; 28672], at: usize, bytes: &[u8])
-    requires { at + length bytes.now ≤ 28672 }
-{
-    file[at..at + bytes.len()].copy_from_slice(bytes);
-}
-
-fn are_zero(rt: &impl Abort, bytes: &[u8]) {
+fn are_zero(rt: &impl Host, bytes: &[u8]) {
     assert!(rt; bytes.iter().all(|&byte| byte == 0));
 }
 
@@ -75,9 +66,7 @@ fn slots_of_one_number(rt: HostRuntime) {
 }
 
 /// The header of segment 1 of 2 once a byte is changed.
-fn changed(at: usize, byte: u8) -> Header
-    requires { at < 4096 }
-{
+fn changed(at: usize, byte: u8) -> Header {
     let mut block = [0; 4096];
     let mut front = [0; 4095];
     encode_header(1, 2, &mut front);
@@ -110,68 +99,50 @@ const HEADERS: [(usize, u8, Header); 9] = [
 #[test]
 fn headers(rt: HostRuntime) {
     for (at, byte, want) in &HEADERS {
-        assert!(rt;
-            *at < 4096 && changed(*at, *byte) == *want,
-            "byte {at} is {byte}"
-        );
+        assert!(rt; changed(*at, *byte) == *want, "byte {at} is {byte}");
     }
 }
 
 /// What slot 1 is with number 1 and `hi` once these bytes are changed, those of the body from
 /// 4,096 on.
-fn is_slot(rt: &impl Abort, changes: &[(usize, u8)], want: Slot) {
+fn is_slot(rt: &impl Host, changes: &[(usize, u8)], want: Slot) {
     let mut gate = [0; 4096];
     gate[0] = 0xA5;
     let mut body = body_of(1);
     for &(at, byte) in changes {
         if at < 4096 {
             gate[at] = byte;
-        } else if at < 8192 {
+        } else {
             body[at - 4096] = byte;
         }
     }
     assert_eq!(rt; read_slot(3, 1, &gate, &body), want, "{changes:?}");
 }
 
-/// Each of these changes alone, or with the one beside it, makes the slot bad so.
-fn are_bad(rt: &impl Abort, changes: &[[(usize, u8); 2]], flaw: Flaw) {
-    for change in changes {
-        is_slot(rt, change, Slot::Bad(flaw));
-    }
-}
+/// Changes of one byte or two, and the first flaw of the slot then.
+const FLAWS: [(&[(usize, u8)], Flaw); 11] = [
+    (&[(1, 1)], Flaw::Gate),
+    (&[(0, 0), (4095, 1)], Flaw::Gate),
+    (&[(4106, 0x0F), (4107, 0xF1)], Flaw::Length),
+    (&[(4104, 1), (4108, 1)], Flaw::Length),
+    (&[(4108, 1)], Flaw::Zeros),
+    (&[(4111, 1), (4103, 2)], Flaw::Zeros),
+    (&[(4114, 1)], Flaw::Zeros),
+    (&[(8191, 1)], Flaw::Zeros),
+    (&[(4096, 0x80)], Flaw::Number),
+    (&[(4103, 2)], Flaw::Number),
+    (&[(4103, 3)], Flaw::Number),
+];
 
 #[test]
 fn flaws_in_their_order(rt: HostRuntime) {
-    let open = Slot::Open {
-        number: 1,
-        length: 2,
-    };
-    // A change that changes nothing: the gate is open.
-    let same = (0, 0xA5);
-    is_slot(&rt, &[], open);
+    let (number, length) = (1, 2);
+    is_slot(&rt, &[], Slot::Open { number, length });
     is_slot(&rt, &[(0, 0)], Slot::Closed);
     is_slot(&rt, &[(0, 0xA4), (4096, 0xFF)], Slot::Closed);
-    are_bad(&rt, &[[same, (1, 1)], [(0, 0), (4095, 1)]], Flaw::Gate);
-    are_bad(
-        &rt,
-        &[[(4106, 0x0F), (4107, 0xF1)], [(4104, 1), (4108, 1)]],
-        Flaw::Length,
-    );
-    are_bad(
-        &rt,
-        &[
-            [same, (4108, 1)],
-            [(4111, 1), (4103, 2)],
-            [same, (4114, 1)],
-            [same, (8191, 1)],
-        ],
-        Flaw::Zeros,
-    );
-    are_bad(
-        &rt,
-        &[[same, (4096, 0x80)], [same, (4103, 2)], [same, (4103, 3)]],
-        Flaw::Number,
-    );
+    for (changes, flaw) in &FLAWS {
+        is_slot(&rt, changes, Slot::Bad(*flaw));
+    }
 }
 
 #[test]
@@ -190,7 +161,7 @@ fn largest_number_and_longest_value(rt: HostRuntime) {
 }
 
 /// What an opening of a file with these slots finds. All values are `hi`.
-fn recovers(rt: &impl Abort, slots: [(u8, u32); 3], want: Result<Found, Refusal>) {
+fn recovers(rt: &impl Host, slots: [(u8, u32); 3], want: Result<Found, Refusal>) {
     let file = file_of(slots);
     let answer = recover(&file, 0, 1);
     assert_eq!(rt; answer, want, "{slots:?}");
@@ -219,17 +190,17 @@ fn damaged_three_slots(rt: HostRuntime) {
         ([(0xA5, 3), (0xA5, 4), (0, 5)], 4, true),
         ([(0, 3), (0xA5, 4), (0xA5, 5)], 5, true),
     ] {
-        let found = Found {
-            number,
-            length: 2,
-            spare_open,
-        };
-        recovers(&rt, slots, Ok(found));
+        let length = 2;
+        recovers(
+            &rt,
+            slots,
+            Ok(Found {
+                number,
+                length,
+                spare_open,
+            }),
+        );
     }
-    refuses_a_header(&rt);
-}
-
-fn refuses_a_header(rt: &impl Abort) {
     let mut file = file_of([(0xA5, 0), (0, 1), (0, 2)]);
     assert!(rt; recover(&file, 0, 2) == Err(Refusal::WrongFile));
     file[0] = 0;
@@ -238,29 +209,37 @@ fn refuses_a_header(rt: &impl Abort) {
     assert!(rt; recover(&file, 0, 1) == Err(Refusal::Unformatted));
 }
 
+/// Changes of a file, one after the other, and what is printed of it after each.
+const FINDINGS: [(&[(usize, u8)], &str); 5] = [
+    (
+        &[],
+        "header index 0 count 1\nslot 0 open number 0 length 0\n\
+slot 1 open number 1 length 2\nslot 2 closed\nanswer number 1\n",
+    ),
+    (
+        &[(4096, 0), (12288, 0)],
+        "header index 0 count 1\nslot 0 closed\nslot 1 closed\nslot 2 closed\nanswer none\n",
+    ),
+    (
+        &[(20481, 1)],
+        "header index 0 count 1\nslot 0 closed\nslot 1 closed\nslot 2 bad gate\nanswer none\n",
+    ),
+    (&[(4094, 1)], "header wrong\n"),
+    (&[(4095, 0)], "header unformatted\n"),
+];
+
 #[test]
 fn printed_findings(rt: HostRuntime) -> Result<(), AllocError> {
     let mut file = file_of([(0xA5, 0), (0xA5, 1), (0, 2)]);
     let mut empty = [0; 4096];
     encode_body(0, b"", &mut empty);
-    put(&mut file, 8192, &empty);
-    let text = "header index 0 count 1\nslot 0 open number 0 length 0\n\
-slot 1 open number 1 length 2\nslot 2 closed\nanswer number 1\n";
-    prints(&rt, &inspect(&file), text)?;
-
-    // All gates closed, then a bad slot, then a header that is none.
-    file[4096] = 0;
-    file[12288] = 0;
-    let text = "header index 0 count 1\nslot 0 closed\nslot 1 closed\nslot 2 closed\nanswer none\n";
-    prints(&rt, &inspect(&file), text)?;
-    file[20481] = 1;
-    let text =
-        "header index 0 count 1\nslot 0 closed\nslot 1 closed\nslot 2 bad gate\nanswer none\n";
-    prints(&rt, &inspect(&file), text)?;
-    file[4094] = 1;
-    prints(&rt, &inspect(&file), "header wrong\n")?;
-    file[4095] = 0;
-    prints(&rt, &inspect(&file), "header unformatted\n")?;
+    file[8192..12288].copy_from_slice(&empty);
+    for (changes, text) in &FINDINGS {
+        for (at, byte) in changes.iter() {
+            file[*at] = *byte;
+        }
+        prints(&rt, &inspect(&file), text)?;
+    }
     for (flaw, name) in [
         (Flaw::Gate, "gate"),
         (Flaw::Length, "length"),
