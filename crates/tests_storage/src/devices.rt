@@ -23,7 +23,7 @@ pub(crate) const GATE_2: Part = (20_480, b"\xA5");
 /// The body of number 1 with `hi` in slot 1.
 pub(crate) const BODY_1: Part = (16_384, b"\0\0\0\0\0\0\0\x01\0\0\0\x02\0\0\0\0\x68\x69");
 
-/// So many bytes: these parts, and zeros.
+/// `len` bytes: these parts, and zeros.
 fn filled(rt: &impl Host, len: usize, parts: &[Part]) -> Result<Vec<u8>, AllocError> {
     let mut bytes = vec![in rt.alloc(); 0u8; len]?;
     for (at, part) in parts {
@@ -40,7 +40,7 @@ fn written(rt: &impl Host, bytes: &[u8]) -> Result<MemDisk, Fail> {
     Ok(disk)
 }
 
-/// A device of so many bytes that has these parts, all of it synced.
+/// A device of `len` bytes that has these parts, all of it synced.
 pub(crate) fn device(rt: &impl Host, len: usize, parts: &[Part]) -> Result<MemDisk, Fail> {
     written(rt, &filled(rt, len, parts)?)
 }
@@ -55,7 +55,7 @@ pub(crate) fn littered(rt: &impl Host) -> Result<MemDisk, Fail> {
     written(rt, &vec![in rt.alloc(); 0x77u8; 28_672]?)
 }
 
-/// The new file of this segment of so many.
+/// The new file of segment `index` of `count`.
 pub(crate) fn new_file(rt: &impl Host, index: u8, count: u8) -> Result<MemDisk, Fail> {
     let mut disk = blank(rt)?;
     format(&mut disk, index, count)?;
@@ -94,12 +94,12 @@ pub(crate) fn finds(rt: &impl Host, disk: &mut MemDisk, text: &str) -> Result<()
     Ok(())
 }
 
-/// So many calls were made of this device since.
+/// `calls` were made of this device after the first `since`.
 pub(crate) fn made(rt: &impl Host, disk: &MemDisk, since: u64, calls: u64) {
     assert_eq!(rt; disk.calls() - since, calls);
 }
 
-/// From now on the call after so many further ones fails.
+/// From now on the call after `passes` more fails.
 pub(crate) fn plan_fault(
     rt: &impl Host,
     disk: &mut MemDisk,
@@ -126,7 +126,7 @@ pub(crate) fn after_crash(rt: &impl Host, mut disk: MemDisk, fill: u8) -> MemDis
     disk
 }
 
-/// The store of `value` stops after so many of its calls, and the machine crashes.
+/// The store of `value` stops after `passes` of its calls, and the machine crashes.
 pub(crate) fn crashed(
     rt: &impl Host,
     disk: MemDisk,

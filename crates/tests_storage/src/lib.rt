@@ -1,6 +1,6 @@
-//! The tests of files and of what they keep: devices and streams (`snap_disk`, `snap_devices`, `snap_stream`), the format of a
-//! slot and the calls of a store (`snap_slot`, `snap_persist`), segments (`snap_segment`), writers (`snap_writer`) and a
-//! server's files (`snap_restart`).
+//! The tests of files and of what they keep: devices and streams (`snap_disk`, `snap_devices`, `snap_stream`), the
+//! format of a slot and the calls of a store (`snap_slot`, `snap_persist`), segments (`snap_segment`), writers
+//! (`snap_writer`) and a server's files (`snap_restart`).
 #![tactic(auto)]
 
 #[cfg(test)]

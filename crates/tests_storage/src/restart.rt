@@ -9,7 +9,7 @@ use std::test::Fail;
 
 mod held;
 
-/// The new files of so many segments.
+/// The new files of `count` segments.
 fn fresh(rt: &impl Host, count: u8) -> Result<Vec<MemDisk>, Fail> {
     let mut devices = Vec::new(rt.alloc());
     for index in 0..count {
@@ -62,7 +62,8 @@ fn restart_sync_fails(rt: HostRuntime) -> Result<(), Fail> {
     Ok(())
 }
 
-/// An update whose store failed at its last sync is sent again after a crash with this fill. How many calls all of that took.
+/// An update whose store failed at its last sync is sent again after a crash with this fill. How many calls all of that
+/// took.
 fn sent_again(rt: &impl Host, fill: Fill) -> Result<u64, Fail> {
     let mut devices = fresh(rt, 1)?;
     // An opening makes two calls, and the last sync is a store's fourth.

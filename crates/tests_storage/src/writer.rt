@@ -11,7 +11,7 @@ use snap_slot::{BLOCK_LEN, CLOSED_GATE, OPEN_GATE, body_at, encode_body, gate_at
 use snap_writer::Writer;
 use std::test::Fail;
 
-/// The file, opened, in registers of its own with so many looks for each seat.
+/// The file, opened, in registers of its own with `looks` for each seat.
 fn seated(rt: &impl Host, disk: MemDisk, looks: u64) -> Result<(Writer<MemDisk>, Scanner), Fail> {
     let segment = Segment::open(rt.alloc(), disk, 0, 1).map_err(|(why, _)| why)?;
     let mut values = Vec::new(rt.alloc());
@@ -37,7 +37,7 @@ fn answers(rt: &impl Host, writer: &mut Writer<MemDisk>, updates: &[Row<'_>], nu
     }
 }
 
-/// The writer has this number and value, and so many looks left.
+/// The writer has this number and value, and `left` looks.
 fn has(rt: &impl Host, writer: &Writer<MemDisk>, number: u64, value: &[u8], left: u64) {
     assert!(rt; writer.number() == number && writer.looks_left() == left);
     assert!(rt; writer.value() == value);

@@ -3,7 +3,7 @@
 //!
 //!     try_parts restart-allocations made|opened|updated|closed|reopened|scanned
 //!
-//! ends behind that step, so that the allocations of each step can be counted. Behind an opening that
+//! ends after that step, so that the allocations of each step can be counted. After an opening that
 //! is refused the machine crashes, and the files are opened again.
 ghost use Rattle.std.specs.Prelude.{◌≡◌, ◌<◌, ◌≤◌, length, IfOk};
 ghost use Rattle.snap_register.specs.Seat.{AreTogether};
@@ -22,7 +22,7 @@ const FILES: u8 = 3;
 /// How many updates are made of the first segment.
 const UPDATES: u64 = 100;
 
-/// Behind which step the program ends.
+/// The step after which the program ends.
 #[derive(Clone, Copy, PartialEq, Eq)]
 enum Step {
     Made,

@@ -6,11 +6,11 @@
 //! thread of its own. All devices hang on one plug. The call of a drawn number pulls it, with or
 //! without having done its work: from then on each call of each device fails and changes nothing,
 //! wherever the threads are. Then the files are crashed by drawn fills and opened again, and what
-//! comes back is judged: of each segment the last number that its client was told or a scan showed, or
+//! comes back is judged: of each segment the last number that its client received or a scan showed, or
 //! one more where a call of a further store was done, with the value of that number.
 //!
-//! In each round a second start comes behind the crash, which is cut within its opening or ends right
-//! behind it, so that one crash comes behind the other. The files live on from round to round.
+//! In each round a second start follows the crash, which is cut within its opening or ends right
+//! after it, so that one crash follows the other. The files live on from round to round.
 //!
 //! The line that says so is the same in every run. On standard error three more follow, which count where
 //! the pulls found the threads; no seed fixes that.

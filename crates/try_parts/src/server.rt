@@ -1,4 +1,4 @@
-//! The server's loop over loopback with nothing behind it, for tests/test_server_loop.py.
+//! The server's loop over loopback without files, for tests/test_server_loop.py.
 //!
 //!     try_parts server WORKERS MICROS [CONNECTIONS]
 //!
@@ -69,7 +69,7 @@ where
     }
 }
 
-/// Serves with desks and stores as planned, and tells how each connection ended.
+/// Serves with desks and stores as planned, and sends how each connection ended.
 fn run_desks<X>(
     host: &X,
     alloc: Global,

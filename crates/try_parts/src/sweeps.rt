@@ -1,5 +1,5 @@
-//! Makes each device call of a run fail in turn, or be the last before the power goes, crashes the
-//! machine behind it, and prints what the files are then opened as.
+//! Makes each device call of a run fail in turn, or be the last before the power fails, crashes the
+//! machine after it, and prints what the files are then opened as.
 //!
 //!     try_parts segment-sweep
 //!
@@ -10,7 +10,7 @@
 //!     try_parts restart-sweep
 //!
 //! does so with an opening of three files, of which the second was left by a store whose last sync
-//! failed, so that each fill tells. Then it prints what is made of devices that give random bytes.
+//! failed, so that each fill matters. Then it prints the answers for devices that give random bytes.
 //! What it must print is worked out from the disk model by tests/oracle/restart_sweep.py.
 mod migration;
 mod noise;
@@ -65,7 +65,7 @@ fn sweep(rt: &HostRuntime, subject: Subject) -> io::Result<()> {
     Ok(())
 }
 
-/// One line: how the run was stopped, what it answered, and what stands after a crash with each
+/// One line: how the run was stopped, what it answered, and what is found after a crash with each
 /// garbage.
 fn row(rt: &HostRuntime, subject: Subject, stop: Stop) -> io::Result<()> {
     print_stop(rt, stop, subject.first_call())?;

@@ -86,8 +86,8 @@ enum Call {
     Read,
 }
 
-/// Calls under a plan that fails calls 1 and 3, and each one after 4: whether each succeeds, how many have failed then, and
-/// what the device has.
+/// Calls under a plan that fails calls 1 and 3, and each one after 4: whether each succeeds, how many have failed then,
+/// and what the device has.
 const CALLS: [(Call, bool, u64, [u8; 2]); 6] = [
     (Call::Write(1, 1), false, 1, [0, 5]),
     (Call::Read, true, 1, [0, 5]),

@@ -61,7 +61,8 @@ fn numbers(scanner: &mut Scanner, out: &mut Snapshot) -> Option<(u64, u64)> {
     Some((out.number(0), out.number(1)))
 }
 
-/// While the first update is held another one is stored, and a scan is answered. Whether both ended before the first one.
+/// While the first update is held another one is stored, and a scan is answered. Whether both ended before the first
+/// one.
 fn pass(
     writer: &mut Writer<Held>,
     scanner: &mut Scanner,

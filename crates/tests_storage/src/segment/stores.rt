@@ -24,7 +24,7 @@ fn formats_once(rt: HostRuntime) -> Result<(), Fail> {
     Ok(())
 }
 
-/// A format of a formatted file that fails after so many calls, and a crash then, change nothing.
+/// A format of a formatted file that fails after some calls, and a crash then, change nothing.
 #[test]
 fn format_keeps_a_formatted_file(rt: HostRuntime) -> Result<(), Fail> {
     for (passes, why) in [
@@ -73,7 +73,7 @@ fn longest_value_and_one_more(rt: HostRuntime) -> Result<(), Fail> {
     Ok(())
 }
 
-/// The file isn't the one of this segment of so many. The device comes back.
+/// The file isn't the one of segment `index` of `count`. The device comes back.
 fn is_of_another(rt: &impl Host, disk: MemDisk, index: u8, count: u8) -> MemDisk {
     let (why, disk) = match Segment::open(rt.alloc(), disk, index, count) {
         Ok(segment) => (None, segment.into_device()),
@@ -107,8 +107,8 @@ fn five_calls(rt: HostRuntime) -> Result<(), Fail> {
     Ok(())
 }
 
-/// Crashes in the first store, of `hi`, and in the second one, of `yo`: after how many of its calls, the fill, and what the
-/// file has then: its number, its value, and whether its spare gate is open.
+/// Crashes in the first store, of `hi`, and in the second one, of `yo`: after how many of its calls, the fill, and what
+/// the file has then: its number, its value, and whether its spare gate is open.
 const CRASHES: [(bool, u64, u8, u64, &[u8], bool); 8] = [
     (false, 3, 0xA5, 1, b"hi", true),
     (false, 3, 0x00, 0, b"", false),

@@ -30,7 +30,7 @@ struct Frames {
     snapshot: Vec<u8>,
 }
 
-/// The payload behind its length.
+/// The payload after its length.
 fn frame_of(alloc: Global, payload: &[u8]) -> Result<Vec<u8>, AllocError> {
     let len = u32::try_from(payload.len()).unwrap_or(0);
     let mut frame = Vec::from_slice(alloc, &len.to_be_bytes())?;
@@ -38,7 +38,7 @@ fn frame_of(alloc: Global, payload: &[u8]) -> Result<Vec<u8>, AllocError> {
     Ok(frame)
 }
 
-/// The replies of a server of so many segments, each at number 1 with so many bytes.
+/// The replies of a server of `segments` segments, each at number 1 with `length` bytes.
 fn replies(alloc: Global, segments: u8, length: u16) -> Result<Frames, AllocError> {
     let value = vec![in alloc; 7u8; usize::from(length)]?;
     let mut status = Vec::from_slice(alloc, &[0x83, segments])?;
@@ -75,7 +75,7 @@ fn call_each(alloc: Global, update: &Request, frames: &Frames) -> Result<Reply, 
     call_once(alloc, &Request::Scan, &frames.snapshot)
 }
 
-/// An update, a status and a scan, so many times. What came of the last time.
+/// An update, a status and a scan, `rounds` times. What came of the last time.
 pub(crate) fn call_rounds(
     alloc: Global,
     segments: u8,

@@ -3,7 +3,7 @@
 //!
 //!     try_parts bench-memory look|scan|update SEGMENTS WRITERS ROUNDS LENGTH
 //!
-//! does ROUNDS looks at the first segment, scans, or updates of the last segment, over values of
+//! does ROUNDS looks at the first register, scans, or updates of the last segment, over values of
 //! LENGTH bytes, while WRITERS of the other segments make updates in threads of their own, and
 //! prints how many rounds it did.
 //!
@@ -41,7 +41,7 @@ struct Task<'a> {
     value: &'a [u8],
 }
 
-/// Who does the rounds, and room for a scan.
+/// What does the rounds, and the snapshot of a scan.
 #[derive(Drop)]
 struct Measured {
     writer: WriteSeat,
@@ -49,7 +49,7 @@ struct Measured {
     snapshot: Snapshot,
 }
 
-/// Registers of so many segments, each at number 0 with this value, with looks for any run.
+/// Registers of `segments` segments, each at number 0 with this value, with looks for any run.
 fn open(alloc: Global, segments: usize, scanners: usize, value: &[u8]) -> Result<Parts, AllocError>
     requires segments { (0 < segments) × (segments ≤ MAX_COUNT) }
     requires scanners { scanners ≤ MAX_SCANNERS }
@@ -75,7 +75,7 @@ fn update(writer: &mut WriteSeat, value: &[u8]) -> bool {
     true
 }
 
-/// A look at the segment and its value. Whether there is such a segment and a look left.
+/// A look at the register of segment `j`, and its value. Whether there is such a segment and a look left.
 fn look(scanner: &mut Scanner, j: usize, room: &mut [u8; MAX_VALUE_LEN]) -> bool {
     if j >= scanner.segments() || scanner.looks_left() == 0 {
         return false;
@@ -107,7 +107,7 @@ impl Measured {
     }
 }
 
-/// Makes updates until it is told to stop.
+/// Makes updates until `stop` is set.
 fn write_on(writer: &mut WriteSeat, value: &[u8], stop: &AtomicU64) {
     for _ in 0..u64::MAX {
         if stop.load(Ordering::SeqCst) > 0 || !update(writer, value) {
@@ -116,7 +116,7 @@ fn write_on(writer: &mut WriteSeat, value: &[u8], stop: &AtomicU64) {
     }
 }
 
-/// Makes updates by all these writers, each in a thread of its own, until they are told to stop.
+/// Makes updates by all these writers, each in a thread of its own, until `stop` is set.
 fn write_all<R: Threads + Sync>(rt: &R, writers: &mut [WriteSeat], value: &[u8], stop: &AtomicU64) {
     for_each_mut(
         rt,
@@ -126,7 +126,7 @@ fn write_all<R: Threads + Sync>(rt: &R, writers: &mut [WriteSeat], value: &[u8],
     );
 }
 
-/// Does all rounds, and then tells the writers to stop. Whether it could.
+/// Does all rounds, and then stops the writers. Whether it could.
 fn repeat_until_done(measured: &mut Measured, task: Task, stop: &AtomicU64) -> bool {
     let done = measured.repeat(task);
     stop.store(1, Ordering::SeqCst);

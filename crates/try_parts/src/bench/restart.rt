@@ -48,7 +48,7 @@ pub(crate) fn measure_restarts(rt: &HostRuntime, words: &[&str]) -> io::Result<(
     }
 }
 
-/// The paths of so many files in the folder.
+/// The paths of `count` files in the folder.
 fn paths_in(rt: &HostRuntime, folder: &str, count: u8) -> io::Result<Vec<String>> {
     let mut paths = Vec::new(rt.alloc());
     for name in 0..count {

@@ -134,7 +134,7 @@ fn serve_files<R: Wait>(rt: &R, alloc: Global, task: Task) -> io::Result<Option<
     Ok(serve_store(rt, alloc, store, task)?)
 }
 
-/// Copies so many bytes, so many times. What it read of them.
+/// Copies `len` bytes `rounds` times. What it read of them.
 fn copy(alloc: Global, len: usize, rounds: u64) -> Result<u8, AllocError> {
     let source = vec![in alloc; 7u8; len]?;
     let mut target = vec![in alloc; 0u8; len]?;

@@ -8,7 +8,7 @@ use std::thread::yield_now;
 #[derive(Clone, Copy)]
 pub struct Pull {
     pub call: u64,
-    /// Whether that call still does its work. Nobody is told that it did.
+    /// Whether that call still does its work. Nobody learns that it did.
     pub is_done: bool,
 }
 

@@ -19,7 +19,7 @@ pub(crate) const SCANNERS: usize = 2;
 /// What may come back after a crash.
 #[derive(Clone, Copy)]
 pub struct Past {
-    /// The greatest number of each segment that its client was told or a scan showed.
+    /// The greatest number of each segment that its client received or a scan showed.
     pub least: Numbers,
     /// One more where a call of a further store was done.
     pub most: Numbers,
@@ -55,7 +55,7 @@ pub enum Opened {
     Cut(Vec<Plugged>),
 }
 
-/// This plug for each of so many devices.
+/// This plug for each of `devices` devices.
 fn plugs_of(alloc: Global, plug: &Plug, devices: usize) -> Result<Vec<Plug>, AllocError> {
     let mut plugs = Vec::new(alloc);
     for _ in 0..devices {
@@ -100,7 +100,7 @@ pub(crate) fn open(alloc: Global, devices: Vec<MemDisk>, pull: Pull) -> io::Resu
     }
 }
 
-/// Whether the past allows what came back: nothing is lost that somebody was told or shown, and
+/// Whether the past allows what came back: nothing is lost that was acknowledged or shown, and
 /// nothing is there that wasn't begun.
 fn is_allowed(writer: &Writer<Plugged>, segment: usize, past: &Past) -> bool
     requires { segment < SEGMENTS }

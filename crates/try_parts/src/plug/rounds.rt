@@ -19,10 +19,10 @@ use std::thread::Threads;
 /// How many calls the opening of all files makes: a sync and a read of each.
 const OPENING: u64 = 2 * SEGMENTS as u64;
 
-/// How many calls behind the opening the plug is pulled at most: some four stores of each writer.
+/// How many calls after the opening the plug is pulled at most: some four stores of each writer.
 const CALLS: u64 = 80;
 
-/// What goes on from start to start, beside the devices.
+/// What is kept from start to start, beside the devices.
 #[derive(Drop)]
 struct Course {
     draw: Draw,
@@ -30,7 +30,7 @@ struct Course {
     tally: Tally,
 }
 
-/// One of the `calls` behind the first `passed` ones pulls the plug.
+/// One of the `calls` after the first `passed` ones pulls the plug.
 fn pull(draw: &mut Draw, passed: u64, calls: u64) -> Pull
     requires calls { 0 < calls }
     requires room { passed + calls < 2 ^ 64 }
@@ -41,7 +41,7 @@ fn pull(draw: &mut Draw, passed: u64, calls: u64) -> Pull
     }
 }
 
-/// The bytes that were there up to a place, and behind it those of closed and of open gates and others.
+/// The bytes that were there up to a place, and after it those of closed and of open gates and others.
 fn torn(alloc: Global, draw: &mut Draw) -> Result<Fill, AllocError> {
     let from = draw.below(FILE_LEN);
     let mut bytes = Vec::new(alloc);
@@ -139,7 +139,7 @@ fn start_last(alloc: Global, devices: Vec<MemDisk>, course: &mut Course) -> io::
     )
 }
 
-/// One round behind the other, on the same files. What the last one left is judged too.
+/// One round after the other, on the same files. What the last one left is judged too.
 pub(crate) fn pull_often<X: Threads + Sync>(
     host: &X,
     alloc: Global,

@@ -31,7 +31,7 @@ fn clients_of(
     Ok(())
 }
 
-/// Who reads the scans of each scanner, which begin at these numbers.
+/// A reader of each scanner's scans, which begin at these numbers.
 fn watchers_of(
     alloc: Global,
     workers: &mut Vec<Worker>,
@@ -87,8 +87,8 @@ fn told_by(workers: &Vec<Worker>) -> io::Result<Past> {
     Ok(past)
 }
 
-/// What a scan has shown is there for good, whoever was told of it. One scan more, behind all
-/// updates, has all of which somebody was told.
+/// What a scan has shown is there for good. One scan more, after all
+/// updates, has all that was acknowledged.
 fn show_to(watcher: &mut Watcher, past: &mut Past) -> io::Result<()> {
     watcher.scan();
     if !watcher.is_right {

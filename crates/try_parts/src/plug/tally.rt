@@ -4,7 +4,7 @@ use crate::values::SEGMENTS;
 use snap_disk::Fill;
 use std::io;
 
-/// Of so many rounds those whose pull found some writer at a place, and what came back of the stores
+/// Of all rounds those whose pull found some writer at a place, and what came back of the stores
 /// that it cut.
 #[derive(Clone, Copy)]
 pub struct Tally {
@@ -25,7 +25,7 @@ pub struct Tally {
     pub kept: u64,
     /// Those that left one byte at all open places, that of closed gates or of open ones.
     pub alike: u64,
-    /// Those that tore it: its bytes up to a place, and drawn ones behind it.
+    /// Those that tore it: its bytes up to a place, and drawn ones after it.
     pub torn: u64,
 }
 

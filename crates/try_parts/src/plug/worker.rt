@@ -17,7 +17,7 @@ const TURNS: u64 = 100;
 /// Where a writer was when the plug was pulled.
 #[derive(Clone, Copy, PartialEq, Eq)]
 pub enum Place {
-    /// No call was done of a store behind the last one whose update was answered.
+    /// No call was done of a store after the last one whose update was answered.
     AtRest,
     /// Some call of a store was done, and the update failed.
     InStore,
@@ -25,7 +25,7 @@ pub enum Place {
     BeforeAnswer,
 }
 
-/// A writer, and what its client was told.
+/// A writer, and what its client received.
 #[derive(Drop)]
 pub struct Client {
     pub writer: Writer<Plugged>,
@@ -40,7 +40,7 @@ pub struct Client {
     pub is_right: bool,
 }
 
-/// Who works in a thread of its own.
+/// A client or a reader, in a thread of its own.
 #[derive(Drop)]
 pub enum Worker {
     Client(Client),

@@ -18,7 +18,7 @@ pub(crate) struct Job {
     pub(crate) number: u64,
 }
 
-/// Rests for a while over each update, and tells its number.
+/// Waits for a while with each update, and returns its number.
 #[derive(Drop)]
 pub(crate) struct Store<'a, R: Wait + Clock> {
     pub(crate) rt: &'a R,
@@ -106,7 +106,7 @@ impl<R: Wait> Service for Desk<'_, R> {
     }
 }
 
-/// So many desks, and their two stores, which rest so long over each update.
+/// `workers` desks, and their two stores, which wait for `delay` with each update.
 pub(crate) fn open<'a, R: Wait + Clock>(
     rt: &'a R,
     alloc: Global,

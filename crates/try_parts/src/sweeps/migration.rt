@@ -24,7 +24,7 @@ const PARTS: [(u64, &[u8]); 5] = [
     (16_384, b"\0\0\0\0\0\0\0\x01\0\0\0\x02\0\0\0\0hi"),
 ];
 
-/// What the stopped migration answered, and what stands after a crash of both files with this
+/// What the stopped migration answered, and what is found after a crash of both files with this
 /// garbage: what the new file is opened as, and what a second migration answers.
 pub(crate) fn migration_cell(
     alloc: Global,
@@ -48,7 +48,7 @@ pub(crate) fn migration_cell(
     Ok((answer, format!(in alloc; "{found}, {again}")?))
 }
 
-/// What a migration to the first of so many segments answers, in words. Devices that can count no
+/// What a migration to the first of `count` segments answers, in words. Devices that can count no
 /// more failures take no call.
 pub(crate) fn migrate_words<D: Disk>(
     alloc: Global,

@@ -32,7 +32,7 @@ fn three_files(alloc: Global) -> io::Result<Vec<MemDisk>> {
     Ok(devices)
 }
 
-/// The file after a store of `hi`, which this call behind its first ones failed and left everything.
+/// The file after a store of `hi`, in which this call after its first ones failed and changed nothing more.
 fn with_hi(alloc: Global, index: u8, fails: Option<u64>) -> io::Result<MemDisk> {
     let mut disk = new_memory(alloc, index, 3)?;
     if let Some(call) = fails {

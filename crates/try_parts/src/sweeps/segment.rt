@@ -76,7 +76,7 @@ fn store_words(alloc: Global, segment: &mut Segment<MemDisk>, value: &[u8]) -> i
     }
 }
 
-/// What is known behind a store that was refused: the number and the value, what was begun, and what
+/// What is known after a store that was refused: the number and the value, what was begun, and what
 /// another store answers.
 fn refused_words(
     alloc: Global,
@@ -118,7 +118,7 @@ fn opened_words(alloc: Global, segment: &Segment<MemDisk>) -> io::Result<String>
     Ok(format!(in alloc; "{number} {value} {spare}")?)
 }
 
-/// A file with number 1 and `hi`, behind the empty value.
+/// A file with number 1 and `hi`, after the empty value.
 pub(crate) fn with_hi(alloc: Global) -> io::Result<MemDisk> {
     let mut segment = open_segment(alloc, new_memory(alloc, 0, 1)?, 0, 1)?;
     segment.store(b"hi").map_err(as_io)?;
@@ -136,7 +136,7 @@ fn try_format(disk: &mut MemDisk) -> &'static str {
     }
 }
 
-/// An opening as this segment of so many. A device that can count no more failures takes no call.
+/// An opening as segment `index` of `count`. A device that can count no more failures takes no call.
 fn try_open(
     alloc: Global,
     disk: MemDisk,

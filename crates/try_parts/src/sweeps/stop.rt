@@ -3,7 +3,7 @@ use snap_devices::FaultPlan;
 use snap_disk::Fill;
 use std::alloc::{AllocError, Global};
 
-/// What stands at the touched places: the bytes that were there, or the byte of a closed or an open
+/// What the touched places have: the bytes that were there, or the byte of a closed or an open
 /// gate.
 #[derive(Clone, Copy)]
 pub enum Garbage {
@@ -32,17 +32,17 @@ impl Garbage {
     }
 }
 
-/// Which device call of a run fails first: the one behind so many.
+/// Which device call of a run fails first: the one after `passes`.
 #[derive(Clone, Copy)]
 pub struct Stop {
     pub passes: u64,
     /// What that call leaves, which then fails alone. Where it is none every later call fails too:
-    /// the power goes.
+    /// the power fails.
     pub fault: Option<Garbage>,
 }
 
 impl Stop {
-    /// The plan of a device that has made so many calls before the run.
+    /// The plan of a device that has made `made` calls before the run.
     pub(crate) fn plan(self, alloc: Global, made: u64) -> Result<FaultPlan, AllocError> {
         let mut plan = FaultPlan::new(alloc);
         let passes = made.saturating_add(self.passes);
@@ -53,7 +53,7 @@ impl Stop {
         Ok(plan)
     }
 
-    /// The same for another device of the run, which is called behind the first `calls` calls: none
+    /// The same for another device of the run, which is called after the first `calls` calls: none
     /// where the stop comes earlier.
     pub(crate) fn behind(self, calls: u64) -> Option<Stop> {
         if self.fault.is_some() && self.passes < calls {

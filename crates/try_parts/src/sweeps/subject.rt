@@ -15,7 +15,7 @@ pub enum Subject {
     Format,
     /// The store of `hi` on a fresh file, whose spare gate is closed.
     StoreClosed,
-    /// The store of `yo` behind `hi`, with the spare gate open.
+    /// The store of `yo` after `hi`, with the spare gate open.
     StoreOpen,
     /// `migrate` of an old file with `hi` to a device of zeros.
     Migration,

@@ -3,7 +3,7 @@ use crate::draw::Draw;
 use snap_devices::{FaultPlan, MemDisk};
 use std::alloc::{AllocError, Global};
 
-/// From the opening that comes next on, at most one call of the device fails: one of the 60 behind
+/// From the opening that comes next on, at most one call of the device fails: one of the 60 after
 /// the two calls of the opening.
 fn plan(alloc: Global, disk: &mut MemDisk, draw: &mut Draw) -> Result<(), AllocError> {
     let call = draw.below(60);

@@ -31,7 +31,7 @@ fn most_by<M: Memory>(clients: &Vec<Client<M>>, stored: Numbers) -> Option<Numbe
     Some(most)
 }
 
-/// One scan more by each watcher, behind all updates. Whether each of them has all that was stored.
+/// One scan more by each watcher, after all updates. Whether each of them has all that was stored.
 fn is_shown<M: Memory>(watchers: &mut Vec<SeatedWatcher<M>>, stored: Numbers) -> bool {
     for watcher in watchers.iter_mut() {
         watcher.scan();
@@ -55,7 +55,7 @@ fn outcome_of<M: Memory>(workers: &mut Workers<M>) -> io::Result<Outcome> {
     }
 }
 
-/// The writers of the clients, which stand in order of their segments.
+/// The writers of the clients, in order of their segments.
 fn writers_of<M: Memory>(alloc: Global, clients: Vec<Client<M>>) -> io::Result<Vec<Writer<MemDisk>>>
     ensures writers { IfOk result (λ ws. ws.items ≡ map (λ c. c.writer) clients.items) }
     ensures seats { IfOk result (λ ws. (i : ℕ) (w : _) → slice_get ws.items i ≡ Some w

@@ -72,7 +72,7 @@ fn clients_of<M: Memory>(
     Ok(clients)
 }
 
-/// Who reads the scans of each scanner.
+/// A reader of each scanner's scans.
 fn watchers_of<M: Memory>(
     alloc: Global,
     scanners: Vec<Scanner>,

@@ -1,4 +1,4 @@
-//! Writers and scanners that tell by their types which seats they have: what comes back from threads
+//! Writers and scanners whose types say which seats they have: what comes back from threads
 //! is known by its type. So all of them can go back into the store that they came from.
 ghost use Rattle.std.specs.Prelude.{◌≡◌, ◌+◌, IfOk};
 ghost use Rattle.snap_register.specs.Seat.{own_of, Grows};
@@ -80,7 +80,7 @@ impl<M: Memory, D: Disk> SeatedWriter<M, D> {
     }
 }
 
-/// Who reads the scans of a scanner of the memory `M`.
+/// A reader of the scans of a scanner of the memory `M`.
 #[derive(Drop)]
 pub struct SeatedWatcher<M: Memory> {
     watcher: Watcher,
@@ -99,7 +99,7 @@ impl<M: Memory> Model for SeatedWatcher<M> {
 }
 
 impl<M: Memory> SeatedWatcher<M> {
-    /// Who reads the scans of this scanner, after one that showed these numbers.
+    /// A reader of this scanner's scans, after one that showed these numbers.
     pub fn new(
         alloc: Global,
         scanner: Scanner,

@@ -25,7 +25,7 @@ pub struct Client<M: Memory> {
     pub writer: SeatedWriter<M, MemDisk>,
     /// The number of the last update that was answered.
     pub stored: u64,
-    /// Whether the one behind it was begun and refused.
+    /// Whether the next one was begun and refused.
     pub has_begun: bool,
     /// Whether each answer was the one that had to come.
     pub is_right: bool,
