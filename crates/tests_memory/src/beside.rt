@@ -1,12 +1,10 @@
 //! Equal lists of looks and updates, drawn from fixed seeds.
-ghost use Rattle.std.specs.Prelude.{◌≡◌, ◌<◌, ◌≤◌, ◌^◌, length, IfOk};
-
 mod stage;
 
 use crate::draw::Draw;
+use crate::seats::{last_seat, open};
 use snap_memory::scan;
-use snap_register::{Looker, Parts, Registers, SnapshotBuf};
-use snap_scan::most_looks;
+use snap_register::SnapshotBuf;
 use snap_world::{Event, Reply, World};
 use stage::{Stage, value_of};
 use std::alloc::{AllocError, Global};
@@ -16,25 +14,10 @@ use std::test::Fail;
 /// How many scans each seed gives.
 const SCANS: usize = 120;
 
-/// Registers of so many segments, each at number 0 with the empty value, and one scanner.
-fn open(alloc: Global, segments: usize) -> Result<Parts, AllocError>
-    requires segments { (0 < segments) × (segments ≤ 16) }
-{
-    let mut values = Vec::new(alloc);
-    for _ in 0..segments {
-        values.push((0, Vec::new(alloc)))?;
-    }
-    Registers::open(alloc, &values, 1, 1_000_000)
-}
-
 /// The seats and the world at their start.
-fn set_up(rt: &impl Abort, alloc: Global, seed: u64, segments: usize) -> Result<Stage, AllocError>
-    requires segments { (0 < segments) × (segments ≤ 16) }
-{
-    let mut parts = open(alloc, segments)?;
-    let Some(seat) = parts.scanners.pop() else {
-        panic!(rt; "a seat is missing")
-    };
+fn set_up(rt: &impl Abort, alloc: Global, seed: u64, segments: usize) -> Result<Stage, AllocError> {
+    let mut parts = open(alloc, segments, 1, 1_000_000)?;
+    let seat = last_seat(rt, &mut parts.scanners);
     let mut writers = Vec::new(alloc);
     for writer in parts.writers {
         writers.push(Some(writer))?;
@@ -51,34 +34,19 @@ fn set_up(rt: &impl Abort, alloc: Global, seed: u64, segments: usize) -> Result<
     })
 }
 
-/// Whether each segment's value is the one of its number.
-fn are_of_their_numbers(out: &SnapshotBuf) -> bool {
-    for i in 0..out.len() {
-        let right = match out.number(i) {
-            0 => out.value(i).is_empty(),
-            number => out.value(i) == value_of(i, number).bytes(),
-        };
-        if !right {
-            return false;
-        }
-    }
-    true
-}
-
-/// One scan by the seat and by the world. Whether they agree, in each look and in the answer.
+/// A scan by the seat and by the world. Whether they agree in each look and in the answer, and each value is the one of
+/// its number.
 fn agree(stage: &mut Stage, out: &mut SnapshotBuf) -> Result<bool, AllocError> {
-    let segments = stage.segments();
-    if out.len() != segments || stage.looks_left() < most_looks(segments) as u64 {
-        return Ok(false);
-    }
     stage.expect(Event::Scan(0), Reply::ScanBegun);
     scan(stage, out);
     let mut memory = Vec::new(stage.alloc);
     for i in 0..out.len() {
-        memory.push(out.value(i).to_vec(stage.alloc)?)?;
+        let value = value_of(stage.alloc, i, out.number(i))?;
+        stage.agrees &= out.value(i) == value.as_slice();
+        memory.push(value)?;
     }
     stage.expect(Event::Answer(0), Reply::Memory(memory));
-    Ok(stage.agrees && are_of_their_numbers(out))
+    Ok(stage.agrees)
 }
 
 #[test]

@@ -1,5 +1,5 @@
-//! The tests of scans and updates: the rule of a scan (`snap_scan`, `snap_history`), registers (`snap_register`), scans and
-//! updates by hand and by threads (`snap_memory`), and the same machines without threads (`snap_world`).
+//! The tests of scans and updates: the rule of a scan (`snap_scan`, `snap_history`), registers (`snap_register`), scans
+//! and updates by hand and by threads (`snap_memory`), and the same machines without threads (`snap_world`).
 #![tactic(auto)]
 
 #[cfg(test)]

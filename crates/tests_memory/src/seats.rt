@@ -1,28 +1,15 @@
-//! Registers that start empty, and seats that are taken out of them.
-ghost use Rattle.std.specs.Prelude.{◌≡◌, ◌^◌, ◌<◌, ◌≤◌, length, IfOk};
-ghost use Rattle.snap_register.specs.Registers.{RegistersId};
-ghost use Rattle.snap_register.specs.declared.plan.Plan.{Plan};
-ghost use Rattle.snap_register.specs.Parts.{AreWriters, AreReaders};
-
+//! New registers, and seats that are taken out of them.
 use snap_register::{Parts, ReadSeat, Registers, WriteSeat};
 use std::alloc::{AllocError, Global};
 use std::process::Abort;
 
-/// Registers of so many segments, each at number 0 with the empty value.
+/// Registers of `segments` segments, each at number 0 with the empty value.
 pub(crate) fn open(
     alloc: Global,
     segments: usize,
     scanners: usize,
     looks: u64,
-) -> Result<Parts, AllocError>
-    requires segments { (0 < segments) × (segments ≤ 16) }
-    requires scanners { scanners ≤ 16 }
-    requires looks { looks ≤ 2 ^ 50 }
-    ensures writers { IfOk result (λ r. length r.writers.items ≡ segments) }
-    ensures scanners { IfOk result (λ r. length r.scanners.items ≡ scanners) }
-    ensures seats { IfOk result (λ r. (z : RegistersId) × (p : Plan)
-        × AreWriters z p r.writers.items × AreReaders z p r.scanners.items) }
-{
+) -> Result<Parts, AllocError> {
     let mut values = Vec::new(alloc);
     for _ in 0..segments {
         values.push((0, Vec::new(alloc)))?;
@@ -43,5 +30,20 @@ pub(crate) fn last_writer(rt: &impl Abort, writers: &mut Vec<WriteSeat>) -> Writ
     match writers.pop() {
         Some(writer) => writer,
         None => panic!(rt; "a writer is missing"),
+    }
+}
+
+/// The value of each number but 0, which has the empty one.
+pub(crate) fn value_of(segment: usize, number: u64) -> [u8; 9] {
+    let s = segment.to_le_bytes();
+    let n = number.to_be_bytes();
+    [s[0], n[0], n[1], n[2], n[3], n[4], n[5], n[6], n[7]]
+}
+
+/// Whether the value is the one of this number.
+pub(crate) fn is_value_of(segment: usize, number: u64, value: &[u8]) -> bool {
+    match number {
+        0 => value.is_empty(),
+        number => value == value_of(segment, number).as_slice(),
     }
 }

@@ -51,7 +51,7 @@ const SHOWN_BEHIND_THE_VIEW: [Step<'static>; 11] = [
     Step::Answer(&["a", ""]),
 ];
 
-/// Another writer shows between the end of the embedded scan and the publication behind it: the
+/// Another writer shows between the end of the embedded scan and its publication: the
 /// borrowed view hasn't got that update.
 #[test]
 fn borrowed_view_is_of_the_embedded_scan(rt: HostRuntime) -> Result<(), AllocError> {

@@ -1,39 +1,20 @@
-//! A scanner's seat, before each of whose looks updates are drawn, and the world beside it.
-ghost use Rattle.std.specs.Prelude.{◌≡◌, ◌<◌, ◌≤◌, length, IfSome};
-ghost use Rattle.snap_register.specs.Seat.{MayPublish};
-
+//! A scanner's seat, before each of whose looks updates are drawn, and a world that does the same.
 use crate::draw::Draw;
 use bytes::Bytes;
 use snap_memory::{SegmentSet, prepare, show};
 use snap_register::{Looker, ReadSeat, SnapshotBuf, View, WriteSeat};
-use snap_scan::most_looks;
 use snap_world::{Actor, Event, Reply, World};
 use std::alloc::{AllocError, Global};
 
-/// The value of an update: two to eight bytes that no other update has.
-#[derive(Drop)]
-pub(crate) struct Text {
-    word: [u8; 8],
-    length: usize,
-    ghost fits: { length ≤ 8 },
-}
-
-impl Text {
-    pub(crate) fn bytes(&self) -> &[u8]
-        ensures { length result.now ≤ 8 }
-    {
-        &self.word[..self.length]
-    }
-}
-
-pub(crate) fn value_of(segment: usize, number: u64) -> Text {
-    Text {
-        word: number
-            .wrapping_mul(16)
-            .wrapping_add(segment as u64)
-            .to_le_bytes(),
-        length: 2 + (number % 7) as usize,
-    }
+/// The value of an update: two to eight bytes that no other update has. That of number 0 is empty.
+pub(crate) fn value_of(alloc: Global, segment: usize, number: u64) -> Result<Vec<u8>, AllocError> {
+    let word = (number * 16 + segment as u64).to_le_bytes();
+    let length = if number == 0 {
+        0
+    } else {
+        2 + number as usize % 7
+    };
+    word[..length].to_vec(alloc)
 }
 
 /// A scanner's seat, the writers' seats, and the world. What the seats do the world does as well.
@@ -45,9 +26,9 @@ pub(crate) struct Stage {
     pub(crate) writers: Vec<Option<WriteSeat>>,
     pub(crate) world: World,
     pub(crate) draw: Draw,
-    /// At most so many updates begin before each look.
+    /// The most updates that begin before each look.
     pub(crate) busy: usize,
-    /// Whether the world has replied all that the seats told.
+    /// Whether the world has replied all that the seats answered.
     pub(crate) agrees: bool,
     /// How many scans were answered by a view.
     pub(crate) borrows: usize,
@@ -55,9 +36,7 @@ pub(crate) struct Stage {
 
 impl Stage {
     /// Does an event in the world, which has to give this reply.
-    pub(crate) fn expect(&mut self, event: Event, reply: Reply)
-        ensures seat { self.new.seat ≡ self.old.seat }
-    {
+    pub(crate) fn expect(&mut self, event: Event, reply: Reply) {
         match self.world.step(&event) {
             Ok(given) if given == reply => {}
             _ => self.agrees = false,
@@ -65,9 +44,7 @@ impl Stage {
     }
 
     /// Does the events of this kind for as long as the world does them. How many there were.
-    fn count(&mut self, event: Event) -> u64
-        ensures seat { self.new.seat ≡ self.old.seat }
-    {
+    fn count(&mut self, event: Event) -> u64 {
         for count in 0..1000 {
             match self.world.step(&event) {
                 Ok(Reply::NotNow) => return count,
@@ -80,21 +57,9 @@ impl Stage {
     }
 
     /// The scan inside an update, and in the world its store as well.
-    fn begin(&mut self, writer: &mut WriteSeat) -> Option<View>
-        ensures seat { self.new.seat ≡ self.old.seat }
-        ensures view { IfSome result (MayPublish writer.new) }
-    {
-        let before = writer.looks_left();
-        if before < most_looks(writer.segments()) as u64 || writer.number() >= 1 << 62 {
-            return None;
-        }
-        let segment = writer.segment();
-        let Ok(value) = value_of(segment, writer.number() + 1)
-            .bytes()
-            .to_vec(self.alloc)
-        else {
-            return None;
-        };
+    fn begin(&mut self, writer: &mut WriteSeat) -> Option<View> {
+        let (before, segment) = (writer.looks_left(), writer.segment());
+        let value = value_of(self.alloc, segment, writer.number() + 1).ok()?;
         let view = prepare(writer);
         self.expect(Event::Begin(segment, value), Reply::Begun);
         if self.count(Event::Look(Actor::Writer(segment))) != before - writer.looks_left() {
@@ -105,72 +70,44 @@ impl Stage {
     }
 
     /// The publication of an update.
-    fn publish(&mut self, writer: &mut WriteSeat, view: View)
-        requires view { MayPublish writer.old view }
-        ensures seat { self.new.seat ≡ self.old.seat }
-    {
+    fn publish(&mut self, writer: &mut WriteSeat, view: View) {
         let segment = writer.segment();
-        let before = writer.number();
-        if before >= 1 << 62 {
+        let Ok(value) = value_of(self.alloc, segment, writer.number() + 1) else {
             self.agrees = false;
             return;
-        }
-        let number = show(writer, value_of(segment, before + 1).bytes(), view);
+        };
+        let number = show(writer, &value, view);
         self.expect(Event::Show(segment), Reply::Shown);
         self.expect(Event::Acknowledge(segment), Reply::Stored(number));
     }
 
-    /// The writer's seat, unless an update of the segment is under way.
-    fn take(&mut self, segment: usize) -> Option<WriteSeat>
-        ensures seat { self.new.seat ≡ self.old.seat }
-    {
-        match self.writers.get_mut(segment) {
-            Some(place) => place.take(),
-            None => None,
-        }
-    }
-
-    fn put_back(&mut self, segment: usize, writer: WriteSeat)
-        ensures seat { self.new.seat ≡ self.old.seat }
-    {
-        if let Some(place) = self.writers.get_mut(segment) {
-            *place = Some(writer);
-        }
-    }
-
-    /// An update with nothing between its scan and its publication.
-    fn update_at_once(&mut self)
-        ensures seat { self.new.seat ≡ self.old.seat }
-    {
-        let segment = self.draw.below(self.writers.len().max(1));
-        let Some(mut writer) = self.take(segment) else {
-            return;
-        };
-        match self.begin(&mut writer) {
-            Some(view) => self.publish(&mut writer, view),
-            None => self.agrees = false,
-        }
-        self.put_back(segment, writer);
-    }
-
-    /// An update, with up to two others between its scan and its publication.
-    fn update(&mut self)
-        ensures seat { self.new.seat ≡ self.old.seat }
-    {
-        let segment = self.draw.below(self.writers.len().max(1));
-        let Some(mut writer) = self.take(segment) else {
-            return;
-        };
-        match self.begin(&mut writer) {
-            Some(view) => {
-                for _ in 0..self.draw.below(3) {
-                    self.update_at_once();
-                }
-                self.publish(&mut writer, view);
+    /// An update of a drawn segment, with nothing between its scan and its publication, unless one is under way.
+    fn update_at_once(&mut self) {
+        let segment = self.draw.below(self.writers.len());
+        if let Some(mut writer) = self.writers[segment].take() {
+            match self.begin(&mut writer) {
+                Some(view) => self.publish(&mut writer, view),
+                None => self.agrees = false,
             }
-            None => self.agrees = false,
+            self.writers[segment] = Some(writer);
         }
-        self.put_back(segment, writer);
+    }
+
+    /// The same, with up to two others between its scan and its publication.
+    fn update(&mut self) {
+        let segment = self.draw.below(self.writers.len());
+        if let Some(mut writer) = self.writers[segment].take() {
+            match self.begin(&mut writer) {
+                Some(view) => {
+                    for _ in 0..self.draw.below(3) {
+                        self.update_at_once();
+                    }
+                    self.publish(&mut writer, view);
+                }
+                None => self.agrees = false,
+            }
+            self.writers[segment] = Some(writer);
+        }
     }
 }
 
@@ -190,7 +127,7 @@ impl Looker for Stage {
     }
 
     fn look(&mut self, j: usize) -> u64 {
-        for _ in 0..self.draw.below(self.busy.saturating_add(1).max(1)) {
+        for _ in 0..self.draw.below(self.busy + 1) {
             self.update();
         }
         let number = self.seat.look(j);
@@ -207,7 +144,7 @@ impl Looker for Stage {
     }
 
     fn view(&mut self, j: usize, set: SegmentSet, out: &mut SnapshotBuf) {
-        self.borrows = self.borrows.saturating_add(1);
+        self.borrows += 1;
         self.seat.view(j, set, out);
     }
 }

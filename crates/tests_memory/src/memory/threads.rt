@@ -1,14 +1,12 @@
-//! Writers and scanners in threads of their own, and a plain judge of all that they saw.
-ghost use Rattle.std.specs.Prelude.{◌<◌, ◌≤◌};
-
+//! Writers and scanners in threads of their own, and a plain judge of all that they showed.
 mod looks;
 mod seen;
 
 use crate::memory::some::Numbers;
 use crate::memory::threads::looks::{Kind, Looking, scan_once};
 use crate::memory::threads::seen::{Seen, are_ordered, is_sound};
-use crate::memory::{update, value_of};
-use crate::seats::open;
+use crate::memory::update;
+use crate::seats::{open, value_of};
 use snap_memory::{Scanner, Snapshot};
 use snap_register::{Parts, WriteSeat};
 use snap_scan::MAX_SEGMENTS;
@@ -39,7 +37,7 @@ struct Course {
     ended: Vec<AtomicU64>,
 }
 
-/// Who works in a thread of its own, and what came of it.
+/// A writer or a scanner in a thread of its own, and what it did.
 #[derive(Drop)]
 enum Worker {
     Writer { seat: WriteSeat, is_done: bool },
@@ -65,22 +63,17 @@ fn load_all(words: &Vec<AtomicU64>) -> Numbers {
 /// Shows all updates of the seat's segment. Whether each got its number.
 fn write_all(writer: &mut WriteSeat, course: &Course, updates: u64) -> bool {
     let segment = writer.segment();
-    let (Some(begun), Some(ended)) = (course.begun.get(segment), course.ended.get(segment)) else {
-        return false;
-    };
-    for done in 0..updates {
-        let number = done + 1;
-        begun.store(number, Ordering::SeqCst);
-        if update(writer, &value_of(segment, number)) != Some(number) {
-            return false;
-        }
-        ended.store(number, Ordering::SeqCst);
+    let mut is_right = true;
+    for number in 1..=updates {
+        course.begun[segment].store(number, Ordering::SeqCst);
+        is_right &= update(writer, &value_of(segment, number)) == number;
+        course.ended[segment].store(number, Ordering::SeqCst);
         yield_now();
     }
-    true
+    is_right
 }
 
-/// Waits for the others, but not for long: where no thread can be made they come after this one.
+/// Waits for the others, but not for long: if no thread can be made, they run after this one.
 fn wait_for_all(course: &Course) {
     course.arrived.fetch_add(1, Ordering::SeqCst);
     for _ in 0..10_000 {
@@ -91,8 +84,8 @@ fn wait_for_all(course: &Course) {
     }
 }
 
-/// Does all that is one worker's, once all are there: its updates, or its scans, whose record it
-/// keeps. It often lets the others go first, so that even few processors mix them.
+/// Does one worker's updates, or its scans with their record, once all have arrived. It often yields, so that even few
+/// processors mix the threads.
 fn work(worker: &mut Worker, course: &Course, size: Size) {
     wait_for_all(course);
     match worker {
@@ -108,7 +101,7 @@ fn work(worker: &mut Worker, course: &Course, size: Size) {
     }
 }
 
-/// Whether the worker did all that was its to do, and all that it saw is right and ordered with
+/// Whether the worker did all of its work, and all that it saw is right and ordered with
 /// what each of these saw.
 fn did_all(worker: &Worker, others: &[Worker], scans: usize) -> bool {
     let record = match worker {
@@ -153,54 +146,26 @@ fn workers_at(alloc: Global, parts: Parts, size: Size) -> Result<Vec<Worker>, Al
     Ok(workers)
 }
 
-/// So many workers, none of whom has arrived, and no update of so many segments.
-fn course_of(alloc: Global, workers: usize, segments: usize) -> Result<Course, AllocError> {
-    Ok(Course {
-        workers: workers as u64,
-        arrived: AtomicU64::new(0),
-        begun: zeros(alloc, segments)?,
-        ended: zeros(alloc, segments)?,
-    })
-}
-
-/// All that the workers did and saw is right.
-fn judge(rt: &impl Abort, workers: &Vec<Worker>, scans: usize) {
-    for place in 0..workers.len() {
-        assert!(rt; did_all(&workers[place], &workers[place..], scans));
-    }
-}
-
 /// Whether one scan more shows the last updates of its segments.
 fn shows_last(looking: &mut Looking, course: &Course, updates: u64) -> bool {
     let last = scan_once(looking, 0, course);
-    for segment in 0..MAX_SEGMENTS {
-        if last.set.has(segment) && last.numbers[segment] != updates {
-            return false;
-        }
-    }
-    last.right
+    let mut segments = 0..MAX_SEGMENTS;
+    last.right && segments.all(|i| !last.set.has(i) || last.numbers[i] == updates)
 }
 
-/// One scan more by each scanner shows the last updates.
-fn judge_last(rt: &impl Abort, workers: &mut Vec<Worker>, course: &Course, size: Size) {
-    for worker in workers {
-        if let Worker::Scanner { looking, .. } = worker {
-            assert!(rt; shows_last(looking, course, size.updates));
-        }
-    }
-}
-
-/// All work at once. Afterwards their whole record is judged, and one scan more by each scanner.
+/// All work at once. Then their whole record is judged, and one more scan of each scanner.
 fn judged_run<R: Abort + Threads + Sync>(
     rt: &R,
     alloc: Global,
     size: Size,
-) -> Result<(), AllocError>
-    requires segments { (0 < size.segments) × (size.segments ≤ 16) }
-    requires scanners { size.scanners ≤ 16 }
-{
+) -> Result<(), AllocError> {
     let threads = size.segments + size.scanners;
-    let course = course_of(alloc, threads, size.segments)?;
+    let course = Course {
+        workers: threads as u64,
+        arrived: AtomicU64::new(0),
+        begun: zeros(alloc, size.segments)?,
+        ended: zeros(alloc, size.segments)?,
+    };
     let parts = open(alloc, size.segments, size.scanners, 1_000_000)?;
     let mut workers = workers_at(alloc, parts, size)?;
     for_each_mut(
@@ -209,47 +174,33 @@ fn judged_run<R: Abort + Threads + Sync>(
         threads,
         &|_, worker| { work(worker, &course, size) },
     );
-    judge(rt, &workers, size.scans);
-    judge_last(rt, &mut workers, &course, size);
+    for place in 0..workers.len() {
+        assert!(rt; did_all(&workers[place], &workers[place..], size.scans));
+    }
+    for worker in &mut workers {
+        if let Worker::Scanner { looking, .. } = worker {
+            assert!(rt; shows_last(looking, &course, size.updates));
+        }
+    }
     Ok(())
 }
 
+/// Runs by numbers of segments, scanners, updates and scans. In the last one half of the scanners scan drawn sets.
 #[test]
-fn three_writers_and_two_scanners_in_threads(rt: HostRuntime) -> Result<(), Fail> {
-    let size = Size {
-        segments: 3,
-        scanners: 2,
-        updates: 200,
-        scans: 300,
-        all_kinds: false,
-    };
-    judged_run(&rt, rt.alloc(), size)?;
-    Ok(())
-}
-
-#[test]
-fn sixteen_writers_and_sixteen_scanners_in_threads(rt: HostRuntime) -> Result<(), Fail> {
-    let size = Size {
-        segments: 16,
-        scanners: 16,
-        updates: 1_250,
-        scans: 250,
-        all_kinds: false,
-    };
-    judged_run(&rt, rt.alloc(), size)?;
-    Ok(())
-}
-
-/// Half of the scanners scan drawn sets, and half all segments.
-#[test]
-fn scans_of_some_and_of_all_in_threads(rt: HostRuntime) -> Result<(), Fail> {
-    let size = Size {
-        segments: 16,
-        scanners: 16,
-        updates: 1_000,
-        scans: 200,
-        all_kinds: true,
-    };
-    judged_run(&rt, rt.alloc(), size)?;
+fn writers_and_scanners_in_threads(rt: HostRuntime) -> Result<(), Fail> {
+    for (segments, scanners, updates, scans, all_kinds) in [
+        (3, 2, 200, 300, false),
+        (16, 16, 1_250, 250, false),
+        (16, 16, 1_000, 200, true),
+    ] {
+        let size = Size {
+            segments,
+            scanners,
+            updates,
+            scans,
+            all_kinds,
+        };
+        judged_run(&rt, rt.alloc(), size)?;
+    }
     Ok(())
 }

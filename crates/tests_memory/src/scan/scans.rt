@@ -1,80 +1,49 @@
-//! Whole scans, of all segments and of some, as the numbers told in them.
-ghost use Rattle.std.specs.Prelude.{◌≡◌, ◌+◌, ◌-◌, ◌<◌, ◌≤◌, length, slice_index, IsTrue};
-
+//! Whole scans, of all segments and of some, as the numbers of their looks.
 use snap_scan::{MAX_SEGMENTS, Next, Scan, SegmentSet, most_looks};
 use std::process::Abort;
 
-/// Whether the number of this look is not below that of the look one collect before.
-fn is_no_fall(segments: usize, numbers: &[u64], look: usize) -> bool
-    requires { look < length numbers.now }
-    ensures { IsTrue result → segments ≤ look
-        → slice_index numbers.now (look - segments) ≤ slice_index numbers.now look }
-{
-    look < segments || numbers[look - segments] <= numbers[look]
-}
-
-/// What a scan of these segments answers after these numbers, each told at the segment whose turn
-/// it is. Before the last of them it has no answer.
-fn answer_to(rt: &impl Abort, set: SegmentSet, numbers: &[u64]) -> Next
-    requires some { 0 < set.bits }
-{
+/// What a scan of these segments answers after these numbers, each at the segment whose turn it is. Before the last of
+/// them it has no answer.
+fn answer_to(rt: &impl Abort, set: SegmentSet, numbers: &[u64]) -> Next {
     let mut scan = Scan::of(set);
-    for look in 0..numbers.len() {
-        assert!(rt;
-            is_no_fall(set.len(), numbers, look),
-            "a number falls in {numbers:?}"
-        );
+    for number in numbers {
         let Next::Look(segment) = scan.next() else {
-            panic!(rt; "an answer before all of {numbers:?} were told");
+            panic!(rt; "an answer before all of {numbers:?}");
         };
-        scan.told(segment, numbers[look]);
+        scan.told(segment, *number);
     }
     assert!(rt; scan.looks() == numbers.len());
     scan.next()
 }
 
-/// Whether the last two collects showed the same numbers, where a collect has just ended.
-fn is_clean(segments: usize, numbers: &[u64]) -> bool
-    requires least { 0 < segments }
-    requires most { segments ≤ MAX_SEGMENTS }
-{
+/// Whether a collect has just ended, and shows the numbers of the one before.
+fn is_clean(segments: usize, numbers: &[u64]) -> bool {
     let looks = numbers.len();
-    if looks % segments != 0 || looks < 2 * segments {
-        return false;
-    }
-    let mut same = true;
-    for i in 0..segments {
-        if numbers[looks - 2 * segments + i] != numbers[looks - segments + i] {
-            same = false;
-        }
-    }
-    same
+    looks % segments == 0
+        && looks >= 2 * segments
+        && &numbers[looks - 2 * segments..looks - segments] == &numbers[looks - segments..]
 }
 
 /// The segment at this place of the set.
 fn segment_at(set: SegmentSet, place: usize) -> usize {
-    let mut before: usize = 0;
+    let mut before = 0;
     for segment in 0..MAX_SEGMENTS {
         if set.has(segment) {
             if before == place {
                 return segment;
             }
-            before = before.saturating_add(1);
+            before += 1;
         }
     }
     MAX_SEGMENTS
 }
 
-/// What comes next after these numbers in a scan of a set of so many segments, by the rule on the
+/// What comes next after these numbers in a scan of this set of `segments` segments, by the rule on the
 /// whole list.
-fn expected_after(set: SegmentSet, segments: usize, numbers: &[u64]) -> Next
-    requires least { 0 < segments }
-    requires most { segments ≤ MAX_SEGMENTS }
-    requires some { 0 < length numbers.now }
-{
+fn expected_after(set: SegmentSet, segments: usize, numbers: &[u64]) -> Next {
     let last = numbers.len() - 1;
     let place = last % segments;
-    if numbers[last].saturating_sub(numbers[place]) >= 2 {
+    if numbers[last] - numbers[place] >= 2 {
         return Next::Borrow(segment_at(set, place));
     }
     if is_clean(segments, numbers) {
@@ -89,10 +58,7 @@ const LONGEST: usize = 15;
 
 /// How long the list is that comes after this one in their order: its last number that may still
 /// rise has risen. It is empty after the last list.
-fn rise(numbers: &mut [u64; LONGEST], looks: usize) -> usize
-    requires { looks ≤ 15 }
-    ensures { result ≤ looks }
-{
+fn rise(numbers: &mut [u64; LONGEST], looks: usize) -> usize {
     for gone in 0..looks {
         let last = looks - gone - 1;
         if numbers[last] < GREATEST {
@@ -110,13 +76,9 @@ struct Walk {
     most: usize,
 }
 
-/// Asks a scan of a set of so many segments and the rule after every list of numbers up to the
+/// Asks a scan of this set of `segments` segments and the rule after every list of numbers up to the
 /// greatest, in which none falls and that decides nothing before its end.
-fn ask_all(rt: &impl Abort, set: SegmentSet, segments: usize) -> Walk
-    requires some { 0 < set.bits }
-    requires least { 0 < segments }
-    requires most { segments ≤ 3 }
-{
+fn ask_all(rt: &impl Abort, set: SegmentSet, segments: usize) -> Walk {
     let mut numbers = [0; LONGEST];
     let mut looks = 1;
     let mut most = 0;
@@ -124,12 +86,10 @@ fn ask_all(rt: &impl Abort, set: SegmentSet, segments: usize) -> Walk
         if looks == 0 {
             return Walk { lists, most };
         }
-        assert!(rt; looks <= LONGEST);
         let next = expected_after(set, segments, &numbers[..looks]);
-        comes_next(rt, set, &numbers[..looks], next);
+        assert_eq!(rt; answer_to(rt, set, &numbers[..looks]), next);
         match next {
             Next::Look(_) => {
-                assert!(rt; looks < LONGEST);
                 numbers[looks] = if looks < segments {
                     0
                 } else {
@@ -146,13 +106,6 @@ fn ask_all(rt: &impl Abort, set: SegmentSet, segments: usize) -> Walk
     panic!(rt; "there are more lists")
 }
 
-/// This comes next after these numbers.
-fn comes_next(rt: &impl Abort, set: SegmentSet, numbers: &[u64], want: Next)
-    requires some { 0 < set.bits }
-{
-    assert_eq!(rt; answer_to(rt, set, numbers), want);
-}
-
 /// The sets of all of one, two and three segments.
 const ONE: SegmentSet = SegmentSet { bits: 1 };
 
@@ -160,62 +113,52 @@ const TWO: SegmentSet = SegmentSet { bits: 3 };
 
 const THREE: SegmentSet = SegmentSet { bits: 7 };
 
-#[test]
-fn clean_after_six(rt: HostRuntime) {
-    comes_next(&rt, TWO, &[0, 0, 1, 0, 1, 0], Next::Clean);
-}
+/// Numbers of a scan of all of these segments, and what comes next.
+const SCANS: [(SegmentSet, &[u64], Next); 10] = [
+    (ONE, &[0, 0], Next::Clean),
+    // clean after six looks, also if an update is shown late
+    (TWO, &[0, 0, 1, 0, 1, 0], Next::Clean),
+    (TWO, &[0, 1, 1, 1, 1, 1], Next::Clean),
+    (TWO, &[0, 0, 1, 0, 2], Next::Borrow(0)),
+    // Each collect but the last shows one more number risen by one, until all have: n(n + 2) looks.
+    (ONE, &[0, 1], Next::Look(0)),
+    (ONE, &[0, 1, 1], Next::Clean),
+    (TWO, &[0, 0, 1, 0, 1, 1, 1], Next::Look(1)),
+    (TWO, &[0, 0, 1, 0, 1, 1, 1, 1], Next::Clean),
+    (
+        THREE,
+        &[0, 0, 0, 1, 0, 0, 1, 1, 0, 1, 1, 1, 1, 1],
+        Next::Look(2),
+    ),
+    (
+        THREE,
+        &[0, 0, 0, 1, 0, 0, 1, 1, 0, 1, 1, 1, 1, 1, 1],
+        Next::Clean,
+    ),
+];
 
 #[test]
-fn late_show_clean_after_six(rt: HostRuntime) {
-    comes_next(&rt, TWO, &[0, 1, 1, 1, 1, 1], Next::Clean);
-}
-
-#[test]
-fn borrowed_view(rt: HostRuntime) {
-    comes_next(&rt, TWO, &[0, 0, 1, 0, 2], Next::Borrow(0));
-}
-
-#[test]
-fn quiet_scan(rt: HostRuntime) {
-    comes_next(&rt, ONE, &[0, 0], Next::Clean);
-}
-
-/// Each collect but the last shows one more number risen by one, until all have: n(n + 2) looks.
-#[test]
-fn longest_scans(rt: HostRuntime) {
-    comes_next(&rt, ONE, &[0, 1], Next::Look(0));
-    comes_next(&rt, ONE, &[0, 1, 1], Next::Clean);
-    comes_next(&rt, TWO, &[0, 0, 1, 0, 1, 1, 1], Next::Look(1));
-    comes_next(&rt, TWO, &[0, 0, 1, 0, 1, 1, 1, 1], Next::Clean);
-    let three = [0, 0, 0, 1, 0, 0, 1, 1, 0, 1, 1, 1, 1, 1, 1];
-    comes_next(&rt, THREE, &three[..14], Next::Look(2));
-    comes_next(&rt, THREE, &three, Next::Clean);
+fn worked_scans(rt: HostRuntime) {
+    for (set, numbers, want) in &SCANS {
+        assert_eq!(rt; answer_to(&rt, *set, *numbers), *want, "{numbers:?}");
+    }
 }
 
 #[test]
 fn bound_of_each_size(rt: HostRuntime) {
     for (segments, looks) in [(1, 3), (2, 8), (3, 15), (MAX_SEGMENTS, 288)] {
-        assert!(rt; 0 < segments && segments <= MAX_SEGMENTS);
         assert_eq!(rt; most_looks(segments), looks);
     }
 }
 
-/// Numbers that start anywhere up to 3 and reach 3 at most, none of them falling. A program of
-/// another language counted the lists.
+/// Numbers that start anywhere up to 3 and reach 3 at most, none of them falling. A program in another language counted
+/// the lists. The numbers of a set decide what those of all of as many segments do.
 #[test]
 fn all_short_lists(rt: HostRuntime) {
-    for (segments, lists, most) in [(1, 20, 3), (2, 364, 8), (3, 7260, 15)] {
-        assert!(rt; 0 < segments && segments <= 3);
-        let set = SegmentSet::all(segments);
-        assert!(rt; set.bits > 0);
-        assert_eq!(rt; ask_all(&rt, set, segments), Walk { lists, most });
-    }
-}
-
-/// A set is asked by its places: its numbers decide what those of as many segments do.
-#[test]
-fn all_short_lists_of_some(rt: HostRuntime) {
     for (bits, lists, most) in [
+        (0x0001, 20, 3),
+        (0x0003, 364, 8),
+        (0x0007, 7260, 15),
         (0x0004, 20, 3),
         (0x8000, 20, 3),
         (0x0005, 364, 8),
@@ -224,9 +167,11 @@ fn all_short_lists_of_some(rt: HostRuntime) {
         (0x8102, 7260, 15),
     ] {
         let set = SegmentSet { bits };
-        let segments = set.len();
-        assert!(rt; bits > 0 && 0 < segments && segments <= 3);
-        assert_eq!(rt; ask_all(&rt, set, segments), Walk { lists, most });
+        assert_eq!(rt;
+            ask_all(&rt, set, set.len()),
+            Walk { lists, most },
+            "set {bits:#x}"
+        );
     }
 }
 
@@ -234,17 +179,16 @@ fn all_short_lists_of_some(rt: HostRuntime) {
 #[test]
 fn some_are_named_by_their_segments(rt: HostRuntime) {
     let set = SegmentSet { bits: 0x000A };
-    comes_next(&rt, set, &[], Next::Look(1));
-    comes_next(&rt, set, &[4], Next::Look(3));
-    comes_next(&rt, set, &[4, 9, 4, 9], Next::Clean);
-    comes_next(&rt, set, &[4, 9, 5, 9, 6], Next::Borrow(1));
-    comes_next(&rt, set, &[4, 9, 4, 11], Next::Borrow(3));
+    assert!(rt; answer_to(&rt, set, &[]) == Next::Look(1));
+    assert!(rt; answer_to(&rt, set, &[4]) == Next::Look(3));
+    assert!(rt; answer_to(&rt, set, &[4, 9, 4, 9]) == Next::Clean);
+    assert!(rt; answer_to(&rt, set, &[4, 9, 5, 9, 6]) == Next::Borrow(1));
+    assert!(rt; answer_to(&rt, set, &[4, 9, 4, 11]) == Next::Borrow(3));
 }
 
 #[test]
 fn sets(rt: HostRuntime) {
     for (segments, bits) in [(0, 0), (1, 1), (3, 7), (15, 0x7FFF), (16, 0xFFFF)] {
-        assert!(rt; segments <= MAX_SEGMENTS);
         let set = SegmentSet::all(segments);
         assert!(rt; set.bits == bits && set.len() == segments);
         assert!(rt; set.is_empty() == (segments == 0) && set.is_among(segments));

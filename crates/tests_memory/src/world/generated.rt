@@ -1,7 +1,4 @@
-//! Long lists of events, drawn from fixed seeds, whose memories are compared with the plain
-//! program.
-ghost use Rattle.std.specs.Prelude.{◌<◌};
-
+//! Long lists of events, drawn from fixed seeds, whose memories are compared with the plain program.
 use crate::draw::Draw;
 use snap_disk::Fill;
 use snap_history::{Update, memory_after};
@@ -18,10 +15,7 @@ fn events_of(
     segments: usize,
     scanners: usize,
     count: usize,
-) -> Result<Vec<Event>, AllocError>
-    requires segments { 0 < segments }
-    requires scanners { 0 < scanners }
-{
+) -> Result<Vec<Event>, AllocError> {
     let mut draw = Draw { state: seed };
     let mut events = Vec::new(alloc);
     for _ in 0..count {
@@ -108,10 +102,14 @@ struct Followed {
 
 impl Followed {
     fn new(alloc: Global, segments: usize, scanners: usize) -> Result<Followed, AllocError> {
+        let mut begun = Vec::new(alloc);
+        for _ in 0..segments {
+            begun.push(None)?;
+        }
         Ok(Followed {
             segments,
             history: Vec::new(alloc),
-            begun: empty_places(alloc, segments)?,
+            begun,
             scans: vec![in alloc; OpenScan {
                 set: None,
                 start: 0,
@@ -123,40 +121,31 @@ impl Followed {
     /// A scan begins.
     fn open(&mut self, scanner: usize, set: Option<SegmentSet>) {
         let now = self.history.len();
-        if let Some(scan) = self.scans.get_mut(scanner) {
-            *scan = OpenScan {
-                set,
-                start: now,
-                last: now,
-            };
-        }
+        self.scans[scanner] = OpenScan {
+            set,
+            start: now,
+            last: now,
+        };
     }
 
-    /// Takes in one event. False for a memory that did not stand within its scan.
+    /// Takes in one event. False for a memory that there wasn't during its scan.
     fn agrees(&mut self, alloc: Global, event: &Event, reply: &Reply) -> Result<bool, AllocError> {
-        let now = self.history.len();
         match (event, reply) {
             (Event::Begin(segment, value), Reply::Begun) => {
-                if let Some(place) = self.begun.get_mut(*segment) {
-                    *place = Some(value.to_vec(alloc)?);
-                }
+                self.begun[*segment] = Some(value.to_vec(alloc)?);
             }
             (Event::Show(segment), Reply::Shown) => {
-                if let Some(place) = self.begun.get_mut(*segment) {
-                    if let Some(value) = place.take() {
-                        self.history.push(Update::new(*segment, value))?;
-                    }
+                if let Some(value) = self.begun[*segment].take() {
+                    self.history.push(Update::new(*segment, value))?;
                 }
             }
             (Event::Scan(scanner), Reply::ScanBegun) => self.open(*scanner, None),
             (Event::Pick(scanner, set), Reply::ScanBegun) => self.open(*scanner, Some(*set)),
             (Event::Look(Actor::Scanner(scanner)), Reply::Number(_)) => {
-                if let Some(scan) = self.scans.get_mut(*scanner) {
-                    scan.last = now;
-                }
+                self.scans[*scanner].last = self.history.len();
             }
             (Event::Answer(scanner), Reply::Memory(_) | Reply::Part(_)) => {
-                return self.stood(alloc, *scanner, reply);
+                return self.was(alloc, *scanner, reply);
             }
             (Event::Serve, Reply::Memory(memory)) => return self.served(alloc, memory),
             _ => {}
@@ -169,10 +158,7 @@ impl Followed {
     fn served(&mut self, alloc: Global, memory: &Vec<Vec<u8>>) -> Result<bool, AllocError> {
         let before = memory_after(alloc, self.segments, &self.history)?;
         for (segment, value) in memory.iter().enumerate() {
-            let begun = match self.begun.get_mut(segment) {
-                Some(place) => place.take(),
-                None => None,
-            };
+            let begun = self.begun[segment].take();
             if before.get(segment) != Some(value) {
                 match begun {
                     Some(new) if new == *value => {
@@ -186,15 +172,12 @@ impl Followed {
     }
 
     /// Whether the reply shows the memory at a moment of the scanner's scan, by the plain program.
-    fn stood(&self, alloc: Global, scanner: usize, reply: &Reply) -> Result<bool, AllocError> {
-        if let Some(scan) = self.scans.get(scanner) {
-            for moment in scan.start..=scan.last.min(self.history.len()) {
-                if let Some(before) = self.history.get(..moment) {
-                    let memory = memory_after(alloc, self.segments, before)?;
-                    if shows(alloc, &memory, scan.set, reply)? {
-                        return Ok(true);
-                    }
-                }
+    fn was(&self, alloc: Global, scanner: usize, reply: &Reply) -> Result<bool, AllocError> {
+        let scan = self.scans[scanner];
+        for moment in scan.start..=scan.last {
+            let memory = memory_after(alloc, self.segments, &self.history[..moment])?;
+            if shows(alloc, &memory, scan.set, reply)? {
+                return Ok(true);
             }
         }
         Ok(false)
@@ -233,15 +216,6 @@ fn part_of(
     Ok(part)
 }
 
-/// A place for the update of each writer.
-fn empty_places(alloc: Global, segments: usize) -> Result<Vec<Option<Vec<u8>>>, AllocError> {
-    let mut places = Vec::new(alloc);
-    for _ in 0..segments {
-        places.push(None)?;
-    }
-    Ok(places)
-}
-
 #[test]
 fn generated_runs(rt: HostRuntime) -> Result<(), Fail> {
     let alloc = rt.alloc();
@@ -258,8 +232,18 @@ fn generated_runs(rt: HostRuntime) -> Result<(), Fail> {
         let replies = World::new(alloc, segments, scanners)?.run(&events)?;
         assert!(rt; replies.len() == events.len(), "seed {seed}");
         let mut followed = Followed::new(alloc, segments, scanners)?;
-        agree(&rt, alloc, &mut followed, &events, &replies, seed)?;
-        are_many(&rt, &events, &replies, seed);
+        let (mut memories, mut restarts) = (0, 0);
+        for (event, reply) in events.iter().zip(replies.iter()) {
+            let is_right = followed.agrees(alloc, event, reply)?;
+            assert!(rt; is_right, "seed {seed}: {reply:?}");
+            match (event, reply) {
+                (Event::Serve, Reply::Memory(_)) => restarts += 1,
+                (_, Reply::Memory(_)) => memories += 1,
+                _ => {}
+            }
+        }
+        assert!(rt; memories >= 10, "seed {seed}: {memories} memories");
+        assert!(rt; restarts >= 20, "seed {seed}: {restarts} restarts");
         if segments == 3 {
             each_set_answers(&rt, &replies, seed);
         }
@@ -267,38 +251,7 @@ fn generated_runs(rt: HostRuntime) -> Result<(), Fail> {
     Ok(())
 }
 
-/// Each of these events may get its reply.
-fn agree(
-    rt: &impl Abort,
-    alloc: Global,
-    followed: &mut Followed,
-    events: &[Event],
-    replies: &[Reply],
-    seed: u64,
-) -> Result<(), AllocError> {
-    for (event, reply) in events.iter().zip(replies.iter()) {
-        let is_right = followed.agrees(alloc, event, reply)?;
-        assert!(rt; is_right, "seed {seed}: {reply:?}");
-    }
-    Ok(())
-}
-
-/// Many scans and restarts came to their ends.
-fn are_many(rt: &impl Abort, events: &[Event], replies: &[Reply], seed: u64) {
-    let mut memories = 0_usize;
-    let mut restarts = 0_usize;
-    for (event, reply) in events.iter().zip(replies.iter()) {
-        match (event, reply) {
-            (Event::Serve, Reply::Memory(_)) => restarts = restarts.saturating_add(1),
-            (_, Reply::Memory(_)) => memories = memories.saturating_add(1),
-            _ => {}
-        }
-    }
-    assert!(rt; memories >= 10, "seed {seed}: {memories} memories");
-    assert!(rt; restarts >= 20, "seed {seed}: {restarts} restarts");
-}
-
-/// Each set of three segments had an answer: so many entries, and among them each segment.
+/// Each set of three segments had an answer with its segments.
 fn each_set_answers(rt: &impl Abort, replies: &[Reply], seed: u64) {
     let mut answered = [false; 8];
     for reply in replies {

@@ -1,5 +1,5 @@
 //! Worked runs of device faults, crashes and restarts.
-use crate::world::steps::{Early, FIRST_STORE, LATER_STORE, Step, play, play_behind};
+use crate::world::steps::{Early, FIRST_STORE, LATER_STORE, Step, play, play_after};
 use snap_persist::Write;
 use snap_world::Kind;
 use std::alloc::AllocError;
@@ -106,7 +106,7 @@ const SECOND: [Step<'static>; 3] = [
     Step::Begin(0, "yo", &[1, 1]),
 ];
 
-/// A crash behind the write that closes the spare gate. The next store closes it only where the
+/// A crash after the write that closes the spare gate. The next store closes it only where the
 /// crash left it open.
 const CRASHED_WHILE_CLOSING: [[Step<'static>; 5]; 2] = [
     [
@@ -128,7 +128,7 @@ const CRASHED_WHILE_CLOSING: [[Step<'static>; 5]; 2] = [
 #[test]
 fn crash_after_the_closing_write(rt: HostRuntime) -> Result<(), AllocError> {
     for steps in &CRASHED_WHILE_CLOSING {
-        play_behind(&rt, 1, &SECOND, steps)?;
+        play_after(&rt, 1, &SECOND, steps)?;
     }
     Ok(())
 }
@@ -171,7 +171,7 @@ const SECOND_CRASHED: [[Step<'static>; 3]; 4] = [
 #[test]
 fn five_calls(rt: HostRuntime) -> Result<(), AllocError> {
     for steps in &SECOND_CRASHED {
-        play_behind(&rt, 1, &SECOND, steps)?;
+        play_after(&rt, 1, &SECOND, steps)?;
     }
     Ok(())
 }
@@ -206,7 +206,7 @@ const SENT_AGAIN: [[Step<'static>; 4]; 2] = [
 #[test]
 fn the_client_sends_again(rt: HostRuntime) -> Result<(), AllocError> {
     for steps in &SENT_AGAIN {
-        play_behind(&rt, 1, &FAILED_AT_THE_END, steps)?;
+        play_after(&rt, 1, &FAILED_AT_THE_END, steps)?;
     }
     Ok(())
 }
@@ -214,19 +214,17 @@ fn the_client_sends_again(rt: HostRuntime) -> Result<(), AllocError> {
 /// What touches the gate in a fault or a crash: nothing, or one of these bytes.
 const TOUCHES: [Option<u8>; 3] = [None, Some(0), Some(0xA5)];
 
-/// How a store of `v` stops: behind these calls, of which so many would follow, by this fault, where
-/// there is one, and by a crash.
+/// How a store of `v` stops: after some of its calls, of which `left` would follow, by this fault, if there is one, and
+/// by a crash.
 #[derive(Clone, Copy)]
-struct Stop<'a> {
-    done: &'a [Kind],
+struct Stop {
     left: usize,
     fault: Option<Option<u8>>,
     at_crash: Option<u8>,
 }
 
-/// Whether the new value comes back: exactly where the opening write was made or failed and its gate
-/// was left open.
-fn is_new(stop: Stop<'_>) -> bool {
+/// Whether the new value comes back: exactly if the opening write was made or failed and its gate was left open.
+fn is_new(stop: Stop) -> bool {
     match stop.fault {
         None => stop.left == 0 || (stop.left == 1 && stop.at_crash.unwrap_or(0xA5) == 0xA5),
         Some(at_fault) => {
@@ -237,80 +235,48 @@ fn is_new(stop: Stop<'_>) -> bool {
     }
 }
 
-/// The store of `v` is the first one, and stops so.
-fn first_stops(rt: &(impl Abort + AllocGlobal), stop: Stop<'_>) -> Result<(), AllocError> {
-    let texts = [if is_new(stop) { "v" } else { "" }];
+/// What comes before the store of `v`, the numbers of its scan, its calls, and the value before it.
+type Case<'a> = (&'a [Step<'a>], &'a [u64], &'a [Kind], &'a str);
+
+/// The store of `v` stops so.
+fn stops(rt: &(impl Abort + AllocGlobal), case: Case<'_>, stop: Stop) -> Result<(), AllocError> {
+    let (before, numbers, kinds, old) = case;
+    let texts = [if is_new(stop) { "v" } else { old }];
     let steps = [
-        Step::Begin(0, "v", &[0, 0]),
-        Step::Calls(0, stop.done),
+        Step::Begin(0, "v", numbers),
+        Step::Calls(0, &kinds[..kinds.len() - stop.left]),
         Step::FailIf(stop.fault),
         Step::Crash(&[stop.at_crash]),
         Step::Restarts(&texts),
     ];
-    play(rt, 1, &steps)
+    play_after(rt, 1, before, &steps)
 }
 
-/// The store of `v` comes behind one of `u`, and stops so.
-fn later_stops(rt: &(impl Abort + AllocGlobal), stop: Stop<'_>) -> Result<(), AllocError> {
-    let texts = [if is_new(stop) { "v" } else { "u" }];
-    let steps = [
-        Step::Store(0, "u", &[0, 0], &FIRST_STORE),
-        Step::Show(0, 1),
-        Step::Begin(0, "v", &[1, 1]),
-        Step::Calls(0, stop.done),
-        Step::FailIf(stop.fault),
-        Step::Crash(&[stop.at_crash]),
-        Step::Restarts(&texts),
-    ];
-    play(rt, 1, &steps)
-}
+/// The store of `u`, before that of `v`.
+const FIRST: [Step<'static>; 2] = [Step::Store(0, "u", &[0, 0], &FIRST_STORE), Step::Show(0, 1)];
 
-/// A store of these calls stops so.
-fn stops(
-    rt: &(impl Abort + AllocGlobal),
-    is_later: bool,
-    stop: Stop<'_>,
-) -> Result<(), AllocError> {
-    if is_later {
-        later_stops(rt, stop)
-    } else {
-        first_stops(rt, stop)
-    }
-}
-
-/// A store of these calls stops behind so many of them, in each way.
-fn stops_behind(
-    rt: &(impl Abort + AllocGlobal),
-    kinds: &[Kind],
-    is_later: bool,
-    count: usize,
-) -> Result<(), AllocError> {
-    let mut stop = Stop {
-        done: &kinds[..count.min(kinds.len())],
-        left: kinds.len().saturating_sub(count),
-        fault: None,
-        at_crash: None,
-    };
-    for at_crash in TOUCHES {
-        stop.at_crash = at_crash;
-        stop.fault = None;
-        stops(rt, is_later, stop)?;
-        for at_fault in &TOUCHES[..if stop.left == 0 { 0 } else { 3 }] {
-            stop.fault = Some(*at_fault);
-            stops(rt, is_later, stop)?;
-        }
-    }
-    Ok(())
-}
-
-// Each call of a store is the last one before a crash, or fails before it.
+/// Each call of a store is the last one before a crash, or fails before it.
 #[test]
 fn each_call_of_a_store_fails_or_crashes(rt: HostRuntime) -> Result<(), AllocError> {
-    for count in 0..=FIRST_STORE.len() {
-        stops_behind(&rt, &FIRST_STORE, false, count)?;
-    }
-    for count in 0..=LATER_STORE.len() {
-        stops_behind(&rt, &LATER_STORE, true, count)?;
+    let cases: [Case<'_>; 2] = [
+        (&[], &[0, 0], &FIRST_STORE, ""),
+        (&FIRST, &[1, 1], &LATER_STORE, "u"),
+    ];
+    for case in cases {
+        for left in 0..=case.2.len() {
+            for at_crash in TOUCHES {
+                let stop = Stop {
+                    left,
+                    fault: None,
+                    at_crash,
+                };
+                stops(&rt, case, stop)?;
+                for at_fault in &TOUCHES[..if left == 0 { 0 } else { 3 }] {
+                    let fault = Some(*at_fault);
+                    stops(&rt, case, Stop { fault, ..stop })?;
+                }
+            }
+        }
     }
     Ok(())
 }

@@ -37,11 +37,11 @@ pub(crate) enum Early<'a> {
 /// A step of a worked run, of a world with one scanner. A fill by no byte keeps.
 #[derive(Clone, Copy)]
 pub(crate) enum Step<'a> {
-    /// A writer begins an update by this text, and its embedded scan is told these numbers.
+    /// A writer begins an update by this text, and the looks of its embedded scan have these numbers.
     Begin(usize, &'a str, &'a [u64]),
     /// Device calls of a segment's store, which have to be of these kinds.
     Calls(usize, &'a [Kind]),
-    /// A writer's update by this text up to its publication, with the numbers told in the embedded
+    /// A writer's update by this text up to its publication, with the numbers of the embedded
     /// scan and the calls of its store.
     Store(usize, &'a str, &'a [u64], &'a [Kind]),
     /// The publication of a stored update, which gets this number.
@@ -50,7 +50,7 @@ pub(crate) enum Step<'a> {
     Scan,
     /// The scanner begins a scan of the segments of this set.
     Pick(u16),
-    /// The scanner looks once for each number, which it has to be told.
+    /// The scanner looks once for each number, which it has to get.
     Looks(&'a [u64]),
     /// The scan has its answer, which is these texts.
     Answer(&'a [&'a str]),
@@ -74,8 +74,8 @@ pub(crate) enum Step<'a> {
     NotNow(Early<'a>),
 }
 
-/// Does one event, which has to give this reply. Where memory ran out it is done once more: the
-/// world has to be as it was.
+/// Does one event, which has to give this reply. If memory runs out it is done once more: the world
+/// has to be as it was.
 fn expect(
     rt: &impl Abort,
     world: &mut World,
@@ -90,7 +90,7 @@ fn expect(
     Ok(())
 }
 
-/// Looks once for each number, which it has to give. After the last one the scan has its answer.
+/// Looks once for each number, which it has to give.
 fn looks(
     rt: &impl Abort,
     world: &mut World,
@@ -129,23 +129,6 @@ fn begin(
     let writer = Actor::Writer(segment);
     looks(rt, world, writer, numbers)?;
     expect(rt, world, Event::Look(writer), Reply::NotNow)
-}
-
-fn store(
-    rt: &impl Abort,
-    world: &mut World,
-    segment: usize,
-    kinds: &[Kind],
-) -> Result<(), AllocError> {
-    expect(rt, world, Event::Show(segment), Reply::NotNow)?;
-    calls(rt, world, segment, kinds)?;
-    expect(rt, world, Event::Call(segment), Reply::NotNow)
-}
-
-fn show(rt: &impl Abort, world: &mut World, segment: usize, number: u64) -> Result<(), AllocError> {
-    expect(rt, world, Event::Show(segment), Reply::Shown)?;
-    let stored = Reply::Stored(number);
-    expect(rt, world, Event::Acknowledge(segment), stored)
 }
 
 /// A memory of these texts.
@@ -256,9 +239,19 @@ fn play_step(
         Step::Calls(segment, kinds) => calls(rt, world, segment, kinds),
         Step::Store(segment, text, numbers, kinds) => {
             begin(rt, alloc, world, segment, text, numbers)?;
-            store(rt, world, segment, kinds)
+            expect(rt, world, Event::Show(segment), Reply::NotNow)?;
+            calls(rt, world, segment, kinds)?;
+            expect(rt, world, Event::Call(segment), Reply::NotNow)
         }
-        Step::Show(segment, number) => show(rt, world, segment, number),
+        Step::Show(segment, number) => {
+            expect(rt, world, Event::Show(segment), Reply::Shown)?;
+            expect(
+                rt,
+                world,
+                Event::Acknowledge(segment),
+                Reply::Stored(number),
+            )
+        }
         Step::Looks(numbers) => looks(rt, world, Actor::Scanner(0), numbers),
         Step::Answer(texts) => answer(rt, world, Reply::Memory(memory_of(alloc, texts)?)),
         Step::Part(texts) => answer(rt, world, Reply::Part(part_of(alloc, texts)?)),
@@ -270,28 +263,24 @@ fn play_step(
     }
 }
 
-/// Does these steps in a new world of so many segments and one scanner.
+/// Does these steps in a new world of `segments` segments and one scanner.
 pub(crate) fn play(
     rt: &(impl Abort + AllocGlobal),
     segments: usize,
     steps: &[Step<'_>],
 ) -> Result<(), AllocError> {
-    play_behind(rt, segments, &[], steps)
+    play_after(rt, segments, &[], steps)
 }
 
 /// The same, with other steps before them.
-pub(crate) fn play_behind(
+pub(crate) fn play_after(
     rt: &(impl Abort + AllocGlobal),
     segments: usize,
     before: &[Step<'_>],
     steps: &[Step<'_>],
 ) -> Result<(), AllocError> {
-    assert!(rt; 0 < segments && segments <= 16);
     let mut world = World::new(rt.alloc(), segments, 1)?;
-    for step in before {
-        play_step(rt, rt.alloc(), &mut world, *step)?;
-    }
-    for step in steps {
+    for step in before.iter().chain(steps) {
         play_step(rt, rt.alloc(), &mut world, *step)?;
     }
     Ok(())

@@ -1,6 +1,5 @@
 //! A scanner in a thread of its own.
-use crate::memory::scan;
-use crate::memory::some::{Numbers, list, numbers_of, scan_some};
+use crate::memory::some::{Numbers, numbers_of};
 use crate::memory::threads::seen::{Seen, numbers_in};
 use crate::memory::threads::{Course, load_all};
 use snap_memory::{Scanner, SegmentSet, Snapshot};
@@ -16,7 +15,7 @@ pub(crate) enum Kind {
     Drawn(u64),
 }
 
-/// A scanner, the room of its scans, and what it scans.
+/// A scanner, the snapshot of its scans, and what it scans.
 #[derive(Drop)]
 pub(crate) struct Looking {
     pub(crate) scanner: Scanner,
@@ -36,22 +35,17 @@ fn drawn_set(seed: u64, round: usize, all: SegmentSet) -> SegmentSet {
     if bits == 0 { all } else { SegmentSet { bits } }
 }
 
-/// A scan of these segments: their numbers, where each value is the one of its number.
+/// A scan of these segments: their numbers, if each value is the one of its number.
 fn scan_set(looking: &mut Looking, round: usize, set: SegmentSet) -> Option<Numbers> {
-    let answered = match looking.kind {
-        Kind::All => scan(&mut looking.scanner, &mut looking.snapshot),
+    match looking.kind {
+        Kind::All => looking.scanner.scan_into(&mut looking.snapshot).ok()?,
         Kind::Drawn(_) if round % 2 == 0 => {
-            return match list(&mut looking.scanner, looking.alloc, set) {
-                Some(Ok(values)) => numbers_of(set, &values),
-                _ => None,
-            };
+            let values = looking.scanner.scan(looking.alloc, set).ok()?;
+            return numbers_of(set, &values);
         }
-        Kind::Drawn(_) => scan_some(&mut looking.scanner, set, &mut looking.snapshot),
-    };
-    match answered {
-        Some(Ok(())) => numbers_in(set, &looking.snapshot),
-        _ => None,
+        Kind::Drawn(_) => looking.scanner.scan_some(set, &mut looking.snapshot).ok()?,
     }
+    numbers_in(set, &looking.snapshot)
 }
 
 /// A scan, with all that had ended before it and begun after it.
@@ -64,15 +58,11 @@ pub(crate) fn scan_once(looking: &mut Looking, round: usize, course: &Course) ->
     let ended = load_all(&course.ended);
     let answered = scan_set(looking, round, set);
     let begun = load_all(&course.begun);
-    let (right, numbers) = match answered {
-        Some(numbers) => (true, numbers),
-        None => (false, [0; MAX_SEGMENTS]),
-    };
     Seen {
         set,
         ended,
-        numbers,
+        numbers: answered.unwrap_or([0; MAX_SEGMENTS]),
         begun,
-        right,
+        right: answered.is_some(),
     }
 }

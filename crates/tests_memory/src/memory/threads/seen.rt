@@ -1,6 +1,6 @@
 //! What scans showed in their threads, and a plain judge of it.
-use crate::memory::is_value_of;
 use crate::memory::some::Numbers;
+use crate::seats::is_value_of;
 use snap_memory::{SegmentSet, Snapshot};
 use snap_scan::MAX_SEGMENTS;
 
@@ -33,28 +33,18 @@ pub(crate) fn numbers_in(set: SegmentSet, snapshot: &Snapshot) -> Option<Numbers
 
 /// Whether none of these segments has a greater number in `a` than in `b`.
 fn is_below(set: SegmentSet, a: &Numbers, b: &Numbers) -> bool {
-    let mut bits = set.bits;
-    for (x, y) in a.iter().zip(b.iter()) {
-        if *x > *y && bits & 1 == 1 {
-            return false;
-        }
-        bits >>= 1;
-    }
-    true
+    (0..MAX_SEGMENTS).all(|i| a[i] <= b[i] || !set.has(i))
 }
 
 /// Whether each scan is right: of its segments it has all that ended before it began, and nothing
 /// that began after it ended.
 fn are_right(record: &Vec<Seen>) -> bool {
-    for seen in record {
-        if !seen.right || !is_below(seen.set, &seen.ended, &seen.numbers) {
-            return false;
-        }
-        if !is_below(seen.set, &seen.numbers, &seen.begun) {
-            return false;
-        }
-    }
-    true
+    let is_right = |seen: &Seen| {
+        seen.right
+            && is_below(seen.set, &seen.ended, &seen.numbers)
+            && is_below(seen.set, &seen.numbers, &seen.begun)
+    };
+    record.iter().all(is_right)
 }
 
 /// Whether no number of a segment fell in a scanner's record.
@@ -88,7 +78,7 @@ pub(crate) fn are_ordered(record: &Vec<Seen>, other: &Vec<Seen>) -> bool {
     true
 }
 
-/// Whether a scanner made so many scans, each of them is right, and no number fell.
+/// Whether a scanner made `scans` scans, each of them is right, and no number fell.
 pub(crate) fn is_sound(record: &Vec<Seen>, scans: usize) -> bool {
     record.len() == scans && are_right(record) && are_rising(record)
 }
