@@ -1,6 +1,5 @@
 //! Whether the errors of a command were written: `snapd` ends by the status alone.
 use snap_devices::MemDisk;
-use snap_disk::Disk;
 use snap_file_commands::act;
 use snap_order::{FileOrder, Status};
 use snap_slot::FILE_LEN;
@@ -14,20 +13,19 @@ snapd: F: it was never formatted, or its header is gone: keep a copy first, \
 then snapd format F --index 0 --count 1
 ";
 
-/// A writer of errors that fails leaves the status as it is, and is told apart.
+/// A writer of errors that fails leaves the status as it is, and is reported.
 #[test]
 fn errors_that_cannot_be_written(rt: HostRuntime) -> Result<(), Fail> {
     let whole = UNFORMATTED.len();
     for passes in [0, 9, 29, 30, 31, whole - 1, whole] {
-        is_told(&rt, passes)?;
+        ends_so(&rt, passes)?;
     }
     Ok(())
 }
 
-/// Standard error fails once so many bytes have passed, of which it takes two at once.
-fn is_told(rt: &(impl Abort + AllocGlobal), passes: usize) -> Result<(), Fail> {
+/// Standard error takes `passes` bytes, two at once, and then fails.
+fn ends_so(rt: &(impl Abort + AllocGlobal), passes: usize) -> Result<(), Fail> {
     let disk = MemDisk::zeroed(rt.alloc(), FILE_LEN as usize)?;
-    assert!(rt; passes <= UNFORMATTED.len() && disk.failures() < 1000);
     let order = FileOrder::Get {
         file: "F",
         index: 0,

@@ -1,8 +1,8 @@
-//! Files and names that no folder of a system has, or that are judged before they come so far.
+//! Files and names that no folder of a system has, or that are refused earlier.
 use snap_folder::{FolderFault, SegmentPlace, is_further, is_segment_name, order_files};
 use std::test::Fail;
 
-/// A file whose header is wrong is told before its place is asked for.
+/// A file whose header is wrong is reported before its place.
 #[test]
 fn a_place_that_is_none_is_a_fault(rt: HostRuntime) {
     for (index, count) in [(2, 2), (0, 0), (3, 17), (255, 255)] {

@@ -1,6 +1,7 @@
-//! The tests of a server: requests and storers (`snap_service`, `snap_desk`, `snap_spin`), connections (`snap_server`), metrics
-//! (`snap_figures`), HTTP (`snap_board`, `snap_http`), and what of `snap_args`, `snap_file_commands`, `snap_folder` and
-//! `snap_serve` no command shows. What the program prints is compared to the byte by the end-to-end tests, `tests/`.
+//! The tests of a server: requests and storers (`snap_service`, `snap_desk`, `snap_spin`), connections (`snap_server`),
+//! metrics (`snap_figures`), HTTP (`snap_board`, `snap_http`), and what of `snap_args`, `snap_file_commands`,
+//! `snap_folder` and `snap_serve` no command shows. What the program prints is compared to the byte by the end-to-end
+//! tests, `tests/`.
 #![tactic(auto)]
 
 #[cfg(test)]

@@ -3,7 +3,7 @@ use snap_args::order;
 use std::alloc::{AllocError, Global};
 use std::test::Fail;
 
-/// So many bytes as hexadecimal digits.
+/// `len` bytes as hexadecimal digits.
 fn digits(alloc: Global, len: usize) -> Result<String, AllocError> {
     let mut text = String::new(alloc);
     for _ in 0..len {
@@ -12,7 +12,7 @@ fn digits(alloc: Global, len: usize) -> Result<String, AllocError> {
     Ok(text)
 }
 
-/// What is said of an update with so many bytes, which is nothing where it is one.
+/// The fault of an update with `len` bytes; empty if there is none.
 fn fault_of_long(alloc: Global, len: usize) -> Result<String, Fail> {
     let text = digits(alloc, len)?;
     let words = ["snapd", "call", "A", "update", "0", "1", text.as_str()];

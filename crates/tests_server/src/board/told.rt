@@ -1,7 +1,4 @@
-//! What a board is told in the tests.
-ghost use Rattle.std.specs.Prelude.{IfSome, codes};
-ghost use Rattle.snap_frame.specs.Messages.{IsInLimits};
-
+//! What a board shows in the tests.
 use snap_board::{History, Surroundings, Usage};
 use snap_disk::Refusal;
 use snap_figures::{BOUNDS, Distribution, Reading, SegmentReading, Tally};
@@ -30,13 +27,13 @@ pub(crate) const ALL_FENCED: &[u8] = b"\x00\x00\x00\x14\x83\x02\
     \x00\x00\x00\x00\x00\x00\x00\x05\x01\
     \x00\x00\x00\x00\x00\x00\x00\x07\x01";
 
-/// A refusal for want of memory.
+/// A refusal because there is no memory.
 pub(crate) const REFUSED: &[u8] = b"\x00\x00\x00\x0a\xe0\x08\x00\x00\x00\x00\x00\x00\x00\x00";
 
 /// No reply.
 pub(crate) const NOTHING: &[u8] = b"";
 
-/// Tells these replies, which stand here as their frames.
+/// Gives the replies of these frames.
 #[derive(Drop)]
 pub(crate) struct Teller {
     pub alloc: Global,
@@ -45,17 +42,10 @@ pub(crate) struct Teller {
 }
 
 /// The reply whose frame this is.
-fn reply_of(alloc: Global, frame: &[u8]) -> Option<Reply>
-    ensures { IfSome result (λ r. IsInLimits r) }
-{
+fn reply_of(alloc: Global, frame: &[u8]) -> Option<Reply> {
     let mut feed = ReplyFeed::new(alloc);
-    if feed.push(frame).is_err() {
-        return None;
-    }
-    match feed.next() {
-        Ok(reply) => reply,
-        Err(_) => None,
-    }
+    feed.push(frame).ok()?;
+    feed.next().ok()?
 }
 
 impl Service for Teller {
@@ -81,7 +71,7 @@ impl Service for Teller {
     }
 }
 
-/// What is around the server in the tests.
+/// The surroundings of the server in the tests.
 #[derive(Drop)]
 pub(crate) struct Around {
     addresses: Vec<String>,
@@ -113,7 +103,8 @@ const NEVER: Distribution = Distribution {
     total: 0,
 };
 
-/// So long in all, in nanoseconds: once within the first bound, twice within the second, and three times longer than all.
+/// So long in all, in nanoseconds: once within the first bound, twice within the second, and three times longer than
+/// all.
 fn six(total: u64) -> Distribution {
     let mut counts = [0; BOUNDS + 1];
     counts[0] = 1;

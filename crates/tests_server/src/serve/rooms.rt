@@ -1,24 +1,18 @@
 //! Servers over two segments in memory.
-ghost use Rattle.std.specs.Prelude.{◌≡◌};
-
-use snap_devices::MemDisk;
 use snap_disk::Disk;
 use snap_figures::Figures;
 use snap_order::{Level, Serving, Status};
-use snap_segment::format;
 use snap_serve::{Bind, Edge, NoOnlooker, NoWatch, Unbound, host};
 use snap_server::{Arrival, BindFault, Endpoint, Gate, Listen, Locate, Note, Tcp, Unaccepted};
-use snap_slot::FILE_LEN;
 use snap_stream::Unknown;
 use std::alloc::{AllocError, Global};
 use std::io::{self, Write};
 use std::net::{Net, SocketAddr};
 use std::rt::Clock;
 use std::sync::Wait;
-use std::test::Fail;
 use std::thread::Threads;
 
-/// A listener that is there already.
+/// A listener that was bound before.
 #[derive(Drop)]
 pub(crate) struct Ready<'a> {
     tcp: &'a Tcp,
@@ -75,7 +69,7 @@ impl<'a> Bind for Ready<'a> {
     }
 }
 
-/// What came of a server.
+/// How a server ended, and what it printed.
 #[derive(Drop)]
 pub(crate) struct Seen {
     pub status: Status,
@@ -83,7 +77,7 @@ pub(crate) struct Seen {
     pub errors: Vec<u8>,
 }
 
-/// Keeps what is written, with a bar wherever it was flushed.
+/// Keeps what is written, with a bar at each flush.
 #[derive(Drop)]
 pub(crate) struct Barred {
     pub bytes: Vec<u8>,
@@ -101,18 +95,7 @@ impl Write for Barred {
     }
 }
 
-/// The new files of two segments.
-pub(crate) fn new_files(alloc: Global) -> Result<Vec<MemDisk>, Fail> {
-    let mut files = Vec::new(alloc);
-    for index in 0..2u8 {
-        let mut disk = MemDisk::zeroed(alloc, FILE_LEN as usize)?;
-        format(&mut disk, index, 2)?;
-        files.push(disk)?;
-    }
-    Ok(files)
-}
-
-/// A server over these two devices, with two scanners, which ends with so many connections.
+/// A server over these two devices, with two scanners, which ends after `connections`.
 pub(crate) fn host_printing<'x, X, D, B, G>(
     rt: &X,
     alloc: Global,
@@ -128,9 +111,6 @@ where
     B::Listener: Drop,
     G: Gate + Sync,
 {
-    if devices.len() != 2 || !devices.iter().all(|disk| disk.failures() < 9) {
-        return Err(AllocError);
-    }
     let mut seen = Seen {
         status: Status::Failed,
         out: Barred {
