@@ -33,10 +33,10 @@ libraries:
 	@sh verification/needs.sh rt python3
 	@python3 verification/libraries.py
 
-# The programs that the end-to-end tests run beside snapd, without their proofs, and these tests alone, on bin/snapd.
+# The program that the end-to-end tests run beside snapd, without its proofs, and these tests alone, on bin/snapd.
 programs:
 	@sh verification/needs.sh rt python3
-	@python3 verification/quick.py --level 0 try_faults try_bench
+	@python3 verification/quick.py --level 0 try_parts
 
 tests: programs
 	python3 tests/run.py
@@ -44,7 +44,7 @@ tests: programs
 # What is timed has no checks in it, so it is proved.
 bench:
 	@sh verification/needs.sh rt python3 gcc
-	python3 verification/prove.py snapd try_faults try_bench
+	python3 verification/prove.py snapd try_parts
 	python3 bench/run.py
 	python3 bench/server.py
 	python3 bench/seen.py
