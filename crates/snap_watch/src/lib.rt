@@ -4,7 +4,7 @@
 //! only where a number has moved. [`changes`] is what is printed of the rows that are other ones than those
 //! that were shown. In a terminal [`drawing`] draws all rows, with what was seen of them before ([`followed`]).
 //! When to look, and where it is printed, is for the caller. `specs/Looks.antt` says what is asked and what the
-//! board is then, `specs/Board.antt` which rows are the same, and `specs/Text.antt` has the texts (docs/FORMATS.md).
+//! board is then. No clause says what is printed of it: docs/FORMATS.md does, and the tests.
 #![tactic(auto)]
 
 mod exchange;
