@@ -19,7 +19,7 @@ use Rattle.snap_order.specs.declared.status.Exit.{Exit}
 use Rattle.snap_order.specs.declared.status.Status.TheVariants as status
 use Rattle.snap_stream.specs.Streams.{AppendsBeginning, Complains, refused_line}
 use Rattle.snap_stream.specs.refusal.Refusal.TheVariants as refusal
-use Rattle.snap_call.specs.Text.{answer_text, detailed_line, is_any_fenced, stored_line}
+use Rattle.snap_call.specs.Text.{Shows, is_any_fenced, stored_line}
 
 -- it ends as refused, and standard error got a beginning of this line, and all of it where that is
 -- told
@@ -28,6 +28,10 @@ pub record SaysRefused (text : List ℕ) (ended : Exit) (errs errs' : Option (Li
   pub status : ended.status ≡ status.Refused
   pub beginning : AppendsBeginning errs errs' text
   pub whole : ended.is_told ≡ true → Appends errs errs' text
+
+-- the server refused it, which some line says
+abbrev pub IsRefused : Exit → (errs errs' : Option (List ℕ)) → Type 0
+IsRefused ended errs errs' = (text : List ℕ) × SaysRefused text ended errs errs'
 
 -- memory was wanting
 abbrev pub WantsMemory : Exit → (errs errs' : Option (List ℕ)) → Type 0
@@ -60,9 +64,10 @@ abbrev pub PrintsInPlace : (how : Status) → List ℕ → Exit → (out out' er
 PrintsInPlace how text ended out out' errs errs' =
     IsPrinted how text ended out out' errs errs' ⊎ IsCutShort text ended out out' errs errs'
 
--- the same, or memory was wanting before the first byte
-abbrev pub Prints : (how : Status) → List ℕ → Exit → (out out' errs errs' : Option (List ℕ)) → Type 0
-Prints how text ended out out' errs errs' = PrintsInPlace how text ended out out' errs errs'
+-- a text of the reply's values was printed or cut short, or memory was wanting before the first byte
+abbrev pub Prints : (how : Status) → Layout → Reply → Exit → (out out' errs errs' : Option (List ℕ)) → Type 0
+Prints how layout reply ended out out' errs errs' =
+    ((text : List ℕ) × Shows layout reply text × PrintsInPlace how text ended out out' errs errs')
     ⊎ (WantsMemory ended errs errs' × Keeps out out')
 
 -- there is no answer, which a complaint says
@@ -87,8 +92,8 @@ abbrev pub EndsRead : Layout → Question → Reply → Exit → (out out' errs 
     → Type 0
 EndsRead layout (Get segment) (reply.Part values) ended out out' errs errs' =
     EndsGot segment values.items ended out out' errs errs'
-EndsRead layout question reply ended out out' errs errs' = Prints (answer_status question reply)
-    (answer_text layout question reply) ended out out' errs errs'
+EndsRead layout question reply ended out out' errs errs' =
+    Prints (answer_status question reply) layout reply ended out out' errs errs'
 
 -- the reply to a read: nothing was done that it tells of
 abbrev pub IsRead : Reply → Type 0
@@ -103,7 +108,7 @@ IsRead reply = ⊥
 abbrev pub EndsAsked : Layout → Question → Result Reply ClientFault → Exit
     → (out out' errs errs' : Option (List ℕ)) → Type 0
 EndsAsked layout question (Ok (Refused why detail)) ended out out' errs errs' =
-    SaysRefused (detailed_line why detail) ended errs errs' × Keeps out out'
+    IsRefused ended errs errs' × Keeps out out'
 EndsAsked layout question (Ok (Stored number)) ended out out' errs errs' =
     PrintsInPlace status.Done (stored_line number) ended out out' errs errs'
 EndsAsked layout question (Ok reply) ended out out' errs errs' =
